@@ -1,0 +1,137 @@
+use super::*;
+use std::test::Fail;
+
+#[test]
+fn names(rt: HostRuntime) -> Result<(), Fail> {
+    let longest = [b'a'; 32];
+    let right = [b"iio:device0".as_slice(), b"t", b"adc-0_x.1", &longest];
+    for text in right {
+        let name = Name::new(text).ok_or("a name")?;
+        let again = name.copy();
+        assert!(rt; again.bytes() == text && again.same(&name), "{text:?}");
+    }
+    let too_long = [b'a'; 33];
+    let wrong = [
+        b"".as_slice(),
+        b"0adc",
+        b"_a",
+        b"a b",
+        b"a/b",
+        b"a\xff",
+        &too_long,
+    ];
+    for text in wrong {
+        assert!(rt; Name::new(text).is_none(), "{text:?}");
+    }
+    let one = Name::new(b"adc0").ok_or("a name")?;
+    let other = Name::new(b"adc00").ok_or("a name")?;
+    assert!(rt; !one.same(&other));
+    Ok(())
+}
+
+#[test]
+fn names_by_scope(rt: HostRuntime) {
+    let rows = [
+        (Scope::Device, "name", Some(Attr::Name), false),
+        (
+            Scope::Device,
+            "sampling_frequency",
+            Some(Attr::SamplingFrequency),
+            true,
+        ),
+        (Scope::Channel, "raw", Some(Attr::Raw), false),
+        (Scope::Channel, "calibbias", Some(Attr::Calibbias), true),
+        (Scope::Channel, "scale", Some(Attr::Scale), true),
+        (Scope::Channel, "offset", Some(Attr::Offset), true),
+        (Scope::Channel, "calibscale", Some(Attr::Calibscale), true),
+        (
+            Scope::Channel,
+            "thresh_rising_value",
+            Some(Attr::ThreshRisingValue),
+            true,
+        ),
+        (
+            Scope::Channel,
+            "thresh_falling_value",
+            Some(Attr::ThreshFallingValue),
+            true,
+        ),
+        (
+            Scope::Channel,
+            "thresh_rising_en",
+            Some(Attr::ThreshRisingEn),
+            true,
+        ),
+        (
+            Scope::Channel,
+            "thresh_falling_en",
+            Some(Attr::ThreshFallingEn),
+            true,
+        ),
+        (Scope::Buffer, "overruns", Some(Attr::Overruns), false),
+        (
+            Scope::Buffer,
+            "data_available",
+            Some(Attr::DataAvailable),
+            false,
+        ),
+        (Scope::Buffer, "length", Some(Attr::Length), false),
+        (Scope::Device, "raw", None, false),
+        (Scope::Channel, "name", None, false),
+        (Scope::Buffer, "scale", None, false),
+        (Scope::Channel, "Raw", None, false),
+        (Scope::Channel, "", None, false),
+    ];
+    for (scope, name, want, can_write) in rows {
+        let found = find(scope, name.as_bytes());
+        assert_eq!(rt; found, want, "{name}");
+        assert_eq!(rt; found.is_some_and(writable), can_write, "{name}");
+    }
+}
+
+#[test]
+fn values_at_first(rt: HostRuntime) {
+    let rows = [
+        (Attr::SamplingFrequency, Some((1, Form::Int))),
+        (Attr::Scale, Some((1, Form::Micro))),
+        (Attr::Calibscale, Some((1, Form::Nano))),
+        (Attr::Calibbias, Some((0, Form::Int))),
+        (Attr::ThreshRisingEn, Some((0, Form::Int))),
+        (Attr::Length, None),
+    ];
+    for (attr, want) in rows {
+        let got = first_value(attr).map(|v| (v.whole, v.form));
+        assert_eq!(rt; got, want);
+    }
+}
+
+#[test]
+fn values_checked(rt: HostRuntime) {
+    let rows = [
+        (Attr::Raw, "1", Err(Errno::EACCES)),
+        (Attr::Raw, "x", Err(Errno::EACCES)),
+        (Attr::Name, "x", Err(Errno::EACCES)),
+        (Attr::Scale, "-", Err(Errno::EINVAL)),
+        (Attr::Scale, "2147483648", Err(Errno::ERANGE)),
+        (Attr::ThreshRisingEn, "2147483648", Err(Errno::ERANGE)),
+        (Attr::ThreshRisingEn, "2", Err(Errno::EINVAL)),
+        (Attr::ThreshFallingEn, "-1", Err(Errno::EINVAL)),
+        (Attr::ThreshRisingEn, "1\n", Ok((false, 1, 0, Form::Int))),
+        (Attr::ThreshFallingEn, "-0", Ok((false, 0, 0, Form::Int))),
+        (
+            Attr::Calibbias,
+            "-32768\x00",
+            Ok((true, 32768, 0, Form::Int)),
+        ),
+        (Attr::Scale, "-0.000250", Ok((true, 0, 250, Form::Micro))),
+        (
+            Attr::Calibscale,
+            "1.5",
+            Ok((false, 1, 500_000_000, Form::Nano)),
+        ),
+    ];
+    for (attr, text, want) in rows {
+        let got = check(attr, text.as_bytes()).map(|v| (v.negative, v.whole, v.part, v.form));
+        assert_eq!(rt; got, want, "{text}");
+    }
+}

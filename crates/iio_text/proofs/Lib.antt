@@ -1,0 +1,4 @@
+pub mod EscapeLemmas
+pub mod FixedLemmas
+pub mod NumberLemmas
+pub mod WordLemmas

@@ -1,0 +1,6 @@
+pub mod Errno
+pub mod Escape
+pub mod Fixed
+pub mod Numbers
+pub mod Why
+pub mod Words

@@ -1,0 +1,43 @@
+-- The words of a line: the longest runs of bytes that are no blanks. Descriptions and scripts know one
+-- blank, the space (this project's own); command lines know spaces and tabs (libiio 0.25's iiod).
+use Rattle.std.specs.Prelude.{◌≡◌, ℕ, ◌<◌, Bool, true, false, not, ◌==◌, ◌||◌, if◌then◌else◌, List, [], ◌∷◌, ◌++◌, length, take_while}
+use Rattle.std.specs.List.{list_any}
+use Rattle.iio_text.specs.declared.words.Blanks.{Blanks}
+use Rattle.iio_text.specs.declared.words.Blanks.TheVariants.{Spaces, SpacesAndTabs}
+
+-- a space
+abbrev pub is_space : ℕ → Bool
+is_space b = b == 32
+
+-- a space or a tab
+abbrev pub is_blank : ℕ → Bool
+is_blank b = b == 32 || b == 9
+
+-- the blanks of a kind of line
+abbrev pub blank_test : Blanks → ℕ → Bool
+blank_test Spaces b = is_space b
+blank_test SpacesAndTabs b = is_blank b
+
+-- the text begins with a byte that is no blank
+abbrev pub begins_word : (ℕ → Bool) → List ℕ → Bool
+begins_word blank [] = false
+begins_word blank (b ∷ bs) = not (blank b)
+
+-- a byte put before words: onto the first of them, or as a word of its own
+abbrev pub onto_first : ℕ → Bool → List (List ℕ) → List (List ℕ)
+onto_first b true [] = (b ∷ []) ∷ []
+onto_first b true (word ∷ words) = (b ∷ word) ∷ words
+onto_first b false words = (b ∷ []) ∷ words
+
+-- the words of a text; a byte that is no blank goes onto the word that follows it without a blank between
+abbrev pub words_of : (ℕ → Bool) → List ℕ → List (List ℕ)
+words_of blank [] = []
+words_of blank (b ∷ bs) = if blank b then words_of blank bs else onto_first b (begins_word blank bs) (words_of blank bs)
+
+-- the first word of a text, and the text after it
+pub record IsFirstWord (blank : ℕ → Bool) (text word rest : List ℕ) : Type 0 where
+  pub words : words_of blank text ≡ word ∷ words_of blank rest
+  pub parts : text ≡ take_while blank text ++ (word ++ rest)
+  pub some : 0 < length word
+  pub no_blank : list_any blank word ≡ false
+  pub ended : begins_word blank rest ≡ false

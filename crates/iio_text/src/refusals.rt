@@ -1,0 +1,70 @@
+//! The words that say why an input is refused.
+
+ghost use Rattle.std.specs.Prelude.{◌≡◌};
+ghost use Rattle.iio_text.specs.Why.{why_text};
+
+/// Why a line of an input is refused.
+#[derive(Clone, Copy, Debug, PartialEq, Eq)]
+pub enum Why {
+    /// The line is too long.
+    Long,
+    /// A byte that isn't allowed, or a wrong quoted text.
+    Text,
+    /// An unknown first word.
+    Word,
+    /// A line that may not stand here.
+    Order,
+    /// A wrong number of words.
+    Count,
+    /// No name.
+    Name,
+    /// A name that is given already.
+    Taken,
+    /// No such trigger.
+    Trigger,
+    /// No such device.
+    Device,
+    /// No scan type; the word is `type`.
+    BadType,
+    /// No mask that can be listed.
+    Mask,
+    /// A moment that isn't after the one before.
+    Moment,
+    /// No number of the form that is asked for.
+    Number,
+    /// No driver that is free.
+    Driver,
+    /// No attribute that can be set so.
+    Attr,
+    /// One more than a limit allows.
+    Limit,
+    /// A step that a bystander may not take.
+    Bystander,
+}
+
+impl Why {
+    /// The word that stands in a refusal.
+    pub fn text(self) -> &'static str
+        ensures { result.now ≡ why_text self }
+    {
+        match self {
+            Why::Long => "long",
+            Why::Text => "text",
+            Why::Word => "word",
+            Why::Order => "order",
+            Why::Count => "count",
+            Why::Name => "name",
+            Why::Taken => "taken",
+            Why::Trigger => "trigger",
+            Why::Device => "device",
+            Why::BadType => "type",
+            Why::Mask => "mask",
+            Why::Moment => "moment",
+            Why::Number => "number",
+            Why::Driver => "driver",
+            Why::Attr => "attr",
+            Why::Limit => "limit",
+            Why::Bystander => "bystander",
+        }
+    }
+}
