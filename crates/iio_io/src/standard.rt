@@ -1,0 +1,137 @@
+// Standard input and standard output. They tell no content: nothing is known of what the system gives or takes.
+ghost use Rattle.std.specs.Prelude.{◌≡◌, ◌+◌, ◌-◌, ◌^◌, ◌<◌, ◌≤◌, min, length, IfOk, MatchResult};
+
+use super::tally::Tally;
+use super::traits::{Failed, Sink, Source};
+use std::io::{ErrorKind, Read, Stdin, Stdout, Write};
+use std::marker::Model;
+
+// How often a read or a write that a signal cut short is tried.
+const TRIES: usize = 64;
+
+/// Standard input, seen as its count of failed reads. A read that a signal cut short is tried again.
+#[derive(Drop)]
+pub struct StdSource {
+    input: Stdin,
+    faults: Tally,
+}
+
+impl Model for StdSource {
+    ghost use Rattle.std.specs.Prelude.{ℕ};
+
+    ghost Value = { ℕ };
+
+    ghost view = { λ s. s.faults };
+}
+
+impl StdSource {
+    /// The input of the process, of which no read failed yet.
+    pub fn new(input: Stdin) -> StdSource
+        ensures { result ≡ 0 }
+    {
+        StdSource {
+            input,
+            faults: Tally::new(),
+        }
+    }
+
+    /// How often a read failed. The number stays at 2^64 - 1 when it gets there.
+    pub fn faults(&self) -> u64
+        ensures { result ≡ min self.now (2 ^ 64 - 1) }
+    {
+        self.faults.get()
+    }
+}
+
+impl Source for StdSource {
+    ghost use Rattle.std.specs.Prelude.{None};
+
+    ghost left = { λ _. None };
+
+    ghost faults = { λ s. s };
+
+    fn read(&mut self, out: &mut [u8]) -> Result<usize, Failed>
+        ensures fits { IfOk result (λ n. n ≤ length out.new) }
+        ensures count { MatchResult result (λ _. self.new ≡ self.old) (λ _. self.new ≡ self.old + 1) }
+    {
+        for _ in 0..TRIES {
+            match self.input.read(out) {
+                Ok(count) => return Ok(count),
+                Err(e) => {
+                    if e.kind() != ErrorKind::Interrupted {
+                        break;
+                    }
+                }
+            }
+        }
+        self.faults.rise();
+        Err(Failed)
+    }
+}
+
+/// Standard output, seen as its count of failed writes. Nothing is held back: each write goes to the
+/// system at once. A write that a signal cut short is tried again.
+#[derive(Drop)]
+pub struct StdSink {
+    output: Stdout,
+    faults: Tally,
+}
+
+impl Model for StdSink {
+    ghost use Rattle.std.specs.Prelude.{ℕ};
+
+    ghost Value = { ℕ };
+
+    ghost view = { λ s. s.faults };
+}
+
+impl StdSink {
+    /// The output of the process, of which no write failed yet.
+    pub fn new(output: Stdout) -> StdSink
+        ensures { result ≡ 0 }
+    {
+        StdSink {
+            output,
+            faults: Tally::new(),
+        }
+    }
+
+    /// How often a write failed. The number stays at 2^64 - 1 when it gets there.
+    pub fn faults(&self) -> u64
+        ensures { result ≡ min self.now (2 ^ 64 - 1) }
+    {
+        self.faults.get()
+    }
+}
+
+impl Sink for StdSink {
+    ghost use Rattle.std.specs.Prelude.{None};
+
+    ghost written = { λ _. None };
+
+    ghost faults = { λ s. s };
+
+    // A write of a nonempty piece that takes nothing is a failure.
+    fn write(&mut self, bytes: &[u8]) -> Result<usize, Failed>
+        ensures fits { IfOk result (λ n. n ≤ length bytes.now) }
+        ensures some { IfOk result (λ n. 0 < length bytes.now → 1 ≤ n) }
+        ensures count { MatchResult result (λ _. self.new ≡ self.old) (λ _. self.new ≡ self.old + 1) }
+    {
+        if bytes.is_empty() {
+            return Ok(0);
+        }
+        for _ in 0..TRIES {
+            match self.output.write(bytes) {
+                Ok(0) => break,
+                Ok(count) => return Ok(count),
+                Err(e) => {
+                    if e.kind() != ErrorKind::Interrupted {
+                        break;
+                    }
+                }
+            }
+        }
+        self.faults.rise();
+        Err(Failed)
+    }
+}

@@ -1,0 +1,62 @@
+// What is read from and what is written to.
+ghost use Rattle.std.specs.Prelude.{◌≡◌, ℕ, ◌<◌, ◌≤◌, List, [], ◌++◌, length, take, Option, Some, None, IfSome, IfNone, IfOk, OnErr};
+ghost use Rattle.iio_base.specs.Faults.{Rose};
+ghost use Rattle.iio_io.specs.Bytes.{Takes};
+
+use std::error::Error;
+use std::fmt;
+
+/// A read or a write that failed. It took or added no byte.
+#[derive(Clone, Copy, Debug, PartialEq, Eq, Hash)]
+pub struct Failed;
+
+impl fmt::Display for Failed {
+    fn fmt<W: fmt::Write>(&self, f: &mut fmt::Formatter<W>) -> fmt::Result {
+        write!(f, "a read or a write failed")
+    }
+}
+
+impl Error for Failed {}
+
+/// What bytes are read from.
+pub trait Source {
+    // the bytes that are left, where the source tells them
+    ghost left: { Self → Option (List ℕ) };
+
+    // how many reads failed so far
+    ghost faults: { Self → ℕ };
+
+    /// Reads some bytes into the front of `out`, and answers how many. 0 for an `out` with room is
+    /// the end.
+    fn read(&mut self, out: &mut [u8]) -> Result<usize, Failed>
+        ensures fits { IfOk result (λ n. n ≤ length out.new) }
+        ensures next { IfOk result
+            (λ n. IfSome (left self.old) (λ xs. Takes xs out.new n (left self.new))) }
+        ensures silent { IfNone (left self.old) (left self.new ≡ None) }
+        ensures end { IfOk result
+            (λ n. n ≡ 0 → 0 < length out.old → IfSome (left self.old) (λ xs. xs ≡ [])) }
+        ensures counted { faults self.old ≤ faults self.new }
+        ensures failed { OnErr result (Rose (faults self.old) (faults self.new)) }
+        ensures kept { OnErr result (left self.new ≡ left self.old) };
+}
+
+/// What bytes are written to.
+pub trait Sink {
+    // the bytes that were written so far, where the sink tells them
+    ghost written: { Self → Option (List ℕ) };
+
+    // how many writes failed so far
+    ghost faults: { Self → ℕ };
+
+    /// Writes some bytes from the front of `bytes`, and answers how many: at least one, unless
+    /// there are none.
+    fn write(&mut self, bytes: &[u8]) -> Result<usize, Failed>
+        ensures fits { IfOk result (λ n. n ≤ length bytes.now) }
+        ensures appended { IfOk result (λ n. IfSome (written self.old)
+            (λ xs. written self.new ≡ Some (xs ++ take n bytes.now))) }
+        ensures silent { IfNone (written self.old) (written self.new ≡ None) }
+        ensures some { IfOk result (λ n. 0 < length bytes.now → 1 ≤ n) }
+        ensures counted { faults self.old ≤ faults self.new }
+        ensures failed { OnErr result (Rose (faults self.old) (faults self.new)) }
+        ensures kept { OnErr result (written self.new ≡ written self.old) };
+}

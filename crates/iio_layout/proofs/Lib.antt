@@ -1,0 +1,4 @@
+pub mod IdLemmas
+pub mod ShapeLemmas
+pub mod LayoutLemmas
+mod Worked

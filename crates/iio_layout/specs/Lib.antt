@@ -1,0 +1,6 @@
+pub mod Id
+pub mod Shape
+pub mod Layout
+pub mod Scan
+pub mod Laws
+pub mod View

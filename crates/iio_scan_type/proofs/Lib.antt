@@ -1,0 +1,5 @@
+mod Numbers
+mod NumberBytes
+mod Elements
+mod Texts
+mod Worked

@@ -1,0 +1,4 @@
+pub mod Format
+pub mod Bytes
+pub mod Text
+pub mod View

@@ -1,0 +1,79 @@
+-- What a driver of a device's sensor is, apart from how it is built: what it samples, what is added, and what it has
+-- been asked. (Kernel, driver-api/iio: a driver fills one scan of the active channels at a trigger. That asks have
+-- numbers, and that listed ones fail, is this project's own.)
+use Rattle.std.specs.Prelude.{◌≡◌, ℕ, zero, suc, ◌+◌, ◌-◌, ◌^◌, min, ◌==◌, Bool, List, [], ◌∷◌, ◌++◌, length, replicate, slice_index_or, slice_set, if◌then◌else◌, ℤ, pos, ◌+ℤ◌, Option, Some}
+use Rattle.std.specs.List.{list_any}
+use Rattle.iio_scan_type.specs.Format.{Format, saturated}
+use Rattle.iio_layout.specs.Shape.{ShapeRecord, formats_of}
+use Rattle.iio_layout.specs.Layout.{format_at}
+use Rattle.iio_sensor.specs.declared.sensor.TheConstants.{MOST_BIASES}
+
+-- `sample shape c k t` is a driver's number for element k of channel c at moment t; `biases` has what is added, channel
+-- 0 first; `asked` is how often it was asked; `last` is the moment and the bits of the mask of its last capture;
+-- `fails` has the numbers of the asks that fail; `faults` is how many have failed
+pub record Driver : Type 0 where
+  pub sample : ShapeRecord → ℕ → ℕ → ℤ → ℤ
+  pub biases : List ℤ
+  pub asked : ℕ
+  pub last : Option (ℤ × ℕ)
+  pub fails : List ℕ
+  pub faults : ℕ
+
+-- a driver that was never asked, and has no bias
+pub record IsFresh (d : Driver) : Type 0 where
+  pub asked : d.asked ≡ 0
+  pub biases : d.biases ≡ replicate MOST_BIASES (pos 0)
+
+-- ---- values
+
+-- the bias of channel c
+abbrev pub bias_at : Driver → ℕ → ℤ
+bias_at d c = slice_index_or d.biases c (pos 0)
+
+-- a sample with its bias, exactly added, or the nearer end of the type's range where the sum lies outside
+abbrev pub with_bias : Format → ℤ → ℤ → ℤ
+with_bias format sample bias = saturated format (sample +ℤ bias)
+
+-- the value of element k of channel c at a moment
+abbrev pub value_of : Driver → ShapeRecord → ℤ → ℕ → ℕ → ℤ
+value_of d shape t c k = with_bias (format_at (formats_of shape) c) (d.sample shape c k t) (bias_at d c)
+
+-- so many elements
+abbrev pub elements_below : (ℕ → ℤ) → ℕ → List ℤ
+elements_below value zero = []
+elements_below value (suc k) = elements_below value k ++ value k ∷ []
+
+-- the elements of the channels before channel c
+abbrev pub values_below : List Format → (ℕ → ℕ → ℤ) → ℕ → List ℤ
+values_below formats value zero = []
+values_below formats value (suc c) = values_below formats value c ++ elements_below (value c) (format_at formats c).repeat
+
+-- the values of channel c at a moment
+abbrev pub channel_values : Driver → ShapeRecord → ℤ → ℕ → List ℤ
+channel_values d shape t c = elements_below (value_of d shape t c) (format_at (formats_of shape) c).repeat
+
+-- the values of all channels at a moment, in order
+abbrev pub values_of : Driver → ShapeRecord → ℤ → List ℤ
+values_of d shape t = values_below (formats_of shape) (value_of d shape t) (length shape.channels)
+
+-- ---- asks
+
+-- one more, or 2 ^ 64 - 1 where that is reached
+abbrev pub next_count : ℕ → ℕ
+next_count n = min (n + 1) (2 ^ 64 - 1)
+
+-- whether the next ask fails
+abbrev pub ask_fails : Driver → Bool
+ask_fails d = list_any (λ n. n == next_count d.asked) d.fails
+
+-- the driver after one ask
+abbrev pub after_ask : Driver → Driver
+after_ask d = record d { asked = next_count d.asked; faults = if ask_fails d then next_count d.faults else d.faults }
+
+-- the driver after the ask for a capture
+abbrev pub after_capture : Driver → ℤ → ℕ → Driver
+after_capture d t mask = record (after_ask d) { last = Some (t, mask) }
+
+-- the driver after one bias was set
+abbrev pub after_bias : Driver → ℕ → ℤ → Driver
+after_bias d c bias = record d { biases = slice_set d.biases c bias }

@@ -1,0 +1,59 @@
+//! What a device asks of its driver.
+
+ghost use Rattle.std.specs.Prelude.{◌≡◌, ℕ, ◌^◌, ◌<◌, length, IfOk, OnOk, is_err};
+ghost use Rattle.iio_layout.specs.Layout.{scan_size};
+ghost use Rattle.iio_layout.specs.Scan.{scan_of};
+ghost use Rattle.iio_layout.specs.Shape.{count_of};
+ghost use Rattle.iio_sensor.specs.Driver.{Driver, after_ask, after_bias, after_capture, ask_fails, bias_at, value_of, values_of};
+
+use iio_layout::Shape;
+use iio_mask::Mask;
+use std::error::Error;
+use std::fmt;
+
+/// The most channels that have a bias.
+pub const MOST_BIASES: usize = 64;
+
+/// An ask that failed.
+#[derive(Clone, Copy, Debug, PartialEq, Eq)]
+pub struct Fault;
+
+impl fmt::Display for Fault {
+    fn fmt<W: fmt::Write>(&self, f: &mut fmt::Formatter<W>) -> fmt::Result {
+        write!(f, "the driver's ask failed")
+    }
+}
+
+impl Error for Fault {}
+
+/// A driver. What it samples, which of its asks fail and what it has been told is its `driver`, for contracts alone:
+/// no call changes what it samples and which asks fail, no ask changes a bias, and each ask is counted.
+pub trait Sensor: Drop {
+    ghost driver: { Self → Driver };
+
+    /// One ask for the scan under `active` of the values at `t`. It fails exactly where this ask's number is among
+    /// those that fail; nothing is said of `out` then.
+    fn capture(&mut self, shape: &Shape, t: i64, active: Mask, out: &mut [u8]) -> Result<(), Fault>
+        requires bits { active.bits < 2 ^ count_of shape.now }
+        requires size { length out.old ≡ scan_size shape.now active.bits }
+        ensures asked { driver self.new ≡ after_capture (driver self.old) t active.bits }
+        ensures fault { is_err result ≡ ask_fails (driver self.old) }
+        ensures scan { OnOk result (out.new ≡ scan_of shape.now active.bits (values_of (driver self.old) shape.now t) t) };
+
+    /// One ask for the value of element 0 of channel `c` at `t`. It fails as `capture` does.
+    fn raw(&mut self, shape: &Shape, c: u32, t: i64) -> Result<i64, Fault>
+        requires { c < length shape.now.channels }
+        ensures asked { driver self.new ≡ after_ask (driver self.old) }
+        ensures fault { is_err result ≡ ask_fails (driver self.old) }
+        ensures value { IfOk result (λ v. v ≡ value_of (driver self.old) shape.now t c 0) };
+
+    /// What is added to the samples of channel `c`.
+    fn bias_of(&self, c: u32) -> i64
+        requires { c < MOST_BIASES }
+        ensures { result ≡ bias_at (driver self.now) c };
+
+    /// Sets what is added to the samples of channel `c`, and changes nothing else.
+    fn set_bias(&mut self, c: u32, v: i64)
+        requires { c < MOST_BIASES }
+        ensures { driver self.new ≡ after_bias (driver self.old) c v };
+}

@@ -1,0 +1,168 @@
+ghost use Rattle.std.specs.Prelude.{◌≡◌, ◌^◌, ◌<◌, length, is_err, OnOk, IfOk};
+ghost use Rattle.iio_layout.specs.Layout.{scan_size};
+ghost use Rattle.iio_layout.specs.Scan.{scan_of};
+ghost use Rattle.iio_layout.specs.Shape.{count_of};
+ghost use Rattle.iio_sensor.specs.Driver.{Driver, after_ask, after_bias, after_capture, ask_fails, bias_at, value_of, values_of};
+ghost use Rattle.iio_sensor.specs.Recorded.{IsRecording, driver_of};
+ghost use Rattle.iio_sensor.specs.declared.tests.Plug.TheVariants.{Given, Own};
+
+use super::*;
+use iio_layout::{Channel, Direction, Kind, Mem, Rows, Shape, Suffix, scan_size};
+use iio_mask::Mask;
+use iio_scan_type::read_type;
+use std::alloc::Global;
+use std::process::Abort;
+
+/// A driver of either kind: recorded rows, or one that was handed in.
+#[derive(Drop)]
+enum Plug {
+    Own(Recorded),
+    Given(Box<dyn Sensor + Send>),
+}
+
+impl Sensor for Plug {
+    ghost driver = { elim [ Own r ↦ driver_of r | Given d ↦ (Sensor-box d).driver d.value ] };
+
+    fn capture(
+        &mut self,
+        shape: &Shape,
+        t: i64,
+        active: Mask,
+        out: &mut [u8],
+    ) -> Result<(), Fault> {
+        match self {
+            Plug::Own(recorded) => recorded.capture(shape, t, active, out),
+            Plug::Given(given) => given.capture(shape, t, active, out),
+        }
+    }
+
+    fn raw(&mut self, shape: &Shape, c: u32, t: i64) -> Result<i64, Fault> {
+        match self {
+            Plug::Own(recorded) => recorded.raw(shape, c, t),
+            Plug::Given(given) => given.raw(shape, c, t),
+        }
+    }
+
+    fn bias_of(&self, c: u32) -> i64 {
+        match self {
+            Plug::Own(recorded) => recorded.bias_of(c),
+            Plug::Given(given) => given.bias_of(c),
+        }
+    }
+
+    fn set_bias(&mut self, c: u32, v: i64) {
+        match self {
+            Plug::Own(recorded) => recorded.set_bias(c, v),
+            Plug::Given(given) => given.set_bias(c, v),
+        }
+    }
+}
+
+/// Two rows of two numbers: the first number of each stands for `voltage0`, the second for element 0 of `accel_x`.
+fn two_rows(alloc: Global) -> Result<Rows, Mem>
+    ensures { IfOk result IsRecording }
+{
+    Ok(Rows {
+        moments: Vec::from_slice(alloc, &[10, 20])?,
+        values: Vec::from_slice(alloc, &[1, -200, 4096, 5])?,
+        width: 2,
+    })
+}
+
+/// A channel of one element, and one of two that is wider than a row.
+fn two_channels(rt: &impl Abort, alloc: Global) -> Result<Shape, Mem>
+    ensures { IfOk result (λ s. count_of s ≡ 2 × length s.channels ≡ 2) }
+{
+    let voltage = Channel {
+        kind: Kind::Voltage,
+        suffix: Suffix::Number(0),
+        direction: Direction::Input,
+        ty: read_type(b"le:u12/16>>4").expect(rt, "a type"),
+    };
+    let accel = Channel {
+        kind: Kind::Accel,
+        suffix: Suffix::X,
+        direction: Direction::Input,
+        ty: read_type(b"be:s8/8X2>>0").expect(rt, "a type"),
+    };
+    let channels = Vec::from_slice(alloc, &[voltage, accel])?;
+    let shape = Shape::new(channels, None, Vec::new(alloc)).expect(rt, "a shape");
+    assert!(rt; shape.count() == 2);
+    assert!(rt; shape.inputs() == 2);
+    Ok(shape)
+}
+
+/// The bytes of both channels at a moment.
+fn scan_at(rt: &impl Abort, driver: &mut impl Sensor, shape: &Shape, t: i64) -> [u8; 4]
+    requires { count_of shape.now ≡ 2 }
+{
+    let both = Mask { bits: 3 };
+    let mut out = [0xff; 4];
+    assert!(rt; scan_size(shape, both) == 4);
+    assert!(rt; driver.capture(shape, t, both, &mut out).is_ok());
+    out
+}
+
+/// Before, at, between and after the moments: each row holds until the next.
+const SCANS: [(i64, [u8; 4]); 7] = [
+    (i64::MIN, [0, 0, 0, 0]),
+    (9, [0, 0, 0, 0]),
+    (10, [0x10, 0, 0x80, 0]),
+    (15, [0x10, 0, 0x80, 0]),
+    (19, [0x10, 0, 0x80, 0]),
+    (20, [0xf0, 0xff, 5, 0]),
+    (i64::MAX, [0xf0, 0xff, 5, 0]),
+];
+
+#[test]
+fn rows_hold_to_the_next(rt: HostRuntime) -> Result<(), Mem> {
+    let shape = two_channels(&rt, rt.alloc())?;
+    let mut driver = Recorded::new(two_rows(rt.alloc())?);
+    for (t, bytes) in SCANS {
+        assert_eq!(rt; scan_at(&rt, &mut driver, &shape, t), bytes, "at {t}");
+    }
+    assert_eq!(rt; driver.raw(&shape, 1, 9), Ok(0));
+    assert_eq!(rt; driver.raw(&shape, 1, 10), Ok(-128));
+    assert_eq!(rt; driver.raw(&shape, 0, 20), Ok(4095));
+    Ok(())
+}
+
+#[test]
+fn biases_are_added_exactly(rt: HostRuntime) -> Result<(), Mem> {
+    let shape = two_channels(&rt, rt.alloc())?;
+    let mut driver = Recorded::new(two_rows(rt.alloc())?);
+    assert_eq!(rt; driver.bias_of(1), 0);
+    for (bias, value) in [
+        (i64::MIN, 0),
+        (-2, 0),
+        (-1, 0),
+        (41, 42),
+        (4095, 4095),
+        (i64::MAX, 4095),
+    ] {
+        driver.set_bias(0, bias);
+        assert_eq!(rt; driver.bias_of(0), bias);
+        assert_eq!(rt; driver.raw(&shape, 0, 10), Ok(value), "with {bias}");
+    }
+    driver.set_bias(1, 3);
+    assert_eq!(rt; scan_at(&rt, &mut driver, &shape, 9), [0xf0, 0xff, 3, 3]);
+    assert_eq!(rt;
+        scan_at(&rt, &mut driver, &shape, 15),
+        [0xf0, 0xff, 0x80, 3]
+    );
+    Ok(())
+}
+
+#[test]
+fn a_driver_is_own_or_given(rt: HostRuntime) -> Result<(), Mem> {
+    let shape = two_channels(&rt, rt.alloc())?;
+    let own = Plug::Own(Recorded::new(two_rows(rt.alloc())?));
+    let given = Plug::Given(Box::new(rt.alloc(), Recorded::new(two_rows(rt.alloc())?))?);
+    for mut driver in [own, given] {
+        driver.set_bias(1, 72);
+        assert_eq!(rt; driver.bias_of(1), 72);
+        assert_eq!(rt; scan_at(&rt, &mut driver, &shape, 10), [0x10, 0, 0x80, 72]);
+        assert_eq!(rt; driver.raw(&shape, 1, 20), Ok(77));
+    }
+    Ok(())
+}

@@ -1,0 +1,76 @@
+-- A trigger, as contracts see it. (Kernel driver-api/iio, "Triggers": a trigger that is still busy misses a poll. Places
+-- and the count of missed polls are this project's own.)
+use Rattle.std.specs.Prelude.{◌≡◌, ℕ, ◌+◌, ◌-◌, ◌^◌, ◌<◌, ◌≤◌, ℤ, Bool, true, false, not, ◌&&◌, ◌==◌, nat_lt, if◌then◌else◌, List, [], ◌∷◌, map, filter, length, min, Option}
+use Rattle.std.specs.List.{list_any, find}
+use Rattle.std.specs.Option.{option_map}
+use Rattle.iio_trigger.specs.Order.{InOrder, place_dev, entry_dev}
+use Rattle.iio_trigger.specs.declared.rows.Place.{Place}
+use Rattle.iio_trigger.specs.declared.rows.Entry.{Entry}
+use Rattle.iio_trigger.specs.declared.Polled.{Polled}
+use Rattle.iio_trigger.specs.declared.Polled.TheVariants.{Accepted, Missed}
+
+-- how many places there are, who holds them and which entries are outstanding, both in the order of devices, and how
+-- many polls were missed
+pub record State : Type 0 where
+  pub places : ℕ
+  pub attached : List Place
+  pub outstanding : List Entry
+  pub missed : ℕ
+
+-- what holds of every trigger: at most eight places, no more devices than places, and each device once among the places
+-- and once among the entries
+pub record IsSound (s : State) : Type 0 where
+  pub within : length s.attached ≤ s.places
+  pub most : s.places ≤ 8
+  pub attached_once : InOrder place_dev 0 s.attached
+  pub outstanding_once : InOrder entry_dev 0 s.outstanding
+
+-- an entry that was handed out: its device, that device's attachment when the poll came, and the moment of the poll
+pub record Handed : Type 0 where
+  pub dev : ℕ
+  pub attachment : ℕ
+  pub t : ℤ
+
+-- whether the device holds a place
+abbrev pub holds_place : ℕ → List Place → Bool
+holds_place dev places = list_any (λ (p : Place). p.dev == dev) places
+
+-- the places once the device holds one under this attachment: the one that it has, or one more
+abbrev pub with_place : ℕ → ℕ → List Place → List Place
+with_place dev attachment [] = record { dev = dev; attachment = attachment } ∷ []
+with_place dev attachment (p ∷ ps) =
+    if nat_lt p.dev dev then p ∷ with_place dev attachment ps
+    else if p.dev == dev then record { dev = dev; attachment = attachment } ∷ ps
+    else record { dev = dev; attachment = attachment } ∷ p ∷ ps
+
+-- the places once the device holds none
+abbrev pub without_place : ℕ → List Place → List Place
+without_place dev places = filter (λ (p : Place). not (p.dev == dev)) places
+
+-- a poll's entries: one for each device that holds a place
+abbrev pub entries_at : ℤ → List Place → List Entry
+entries_at t places = map (λ (p : Place). record { dev = p.dev; attachment = p.attachment; t = t; in_hand = false }) places
+
+-- whether the device has this entry, and nobody has it in hand
+abbrev pub is_waiting : ℕ → Entry → Bool
+is_waiting dev e = (e.dev == dev) && not e.in_hand
+
+-- what is handed out for a device: its entry that is in no hand
+abbrev pub due_of : ℕ → List Entry → Option Handed
+due_of dev entries = option_map (λ (e : Entry). record { dev = e.dev; attachment = e.attachment; t = e.t }) (find (is_waiting dev) entries)
+
+-- the entries once the device's is in hand
+abbrev pub with_in_hand : ℕ → List Entry → List Entry
+with_in_hand dev entries = map (λ (e : Entry). if e.dev == dev then record e { in_hand = true } else e) entries
+
+-- the entries without the device's
+abbrev pub without_entry : ℕ → List Entry → List Entry
+without_entry dev entries = filter (λ (e : Entry). not (e.dev == dev)) entries
+
+-- a poll at `t`. It is accepted where no entry is outstanding, and makes one for each device that holds a place; else it
+-- is missed and counted
+abbrev pub Polls : State → ℤ → Polled → State → Type 0
+Polls old t (Accepted made) new = (old.outstanding ≡ []) × (made ≡ length old.attached)
+    × (new ≡ record { places = old.places; attached = old.attached; outstanding = entries_at t old.attached; missed = old.missed })
+Polls old t (Missed missed) new = (0 < length old.outstanding) × (missed ≡ min (old.missed + 1) (2 ^ 64 - 1))
+    × (new ≡ record { places = old.places; attached = old.attached; outstanding = old.outstanding; missed = missed })

@@ -1,0 +1,67 @@
+// Where a device stands among rows that are in the order of devices.
+ghost use Rattle.std.specs.Prelude.{◌≡◌, ◌≤◌, [], length, MatchOption, MatchResult};
+ghost use Rattle.iio_trigger.specs.Trigger.{entries_at};
+ghost use Rattle.iio_trigger.specs.Order.{AllOther, InOrder, StandsAt, WouldStandAt, entry_dev, place_dev, rank};
+
+use super::rows::{Entry, Place};
+use arrayvec::ArrayVec;
+
+// Where the device's place stands, or else where it would stand.
+pub fn find_place(places: &[Place], dev: u32) -> Result<usize, usize>
+    requires { InOrder place_dev 0 places.now }
+    ensures { MatchResult result
+        (StandsAt place_dev dev places.now)
+        (WouldStandAt place_dev dev places.now) }
+{
+    let at = place_index(places, dev);
+    if at < places.len() && places[at].dev == dev {
+        Ok(at)
+    } else {
+        Err(at)
+    }
+}
+
+// Where the device's entry stands, if it has one.
+pub fn find_entry(entries: &[Entry], dev: u32) -> Option<usize>
+    requires { InOrder entry_dev 0 entries.now }
+    ensures { MatchOption result
+        (AllOther entry_dev dev entries.now)
+        (StandsAt entry_dev dev entries.now) }
+{
+    let at = entry_index(entries, dev);
+    if at < entries.len() && entries[at].dev == dev {
+        Some(at)
+    } else {
+        None
+    }
+}
+
+// How many places are of devices before this one.
+fn place_index(places: &[Place], dev: u32) -> usize
+    ensures { result ≡ rank place_dev dev places.now }
+{
+    places.iter().take_while(|place| place.dev < dev).count()
+}
+
+// How many entries are.
+fn entry_index(entries: &[Entry], dev: u32) -> usize
+    ensures { result ≡ rank entry_dev dev entries.now }
+{
+    entries.iter().take_while(|entry| entry.dev < dev).count()
+}
+
+// Makes an entry for each place, where none is outstanding.
+pub fn add_entries(entries: &mut ArrayVec<Entry, 8>, places: &[Place], t: i64)
+    requires none { entries.old.items ≡ [] }
+    requires room { length places.now ≤ 8 }
+    ensures { entries.new.items ≡ entries_at t places.now }
+{
+    for place in places {
+        entries.push(Entry {
+            dev: place.dev,
+            attachment: place.attachment,
+            t,
+            in_hand: false,
+        });
+    }
+}

@@ -1,0 +1,18 @@
+// What a trigger keeps of each device.
+
+/// A device's place, under the number of its attachment.
+#[derive(Clone, Copy, Debug, Default, PartialEq, Eq, Hash)]
+pub struct Place {
+    pub dev: u32,
+    pub attachment: u64,
+}
+
+/// An outstanding entry: the device, its attachment when the poll came, the moment of the poll in
+/// nanoseconds, and whether someone has the entry in hand.
+#[derive(Clone, Copy, Debug, Default, PartialEq, Eq, Hash)]
+pub struct Entry {
+    pub dev: u32,
+    pub attachment: u64,
+    pub t: i64,
+    pub in_hand: bool,
+}
