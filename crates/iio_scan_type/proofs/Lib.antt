@@ -2,4 +2,3 @@ mod Numbers
 mod NumberBytes
 mod Elements
 mod Texts
-mod Worked

@@ -1,6 +1,4 @@
-use Rattle.iio_scan_type.proofs.Worked.{worked}
 use Rattle.std.proofs.Common.{◌∙◌}
-use Rattle.iio_scan_type.proofs.Worked.{worked}
 use Rattle.iio_scan_type.proofs.Texts.{found, only}
 use Rattle.iio_scan_type.proofs.text.read_type.Goals as goal
 
