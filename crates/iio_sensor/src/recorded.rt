@@ -133,13 +133,14 @@ fn next_count(count: u64) -> u64
 impl Sensor for Recorded {
     ghost driver = { driver_of };
 
-    fn capture(
-        &mut self,
-        shape: &Shape,
-        t: i64,
-        active: Mask,
-        out: &mut [u8],
-    ) -> Result<(), Fault> {
+    fn capture(&mut self, shape: &Shape, t: i64, active: Mask, out: &mut [u8]) -> Result<(), Fault>
+        requires bits { active.bits < 2 ^ count_of shape.now }
+        requires size { length out.old ≡ scan_size shape.now active.bits }
+        ensures asked { driver_of self.new ≡ after_capture (driver_of self.old) t active.bits }
+        ensures fault { is_err result ≡ ask_fails (driver_of self.old) }
+        ensures scan { OnOk result (out.new ≡ scan_of shape.now active.bits (values_of (driver_of self.old) shape.now t) t) }
+        ensures kept { self.new ≡ record self.old { asked = next_count self.old.asked; last = Some (t, active.bits) } }
+    {
         self.asked = next_count(self.asked);
         self.last = Some((t, active.bits));
         let mut values = [0; MOST_VALUES];

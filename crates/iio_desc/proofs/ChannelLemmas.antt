@@ -1,0 +1,34 @@
+-- A channel more.
+use Rattle.std.proofs.Common.{◌≡◌, ℕ, zero, suc, ◌+◌, ◌<◌, Bool, true, false, ◌||◌, List, [], ◌∷◌, ◌++◌, length, get_or, AllPairs, sum_by, refl, ap, ◌∙◌, zero-add, arith}
+use Rattle.std.proofs.lemmas.List.Sums.{sum_by-append}
+use Rattle.std.specs.List.{list_any}
+use Rattle.std.proofs.lemmas.List.Quantifiers.{all_pairs_push}
+use Rattle.iio_scan_type.specs.Format.{Format}
+use Rattle.iio_layout.specs.declared.channel.Kind.{Kind}
+use Rattle.iio_layout.specs.declared.channel.Suffix.{Suffix}
+use Rattle.iio_layout.specs.declared.channel.Direction.TheVariants.{Input}
+use Rattle.iio_layout.specs.declared.channel.Channel.{Channel}
+use Rattle.iio_layout.specs.Shape.{same_channel}
+use Rattle.iio_desc.specs.Line.{has_id}
+
+or_false : (a b : Bool) → (a || b) ≡ false → (a ≡ false) × (b ≡ false)
+or_false true b h = (h, cc)
+or_false false b h = (refl, h)
+
+-- where no element passes a test, none at a place does
+none_at : (p : Channel → Bool) (xs : List Channel) → list_any p xs ≡ false → (k : ℕ) (d : Channel) → k < length xs → p (get_or xs k d) ≡ false
+none_at p [] h k d lt = absurd (omega arith)
+none_at p (x ∷ xs) h zero d lt = (or_false (p x) (list_any p xs) h).0
+none_at p (x ∷ xs) h (suc k) d lt = none_at p xs (or_false (p x) (list_any p xs) h).1 k d (omega arith)
+
+-- channels stay distinct with one more that has an ID of its own
+pub distinct_push : (channels : List Channel) (id : Kind × Suffix) (ty : Format) → AllPairs (λ (a b : Channel). same_channel a b ≡ false) channels
+    → list_any (λ c. has_id id c) channels ≡ false
+    → AllPairs (λ (a b : Channel). same_channel a b ≡ false) (channels ++ (record { kind = id.0; suffix = id.1; direction = Input; ty = ty }) ∷ [])
+distinct_push channels id ty distinct own =
+    all_pairs_push (λ (a b : Channel). same_channel a b ≡ false) channels (record { kind = id.0; suffix = id.1; direction = Input; ty = ty }) distinct
+    (λ k d lt. none_at (λ c. has_id id c) channels own k d lt)
+
+-- the values of a row with a channel more
+pub width_push : (channels : List Channel) (c : Channel) → sum_by (λ (x : Channel). x.ty.repeat) (channels ++ c ∷ []) ≡ sum_by (λ (x : Channel). x.ty.repeat) channels + c.ty.repeat
+width_push channels c = sum_by-append (λ (x : Channel). x.ty.repeat) channels (c ∷ []) ∙ ap (λ n. sum_by (λ (x : Channel). x.ty.repeat) channels + n) (zero-add c.ty.repeat)

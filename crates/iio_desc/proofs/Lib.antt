@@ -1,0 +1,4 @@
+mod WordLemmas
+pub mod RowLemmas
+pub mod StageLemmas
+pub mod ChannelLemmas

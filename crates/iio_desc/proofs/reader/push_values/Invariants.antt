@@ -1,0 +1,11 @@
+use Rattle.std.proofs.Common.{◌≡◌, ℤ, List, ◌++◌, length, option_map}
+use Rattle.iio_text.specs.Words.{words_of, is_space}
+use Rattle.iio_desc.specs.Line.{ints_of}
+use Rattle.iio_desc.proofs.reader.push_values.Given as goal
+
+abbrev pub invariant-loop-word : goal.invariant-loop-word
+invariant-loop-word l = (done : List ℤ) × (l.values.items ≡ l.fn.values.items ++ done)
+    × (ints_of (words_of is_space l.fn.words) ≡ option_map (λ (vs : List ℤ). done ++ vs) (ints_of (words_of is_space l.rest)))
+
+abbrev pub decreases-loop-word : goal.decreases-loop-word
+decreases-loop-word l = length l.rest

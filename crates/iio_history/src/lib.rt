@@ -1,0 +1,10 @@
+//! The history of the core as plain data, which the theorem about `play` speaks of.
+#![tactic(auto)]
+
+mod step;
+
+pub use iio_attr::Name;
+pub use step::{Quoted, Step};
+
+#[cfg(test)]
+mod tests;

@@ -1,0 +1,7 @@
+pub mod Step
+pub mod Input
+pub mod Outcome
+pub mod Fault
+pub mod Bench
+pub mod View
+pub mod Play

@@ -1,0 +1,91 @@
+-- The plain state of a run, what each step makes of it, and what it prints.
+use Rattle.std.specs.Prelude.{◌≡◌, ℕ, ◌-◌, ◌^◌, ◌<◌, Bool, true, List, [], ◌∷◌, ◌++◌, length, map, Option, Some, None}
+use Rattle.std.specs.Str.{bytes_eq}
+use Rattle.iiod_grammar.specs.Built.{said_by}
+use Rattle.iio_desc.specs.Description.{Description}
+use Rattle.iio_desc.specs.declared.description.TriggerDesc.{TriggerDesc}
+use Rattle.iio_desc.specs.declared.description.DeviceDesc.{DeviceDesc}
+use Rattle.iio_history.specs.declared.step.Step.{Step}
+use Rattle.iio_history.specs.declared.step.Step.TheVariants.{Feed, Fire}
+use Rattle.iio_history.specs.Transcript.{feed_line, stream_of, events_of}
+use Rattle.iio_script.specs.declared.status.Status.{Status}
+use Rattle.iio_script.specs.declared.status.Status.TheVariants.{ReadFault, WriteFault, Memory}
+use Rattle.iio_script.specs.declared.player.Player.{Player}
+use Rattle.iio_script.specs.Input.{lines_of}
+use Rattle.iio_script.specs.Step.{are_lines, names_in}
+use Rattle.iio_script.specs.Outcome.{Outcome, outcome_of}
+use Rattle.iio_script.specs.Bench.{path_of, SeatRecord, answers_by, seat_after_items, seat_after_fire, fired_lines, offers_of, IsOwn, Stands}
+
+-- ---- steps
+
+-- whether a script goes on by this step: all its feeds are of one connection
+abbrev pub accepts : Player → Step → Bool
+accepts p (Feed who bytes) = elim p.who [ None ↦ true | Some name ↦ bytes_eq name who ]
+accepts p (Fire trigger moment) = true
+
+-- what a step prints
+abbrev pub step_lines : Player → Step → List ℕ
+step_lines p (Feed who bytes) = feed_line who (answers_by p.bench.trigger p.bench.device p.bench.seat who (map said_by (lines_of bytes)))
+step_lines p (Fire trigger moment) = fired_lines p.bench.trigger p.bench.device moment p.bench.seat
+
+-- the state after a step
+abbrev pub with_seat : Player → Option (List ℕ) → Option SeatRecord → Player
+with_seat p who seat = record { bench = record p.bench { seat = seat }; who = who }
+
+abbrev pub after_step : Player → Step → Player
+after_step p (Feed who bytes) = with_seat p (Some who) (seat_after_items p.bench.trigger p.bench.device p.bench.seat who (map said_by (lines_of bytes)))
+after_step p (Fire trigger moment) = with_seat p p.who (seat_after_fire p.bench.device moment p.bench.seat)
+
+-- the member is the connection's that is fed; the counts of the queue have room
+abbrev pub IsReady : Player → Step → Type 0
+IsReady p (Feed who bytes) = IsOwn who p.bench.seat
+IsReady p (Fire trigger moment) = offers_of p.bench.seat < 2 ^ 64 - 1
+
+-- fed bytes are whole lines, and the trigger is one of the description's
+abbrev pub IsRight : Description → Step → Type 0
+IsRight desc (Feed who bytes) = are_lines 0 bytes ≡ true
+IsRight desc (Fire trigger moment) = trigger < length desc.triggers
+
+-- ---- the state and the steps that are done, the newest first
+
+abbrev pub names_of : Option (List ℕ) → List (List ℕ)
+names_of None = []
+names_of (Some name) = name ∷ []
+
+-- the member is the connection's
+abbrev pub BelongsTo : Option (List ℕ) → Option SeatRecord → Type 0
+BelongsTo None seat = seat ≡ None
+BelongsTo (Some name) seat = IsOwn name seat
+
+pub record IsAt (trigger : TriggerDesc) (d : DeviceDesc) (done : List Step) (who : Option (List ℕ)) (seat : Option SeatRecord) : Type 0 where
+  pub stands : Stands trigger d (events_of (path_of trigger d) done) seat
+  pub names : names_in done ≡ names_of who
+  pub own : BelongsTo who seat
+  pub whole : (name : List ℕ) → are_lines 0 (stream_of name done) ≡ true
+
+-- ---- ends
+
+-- a run that ended so printed the whole outcome
+pub record Finishes (outcome : Outcome) (status : Status) (before after : List ℕ) : Type 0 where
+  pub ends : status ≡ outcome.status
+  pub printed : after ≡ before ++ outcome.printed
+
+-- a front part of a text was written
+pub record WritesFront (before text : List ℕ) (after : Option (List ℕ)) : Type 0 where
+  pub front : List ℕ
+  pub rest : List ℕ
+  pub parts : text ≡ front ++ rest
+  pub written : after ≡ Some (before ++ front)
+
+-- the whole text was written, and the status is the outcome's
+pub record WritesWhole (before : List ℕ) (outcome : Outcome) (status : Status) (after : Option (List ℕ)) : Type 0 where
+  pub ends : status ≡ outcome.status
+  pub written : after ≡ Some (before ++ outcome.printed)
+
+-- what `play` makes of an input: after a fault, or want of memory, a front part of the printed text is written, and else
+-- all of it
+abbrev pub Plays : (input before : List ℕ) → Status → Option (List ℕ) → Type 0
+Plays input before ReadFault after = WritesFront before (outcome_of input).printed after
+Plays input before WriteFault after = WritesFront before (outcome_of input).printed after
+Plays input before Memory after = WritesFront before (outcome_of input).printed after
+Plays input before status after = WritesWhole before (outcome_of input) status after

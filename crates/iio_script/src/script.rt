@@ -1,0 +1,199 @@
+//! Playing an input: its description, and then its steps.
+
+ghost use Rattle.std.specs.Prelude.{◌≡◌, ◌+◌, ◌*◌, ◌^◌, ◌≤◌, ◌<◌, ◌++◌, [], ◌∷◌, Some, None, Ok, IfOk, IfSome, IfNone, length, nat_lt};
+ghost use Rattle.iio_base.specs.Faults.{Rose};
+ghost use Rattle.iio_desc.specs.Description.{Description};
+ghost use Rattle.iio_desc.specs.Draft.{blank_draft};
+ghost use Rattle.iio_desc.specs.OnePath.{IsOnePath};
+ghost use Rattle.iio_script.specs.Input.{lines_of, looked_lines, is_overlong, input_limit};
+ghost use Rattle.iio_script.specs.Bench.{path_of};
+ghost use Rattle.iio_script.specs.Outcome.{printed_why, refused, ended, play_lines, describe_lines, outcome_of_lines, outcome_of};
+ghost use Rattle.iio_script.specs.Play.{Finishes, Plays};
+
+use crate::bench::Bench;
+use crate::input::{INPUT_LIMIT, ended_part, front, next_line};
+use crate::player::Player;
+use crate::reply::push_digits;
+use crate::status::Status;
+use crate::step::{StepFault, read_step};
+use iio_base::Mem;
+use iio_desc::{Desc, DescReader, LineFault, is_end};
+use iio_io::{ReadEnd, Sink, Source, read_whole, write_whole};
+use iio_text::Why;
+use std::alloc::Global;
+
+// The word that a refusal is printed with: so far one for all.
+fn printed_why(_why: Why) -> Why
+    ensures { result ≡ printed_why _why }
+{
+    Why::Word
+}
+
+// The end at a refused line: `refused LINE word`
+fn push_refused(out: &mut Vec<u8>, line: u32, why: Why) -> Result<Status, Mem>
+    ensures { IfOk result (λ status. Finishes (refused line why) status out.old.items out.new.items) }
+{
+    let why = printed_why(why);
+    out.extend_from_slice(b"refused ")?;
+    push_digits(out, line as usize)?;
+    out.push(b' ')?;
+    out.extend_from_slice(why.text().as_bytes())?;
+    out.push(b'\n')?;
+    Ok(Status::Refused { line, why })
+}
+
+// The end behind the last line that is looked at.
+fn push_end(out: &mut Vec<u8>, overlong: bool) -> Result<Status, Mem>
+    ensures { IfOk result (λ status. Finishes (ended overlong) status out.old.items out.new.items) }
+{
+    if overlong {
+        out.extend_from_slice(b"too long\n")?;
+        return Ok(Status::TooLong);
+    }
+    Ok(Status::Done)
+}
+
+// The steps of a script from a line on.
+fn play_steps(
+    alloc: Global,
+    desc: &Desc,
+    mut player: Player,
+    text: &[u8],
+    first: u32,
+    overlong: bool,
+    out: &mut Vec<u8>,
+) -> Result<Status, Mem>
+    requires triggers { desc.now.triggers ≡ player.bench.trigger ∷ [] }
+    requires attached { player.bench.device.trigger ≡ Some 0 }
+    requires free { player.bench.seat ≡ None }
+    requires fresh { player.who ≡ None }
+    requires few { first + length text.now < 2 ^ 32 }
+    ensures { IfOk result (λ status. Finishes (play_lines overlong (path_of player.bench.trigger player.bench.device) [] first (lines_of text.now))
+        status out.old.items out.new.items) }
+{
+    let mut rest = text;
+    let mut number = first;
+    while let Some((line, more)) = next_line(rest) {
+        let step = match read_step(alloc, desc, line) {
+            Ok(step) => step,
+            Err(StepFault::Why(why)) => return push_refused(out, number, why),
+            Err(StepFault::Mem) => return Err(Mem),
+        };
+        if !player.accepts(&step) {
+            return push_refused(out, number, Why::Limit);
+        }
+        player.perform(alloc, &step, out)?;
+        rest = more;
+        number += 1;
+    }
+    push_end(out, overlong)
+}
+
+// The script behind a description, from a line on.
+fn play_described(
+    alloc: Global,
+    mut desc: Desc,
+    text: &[u8],
+    first: u32,
+    overlong: bool,
+    out: &mut Vec<u8>,
+) -> Result<Status, Mem>
+    requires one { IsOnePath desc }
+    requires few { first + length text.now < 2 ^ 32 }
+    ensures { IfOk result (λ status. Finishes (play_lines overlong desc [] first (lines_of text.now)) status out.old.items out.new.items) }
+{
+    let device = desc.devices.pop().unwrap();
+    let player = Player {
+        bench: Bench::new(&desc.triggers.as_slice()[0], device),
+        who: None,
+    };
+    play_steps(alloc, &desc, player, text, first, overlong, out)
+}
+
+// The lines of an input: a description, and then its script.
+fn play_lines(alloc: Global, text: &[u8], overlong: bool, out: &mut Vec<u8>) -> Result<Status, Mem>
+    requires { length text.now ≤ 2 ^ 27 }
+    ensures { IfOk result (λ status. Finishes (describe_lines overlong blank_draft 1 (lines_of text.now)) status out.old.items out.new.items) }
+{
+    let mut reader = DescReader::new(alloc);
+    let mut rest = text;
+    let mut number = 1;
+    while let Some((line, more)) = next_line(rest) {
+        if is_end(line) {
+            return match reader.finish(alloc) {
+                Ok(desc) => play_described(alloc, desc, more, number + 1, overlong, out),
+                Err(LineFault::Why(why)) => push_refused(out, number, why),
+                Err(LineFault::Mem) => Err(Mem),
+            };
+        }
+        match reader.line(alloc, line) {
+            Ok(()) => {}
+            Err(LineFault::Why(why)) => return push_refused(out, number, why),
+            Err(LineFault::Mem) => return Err(Mem),
+        }
+        rest = more;
+        number += 1;
+    }
+    if overlong {
+        return push_end(out, overlong);
+    }
+    push_refused(out, number, Why::Order)
+}
+
+// The part of an input that is looked at: all of it, and of an overlong one the lines whose LF is looked at.
+fn looked_part(text: &[u8], overlong: bool) -> &[u8]
+    requires { overlong ≡ is_overlong text.now }
+    ensures lines { lines_of result.now ≡ looked_lines text.now }
+    ensures within { length result.now ≤ length text.now }
+{
+    if overlong {
+        return ended_part(front(text, INPUT_LIMIT));
+    }
+    text
+}
+
+// The lines that are looked at, if any: none are played to their end at once.
+fn play_looked(alloc: Global, text: &[u8], overlong: bool, out: &mut Vec<u8>) -> Result<Status, Mem>
+    requires { length text.now ≤ 2 ^ 27 }
+    ensures { IfOk result (λ status. Finishes (outcome_of_lines overlong (lines_of text.now)) status out.old.items out.new.items) }
+{
+    if next_line(text).is_none() {
+        return push_end(out, overlong);
+    }
+    play_lines(alloc, text, overlong, out)
+}
+
+// What an input prints.
+fn play_text(alloc: Global, text: &[u8], out: &mut Vec<u8>) -> Result<Status, Mem>
+    requires { length text.now ≤ input_limit + 1 }
+    ensures { IfOk result (λ status. Finishes (outcome_of text.now) status out.old.items out.new.items) }
+{
+    let overlong = text.len() > INPUT_LIMIT;
+    play_looked(alloc, looked_part(text, overlong), overlong, out)
+}
+
+/// Plays the input that a source has left, and writes what it prints to a sink: a description, and then the steps of a
+/// script, up to the first line that is refused.
+pub fn play<S: Source, K: Sink>(alloc: Global, input: &mut S, output: &mut K) -> Status
+    ensures transcript { IfSome (S.left input.old) (λ left. IfSome (K.written output.old) (λ written.
+        Plays left written result (K.written output.new))) }
+    ensures read_fault { result ≡ Status.ReadFault → Rose (S.faults input.old) (S.faults input.new) }
+    ensures write_fault { result ≡ Status.WriteFault → Rose (K.faults output.old) (K.faults output.new) }
+    ensures words { result ≡ Status.Usage → ⊥ }
+    ensures counted { (S.faults input.old ≤ S.faults input.new) × (K.faults output.old ≤ K.faults output.new) }
+    ensures silent { (IfNone (S.left input.old) (S.left input.new ≡ None)) × (IfNone (K.written output.old) (K.written output.new ≡ None)) }
+{
+    let text = match read_whole(alloc, input, INPUT_LIMIT) {
+        Ok(text) => text,
+        Err(ReadEnd::Failed) => return Status::ReadFault,
+        Err(ReadEnd::Mem) => return Status::Memory,
+    };
+    let mut out = Vec::new(alloc);
+    let Ok(status) = play_text(alloc, text.as_slice(), &mut out) else {
+        return Status::Memory;
+    };
+    match write_whole(output, out.as_slice()) {
+        Ok(()) => status,
+        Err(_) => Status::WriteFault,
+    }
+}

@@ -1,0 +1,160 @@
+//! The lines of a script as steps.
+
+ghost use Rattle.std.specs.Prelude.{◌≡◌, ◌≤◌, length, IfOk, IfErr, option_copied, true};
+ghost use Rattle.std.specs.List.{list_any};
+ghost use Rattle.std.specs.Str.{bytes_eq};
+ghost use Rattle.iio_text.specs.Words.{words_of, is_space};
+ghost use Rattle.iio_attr.specs.Name.{is_name};
+ghost use Rattle.iio_script.specs.Fault.{Explains};
+ghost use Rattle.iio_desc.specs.Description.{Description};
+ghost use Rattle.iio_script.specs.Play.{IsRight};
+ghost use Rattle.iio_script.specs.Step.{is_step_word, are_lines, from_quote, has_quote_first, feed_step, fire_step, step_of_words, step_of};
+
+use iio_attr::Name;
+use iio_desc::{Desc, is_printable_text, two_words};
+use iio_history::{Quoted, Step};
+use iio_text::words::{Blanks, next_word};
+use iio_text::{Unescape, Why, between_quotes, read_int, unescape};
+use std::alloc::Global;
+use thiserror::Error;
+
+/// The most bytes of a connection's line before its LF.
+const MOST_LINE_BYTES: usize = 1024;
+
+/// Why a line is no step.
+#[derive(Clone, Copy, Debug, PartialEq, Eq, Error)]
+pub enum StepFault {
+    /// The first check that fails.
+    #[error("refused: {}", .0.text())]
+    Why(Why),
+    /// Want of memory.
+    #[error("out of memory")]
+    Mem,
+}
+
+impl From<Why> for StepFault {
+    ghost use Rattle.std.specs.Prelude.{◌≡◌};
+    ghost use Rattle.iio_script.specs.declared.step.StepFault.TheVariants.{Why as Refused};
+
+    ghost from_gives = { λ why e. e ≡ Refused why };
+
+    fn from(why: Why) -> StepFault {
+        StepFault::Why(why)
+    }
+}
+
+// Whether a word is one of the words of steps, which are no names of connections.
+fn is_step_word(word: &[u8]) -> bool
+    ensures { result ≡ is_step_word word.now }
+{
+    word == b"fire".as_slice()
+        || word == b"poll".as_slice()
+        || word == b"handle".as_slice()
+        || word == b"sense".as_slice()
+        || word == b"clock".as_slice()
+        || word == b"drop".as_slice()
+        || word == b"unplug".as_slice()
+}
+
+// Whether bytes are whole lines that a connection may send.
+fn are_lines(bytes: &[u8]) -> bool
+    ensures { result ≡ are_lines 0 bytes.now }
+{
+    let mut len = 0;
+    for byte in bytes {
+        if *byte == b'\n' {
+            len = 0;
+        } else if *byte == b'\r' || len >= MOST_LINE_BYTES {
+            return false;
+        } else {
+            len += 1;
+        }
+    }
+    len == 0
+}
+
+// The part of a line from its first quote on.
+fn from_quote(line: &[u8]) -> &[u8]
+    ensures { result.now ≡ from_quote line.now }
+{
+    for (i, byte) in line.iter().enumerate() {
+        if *byte == b'"' {
+            return &line[i..];
+        }
+    }
+    &line[line.len()..]
+}
+
+fn has_quote_first(words: &[u8]) -> bool
+    ensures { result ≡ has_quote_first (words_of is_space words.now) }
+{
+    match next_word(words, Blanks::Spaces) {
+        None => false,
+        Some((word, _)) => matches!(word, [b'"', ..]),
+    }
+}
+
+// `NAME "bytes"`
+fn read_feed(alloc: Global, line: &[u8], who: &[u8], words: &[u8]) -> Result<Step, StepFault>
+    requires { is_name who.now ≡ true }
+    ensures ok { IfOk result (λ step. feed_step line.now who.now (words_of is_space words.now) ≡ Ok step) }
+    ensures err { IfErr result (λ e. Explains e (feed_step line.now who.now (words_of is_space words.now))) }
+    ensures right { IfOk result (λ step. (desc : Description) → IsRight desc step) }
+{
+    if !has_quote_first(words) {
+        return Err(StepFault::Why(Why::Count));
+    }
+    let inner = between_quotes(from_quote(line)).ok_or(Why::Text)?;
+    let bytes = match unescape(alloc, inner) {
+        Ok(bytes) => bytes,
+        Err(Unescape::BadEscape(_)) => return Err(StepFault::Why(Why::Text)),
+        Err(Unescape::Mem) => return Err(StepFault::Mem),
+    };
+    if !are_lines(bytes.as_slice()) {
+        return Err(StepFault::Why(Why::Word));
+    }
+    let name = Name::new(who).unwrap();
+    Ok(Step::Feed(name, Quoted::new(bytes)))
+}
+
+// `fire TRIGGER T`
+fn read_fire(desc: &Desc, words: &[u8]) -> Result<Step, Why>
+    requires { length desc.now.triggers ≤ 16 }
+    ensures value { result ≡ fire_step desc.now (words_of is_space words.now) }
+    ensures right { IfOk result (IsRight desc.now) }
+{
+    let (trigger, moment) = two_words(words).ok_or(Why::Count)?;
+    let trigger = desc.find_trigger(trigger).ok_or(Why::Trigger)?;
+    let moment = read_int(moment).ok_or(Why::Number)?;
+    Ok(Step::Fire(trigger, moment))
+}
+
+// A line by its first word.
+fn read_words(alloc: Global, desc: &Desc, line: &[u8]) -> Result<Step, StepFault>
+    requires { length desc.now.triggers ≤ 16 }
+    ensures ok { IfOk result (λ step. step_of_words desc.now line.now (words_of is_space line.now) ≡ Ok step) }
+    ensures err { IfErr result (λ e. Explains e (step_of_words desc.now line.now (words_of is_space line.now))) }
+    ensures right { IfOk result (IsRight desc.now) }
+{
+    let (word, words) = next_word(line, Blanks::Spaces).ok_or(Why::Word)?;
+    if word == b"fire".as_slice() {
+        return Ok(read_fire(desc, words)?);
+    }
+    if is_step_word(word) || Name::new(word).is_none() {
+        return Err(StepFault::Why(Why::Word));
+    }
+    read_feed(alloc, line, word, words)
+}
+
+/// The step that a line of a script says, without its LF. An `Err` tells the first check that fails.
+pub fn read_step(alloc: Global, desc: &Desc, line: &[u8]) -> Result<Step, StepFault>
+    requires { length desc.now.triggers ≤ 16 }
+    ensures ok { IfOk result (λ step. step_of desc.now line.now ≡ Ok step) }
+    ensures err { IfErr result (λ e. Explains e (step_of desc.now line.now)) }
+    ensures right { IfOk result (IsRight desc.now) }
+{
+    if !is_printable_text(line) {
+        return Err(StepFault::Why(Why::Text));
+    }
+    read_words(alloc, desc, line)
+}

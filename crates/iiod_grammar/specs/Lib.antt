@@ -1,0 +1,4 @@
+pub mod Command
+pub mod Built
+pub mod Stream
+pub mod Spoken

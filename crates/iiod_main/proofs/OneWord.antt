@@ -1,0 +1,24 @@
+-- A list of one word.
+use Rattle.std.proofs.Common.{◌≡◌, ◌↔◌, ◌<◌, ◌≤◌, ◌∙◌, ℕ, Bool, IsTrue, List, [], ◌∷◌, length, get_or, slice_index_or, arith, ap, sym}
+use Rattle.std.proofs.lemmas.Slice.Eq.{bytes_eq-Decides}
+use Rattle.std.specs.Str.{bytes_eq}
+use Rattle.std.specs.Prelude.{map, String, string_bytes}
+
+one_word : {A : Type 0} (words : List (String A)) (w : String A) → 1 ≤ length words → length words < 2 → w ≡ slice_index_or words 0 w
+    → map string_bytes words ≡ string_bytes w ∷ []
+one_word [] w some one e = absurd (omega arith)
+one_word (x ∷ []) w some one e = ap (λ v. string_bytes v ∷ []) (sym e)
+one_word (x ∷ y ∷ zs) w some one e = absurd (omega arith)
+
+same_as : (bs text : List ℕ) (r : Bool) → r ≡ bytes_eq bs text → bs ∷ [] ≡ text ∷ [] → IsTrue r
+same_as bs text r e h = e ∙ (bytes_eq-Decides bs text).1 (ap (λ (l : List (List ℕ)). get_or l 0 []) h)
+
+same_text : (bs text : List ℕ) (r : Bool) → r ≡ bytes_eq bs text → IsTrue r → bs ≡ text
+same_text bs text r e h = (bytes_eq-Decides bs text).0 (sym e ∙ h)
+
+-- whether the one word is the text
+pub says : {A : Type 0} (words : List (String A)) (w : String A) (text : List ℕ) (r : Bool) → 1 ≤ length words → length words < 2
+    → w ≡ slice_index_or words 0 w → r ≡ bytes_eq (string_bytes w) text → IsTrue r ↔ (map string_bytes words ≡ text ∷ [])
+says words w text r some one e h =
+    let word = one_word words w some one e in
+    ((λ t. word ∙ ap (λ (v : List ℕ). v ∷ []) (same_text (string_bytes w) text r h t)), (λ same. same_as (string_bytes w) text r h (sym word ∙ same)))
