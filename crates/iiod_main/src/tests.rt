@@ -82,21 +82,21 @@ fn examples_are_played(rt: HostRuntime) -> Result<(), Fail> {
     Ok(())
 }
 
-// Three reads of a hundred bytes are made: the third gives the end.
+// One byte a read: each read of the text fails in turn, and then the one that gives the end.
 #[test]
 fn failing_reads_end_the_run(rt: HostRuntime) -> Result<(), Fail> {
     let alloc = rt.alloc();
-    for (failing, status) in [(1u64, 3u8), (2, 3), (3, 3), (4, 0)] {
-        let mut input = source(alloc, FIRST_PATH, 100, &[failing])?;
+    let reads = FIRST_PATH.len() as u64 + 1;
+    for failing in 1..=reads {
+        let mut input = source(alloc, FIRST_PATH, 1, &[failing])?;
         let mut output = sink(alloc, 1000, &[])?;
         let ended = played(alloc, &mut input, &mut output)?;
-        assert_eq!(rt; code(ended), status, "at read {failing}");
-        assert_eq!(rt;
-            output.written().is_empty(),
-            status == 3,
-            "at read {failing}"
-        );
+        assert_eq!(rt; ended, Status::ReadFault, "at read {failing}");
+        assert!(rt; output.written().is_empty(), "at read {failing}");
     }
+    let mut input = source(alloc, FIRST_PATH, 1, &[reads + 1])?;
+    let mut output = sink(alloc, 1000, &[])?;
+    assert_eq!(rt; played(alloc, &mut input, &mut output)?, Status::Done);
     Ok(())
 }
 
@@ -133,73 +133,110 @@ fn failing_writes_end_the_run(rt: HostRuntime) -> Result<(), Fail> {
     Ok(())
 }
 
-// Each input is a head and a line or more behind it.
+/// A line of a connection that opened nothing, and its answer. A scan of the device has 2 bytes.
+const ANSWERS: &[(&[u8], &[u8])] = &[
+    (b"", b""),
+    (b"OPEN d 1 00000001", b"0\\n"),
+    (b"OPEN d 16384 00000001", b"0\\n"),
+    (b"OPEN d 16385 00000001", b"-22\\n"),
+    (b"OPEN d 4294967295 00000001", b"-22\\n"),
+    (b"OPEN d 0 00000001", b"-22\\n"),
+    (b"OPEN d 1 00000000", b"-22\\n"),
+    (b"OPEN d 1 00000002", b"-22\\n"),
+    (b"OPEN d 1 0000000g", b"-22\\n"),
+    (b"OPEN d 1 1", b"-22\\n"),
+    (b"OPEN e 0 1", b"-19\\n"),
+    (b"OPEN d 1 00000001 CYCLIC", b"-22\\n"),
+    (b"READBUF d 2", b"-9\\n"),
+    (b"READBUF e 2", b"-19\\n"),
+    (b"READBUF d 4294967296", b"-22\\n"),
+    (b"READBUF d", b"-22\\n"),
+    (b"CLOSE d", b"-22\\n"),
+];
+
+#[test]
+fn commands_are_answered(rt: HostRuntime) -> Result<(), Fail> {
+    let alloc = rt.alloc();
+    for (line, answer) in ANSWERS {
+        let mut text = DEVICE.to_vec(alloc)?;
+        text.extend_from_slice(b"%%\nA \"")?;
+        text.extend_from_slice(line)?;
+        text.extend_from_slice(b"\\n\"\n")?;
+        let mut printed = b"A \"".to_vec(alloc)?;
+        printed.extend_from_slice(answer)?;
+        printed.extend_from_slice(b"\"\n")?;
+        let mut input = MemSource::new(text, 1000, Vec::new(alloc));
+        let mut output = sink(alloc, 1000, &[])?;
+        assert_eq!(rt; played(alloc, &mut input, &mut output)?, Status::Done);
+        assert_eq!(rt; output.written(), printed.as_slice());
+    }
+    Ok(())
+}
+
+/// A head of an input, a line or more behind it, and what they print.
+const REFUSED: &[(&[u8], &[u8], &[u8])] = &[
+    (b"", b"trigger t0\n", b"refused 1 word\n"),
+    (b"", b"trigger t0 0\n", b"refused 1 word\n"),
+    (b"", b"trigger t0 9\n", b"refused 1 word\n"),
+    (b"", b"trigger t0 02\n", b"refused 1 word\n"),
+    (b"", b"trigger\tt0 2\n", b"refused 1 word\n"),
+    (b"", b"trigger t0 2\r\n", b"refused 1 word\n"),
+    (b"", b"\n", b"refused 1 word\n"),
+    (b"", b"device d t\n", b"refused 1 word\n"),
+    (b"", b"trigger t 1\ndevice d u\n", b"refused 2 word\n"),
+    (
+        b"",
+        b"trigger t 1\ndevice d t\nrow 0\n",
+        b"refused 3 word\n",
+    ),
+    (
+        b"",
+        b"trigger t 1\ndevice d t\nchannel voltage0 le:u12/16>>8\n",
+        b"refused 3 word\n",
+    ),
+    (
+        b"",
+        b"trigger t 1\ndevice d t\nchannel voltage0 le:u12/16\n",
+        b"refused 3 word\n",
+    ),
+    (
+        b"",
+        b"trigger t 1\ndevice d t\nchannel timestamp le:u8/16>>0\n",
+        b"refused 3 word\n",
+    ),
+    (DEVICE, b"", b"refused 4 word\n"),
+    (DEVICE, b"timestamp\n", b"refused 4 word\n"),
+    (
+        DEVICE,
+        b"channel voltage0 le:u8/16>>0\n",
+        b"refused 4 word\n",
+    ),
+    (DEVICE, b"row 0 1 2\n", b"refused 4 word\n"),
+    (DEVICE, b"row 0\n", b"refused 4 word\n"),
+    (DEVICE, b"row 5 1\nrow 5 2\n", b"refused 5 word\n"),
+    (DEVICE, b"%% more\n", b"refused 4 word\n"),
+    (DEVICE, b"%%\nfire u 1\n", b"refused 5 word\n"),
+    (DEVICE, b"%%\nfire t\n", b"refused 5 word\n"),
+    (DEVICE, b"%%\nA \"OPEN\"\n", b"refused 5 word\n"),
+    (DEVICE, b"%%\nA \"OPEN\\q\\n\"\n", b"refused 5 word\n"),
+    (DEVICE, b"%%\nfire \"\\n\"\n", b"refused 5 word\n"),
+    (
+        DEVICE,
+        b"%%\nA \"X\\n\"\nB \"X\\n\"\n",
+        b"A \"-22\\n\"\nrefused 6 word\n",
+    ),
+];
+
 #[test]
 fn refused_lines_are_told(rt: HostRuntime) -> Result<(), Fail> {
     let alloc = rt.alloc();
-    let none = b"".as_slice();
-    for (head, lines, printed) in [
-        (
-            none,
-            b"trigger t0\n".as_slice(),
-            b"refused 1 word\n".as_slice(),
-        ),
-        (none, b"trigger t0 0\n", b"refused 1 word\n"),
-        (none, b"trigger t0 9\n", b"refused 1 word\n"),
-        (none, b"trigger t0 02\n", b"refused 1 word\n"),
-        (none, b"trigger\tt0 2\n", b"refused 1 word\n"),
-        (none, b"trigger t0 2\r\n", b"refused 1 word\n"),
-        (none, b"\n", b"refused 1 word\n"),
-        (none, b"device d t\n", b"refused 1 word\n"),
-        (none, b"trigger t 1\ndevice d u\n", b"refused 2 word\n"),
-        (
-            none,
-            b"trigger t 1\ndevice d t\nrow 0\n",
-            b"refused 3 word\n",
-        ),
-        (
-            none,
-            b"trigger t 1\ndevice d t\nchannel voltage0 le:u12/16>>8\n",
-            b"refused 3 word\n",
-        ),
-        (
-            none,
-            b"trigger t 1\ndevice d t\nchannel voltage0 le:u12/16\n",
-            b"refused 3 word\n",
-        ),
-        (
-            none,
-            b"trigger t 1\ndevice d t\nchannel timestamp le:u8/16>>0\n",
-            b"refused 3 word\n",
-        ),
-        (DEVICE, b"", b"refused 4 word\n"),
-        (DEVICE, b"timestamp\n", b"refused 4 word\n"),
-        (
-            DEVICE,
-            b"channel voltage0 le:u8/16>>0\n",
-            b"refused 4 word\n",
-        ),
-        (DEVICE, b"row 0 1 2\n", b"refused 4 word\n"),
-        (DEVICE, b"row 0\n", b"refused 4 word\n"),
-        (DEVICE, b"row 5 1\nrow 5 2\n", b"refused 5 word\n"),
-        (DEVICE, b"%% more\n", b"refused 4 word\n"),
-        (DEVICE, b"%%\nfire u 1\n", b"refused 5 word\n"),
-        (DEVICE, b"%%\nfire t\n", b"refused 5 word\n"),
-        (DEVICE, b"%%\nA \"OPEN\"\n", b"refused 5 word\n"),
-        (DEVICE, b"%%\nA \"OPEN\\q\\n\"\n", b"refused 5 word\n"),
-        (DEVICE, b"%%\nfire \"\\n\"\n", b"refused 5 word\n"),
-        (
-            DEVICE,
-            b"%%\nA \"X\\n\"\nB \"X\\n\"\n",
-            b"A \"-22\\n\"\nrefused 6 word\n",
-        ),
-    ] {
+    for (head, lines, printed) in REFUSED {
         let mut text = head.to_vec(alloc)?;
         text.extend_from_slice(lines)?;
         let mut input = MemSource::new(text, 1000, Vec::new(alloc));
         let mut output = sink(alloc, 1000, &[])?;
         assert_eq!(rt; code(played(alloc, &mut input, &mut output)?), 1);
-        assert_eq!(rt; output.written(), printed);
+        assert_eq!(rt; output.written(), *printed);
     }
     Ok(())
 }
