@@ -29,63 +29,65 @@ fn names(rt: HostRuntime) -> Result<(), Fail> {
     Ok(())
 }
 
+/// A name in a scope, the attribute that it names, and whether that may be written.
+const ROWS: &[(Scope, &str, Option<Attr>, bool)] = &[
+    (Scope::Device, "name", Some(Attr::Name), false),
+    (
+        Scope::Device,
+        "sampling_frequency",
+        Some(Attr::SamplingFrequency),
+        true,
+    ),
+    (Scope::Channel, "raw", Some(Attr::Raw), false),
+    (Scope::Channel, "calibbias", Some(Attr::Calibbias), true),
+    (Scope::Channel, "scale", Some(Attr::Scale), true),
+    (Scope::Channel, "offset", Some(Attr::Offset), true),
+    (Scope::Channel, "calibscale", Some(Attr::Calibscale), true),
+    (
+        Scope::Channel,
+        "thresh_rising_value",
+        Some(Attr::ThreshRisingValue),
+        true,
+    ),
+    (
+        Scope::Channel,
+        "thresh_falling_value",
+        Some(Attr::ThreshFallingValue),
+        true,
+    ),
+    (
+        Scope::Channel,
+        "thresh_rising_en",
+        Some(Attr::ThreshRisingEn),
+        true,
+    ),
+    (
+        Scope::Channel,
+        "thresh_falling_en",
+        Some(Attr::ThreshFallingEn),
+        true,
+    ),
+    (Scope::Buffer, "overruns", Some(Attr::Overruns), false),
+    (
+        Scope::Buffer,
+        "data_available",
+        Some(Attr::DataAvailable),
+        false,
+    ),
+    (Scope::Buffer, "length", Some(Attr::Length), false),
+    (Scope::Device, "raw", None, false),
+    (Scope::Channel, "name", None, false),
+    (Scope::Buffer, "scale", None, false),
+    (Scope::Channel, "Raw", None, false),
+    (Scope::Channel, "", None, false),
+];
+
 #[test]
 fn names_by_scope(rt: HostRuntime) {
-    let rows = [
-        (Scope::Device, "name", Some(Attr::Name), false),
-        (
-            Scope::Device,
-            "sampling_frequency",
-            Some(Attr::SamplingFrequency),
-            true,
-        ),
-        (Scope::Channel, "raw", Some(Attr::Raw), false),
-        (Scope::Channel, "calibbias", Some(Attr::Calibbias), true),
-        (Scope::Channel, "scale", Some(Attr::Scale), true),
-        (Scope::Channel, "offset", Some(Attr::Offset), true),
-        (Scope::Channel, "calibscale", Some(Attr::Calibscale), true),
-        (
-            Scope::Channel,
-            "thresh_rising_value",
-            Some(Attr::ThreshRisingValue),
-            true,
-        ),
-        (
-            Scope::Channel,
-            "thresh_falling_value",
-            Some(Attr::ThreshFallingValue),
-            true,
-        ),
-        (
-            Scope::Channel,
-            "thresh_rising_en",
-            Some(Attr::ThreshRisingEn),
-            true,
-        ),
-        (
-            Scope::Channel,
-            "thresh_falling_en",
-            Some(Attr::ThreshFallingEn),
-            true,
-        ),
-        (Scope::Buffer, "overruns", Some(Attr::Overruns), false),
-        (
-            Scope::Buffer,
-            "data_available",
-            Some(Attr::DataAvailable),
-            false,
-        ),
-        (Scope::Buffer, "length", Some(Attr::Length), false),
-        (Scope::Device, "raw", None, false),
-        (Scope::Channel, "name", None, false),
-        (Scope::Buffer, "scale", None, false),
-        (Scope::Channel, "Raw", None, false),
-        (Scope::Channel, "", None, false),
-    ];
-    for (scope, name, want, can_write) in rows {
-        let found = find(scope, name.as_bytes());
-        assert_eq!(rt; found, want, "{name}");
-        assert_eq!(rt; found.is_some_and(writable), can_write, "{name}");
+    for (scope, name, want, can_write) in ROWS {
+        let found = find(*scope, name.as_bytes());
+        assert_eq!(rt; found, *want, "{name}");
+        assert_eq!(rt; found.is_some_and(writable), *can_write, "{name}");
     }
 }
 
