@@ -20,12 +20,14 @@ impl Model for Quoted {
 }
 
 impl Quoted {
+    /// A text of these bytes, as they are: any bytes, not yet escaped.
     pub fn new(bytes: Vec<u8>) -> Quoted
         ensures { result ≡ bytes.items }
     {
         Quoted { bytes }
     }
 
+    /// The bytes, as they are.
     pub fn bytes(&self) -> &[u8]
         ensures { result.now ≡ self.now }
     {
