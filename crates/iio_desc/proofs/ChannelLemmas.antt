@@ -1,5 +1,7 @@
 -- A channel more.
-use Rattle.std.proofs.Common.{◌≡◌, ℕ, zero, suc, ◌+◌, ◌<◌, Bool, true, false, ◌||◌, List, [], ◌∷◌, ◌++◌, length, get_or, AllPairs, sum_by, refl, ap, ◌∙◌, zero-add, arith}
+use Rattle.std.proofs.Common.{◌≡◌, ℕ, zero, suc, ◌+◌, ◌<◌, Bool, true, false, ◌||◌, List, [], ◌∷◌, ◌++◌, length, get_or, AllPairs, sum_by, Option, Some, None, ℤ, is_none, ◌&&◌, ◌==◌, refl, ap, ◌∙◌, zero-add, arith}
+use Rattle.std.proofs.Math.Dec.{eqb-suc-zero}
+use Rattle.std.proofs.lemmas.Bool.{false≢true}
 use Rattle.std.proofs.lemmas.List.Sums.{sum_by-append}
 use Rattle.std.specs.List.{list_any}
 use Rattle.std.proofs.lemmas.List.Quantifiers.{all_pairs_push}
@@ -9,7 +11,9 @@ use Rattle.iio_layout.specs.declared.channel.Suffix.{Suffix}
 use Rattle.iio_layout.specs.declared.channel.Direction.TheVariants.{Input}
 use Rattle.iio_layout.specs.declared.channel.Channel.{Channel}
 use Rattle.iio_layout.specs.Shape.{same_channel}
-use Rattle.iio_desc.specs.Line.{has_id}
+use Rattle.iio_scan_type.specs.declared.Endian.{Endian}
+use Rattle.iio_desc.specs.Draft.{Sketch}
+use Rattle.iio_desc.specs.Line.{has_id, has_only_channels}
 
 or_false : (a b : Bool) → (a || b) ≡ false → (a ≡ false) × (b ≡ false)
 or_false true b h = (h, cc)
@@ -32,3 +36,14 @@ distinct_push channels id ty distinct own =
 -- the values of a row with a channel more
 pub width_push : (channels : List Channel) (c : Channel) → sum_by (λ (x : Channel). x.ty.repeat) (channels ++ c ∷ []) ≡ sum_by (λ (x : Channel). x.ty.repeat) channels + c.ty.repeat
 width_push channels c = sum_by-append (λ (x : Channel). x.ty.repeat) channels (c ∷ []) ∙ ap (λ n. sum_by (λ (x : Channel). x.ty.repeat) channels + n) (zero-add c.ty.repeat)
+
+-- a device whose only lines are channels has no timestamp, no masks and no rows
+pub only_channels : (s : Sketch) → has_only_channels s ≡ true → (s.stamp ≡ None) × (s.listed ≡ []) × (s.moments ≡ [])
+only_channels s h = only s.stamp s.listed s.moments h
+  where
+    only : (stamp : Option Endian) (listed : List ℕ) (moments : List ℤ) → (is_none stamp && length listed == 0 && length moments == 0) ≡ true
+        → (stamp ≡ None) × (listed ≡ []) × (moments ≡ [])
+    only (Some endian) listed moments h = cc
+    only None (m ∷ ms) moments h = absurd (false≢true (rw (eqb-suc-zero (length ms)) at h))
+    only None [] (m ∷ ms) h = absurd (false≢true (rw (eqb-suc-zero (length ms)) at h))
+    only None [] [] h = (refl, refl, refl)

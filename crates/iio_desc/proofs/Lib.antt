@@ -1,4 +1,6 @@
-mod WordLemmas
+pub mod WordLemmas
 pub mod RowLemmas
-pub mod StageLemmas
 pub mod ChannelLemmas
+pub mod MaskLemmas
+pub mod DeviceLemmas
+mod TextLemmas

@@ -1,5 +1,5 @@
 -- What reading the numbers of a row comes to.
-use Rattle.std.proofs.Common.{◌≡◌, ℕ, suc, ◌-◌, ◌*◌, ◌<◌, ◌≤◌, true, ℤ, inl, inr, subst, get_or, option_map, add-one, length-append, ◌<ℤ◌, List, [], ◌∷◌, ◌++◌, length, Option, Some, None, Result, Ok, Err, refl, sym, ap, ◌∙◌, arith, le-ltb, lt-ltb}
+use Rattle.std.proofs.Common.{◌≡◌, ℕ, suc, ◌+◌, ◌-◌, ◌*◌, ◌<◌, ◌≤◌, true, ℤ, inl, inr, subst, get_or, option_map, add-one, length-append, ◌<ℤ◌, List, [], ◌∷◌, ◌++◌, length, Option, Some, None, Ok, Err, refl, sym, ap, ◌∙◌, arith, le-ltb, lt-ltb}
 use Rattle.std.proofs.Math.Nat.{suc-mul}
 use Rattle.std.proofs.Math.Seq.{get_or-append_seam}
 use Rattle.std.proofs.lemmas.Bool.{cases_lt}
@@ -8,37 +8,29 @@ use Rattle.std.proofs.lemmas.List.{get_or_append_left}
 use Rattle.std.proofs.lemmas.Option.{slice_get-get_or}
 use Rattle.std.specs.Int.Signed.{lt_z}
 use Rattle.iio_text.specs.Numbers.{int_of}
-use Rattle.iio_desc.specs.Recording.{Rises}
-use Rattle.iio_text.specs.declared.refusals.Why.{Why}
-use Rattle.iio_text.specs.declared.refusals.Why.TheVariants.{Number, Limit}
-use Rattle.iio_desc.specs.declared.lines.LineFault.{LineFault}
-use Rattle.iio_desc.specs.declared.lines.LineFault.TheVariants.{Why as Refused, Mem}
+use Rattle.iio_text.specs.declared.refusals.Why.TheVariants.{Limit}
+use Rattle.iio_layout.specs.Rows.{Rises}
 use Rattle.iio_desc.specs.Draft.{Sketch}
-use Rattle.iio_desc.specs.Fault.{Explains}
-use Rattle.iio_desc.specs.Line.{said, ints_of, ints_read, rises, row_values}
+use Rattle.iio_desc.specs.Line.{ints_of, rises, row_values}
 
-said_err : {B : Type 0} (o : Option (List ℤ)) (next : List ℤ → Result B Why) (why : Why) → said {B = List ℤ} o Number (λ vs. Ok vs) ≡ Err why → said o Number next ≡ Err why
-said_err None next why h = let same : Number ≡ why = cc in ap (λ w. Err w) same
-said_err (Some vs) next why h = cc
-
-said_ok : {B : Type 0} (o : Option (List ℤ)) (next : List ℤ → Result B Why) (vs : List ℤ) → said {B = List ℤ} o Number (λ ws. Ok ws) ≡ Ok vs → said o Number next ≡ next vs
-said_ok None next vs h = cc
-said_ok (Some ws) next vs h = let same : ws ≡ vs = cc in ap next same
-
--- what keeps the numbers from being read keeps the row from being read
-pub Explains_row_values : (e : LineFault) (s : Sketch) (moment : ℤ) (words : List (List ℕ)) → Explains e (ints_read words) → Explains e (row_values s moment words)
-Explains_row_values (Refused why) s moment words h = said_err (ints_of words) _ why h
-Explains_row_values Mem s moment words h = tt
+-- numbers that were read behind others are a list of them
+appended : (old new : List ℤ) (o : Option (List ℤ)) → option_map (λ (vs : List ℤ). old ++ vs) o ≡ Some new → (vs : List ℤ) × (o ≡ Some vs) × (new ≡ old ++ vs)
+appended old new None h = cc
+appended old new (Some vs) h = let same : old ++ vs ≡ new = cc in (vs, refl, sym same)
 
 -- a row whose numbers were read
-pub row_values_read : (s : Sketch) (moment : ℤ) (words : List (List ℕ)) (vs : List ℤ) → ints_read words ≡ Ok vs → length s.moments < 1000000
-    → row_values s moment words ≡ Ok (record s { moments = s.moments ++ moment ∷ []; values = s.values ++ vs })
-row_values_read s moment words vs h room = said_ok (ints_of words) _ vs h ∙ rw (lt-ltb _ _ room) refl
+pub row_values_read : (earlier : ℕ) (s : Sketch) (moment : ℤ) (words : List (List ℕ)) (new : List ℤ) → option_map (λ (vs : List ℤ). s.values ++ vs) (ints_of words) ≡ Some new
+    → earlier + length s.moments < 1000000 → row_values earlier s moment words ≡ Ok (record s { moments = s.moments ++ moment ∷ []; values = new })
+row_values_read earlier s moment words new h room =
+    let read = appended s.values new (ints_of words) h in
+    rw (read.1, lt-ltb _ _ room) (ap (λ (n : List ℤ). Ok (record s { moments = s.moments ++ moment ∷ []; values = n })) (sym read.2))
 
 -- and one too many
-pub row_values_full : (s : Sketch) (moment : ℤ) (words : List (List ℕ)) (vs : List ℤ) → ints_read words ≡ Ok vs → 1000000 ≤ length s.moments
-    → row_values s moment words ≡ Err Limit
-row_values_full s moment words vs h full = said_ok (ints_of words) _ vs h ∙ rw (le-ltb _ _ full) refl
+pub row_values_full : (earlier : ℕ) (s : Sketch) (moment : ℤ) (words : List (List ℕ)) (new : List ℤ) → option_map (λ (vs : List ℤ). s.values ++ vs) (ints_of words) ≡ Some new
+    → 1000000 ≤ earlier + length s.moments → row_values earlier s moment words ≡ Err Limit
+row_values_full earlier s moment words new h full =
+    let read = appended s.values new (ints_of words) h in
+    rw (read.1, le-ltb _ _ full) refl
 
 -- a moment above the last one is above all
 above_last : (moments : List ℤ) (m : ℤ) → Rises moments → rises moments m ≡ true → (i : ℕ) (d : ℤ) → i < length moments → get_or moments i d <ℤ m
@@ -82,9 +74,9 @@ length_read (w ∷ ws) vs h =
     let more = more_ints (int_of w) (ints_of ws) vs h in
     ap length more.3 ∙ ap suc (length_read ws more.1 more.2)
 
-pub length-ints_read : (words : List (List ℕ)) (vs : List ℤ) → ints_read words ≡ Ok vs → length vs ≡ length words
-length-ints_read words vs h = length_read words vs (some_read (ints_of words) h)
-  where
-    some_read : (o : Option (List ℤ)) → said {B = List ℤ} o Number (λ ws. Ok ws) ≡ Ok vs → o ≡ Some vs
-    some_read None h = cc
-    some_read (Some xs) h = let same : xs ≡ vs = cc in ap Some same
+-- as many numbers behind the others as words
+pub length-ints_of : (words : List (List ℕ)) (old new : List ℤ) → option_map (λ (vs : List ℤ). old ++ vs) (ints_of words) ≡ Some new
+    → (vs : List ℤ) × (length vs ≡ length words) × (new ≡ old ++ vs)
+length-ints_of words old new h =
+    let read = appended old new (ints_of words) h in
+    (read.0, length_read words read.0 read.1, read.2)

@@ -1,8 +1,8 @@
 pub mod Description
 pub mod Draft
 pub mod Line
+pub mod Text
 pub mod Stage
 pub mod View
 pub mod Fault
-pub mod OnePath
-pub mod Recording
+pub mod WellFormed

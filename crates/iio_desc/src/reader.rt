@@ -1,60 +1,41 @@
 //! The lines of a description, one after another.
 
-ghost use Rattle.std.specs.Prelude.{◌≡◌, ℕ, ◌+◌, ◌<◌, ◌≤◌, length, option_map, Some, None, Ok, Err, IsSome, IfSome, IfErr, OnOk, OnErr, IfOk, vec_len, take, ◌++◌, ◌⊎◌, true, false, []};
+ghost use Rattle.std.specs.Prelude.{◌≡◌, ◌+◌, ◌<◌, ◌≤◌, ◌++◌, length, option_map, Some, None, Ok, Err, IfSome, IfErr, OnOk, OnErr, IfOk, vec_len, vec_capacity, true};
 ghost use Rattle.std.specs.List.{list_any};
 ghost use Rattle.std.specs.Str.{bytes_eq};
 ghost use Rattle.iio_text.specs.Words.{words_of, is_space};
-ghost use Rattle.iio_desc.specs.Draft.{is_taken, device_of, blank_draft, sketched_width};
+ghost use Rattle.iio_text.specs.Escape.{quoted_of};
+ghost use Rattle.iio_desc.specs.Draft.{is_taken, is_current_named, blank_draft, blank_sketch, all_devices, device_count, earlier_rows};
 ghost use Rattle.iio_desc.specs.Fault.{Explains, Misses};
-ghost use Rattle.iio_desc.specs.Line.{places_of, trigger_line, trigger_number, ints_read, Appends, rises, row_values, row_words, with_row, with_channel, named_channel, push_channel, own_id, has_id, is_device_whole, device_line, device_part, line_of_words, after_line, is_end, finished};
-ghost use Rattle.iio_desc.specs.Stage.{most_triggers, type_read};
-ghost use Rattle.iio_desc.specs.OnePath.{IsOnePath};
+ghost use Rattle.iio_desc.specs.Line.{places_of, trigger_line, trigger_number, trigger_named, is_device_whole, device_line, device_part, with_channel, with_stamp, with_masks, with_row, context_line, from_word, from_second_word, keyword_line, line_of_words, after_line, finished, ended_by};
+ghost use Rattle.iio_desc.specs.Stage.{most_triggers, most_devices, most_rows};
+ghost use Rattle.iio_desc.specs.WellFormed.{IsWellFormed};
 
 use crate::description::{Desc, DeviceDesc, TriggerDesc};
+use crate::keywords::Keyword;
 use crate::lines::LineFault;
-use crate::words::{is_printable_text, two_words};
+use crate::sketch::Sketch;
+use crate::words::{count_words, fits_line, from_word, is_comment, is_printable_text, two_words};
 use iio_attr::Name;
 use iio_base::Mem;
-use iio_layout::{Channel, Direction, Kind, Rows, Shape, Suffix, read_id};
-use iio_scan_type::{Endian, ScanType, Sign, print_type, read_type};
 use iio_text::words::{Blanks, next_word};
-use iio_text::{Why, read_int};
-use std::alloc::Global;
+use iio_text::{Unescape, Why, between_quotes, read_int, unescape};
+use std::alloc::{AllocError, Global};
 use std::marker::Model;
+use std::mem;
 
 const MOST_TRIGGERS: usize = 1;
 
-const MOST_CHANNELS: usize = 32;
-
-const MOST_ROWS: usize = 1_000_000;
-
-/// The device whose lines are being read.
-#[derive(Drop)]
-struct Sketch {
-    name: Name,
-    trigger: Option<u32>,
-    channels: Vec<Channel>,
-    moments: Vec<i64>,
-    values: Vec<i64>,
-    width: u32,
-}
-
-impl Model for Sketch {
-    ghost use Rattle.iio_desc.specs.Draft.{Sketch as Sketched};
-
-    ghost Value = { Sketched };
-
-    ghost use Rattle.iio_desc.specs.View.{sketch_of, IsSoundSketch};
-
-    ghost view = { sketch_of };
-
-    ghost invariant = { IsSoundSketch };
-}
+const MOST_DEVICES: usize = 1;
 
 /// Reads the lines of a description one after another. Contracts see it as what the lines so far say.
 #[derive(Drop)]
 pub struct DescReader {
+    context: Option<Vec<u8>>,
     triggers: Vec<TriggerDesc>,
+    devices: Vec<DeviceDesc>,
+    // How many rows those devices have.
+    earlier: usize,
     current: Option<Sketch>,
 }
 
@@ -82,10 +63,41 @@ fn has_trigger(triggers: &[TriggerDesc], name: &[u8]) -> bool
     triggers.iter().any(|t| is_trigger_named(t, name))
 }
 
+fn is_device_named(device: &DeviceDesc, name: &[u8]) -> bool
+    ensures { result ≡ bytes_eq device.now.name name.now }
+{
+    device.name.bytes() == name
+}
+
+fn has_device(devices: &[DeviceDesc], name: &[u8]) -> bool
+    ensures { result ≡ list_any (λ v. bytes_eq v.name name.now) devices.now }
+{
+    devices.iter().any(|v| is_device_named(v, name))
+}
+
+fn is_current_named(current: &Option<Sketch>, name: &[u8]) -> bool
+    ensures { result ≡ is_current_named current.now name.now }
+{
+    match current {
+        None => false,
+        Some(sketch) => sketch.is_named(name),
+    }
+}
+
+// Whether the device, if any, has a channel.
+fn is_device_whole(current: &Option<Sketch>) -> bool
+    ensures { result ≡ is_device_whole current.now }
+{
+    match current {
+        None => true,
+        Some(sketch) => sketch.has_channels(),
+    }
+}
+
 // How many devices a trigger can serve.
 fn read_places(word: &[u8]) -> Option<u8>
     ensures value { result ≡ places_of word.now }
-    ensures some { IfSome result (λ places. 0 < places) }
+    ensures within { IfSome result (λ places. (0 < places) × (places ≤ 8)) }
 {
     match read_int(word) {
         Some(places @ 1..=8) => Some(places as u8),
@@ -94,241 +106,37 @@ fn read_places(word: &[u8]) -> Option<u8>
 }
 
 fn trigger_place(triggers: &[TriggerDesc], name: &[u8]) -> Option<usize>
-    ensures { result ≡ trigger_number triggers.now name.now }
+    ensures value { result ≡ trigger_number triggers.now name.now }
+    ensures within { IfSome result (λ number. number < length triggers.now) }
 {
     triggers.iter().position(|t| is_trigger_named(t, name))
 }
 
-fn find_trigger(triggers: &[TriggerDesc], name: &[u8]) -> Option<u32>
+// The number of the trigger that a word names; `-` is none.
+fn read_trigger(triggers: &[TriggerDesc], word: &[u8]) -> Option<Option<u32>>
     requires { length triggers.now ≤ most_triggers }
-    ensures { result ≡ trigger_number triggers.now name.now }
+    ensures value { result ≡ trigger_named triggers.now word.now }
+    ensures within { IfSome result (λ trigger. IfSome trigger (λ number. number < length triggers.now)) }
 {
-    match trigger_place(triggers, name) {
+    if word == b"-".as_slice() {
+        return Some(None);
+    }
+    match trigger_place(triggers, word) {
         None => None,
-        Some(number) => Some(number as u32),
+        Some(number) => Some(Some(number as u32)),
     }
 }
 
-fn count_words(text: &[u8]) -> usize
-    ensures { result ≡ length (words_of is_space text.now) }
+// The bytes that a quoted text means.
+fn read_quoted(alloc: Global, text: &[u8]) -> Result<Vec<u8>, LineFault>
+    ensures ok { IfOk result (λ bytes. quoted_of text.now ≡ Some bytes.items) }
+    ensures err { IfErr result (λ e. Misses Why.Text e (quoted_of text.now)) }
 {
-    let mut count = 0;
-    let mut rest = text;
-    while let Some((_, more)) = next_word(rest, Blanks::Spaces) {
-        count += 1;
-        rest = more;
-    }
-    count
-}
-
-// The integers that words say, pushed behind those that are there.
-fn push_values(values: &mut Vec<i64>, words: &[u8]) -> Result<(), LineFault>
-    ensures ok { OnOk result (Appends values.old.items values.new.items (ints_read (words_of is_space words.now))) }
-    ensures err { IfErr result (λ e. Explains e (ints_read (words_of is_space words.now))) }
-    ensures before { take (vec_len values.old) values.new.items ≡ values.old.items }
-{
-    let mut rest = words;
-    while let Some((word, more)) = next_word(rest, Blanks::Spaces) {
-        let value = read_int(word).ok_or(Why::Number)?;
-        values.push(value)?;
-        rest = more;
-    }
-    Ok(())
-}
-
-// The integers that words say, put behind those that are there. A fault leaves those alone.
-fn read_values(values: &mut Vec<i64>, words: &[u8]) -> Result<(), LineFault>
-    ensures ok { OnOk result (Appends values.old.items values.new.items (ints_read (words_of is_space words.now))) }
-    ensures err { IfErr result (λ e. Explains e (ints_read (words_of is_space words.now))) }
-    ensures kept { OnErr result (values.new.items ≡ values.old.items) }
-{
-    let before = values.len();
-    let read = push_values(values, words);
-    if read.is_err() {
-        values.truncate(before);
-    }
-    read
-}
-
-fn has_id(channel: &Channel, id: (Kind, Suffix)) -> bool
-    ensures { result ≡ has_id id channel.now }
-{
-    channel.kind == id.0 && channel.suffix == id.1 && channel.direction == Direction::Input
-}
-
-fn has_channel(channels: &[Channel], id: (Kind, Suffix)) -> bool
-    ensures { result ≡ list_any (λ c. has_id id c) channels.now }
-{
-    channels.iter().any(|c| has_id(c, id))
-}
-
-// The type that a word says, where it is one of those that are read.
-fn read_stage_type(alloc: Global, word: &[u8]) -> Result<ScanType, LineFault>
-    ensures ok { IfOk result (λ ty. type_read word.now ≡ Some ty) }
-    ensures err { IfErr result (λ e. Misses Why.BadType e (type_read word.now)) }
-{
-    let ty = read_type(word).ok_or(Why::BadType)?;
-    if ty.sign() != Sign::Unsigned
-        || ty.endian() != Endian::Little
-        || ty.storagebits() != 16
-        || ty.repeat() != 1
-    {
-        return Err(LineFault::Why(Why::BadType));
-    }
-    let printed = print_type(alloc, &ty)?;
-    if printed.as_bytes() == word {
-        Ok(ty)
-    } else {
-        Err(LineFault::Why(Why::BadType))
-    }
-}
-
-// Whether a moment is above the last of those before it, if any.
-fn rises(moments: &[i64], moment: i64) -> bool
-    ensures { result ≡ rises moments.now moment }
-{
-    match moments.last() {
-        None => true,
-        Some(last) => *last < moment,
-    }
-}
-
-impl Sketch {
-    // The device, whose lines are over.
-    fn into_device(self) -> DeviceDesc
-        requires { 0 < length self.channels }
-        ensures { result ≡ device_of self }
-    {
-        let Sketch {
-            name,
-            trigger,
-            channels,
-            moments,
-            values,
-            width,
-        } = self;
-        let listed = Vec::new(*channels.allocator());
-        DeviceDesc {
-            name,
-            trigger,
-            shape: Shape::new(channels, None, listed).unwrap(),
-            rows: Rows {
-                moments,
-                values,
-                width,
-            },
-        }
-    }
-
-    // The numbers of a row at a moment.
-    #[tactic(auto, using(crate::proofs::RowLemmas::Explains_row_values, crate::proofs::RowLemmas::row_values_read, crate::proofs::RowLemmas::row_values_full))]
-    fn row_values(&mut self, moment: i64, words: &[u8]) -> Result<(), LineFault>
-        requires above { rises self.old.moments moment ≡ true }
-        requires count { length (words_of is_space words.now) ≡ sketched_width self.old }
-        ensures ok { OnOk result (row_values self.old moment (words_of is_space words.now) ≡ Ok self.new) }
-        ensures err { IfErr result (λ e. Explains e (row_values self.old moment (words_of is_space words.now))) }
-        ensures kept { OnErr result (self.new ≡ self.old) }
-    {
-        self.moments.reserve(1)?;
-        let before = self.values.len();
-        read_values(&mut self.values, words)?;
-        if self.moments.len() >= MOST_ROWS {
-            self.values.truncate(before);
-            return Err(LineFault::Why(Why::Limit));
-        }
-        self.moments.push_reserved(moment);
-        Ok(())
-    }
-
-    // A row's moment, and then its numbers.
-    fn row_words(&mut self, words: &[u8]) -> Result<(), LineFault>
-        requires { length (words_of is_space words.now) ≡ sketched_width self.old + 1 }
-        ensures ok { OnOk result (row_words self.old (words_of is_space words.now) ≡ Ok self.new) }
-        ensures err { IfErr result (λ e. Explains e (row_words self.old (words_of is_space words.now))) }
-        ensures kept { OnErr result (self.new ≡ self.old) }
-    {
-        let (moment, values) = next_word(words, Blanks::Spaces).ok_or(Why::Count)?;
-        let moment = read_int(moment).ok_or(Why::Number)?;
-        if !rises(self.moments.as_slice(), moment) {
-            return Err(LineFault::Why(Why::Moment));
-        }
-        self.row_values(moment, values)
-    }
-
-    // One more channel, of an ID that no channel has.
-    fn push_channel(&mut self, id: (Kind, Suffix), ty: ScanType) -> Result<(), LineFault>
-        requires own { list_any (λ c. has_id id c) self.old.channels ≡ false }
-        requires fresh { self.old.moments ≡ [] }
-        ensures ok { OnOk result (push_channel self.old id ty ≡ Ok self.new) }
-        ensures err { IfErr result (λ e. Explains e (push_channel self.old id ty)) }
-        ensures trigger { self.new.trigger ≡ self.old.trigger }
-        ensures kept { OnErr result (self.new ≡ self.old) }
-    {
-        if self.channels.len() >= MOST_CHANNELS {
-            return Err(LineFault::Why(Why::Limit));
-        }
-        self.channels.push(Channel {
-            kind: id.0,
-            suffix: id.1,
-            direction: Direction::Input,
-            ty,
-        })?;
-        self.width += u32::from(ty.repeat());
-        Ok(())
-    }
-
-    // An ID that no channel has yet.
-    fn own_id(&self, text: &[u8]) -> Result<(Kind, Suffix), Why>
-        ensures value { result ≡ own_id self.now text.now }
-        ensures own { IfOk result (λ id. list_any (λ c. has_id id c) self.now.channels ≡ false) }
-    {
-        let id = read_id(text).ok_or(Why::Name)?;
-        if has_channel(self.channels.as_slice(), id) {
-            return Err(Why::Taken);
-        }
-        Ok(id)
-    }
-
-    // The channel of an ID and a type.
-    fn named_channel(&mut self, alloc: Global, id: &[u8], ty: &[u8]) -> Result<(), LineFault>
-        requires { self.old.moments ≡ [] }
-        ensures ok { OnOk result (named_channel self.old id.now ty.now ≡ Ok self.new) }
-        ensures err { IfErr result (λ e. Explains e (named_channel self.old id.now ty.now)) }
-        ensures trigger { self.new.trigger ≡ self.old.trigger }
-        ensures kept { OnErr result (self.new ≡ self.old) }
-    {
-        let id = self.own_id(id)?;
-        let ty = read_stage_type(alloc, ty)?;
-        self.push_channel(id, ty)
-    }
-
-    // `channel ID TYPE`
-    fn channel_line(&mut self, alloc: Global, words: &[u8]) -> Result<(), LineFault>
-        ensures ok { OnOk result (with_channel self.old (words_of is_space words.now) ≡ Ok self.new) }
-        ensures err { IfErr result (λ e. Explains e (with_channel self.old (words_of is_space words.now))) }
-        ensures trigger { self.new.trigger ≡ self.old.trigger }
-        ensures kept { OnErr result (self.new ≡ self.old) }
-    {
-        if !self.moments.is_empty() {
-            return Err(LineFault::Why(Why::Order));
-        }
-        let (id, ty) = two_words(words).ok_or(Why::Count)?;
-        self.named_channel(alloc, id, ty)
-    }
-
-    // `row T v ..`
-    fn row_line(&mut self, words: &[u8]) -> Result<(), LineFault>
-        ensures ok { OnOk result (with_row self.old (words_of is_space words.now) ≡ Ok self.new) }
-        ensures err { IfErr result (λ e. Explains e (with_row self.old (words_of is_space words.now))) }
-        ensures kept { OnErr result (self.new ≡ self.old) }
-    {
-        if self.channels.is_empty() {
-            return Err(LineFault::Why(Why::Order));
-        }
-        if count_words(words) != self.width as usize + 1 {
-            return Err(LineFault::Why(Why::Count));
-        }
-        self.row_words(words)
+    let inner = between_quotes(text).ok_or(Why::Text)?;
+    match unescape(alloc, inner) {
+        Ok(bytes) => Ok(bytes),
+        Err(Unescape::BadEscape(_)) => Err(LineFault::Why(Why::Text)),
+        Err(Unescape::Mem) => Err(LineFault::Mem),
     }
 }
 
@@ -337,13 +145,42 @@ impl DescReader {
     fn is_taken(&self, name: &[u8]) -> bool
         ensures { result ≡ is_taken self.now name.now }
     {
-        if has_trigger(self.triggers.as_slice(), name) {
-            return true;
+        has_trigger(self.triggers.as_slice(), name)
+            || has_device(self.devices.as_slice(), name)
+            || is_current_named(&self.current, name)
+    }
+
+    // How many rows the devices before have; with those of the device whose lines are being read they are no more
+    // than there may be.
+    fn earlier_rows(&self) -> usize
+        ensures value { result ≡ earlier_rows self.now }
+        ensures room { IfSome self.now.current (λ s. earlier_rows self.now + length s.moments ≤ most_rows) }
+    {
+        self.earlier
+    }
+
+    // How many devices there are so far.
+    fn device_count(&self) -> usize
+        ensures { result ≡ device_count self.now }
+    {
+        self.devices.len() + usize::from(self.current.is_some())
+    }
+
+    // `context "TEXT"`
+    fn context_line(&mut self, alloc: Global, words: &[u8]) -> Result<(), LineFault>
+        ensures ok { OnOk result (context_line self.old (words_of is_space words.now) (from_word words.now) ≡ Ok self.new) }
+        ensures err { IfErr result (λ e. Explains e (context_line self.old (words_of is_space words.now) (from_word words.now))) }
+        ensures kept { OnErr result (self.new ≡ self.old) }
+    {
+        if self.context.is_some() {
+            return Err(LineFault::Why(Why::Order));
         }
-        match &self.current {
-            None => false,
-            Some(sketch) => sketch.name.bytes() == name,
+        if count_words(words) == 0 {
+            return Err(LineFault::Why(Why::Count));
         }
+        let context = read_quoted(alloc, from_word(words))?;
+        self.context = Some(context);
+        Ok(())
     }
 
     // `trigger NAME PLACES`
@@ -365,14 +202,26 @@ impl DescReader {
         Ok(())
     }
 
-    // Whether the device before, if any, has a channel.
-    fn is_device_whole(&self) -> bool
-        ensures { result ≡ is_device_whole self.now.current }
+    // The next device, where there may be one more.
+    fn begin_device(
+        &mut self,
+        alloc: Global,
+        name: Name,
+        trigger: Option<u32>,
+    ) -> Result<(), AllocError>
+        requires whole { is_device_whole self.old.current ≡ true }
+        requires attached { IfSome trigger (λ number. number < length self.old.triggers) }
+        requires few { device_count self.old < most_devices }
+        ensures ok { OnOk result (self.new ≡ record self.old { devices = all_devices self.old; current = Some (blank_sketch name trigger) }) }
+        ensures kept { OnErr result (self.new ≡ self.old) }
     {
-        match &self.current {
-            None => true,
-            Some(sketch) => !sketch.channels.is_empty(),
+        self.devices.reserve(1)?;
+        let before = mem::replace(&mut self.current, Some(Sketch::new(alloc, name, trigger)));
+        if let Some(sketch) = before {
+            self.earlier += sketch.row_count();
+            self.devices.push_reserved(sketch.into_device());
         }
+        Ok(())
     }
 
     // `device NAME TRIGGER`
@@ -381,7 +230,7 @@ impl DescReader {
         ensures err { IfErr result (λ e. Explains e (device_line self.old (words_of is_space words.now))) }
         ensures kept { OnErr result (self.new ≡ self.old) }
     {
-        if !self.is_device_whole() {
+        if !is_device_whole(&self.current) {
             return Err(LineFault::Why(Why::Order));
         }
         let (name, trigger) = two_words(words).ok_or(Why::Count)?;
@@ -389,63 +238,99 @@ impl DescReader {
         if self.is_taken(name.bytes()) {
             return Err(LineFault::Why(Why::Taken));
         }
-        let trigger = find_trigger(self.triggers.as_slice(), trigger).ok_or(Why::Trigger)?;
-        if self.current.is_some() {
+        let trigger = read_trigger(self.triggers.as_slice(), trigger).ok_or(Why::Trigger)?;
+        if self.device_count() >= MOST_DEVICES {
             return Err(LineFault::Why(Why::Limit));
         }
-        self.current = Some(Sketch {
-            name,
-            trigger: Some(trigger),
-            channels: Vec::new(alloc),
-            moments: Vec::new(alloc),
-            values: Vec::new(alloc),
-            width: 0,
-        });
+        self.begin_device(alloc, name, trigger)?;
         Ok(())
     }
 
     // `channel ID TYPE`, of the device whose lines are being read
-    fn channel_line(&mut self, alloc: Global, words: &[u8]) -> Result<(), LineFault>
+    fn channel_line(&mut self, words: &[u8]) -> Result<(), LineFault>
         ensures ok { OnOk result (device_part self.old (λ s. with_channel s (words_of is_space words.now)) ≡ Ok self.new) }
         ensures err { IfErr result (λ e. Explains e (device_part self.old (λ s. with_channel s (words_of is_space words.now)))) }
         ensures kept { OnErr result (self.new ≡ self.old) }
     {
         match &mut self.current {
             None => Err(LineFault::Why(Why::Order)),
-            Some(sketch) => sketch.channel_line(alloc, words),
+            Some(sketch) => sketch.channel_line(words),
+        }
+    }
+
+    // `timestamp`, of the device whose lines are being read
+    fn stamp_line(&mut self, words: &[u8]) -> Result<(), LineFault>
+        ensures ok { OnOk result (device_part self.old (λ s. with_stamp s (words_of is_space words.now)) ≡ Ok self.new) }
+        ensures err { IfErr result (λ e. Explains e (device_part self.old (λ s. with_stamp s (words_of is_space words.now)))) }
+        ensures kept { OnErr result (self.new ≡ self.old) }
+    {
+        match &mut self.current {
+            None => Err(LineFault::Why(Why::Order)),
+            Some(sketch) => sketch.stamp_line(words),
+        }
+    }
+
+    // `masks H ..`, of the device whose lines are being read
+    fn masks_line(&mut self, alloc: Global, words: &[u8]) -> Result<(), LineFault>
+        ensures ok { OnOk result (device_part self.old (λ s. with_masks s (words_of is_space words.now)) ≡ Ok self.new) }
+        ensures err { IfErr result (λ e. Explains e (device_part self.old (λ s. with_masks s (words_of is_space words.now)))) }
+        ensures kept { OnErr result (self.new ≡ self.old) }
+    {
+        match &mut self.current {
+            None => Err(LineFault::Why(Why::Order)),
+            Some(sketch) => sketch.masks_line(alloc, words),
         }
     }
 
     // `row T v ..`, of the device whose lines are being read
     fn row_line(&mut self, words: &[u8]) -> Result<(), LineFault>
-        ensures ok { OnOk result (device_part self.old (λ s. with_row s (words_of is_space words.now)) ≡ Ok self.new) }
-        ensures err { IfErr result (λ e. Explains e (device_part self.old (λ s. with_row s (words_of is_space words.now)))) }
+        ensures ok { OnOk result (device_part self.old (λ s. with_row (earlier_rows self.old) s (words_of is_space words.now)) ≡ Ok self.new) }
+        ensures err { IfErr result (λ e. Explains e (device_part self.old (λ s. with_row (earlier_rows self.old) s (words_of is_space words.now)))) }
         ensures kept { OnErr result (self.new ≡ self.old) }
     {
+        let earlier = self.earlier_rows();
         match &mut self.current {
             None => Err(LineFault::Why(Why::Order)),
-            Some(sketch) => sketch.row_line(words),
+            Some(sketch) => sketch.row_line(earlier, words),
         }
     }
 
-    // A line by its first word.
-    fn line_of_words(&mut self, alloc: Global, line: &[u8]) -> Result<(), LineFault>
-        ensures ok { OnOk result (line_of_words self.old (words_of is_space line.now) ≡ Ok self.new) }
-        ensures err { IfErr result (λ e. Explains e (line_of_words self.old (words_of is_space line.now))) }
+    // A line by its first word, and by the text behind that.
+    fn keyword_line(
+        &mut self,
+        alloc: Global,
+        keyword: Keyword,
+        words: &[u8],
+    ) -> Result<(), LineFault>
+        ensures ok { OnOk result (keyword_line self.old keyword (words_of is_space words.now) (from_word words.now) ≡ Ok self.new) }
+        ensures err { IfErr result (λ e. Explains e (keyword_line self.old keyword (words_of is_space words.now) (from_word words.now))) }
         ensures kept { OnErr result (self.new ≡ self.old) }
     {
-        let (word, words) = next_word(line, Blanks::Spaces).ok_or(Why::Word)?;
-        if word == b"row".as_slice() {
-            self.row_line(words)
-        } else if word == b"channel".as_slice() {
-            self.channel_line(alloc, words)
-        } else if word == b"trigger".as_slice() {
-            self.trigger_line(words)
-        } else if word == b"device".as_slice() {
-            self.device_line(alloc, words)
-        } else {
-            Err(LineFault::Why(Why::Word))
+        match keyword {
+            Keyword::Row => self.row_line(words),
+            Keyword::Channel => self.channel_line(words),
+            Keyword::Timestamp => self.stamp_line(words),
+            Keyword::Masks => self.masks_line(alloc, words),
+            Keyword::Device => self.device_line(alloc, words),
+            Keyword::Trigger => self.trigger_line(words),
+            Keyword::Context => self.context_line(alloc, words),
         }
+    }
+
+    // A line that is no comment, by its words.
+    fn line_of_words(&mut self, alloc: Global, line: &[u8]) -> Result<(), LineFault>
+        ensures ok { OnOk result (line_of_words self.old line.now (words_of is_space line.now) ≡ Ok self.new) }
+        ensures err { IfErr result (λ e. Explains e (line_of_words self.old line.now (words_of is_space line.now))) }
+        ensures kept { OnErr result (self.new ≡ self.old) }
+    {
+        let Some((word, words)) = next_word(line, Blanks::Spaces) else {
+            return Ok(());
+        };
+        if !is_printable_text(line) {
+            return Err(LineFault::Why(Why::Text));
+        }
+        let keyword = Keyword::of(word).ok_or(Why::Word)?;
+        self.keyword_line(alloc, keyword, words)
     }
 
     /// Before the first line.
@@ -453,7 +338,10 @@ impl DescReader {
         ensures { result ≡ blank_draft }
     {
         DescReader {
+            context: None,
             triggers: Vec::new(alloc),
+            devices: Vec::new(alloc),
+            earlier: 0,
             current: None,
         }
     }
@@ -464,8 +352,11 @@ impl DescReader {
         ensures err { IfErr result (λ e. Explains e (after_line self.old line.now)) }
         ensures kept { OnErr result (self.new ≡ self.old) }
     {
-        if !is_printable_text(line) {
-            return Err(LineFault::Why(Why::Text));
+        if !fits_line(line) {
+            return Err(LineFault::Why(Why::Long));
+        }
+        if is_comment(line) {
+            return Ok(());
         }
         self.line_of_words(alloc, line)
     }
@@ -474,30 +365,44 @@ impl DescReader {
     pub fn finish(self, alloc: Global) -> Result<Desc, LineFault>
         ensures ok { IfOk result (λ desc. finished self ≡ Ok desc) }
         ensures err { IfErr result (λ e. Explains e (finished self)) }
-        // So far there is one trigger, and one device that is on it and lists no masks.
-        ensures one { IfOk result IsOnePath }
+        ensures sound { IfOk result IsWellFormed }
     {
-        let DescReader { triggers, current } = self;
-        let sketch = current.ok_or(Why::Order)?;
-        if sketch.channels.is_empty() {
+        let DescReader {
+            context,
+            triggers,
+            mut devices,
+            earlier: _,
+            current,
+        } = self;
+        if !is_device_whole(&current) {
             return Err(LineFault::Why(Why::Order));
         }
-        let mut devices = Vec::with_capacity(alloc, 1)?;
-        devices.push_reserved(sketch.into_device());
+        if let Some(sketch) = current {
+            devices.push(sketch.into_device())?;
+        }
         Ok(Desc {
-            context: Vec::new(alloc),
+            context: context.unwrap_or(Vec::new(alloc)),
             triggers,
             devices,
         })
     }
-}
 
-/// Whether a line ends the description: its one word is `%%`.
-pub fn is_end(line: &[u8]) -> bool
-    ensures { result ≡ is_end line.now }
-{
-    match next_word(line, Blanks::Spaces) {
-        None => false,
-        Some((word, rest)) => word == b"%%".as_slice() && next_word(rest, Blanks::Spaces).is_none(),
+    /// The same at a line that ends the description, without its LF.
+    pub fn end(self, alloc: Global, line: &[u8]) -> Result<Desc, LineFault>
+        ensures ok { IfOk result (λ desc. ended_by self line.now ≡ Ok desc) }
+        ensures err { IfErr result (λ e. Explains e (ended_by self line.now)) }
+        ensures sound { IfOk result IsWellFormed }
+    {
+        if !fits_line(line) {
+            return Err(LineFault::Why(Why::Long));
+        }
+        if !is_printable_text(line) {
+            return Err(LineFault::Why(Why::Text));
+        }
+        let desc = self.finish(alloc)?;
+        if count_words(line) > 1 {
+            return Err(LineFault::Why(Why::Count));
+        }
+        Ok(desc)
     }
 }

@@ -3,9 +3,10 @@ use Rattle.std.specs.Prelude.{ℕ, zero, suc, ◌+◌, ◌*◌, ◌==◌, ◌||�
 use Rattle.std.specs.Str.{bytes_eq}
 use Rattle.iio_text.specs.declared.errors.Errno.{Errno}
 use Rattle.iio_text.specs.declared.errors.Errno.TheVariants.{EBUSY, ENODEV, EINVAL, ENOSPC}
-use Rattle.iio_mask.specs.Places.{has, union_of, without_channel, picked}
+use Rattle.iio_mask.specs.Places.{union_of}
 use Rattle.iio_mask.specs.Text.{mask_of}
 use Rattle.iio_layout.specs.Shape.{ShapeRecord, count_of}
+use Rattle.iio_layout.specs.Active.{active_of, has_data}
 use Rattle.iio_layout.specs.Layout.{scan_size}
 use Rattle.iiod_grammar.specs.Command.{Open}
 use Rattle.iio_desc.specs.Description.{Description, find_device, place_count}
@@ -51,19 +52,6 @@ abbrev pub attached_count : ℕ → List Device → ℕ
 attached_count trigger [] = 0
 attached_count trigger (d ∷ ds) = if is_attached trigger d then suc (attached_count trigger ds) else attached_count trigger ds
 
--- whether a mask has one of the channels below a number
-abbrev pub has_below : ℕ → ℕ → Bool
-has_below mask zero = false
-has_below mask (suc c) = has mask c || has_below mask c
-
--- whether a mask has a data channel
-abbrev pub has_data : ShapeRecord → ℕ → Bool
-has_data shape mask = has_below mask (length shape.channels)
-
--- a mask without the timestamp's bit
-abbrev pub data_part : ShapeRecord → ℕ → ℕ
-data_part shape mask = elim shape.stamp [ None ↦ mask | Some order ↦ without_channel mask (length shape.channels) ]
-
 -- the union of the members' masks
 abbrev pub union_of_members : List Member → ℕ
 union_of_members [] = 0
@@ -95,7 +83,7 @@ may_join desc devices d now m =
       | Some other ↦ Err EBUSY
       | None ↦ elim now.trigger [
         | None ↦ Err EINVAL
-        | Some t ↦ elim (picked d.shape.listed (data_part d.shape (union_of m.mask (union_of_members now.members)))) [
+        | Some t ↦ elim (active_of d.shape (union_of m.mask (union_of_members now.members))) [
           | None ↦ Err EINVAL
           | Some active ↦ if is_attached t now || nat_lt (attached_count t devices) (place_count desc t) then Ok m else Err ENOSPC
         ]

@@ -1,4 +1,5 @@
 pub mod IdLemmas
 pub mod ShapeLemmas
 pub mod LayoutLemmas
+pub mod ActiveLemmas
 mod Worked

@@ -136,6 +136,14 @@ impl Shape {
         })
     }
 
+    /// The listed masks.
+    pub(crate) fn listed(&self) -> &[Mask]
+        ensures value { map (λ m. m.bits) result.now ≡ self.now.listed }
+        ensures sound { IsShape self.now }
+    {
+        self.listed.as_slice()
+    }
+
     /// Where the values of data channel `c` begin among those of a capture.
     pub(crate) fn first_value(&self, c: u32) -> usize
         requires { c < length self.now.channels }

@@ -229,3 +229,43 @@ fn shapes(rt: HostRuntime) -> Result<(), Fail> {
     assert_eq!(rt; shape.find(b"timestamp"), None);
     Ok(())
 }
+
+// A device with voltage0, voltage1, accel_x and a timestamp, which is channel 3: what is asked for where masks are listed,
+// and where none are.
+#[test]
+fn listed_masks_are_asked_for(rt: HostRuntime) -> Result<(), Fail> {
+    let alloc = rt.alloc();
+    for (listed, wanted, asked) in [
+        ([].as_slice(), 0b0101u64, Some(0b0101u64)),
+        (&[], 0b1000, Some(0b1000)),
+        (&[0b011, 0b111], 0b0100, Some(0b0111)),
+        (&[0b011, 0b111], 0b0001, Some(0b0011)),
+        (&[0b011, 0b111], 0b1010, Some(0b1011)),
+        (&[0b111, 0b011], 0b0001, Some(0b0111)),
+        (&[0b011], 0b0100, None),
+        (&[0b011], 0b1100, None),
+        (&[0b011], 0b1000, Some(0b1011)),
+    ] {
+        let shape = listing(alloc, listed)?;
+        assert_eq!(rt; shape.count(), 4);
+        let wanted = Mask { bits: wanted };
+        assert!(rt; wanted.bits < 16);
+        let want = asked.map(|bits| Mask { bits });
+        assert_eq!(rt; active(&shape, wanted), want, "of {wanted:?} in {listed:?}");
+    }
+    Ok(())
+}
+
+// voltage0, voltage1, accel_x and a timestamp, with listed masks.
+fn listing(alloc: Global, masks: &[u64]) -> Result<Shape, Fail> {
+    let mut channels = Vec::new(alloc);
+    for id in ["voltage0", "voltage1", "accel_x"] {
+        channels.push(channel(id, "le:u12/16>>4")?)?;
+    }
+    let mut listed = Vec::new(alloc);
+    for bits in masks {
+        listed.push(Mask { bits: *bits })?;
+    }
+    let shape = Shape::new(channels, Some(Endian::Little), listed);
+    Ok(shape.ok_or("no shape")?)
+}

@@ -1,11 +1,12 @@
 mod Rows
-pub mod InputLemmas
 pub mod BenchLaws
-mod CaptureLemmas
+pub mod CaptureLemmas
+pub mod StageLemmas
 pub mod ItemLaws
 pub mod QueueLemmas
 pub mod MaskLemmas
 pub mod OpenLemmas
+pub mod ReadLemmas
 pub mod StreamLaws
 pub mod PlayLaws
 pub mod OutcomeLaws

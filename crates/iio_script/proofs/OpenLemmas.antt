@@ -1,69 +1,107 @@
 -- The answers to an OPEN at this stage.
-use Rattle.std.proofs.Common.{◌≡◌, ℕ, ◌*◌, ◌<◌, true, false, List, [], Option, Some, None, is_some, Result, Ok, Err, refl, sym, ap, ◌∙◌, lt-ltb}
+use Rattle.std.proofs.Common.{◌≡◌, ℕ, ◌*◌, Bool, true, false, cond, ◌||◌, ◌&&◌, ◌==◌, nat_lt, List, [], ◌∷◌, Option, Some, None, Result, Ok, Err, refl, ap, ◌∙◌, lt-ltb}
 use Rattle.std.specs.Str.{bytes_eq}
+use Rattle.std.specs.Int.Bits.{or_zero_r}
 use Rattle.iio_text.specs.declared.errors.Errno.{Errno}
-use Rattle.iio_text.specs.declared.errors.Errno.TheVariants.{EBUSY, EINVAL}
-use Rattle.iio_desc.specs.declared.description.TriggerDesc.{TriggerDesc}
+use Rattle.iio_text.specs.declared.errors.Errno.TheVariants.{EINVAL, ENOSPC}
 use Rattle.iio_desc.specs.declared.description.DeviceDesc.{DeviceDesc}
-use Rattle.iio_mask.specs.declared.Mask.{Mask}
+use Rattle.iio_desc.specs.Description.{Description, place_count}
+use Rattle.iio_layout.specs.Active.{active_of}
 use Rattle.iio_layout.specs.Layout.{scan_size}
-use Rattle.iio_history.specs.Registry.{mask_asked, may_join, is_excess, exceeds, buffers_count, placed, open_at, open_answer}
-use Rattle.iio_script.specs.Bench.{path_of, SeatRecord, BenchRecord, device_of_seat, devices_of, IsOwn, Joins, Opens}
+use Rattle.iio_history.specs.Registry.{Member, is_attached, attached_count, mask_asked, may_join, is_excess, exceeds, buffers_count, placed, open_at, open_answer}
+use Rattle.iio_script.specs.Bench.{path_of, SeatRecord, StationRecord, device_of_seat, devices_of, IsOwn, IsOnTrigger, admitted, joined_by, answered, seat_opened}
 use Rattle.iio_script.proofs.ItemLaws.{open_found, same_bytes}
 
 -- a mask that isn't one of the device's, or has no data channel
-pub open_without_mask : (trigger : TriggerDesc) (d : DeviceDesc) (seat : Option SeatRecord) (who name text : List ℕ) (samples : ℕ) → bytes_eq d.name name ≡ true
-    → mask_asked d text ≡ None → open_answer (path_of trigger d) (devices_of seat) who name samples text ≡ Err EINVAL
-open_without_mask trigger d seat who name text samples one none = open_found trigger d seat who name text samples one ∙ rw (none, open_at) refl
+pub open_without_mask : (base : Description) (d : DeviceDesc) (seat : Option SeatRecord) (who name text : List ℕ) (samples : ℕ) → bytes_eq d.name name ≡ true
+    → mask_asked d text ≡ None → open_answer (path_of base d) (devices_of (d ∷ []) seat) who name samples text ≡ Err EINVAL
+open_without_mask base d seat who name text samples one none = open_found base d seat who name text samples one ∙ rw (none, open_at) refl
 
 -- a right mask leaves the answer to the rest
-with_mask : (trigger : TriggerDesc) (d : DeviceDesc) (seat : Option SeatRecord) (who name text : List ℕ) (samples mask : ℕ) → bytes_eq d.name name ≡ true
-    → mask_asked d text ≡ Some mask → open_answer (path_of trigger d) (devices_of seat) who name samples text
-    ≡ placed 0 (may_join (path_of trigger d) (devices_of seat) d (device_of_seat seat) (record { who = who; mask = mask; capacity = samples * buffers_count }))
-with_mask trigger d seat who name text samples mask one some = open_found trigger d seat who name text samples one ∙ rw (some, open_at) refl
+with_mask : (base : Description) (d : DeviceDesc) (seat : Option SeatRecord) (who name text : List ℕ) (samples mask : ℕ) → bytes_eq d.name name ≡ true
+    → mask_asked d text ≡ Some mask → open_answer (path_of base d) (devices_of (d ∷ []) seat) who name samples text
+    ≡ placed 0 (may_join (path_of base d) (devices_of (d ∷ []) seat) d (device_of_seat d seat) (record { who = who; mask = mask; capacity = samples * buffers_count }))
+with_mask base d seat who name text samples mask one some = open_found base d seat who name text samples one ∙ rw (some, open_at) refl
 
 -- no scan, too many, or too many bytes
-pub open_exceeds : (trigger : TriggerDesc) (d : DeviceDesc) (seat : Option SeatRecord) (who name text : List ℕ) (samples mask : ℕ) → bytes_eq d.name name ≡ true
+pub open_exceeds : (base : Description) (d : DeviceDesc) (seat : Option SeatRecord) (who name text : List ℕ) (samples mask : ℕ) → bytes_eq d.name name ≡ true
     → mask_asked d text ≡ Some mask → exceeds d (record { who = who; mask = mask; capacity = samples * buffers_count }) ≡ true
-    → open_answer (path_of trigger d) (devices_of seat) who name samples text ≡ Err EINVAL
-open_exceeds trigger d seat who name text samples mask one some over =
-    with_mask trigger d seat who name text samples mask one some ∙ rw (over, may_join) refl
+    → open_answer (path_of base d) (devices_of (d ∷ []) seat) who name samples text ≡ Err EINVAL
+open_exceeds base d seat who name text samples mask one some over =
+    with_mask base d seat who name text samples mask one some ∙ rw (over, may_join) refl
 
--- the connection has it open
-pub open_busy : (trigger : TriggerDesc) (d : DeviceDesc) (s : SeatRecord) (who name text : List ℕ) (samples mask : ℕ) → bytes_eq d.name name ≡ true
-    → mask_asked d text ≡ Some mask → exceeds d (record { who = who; mask = mask; capacity = samples * buffers_count }) ≡ false → s.who ≡ who
-    → open_answer (path_of trigger d) (devices_of (Some s)) who name samples text ≡ Err EBUSY
-open_busy trigger d s who name text samples mask one some within own =
-    let mine : bytes_eq s.who who ≡ true = same_bytes s.who who own in
-    with_mask trigger d (Some s) who name text samples mask one some ∙ rw (within, may_join) (rw mine refl)
+-- ---- an OPEN that these checks let through
 
--- nobody has, and the trigger has a place
-pub open_free : (trigger : TriggerDesc) (d : DeviceDesc) (who name text : List ℕ) (samples mask : ℕ) → bytes_eq d.name name ≡ true
-    → mask_asked d text ≡ Some mask → exceeds d (record { who = who; mask = mask; capacity = samples * buffers_count }) ≡ false
-    → d.shape.listed ≡ [] → 0 < trigger.places
-    → open_answer (path_of trigger d) (devices_of None) who name samples text ≡ Ok (0, record { who = who; mask = mask; capacity = samples * buffers_count })
-open_free trigger d who name text samples mask one some within unlisted places =
-    with_mask trigger d None who name text samples mask one some ∙ rw (within, may_join) (rw (unlisted, lt-ltb 0 trigger.places places) refl)
+pub joined : Member → Result (Unit {0}) Errno → Result (ℕ × Member) Errno
+joined m (Ok done) = Ok (0, m)
+joined m (Err e) = Err e
 
-seat_there : (o : Option SeatRecord) → is_some o ≡ true → (s : SeatRecord) × (o ≡ Some s)
-seat_there None h = cc
-seat_there (Some s) h = (s, refl)
+-- the device's trigger and its listed masks
+free_answer : (base : Description) (d : DeviceDesc) (m : Member) (trigger : Option ℕ) → d.trigger ≡ trigger → IsOnTrigger base trigger
+    → placed 0 (elim trigger as (λ _. Result Member Errno) [
+      | None ↦ Err EINVAL
+      | Some t ↦ elim (active_of d.shape m.mask) [
+        | None ↦ Err EINVAL
+        | Some active ↦ cond (is_attached t (device_of_seat d None) || nat_lt (attached_count t (devices_of (d ∷ []) None)) (place_count (path_of base d) t)) (Ok m) (Err ENOSPC)
+      ]
+    ]) ≡ joined m (elim trigger as (λ _. Result (Unit {0}) Errno) [ None ↦ Err EINVAL | Some k ↦ elim (active_of d.shape m.mask) [ None ↦ Err EINVAL | Some active ↦ Ok tt ] ])
+unfolding joined
+free_answer base d m None is on = refl
+free_answer base d m (Some t) is on = by_pick (active_of d.shape m.mask)
+  where
+    none_attached : attached_count t (devices_of (d ∷ []) None) ≡ 0
+    none_attached = rw is (by_place (t == t))
+      where
+        by_place : (b : Bool) → ◌≡◌ {A = ℕ} (cond (b && false) 1 0) 0
+        by_place true = refl
+        by_place false = refl
 
--- an OPEN that the checks before let through
-pub opens_by_joining : (old new : BenchRecord) (who name text : List ℕ) (samples : ℕ) (mask : Mask) → bytes_eq old.device.name name ≡ true
-    → mask_asked old.device text ≡ Some mask.bits → is_excess (samples * 4) (scan_size old.device.shape mask.bits) ≡ false
-    → IsOwn who old.seat → old.device.shape.listed ≡ [] → 0 < old.trigger.places
-    → (answer : Result (Unit {0}) Errno) → Joins old new who mask (samples * 4) answer → Opens old new who name samples text answer
-opens_by_joining old new who name text samples mask one some within own unlisted places (Ok done) h = (
-  (0, record { who = who; mask = mask.bits; capacity = samples * buffers_count }),
-  ap (λ (o : Option SeatRecord). open_answer (path_of old.trigger old.device) (devices_of o) who name samples text) h.0
-      ∙ open_free old.trigger old.device who name text samples mask.bits one some within unlisted places,
-  h.1,
-)
-opens_by_joining old new who name text samples mask one some within own unlisted places (Err e) h =
-    let s = seat_there old.seat h.1 in
-    let mine : s.0.who ≡ who = rw s.1 at own in (
-      ap (λ (o : Option SeatRecord). open_answer (path_of old.trigger old.device) (devices_of o) who name samples text) s.1
-          ∙ open_busy old.trigger old.device s.0 who name text samples mask.bits one some within mine ∙ ap (λ (x : Errno). Err x) (sym h.0),
-      h.2,
-    )
+    by_pick : (o : Option ℕ) → placed 0 (elim o as (λ _. Result Member Errno) [
+      | None ↦ Err EINVAL
+      | Some active ↦ cond (is_attached t (device_of_seat d None) || nat_lt (attached_count t (devices_of (d ∷ []) None)) (place_count (path_of base d) t)) (Ok m) (Err ENOSPC)
+    ]) ≡ joined m (elim o as (λ _. Result (Unit {0}) Errno) [ None ↦ Err EINVAL | Some active ↦ Ok tt ])
+    by_pick None = refl
+    by_pick (Some active) =
+        let some : nat_lt 0 (place_count (path_of base d) t) ≡ true = rw on.0 (lt-ltb 0 (place_count base 0) on.1) in
+        rw (none_attached, some) (by_either (is_attached t (device_of_seat d None)))
+      where
+        by_either : (b : Bool) → placed 0 (cond (b || true) (Ok m) (Err ENOSPC)) ≡ Ok (0, m)
+        by_either true = refl
+        by_either false = refl
+
+-- the connection has the device open, or nobody has
+join_answer : (base : Description) (d : DeviceDesc) (m : Member) (seat : Option SeatRecord) → IsOwn m.who seat → IsOnTrigger base d.trigger → exceeds d m ≡ false
+    → placed 0 (may_join (path_of base d) (devices_of (d ∷ []) seat) d (device_of_seat d seat) m) ≡ joined m (admitted (record { device = d; seat = seat }) m.mask)
+unfolding joined
+join_answer base d m None own on within =
+    rw (within, may_join) (ap (λ (mask : ℕ). placed 0 (elim d.trigger as (λ _. Result Member Errno) [
+      | None ↦ Err EINVAL
+      | Some t ↦ elim (active_of d.shape mask) [
+        | None ↦ Err EINVAL
+        | Some active ↦ cond (is_attached t (device_of_seat d None) || nat_lt (attached_count t (devices_of (d ∷ []) None)) (place_count (path_of base d) t)) (Ok m) (Err ENOSPC)
+      ]
+    ])) (or_zero_r m.mask) ∙ free_answer base d m d.trigger refl on)
+join_answer base d m (Some s) own on within =
+    let mine : bytes_eq s.who m.who ≡ true = same_bytes s.who m.who own in
+    rw (within, may_join) (rw mine refl)
+
+pub open_by_joining : (base : Description) (d : DeviceDesc) (seat : Option SeatRecord) (who name text : List ℕ) (samples mask : ℕ) → bytes_eq d.name name ≡ true
+    → mask_asked d text ≡ Some mask → is_excess (samples * 4) (scan_size d.shape mask) ≡ false → IsOwn who seat → IsOnTrigger base d.trigger
+    → open_answer (path_of base d) (devices_of (d ∷ []) seat) who name samples text
+    ≡ joined (record { who = who; mask = mask; capacity = samples * 4 }) (admitted (record { device = d; seat = seat }) mask)
+open_by_joining base d seat who name text samples mask one some within own on =
+    with_mask base d seat who name text samples mask one some
+    ∙ join_answer base d (record { who = who; mask = mask; capacity = samples * buffers_count }) seat own on within
+
+-- ---- what that answers, and makes of the device
+
+pub answered_joined : (m : Member) (answer : Result (Unit {0}) Errno) → answered (joined m answer) ≡ answer
+unfolding joined
+answered_joined m (Ok done) = refl
+answered_joined m (Err e) = refl
+
+pub opened_joined : (s : StationRecord) (m : Member) (answer : Result (Unit {0}) Errno)
+    → joined_by s m answer ≡ record s { seat = seat_opened (s.device ∷ []) s.seat (joined m answer) }
+unfolding joined
+opened_joined s m (Ok done) = refl
+opened_joined s m (Err e) = refl

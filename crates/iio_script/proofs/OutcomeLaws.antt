@@ -6,26 +6,18 @@ use Rattle.std.proofs.lemmas.Bool.{cases_lt}
 use Rattle.iio_text.specs.declared.refusals.Why.{Why}
 use Rattle.iio_text.specs.declared.refusals.Why.TheVariants.{Limit}
 use Rattle.iio_desc.specs.Description.{Description}
-use Rattle.iio_desc.specs.Line.{after_line, is_end, finished}
+use Rattle.iio_desc.specs.Line.{after_line, is_end, ended_by, finished}
+use Rattle.iio_desc.specs.Text.{lines_of}
 use Rattle.iio_history.specs.declared.step.Step.{Step}
 use Rattle.iio_history.specs.Transcript.{lines_of_step}
 use Rattle.iio_io.specs.Bytes.{TakesUpTo, WritesPart}
 use Rattle.iio_desc.specs.Draft.{Draft, blank_draft}
 use Rattle.iio_script.specs.declared.status.Status.{Status}
 use Rattle.iio_script.specs.declared.status.Status.TheVariants.{Done, Refused, Usage, ReadFault, WriteFault, Memory, TooLong}
-use Rattle.iio_script.specs.Input.{lines_of, looked_lines, is_overlong, input_limit, ended_lines_of}
-use Rattle.iio_script.specs.Outcome.{Outcome, ended, refused, after_text, play_lines, describe_lines, outcome_of, outcome_of_lines}
+use Rattle.iio_script.specs.Input.{told_part, looked_lines, is_overlong, input_limit}
+use Rattle.iio_script.specs.Outcome.{Outcome, ended, refused, after_text, step_why, play_lines, described, describe_lines, outcome_of}
 use Rattle.iio_script.specs.Step.{step_of, takes}
 use Rattle.iio_script.specs.Play.{Finishes, WritesFront, WritesWhole, Plays}
-
--- no line is looked at
-pub no_line : (overlong : Bool) (lines : List (List ℕ)) → lines ≡ [] → ended overlong ≡ outcome_of_lines overlong lines
-no_line overlong lines h = rw h refl
-
--- some are
-pub some_line : (overlong : Bool) (lines : List (List ℕ)) → (lines ≡ [] → ⊥) → describe_lines overlong blank_draft 1 lines ≡ outcome_of_lines overlong lines
-some_line overlong [] h = absurd (h refl)
-some_line overlong (line ∷ lines) h = refl
 
 pub finishes_as : (one other : Outcome) (status : Status) (before after : List ℕ) → one ≡ other → Finishes one status before after → Finishes other status before after
 finishes_as one other status before after same f = subst (λ (o : Outcome). Finishes o status before after) same f
@@ -50,24 +42,44 @@ ended_ends false = tt
 
 play_ends : (overlong : Bool) (desc : Description) (done : List Step) (n : ℕ) (lines : List (List ℕ)) → EndsScript (play_lines overlong desc done n lines).status
 play_ends overlong desc done n [] = ended_ends overlong
-play_ends overlong desc done n (line ∷ lines) = by_step (step_of desc line) (λ step. play_ends overlong desc (step ∷ done) (n + 1) lines)
+play_ends overlong desc done n (line ∷ lines) = by_line (step_of desc line) (play_ends overlong desc done (n + 1) lines) (λ step. play_ends overlong desc (step ∷ done) (n + 1) lines)
   where
     by_taken : (b : Bool) (step : Step) → EndsScript (play_lines overlong desc (step ∷ done) (n + 1) lines).status
-        → EndsScript (cond b (after_text (lines_of_step desc done step) (play_lines overlong desc (step ∷ done) (n + 1) lines)) (refused n Limit)).status
+        → EndsScript (cond b (after_text (lines_of_step desc done step) (play_lines overlong desc (step ∷ done) (n + 1) lines)) (refused n (step_why Limit))).status
     by_taken true step ends = ends
     by_taken false step ends = tt
 
-    by_step : (read : Result Step Why) → ((step : Step) → EndsScript (play_lines overlong desc (step ∷ done) (n + 1) lines).status)
-        → EndsScript (elim read as (λ _. Outcome) [
-          | Err why ↦ refused n why
-          | Ok step ↦ cond (takes done step) (after_text (lines_of_step desc done step) (play_lines overlong desc (step ∷ done) (n + 1) lines)) (refused n Limit)
+    by_step : (said : Option Step) → EndsScript (play_lines overlong desc done (n + 1) lines).status
+        → ((step : Step) → EndsScript (play_lines overlong desc (step ∷ done) (n + 1) lines).status)
+        → EndsScript (elim said as (λ _. Outcome) [
+          | None ↦ play_lines overlong desc done (n + 1) lines
+          | Some step ↦ cond (takes done step) (after_text (lines_of_step desc done step) (play_lines overlong desc (step ∷ done) (n + 1) lines)) (refused n (step_why Limit))
         ]).status
-    by_step (Err why) next = tt
-    by_step (Ok step) next = by_taken (takes done step) step (next step)
+    by_step None past next = past
+    by_step (Some step) past next = by_taken (takes done step) step (next step)
+
+    by_line : (read : Result (Option Step) Why) → EndsScript (play_lines overlong desc done (n + 1) lines).status
+        → ((step : Step) → EndsScript (play_lines overlong desc (step ∷ done) (n + 1) lines).status)
+        → EndsScript (elim read as (λ _. Outcome) [
+          | Err why ↦ refused n (step_why why)
+          | Ok said ↦ elim said as (λ _. Outcome) [
+            | None ↦ play_lines overlong desc done (n + 1) lines
+            | Some step ↦ cond (takes done step) (after_text (lines_of_step desc done step) (play_lines overlong desc (step ∷ done) (n + 1) lines)) (refused n (step_why Limit))
+          ]
+        ]).status
+    by_line (Err why) past next = tt
+    by_line (Ok said) past next = by_step said past next
+
+described_ends : (overlong : Bool) (draft : Draft) (n : ℕ) → EndsScript (described overlong draft n).status
+described_ends true draft n = tt
+described_ends false draft n = by_finished (finished draft)
+  where
+    by_finished : (read : Result Description Why) → EndsScript (elim read as (λ _. Outcome) [ Err why ↦ refused n why | Ok desc ↦ ended false ]).status
+    by_finished (Err why) = tt
+    by_finished (Ok desc) = tt
 
 describe_ends : (overlong : Bool) (draft : Draft) (n : ℕ) (lines : List (List ℕ)) → EndsScript (describe_lines overlong draft n lines).status
-describe_ends true draft n [] = tt
-describe_ends false draft n [] = tt
+describe_ends overlong draft n [] = described_ends overlong draft n
 describe_ends overlong draft n (line ∷ lines) = by_end (is_end line) (λ more. describe_ends overlong more (n + 1) lines)
   where
     by_finished : (read : Result Description Why) → EndsScript (elim read as (λ _. Outcome) [ Err why ↦ refused n why | Ok desc ↦ play_lines overlong desc [] (n + 1) lines ]).status
@@ -81,17 +93,13 @@ describe_ends overlong draft n (line ∷ lines) = by_end (is_end line) (λ more.
 
     by_end : (b : Bool) → ((more : Draft) → EndsScript (describe_lines overlong more (n + 1) lines).status)
         → EndsScript (cond b
-        (elim (finished draft) as (λ _. Outcome) [ Err why ↦ refused n why | Ok desc ↦ play_lines overlong desc [] (n + 1) lines ])
+        (elim (ended_by draft line) as (λ _. Outcome) [ Err why ↦ refused n why | Ok desc ↦ play_lines overlong desc [] (n + 1) lines ])
         (elim (after_line draft line) as (λ _. Outcome) [ Err why ↦ refused n why | Ok more ↦ describe_lines overlong more (n + 1) lines ])).status
-    by_end true next = by_finished (finished draft)
+    by_end true next = by_finished (ended_by draft line)
     by_end false next = by_line (after_line draft line) next
 
-lines_end : (overlong : Bool) (lines : List (List ℕ)) → EndsScript (outcome_of_lines overlong lines).status
-lines_end overlong [] = ended_ends overlong
-lines_end overlong (line ∷ lines) = describe_ends overlong blank_draft 1 (line ∷ lines)
-
 outcome_ends : (input : List ℕ) → EndsScript (outcome_of input).status
-outcome_ends input = lines_end (is_overlong input) (looked_lines input)
+outcome_ends input = describe_ends (is_overlong input) blank_draft 1 (looked_lines input)
 
 pub finished_ends : (input : List ℕ) (status : Status) (before after : List ℕ) → Finishes (outcome_of input) status before after → EndsScript status
 finished_ends input status before after f = subst EndsScript (sym f.ends) (outcome_ends input)
@@ -108,7 +116,8 @@ no_write_fault status ends is = subst EndsScript is ends
 -- ---- an input of which no more is read than one byte past the limit
 
 outcome_within : ℕ → List ℕ → Outcome
-outcome_within limit input = outcome_of_lines (nat_lt limit (length input)) (cond (nat_lt limit (length input)) (ended_lines_of (take limit input)) (lines_of input))
+outcome_within limit input =
+    describe_lines (nat_lt limit (length input)) blank_draft 1 (lines_of (cond (nat_lt limit (length input)) (told_part (take limit input)) input))
 
 read_within : (limit : ℕ) (input : List ℕ) → outcome_within limit (take (limit + 1) input) ≡ outcome_within limit input
 unfolding outcome_within

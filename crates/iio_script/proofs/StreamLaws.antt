@@ -3,7 +3,7 @@ use Rattle.std.proofs.Common.{◌≡◌, ℕ, ◌+◌, ◌==◌, ◌&&◌, Bool,
 use Rattle.iiod_grammar.specs.Built.{said_by}
 use Rattle.iiod_grammar.specs.Stream.{ended_lines, items_of, onto_line as onto_ended}
 use Rattle.iio_history.specs.Transcript.{new_items}
-use Rattle.iio_script.specs.Input.{lines_of, onto_line}
+use Rattle.iio_desc.specs.Text.{lines_of, onto_line}
 use Rattle.iio_script.specs.Step.{are_lines, most_line_bytes}
 
 and_right : (a b : Bool) → (a && b) ≡ true → b ≡ true

@@ -1,15 +1,15 @@
 -- What each line of a script says, and the first check that fails where it is refused. (This project's own.)
-use Rattle.std.specs.Prelude.{ℕ, ◌+◌, ◌==◌, ◌||◌, ◌&&◌, nat_lt, Bool, true, false, List, [], ◌∷◌, length, codes, Result, Ok, Err, if◌then◌else◌}
+use Rattle.std.specs.Prelude.{ℕ, ◌+◌, ◌==◌, ◌||◌, ◌&&◌, nat_lt, Bool, true, false, List, [], ◌∷◌, length, codes, Option, Some, None, Result, Ok, Err, if◌then◌else◌}
 use Rattle.std.specs.List.{list_all, list_any}
 use Rattle.std.specs.Str.{bytes_eq}
 use Rattle.iio_text.specs.declared.refusals.Why.{Why}
-use Rattle.iio_text.specs.declared.refusals.Why.TheVariants.{Text, Word, Count, Trigger, Number}
+use Rattle.iio_text.specs.declared.refusals.Why.TheVariants.{Long, Text, Word, Count, Trigger, Number}
 use Rattle.iio_text.specs.Words.{words_of, is_space}
 use Rattle.iio_text.specs.Numbers.{int_of}
 use Rattle.iio_text.specs.Escape.{quoted_of}
 use Rattle.iio_attr.specs.Name.{is_name}
 use Rattle.iio_desc.specs.Description.{Description, find_trigger}
-use Rattle.iio_desc.specs.Line.{checked, said, two_of, is_printable}
+use Rattle.iio_desc.specs.Line.{checked, said, known, two_of, is_printable, is_comment, fits_line}
 use Rattle.iio_history.specs.declared.step.Step.{Step}
 use Rattle.iio_history.specs.declared.step.Step.TheVariants.{Feed, Fire}
 
@@ -63,16 +63,21 @@ fire_step desc words =
     said (int_of w.1) Number (λ moment. Ok (Fire trigger moment))))
 
 -- a line by its first word
-abbrev pub step_of_words : Description → List ℕ → List (List ℕ) → Result Step Why
-step_of_words desc line [] = Err Word
-step_of_words desc line (word ∷ words) =
+abbrev pub step_of_words : Description → List ℕ → List ℕ → List (List ℕ) → Result Step Why
+step_of_words desc line word words =
     if bytes_eq word (codes "fire") then fire_step desc words
     else (if is_step_word word then Err Word
     else (if is_name word then feed_step line word words else Err Word))
 
--- the step that a line says
-abbrev pub step_of : Description → List ℕ → Result Step Why
-step_of desc line = checked (list_all is_printable line) Text (step_of_words desc line (words_of is_space line))
+-- a line with these words; without a word it means nothing
+abbrev pub step_of_line : Description → List ℕ → List (List ℕ) → Result (Option Step) Why
+step_of_line desc line [] = Ok None
+step_of_line desc line (word ∷ words) =
+    checked (list_all is_printable line) Text (known (step_of_words desc line word words) (λ step. Ok (Some step)))
+
+-- the step that a line says; a comment means nothing
+abbrev pub step_of : Description → List ℕ → Result (Option Step) Why
+step_of desc line = checked (fits_line line) Long (if is_comment line then Ok None else step_of_line desc line (words_of is_space line))
 
 -- the names of the connections that were fed in these steps, the newest step first
 abbrev pub names_in : List Step → List (List ℕ)

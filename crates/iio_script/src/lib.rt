@@ -7,10 +7,13 @@ mod player;
 mod reply;
 mod script;
 mod seat;
+mod station;
 mod status;
 mod step;
 
 pub use iio_base::Mem;
-pub use script::play;
+pub use input::{INPUT_LIMIT, front, told_part};
+pub use reply::push_digits;
+pub use script::{play, push_end, push_refused};
 pub use status::Status;
 pub use step::{StepFault, read_step};

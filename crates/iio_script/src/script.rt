@@ -2,38 +2,39 @@
 
 ghost use Rattle.std.specs.Prelude.{◌≡◌, ◌+◌, ◌*◌, ◌^◌, ◌≤◌, ◌<◌, ◌++◌, [], ◌∷◌, Some, None, Ok, IfOk, IfSome, IfNone, length, nat_lt};
 ghost use Rattle.iio_base.specs.Faults.{Rose};
-ghost use Rattle.iio_desc.specs.Description.{Description};
 ghost use Rattle.iio_desc.specs.Draft.{blank_draft};
-ghost use Rattle.iio_desc.specs.OnePath.{IsOnePath};
-ghost use Rattle.iio_script.specs.Input.{lines_of, looked_lines, is_overlong, input_limit};
-ghost use Rattle.iio_script.specs.Bench.{path_of};
-ghost use Rattle.iio_script.specs.Outcome.{printed_why, refused, ended, play_lines, describe_lines, outcome_of_lines, outcome_of};
+ghost use Rattle.iio_desc.specs.Text.{lines_of};
+ghost use Rattle.iio_desc.specs.WellFormed.{IsWellFormed};
+ghost use Rattle.iio_script.specs.Input.{input_limit};
+ghost use Rattle.iio_script.specs.Outcome.{step_why, refused, ended, play_lines, described, describe_lines, outcome_of};
 ghost use Rattle.iio_script.specs.Play.{Finishes, Plays};
 
 use crate::bench::Bench;
-use crate::input::{INPUT_LIMIT, ended_part, front, next_line};
+use crate::input::{INPUT_LIMIT, front, told_part};
 use crate::player::Player;
 use crate::reply::push_digits;
 use crate::status::Status;
 use crate::step::{StepFault, read_step};
 use iio_base::Mem;
-use iio_desc::{Desc, DescReader, LineFault, is_end};
+use iio_desc::{Desc, DescReader, LineFault, is_end, next_line};
 use iio_io::{ReadEnd, Sink, Source, read_whole, write_whole};
 use iio_text::Why;
 use std::alloc::Global;
 
-// The word that a refusal is printed with: so far one for all.
-fn printed_why(_why: Why) -> Why
-    ensures { result ≡ printed_why _why }
+// The word that the refusal of a step is printed with: so far one for all checks but that of the line's length.
+fn step_why(why: Why) -> Why
+    ensures { result ≡ step_why why }
 {
-    Why::Word
+    match why {
+        Why::Long => Why::Long,
+        _ => Why::Word,
+    }
 }
 
-// The end at a refused line: `refused LINE word`
-fn push_refused(out: &mut Vec<u8>, line: u32, why: Why) -> Result<Status, Mem>
+/// The end at a refused line: `refused LINE WHY`
+pub fn push_refused(out: &mut Vec<u8>, line: u32, why: Why) -> Result<Status, Mem>
     ensures { IfOk result (λ status. Finishes (refused line why) status out.old.items out.new.items) }
 {
-    let why = printed_why(why);
     out.extend_from_slice(b"refused ")?;
     push_digits(out, line as usize)?;
     out.push(b' ')?;
@@ -42,8 +43,8 @@ fn push_refused(out: &mut Vec<u8>, line: u32, why: Why) -> Result<Status, Mem>
     Ok(Status::Refused { line, why })
 }
 
-// The end behind the last line that is looked at.
-fn push_end(out: &mut Vec<u8>, overlong: bool) -> Result<Status, Mem>
+/// The end behind the last line that is looked at.
+pub fn push_end(out: &mut Vec<u8>, overlong: bool) -> Result<Status, Mem>
     ensures { IfOk result (λ status. Finishes (ended overlong) status out.old.items out.new.items) }
 {
     if overlong {
@@ -56,35 +57,36 @@ fn push_end(out: &mut Vec<u8>, overlong: bool) -> Result<Status, Mem>
 // The steps of a script from a line on.
 fn play_steps(
     alloc: Global,
-    desc: &Desc,
-    mut player: Player,
+    player: &mut Player,
     text: &[u8],
     first: u32,
     overlong: bool,
     out: &mut Vec<u8>,
 ) -> Result<Status, Mem>
-    requires triggers { desc.now.triggers ≡ player.bench.trigger ∷ [] }
-    requires attached { player.bench.device.trigger ≡ Some 0 }
-    requires free { player.bench.seat ≡ None }
-    requires fresh { player.who ≡ None }
+    requires sound { IsWellFormed player.old.bench.desc }
+    requires free { player.old.bench.seat ≡ None }
+    requires fresh { player.old.who ≡ None }
     requires few { first + length text.now < 2 ^ 32 }
-    ensures { IfOk result (λ status. Finishes (play_lines overlong (path_of player.bench.trigger player.bench.device) [] first (lines_of text.now))
-        status out.old.items out.new.items) }
+    ensures { IfOk result (λ status. Finishes (play_lines overlong player.old.bench.desc [] first (lines_of text.now)) status out.old.items out.new.items) }
 {
     let mut rest = text;
-    let mut number = first;
+    let mut next = first;
     while let Some((line, more)) = next_line(rest) {
-        let step = match read_step(alloc, desc, line) {
-            Ok(step) => step,
-            Err(StepFault::Why(why)) => return push_refused(out, number, why),
+        let number = next;
+        rest = more;
+        next += 1;
+        let said = match read_step(alloc, player.bench.desc(), line) {
+            Ok(said) => said,
+            Err(StepFault::Why(why)) => return push_refused(out, number, step_why(why)),
             Err(StepFault::Mem) => return Err(Mem),
         };
+        let Some(step) = said else {
+            continue;
+        };
         if !player.accepts(&step) {
-            return push_refused(out, number, Why::Limit);
+            return push_refused(out, number, step_why(Why::Limit));
         }
         player.perform(alloc, &step, out)?;
-        rest = more;
-        number += 1;
     }
     push_end(out, overlong)
 }
@@ -92,22 +94,41 @@ fn play_steps(
 // The script behind a description, from a line on.
 fn play_described(
     alloc: Global,
-    mut desc: Desc,
+    desc: Desc,
     text: &[u8],
     first: u32,
     overlong: bool,
     out: &mut Vec<u8>,
 ) -> Result<Status, Mem>
-    requires one { IsOnePath desc }
+    requires sound { IsWellFormed desc }
     requires few { first + length text.now < 2 ^ 32 }
     ensures { IfOk result (λ status. Finishes (play_lines overlong desc [] first (lines_of text.now)) status out.old.items out.new.items) }
 {
-    let device = desc.devices.pop().unwrap();
-    let player = Player {
-        bench: Bench::new(&desc.triggers.as_slice()[0], device),
+    let mut player = Player {
+        bench: Bench::new(desc),
         who: None,
     };
-    play_steps(alloc, &desc, player, text, first, overlong, out)
+    play_steps(alloc, &mut player, text, first, overlong, out)
+}
+
+// The end of an input that has no script.
+fn push_described(
+    alloc: Global,
+    reader: DescReader,
+    line: u32,
+    overlong: bool,
+    out: &mut Vec<u8>,
+) -> Result<Status, Mem>
+    ensures { IfOk result (λ status. Finishes (described overlong reader line) status out.old.items out.new.items) }
+{
+    if overlong {
+        return push_end(out, overlong);
+    }
+    match reader.finish(alloc) {
+        Ok(_) => push_end(out, overlong),
+        Err(LineFault::Why(why)) => push_refused(out, line, why),
+        Err(LineFault::Mem) => Err(Mem),
+    }
 }
 
 // The lines of an input: a description, and then its script.
@@ -120,7 +141,7 @@ fn play_lines(alloc: Global, text: &[u8], overlong: bool, out: &mut Vec<u8>) -> 
     let mut number = 1;
     while let Some((line, more)) = next_line(rest) {
         if is_end(line) {
-            return match reader.finish(alloc) {
+            return match reader.end(alloc, line) {
                 Ok(desc) => play_described(alloc, desc, more, number + 1, overlong, out),
                 Err(LineFault::Why(why)) => push_refused(out, number, why),
                 Err(LineFault::Mem) => Err(Mem),
@@ -134,33 +155,7 @@ fn play_lines(alloc: Global, text: &[u8], overlong: bool, out: &mut Vec<u8>) -> 
         rest = more;
         number += 1;
     }
-    if overlong {
-        return push_end(out, overlong);
-    }
-    push_refused(out, number, Why::Order)
-}
-
-// The part of an input that is looked at: all of it, and of an overlong one the lines whose LF is looked at.
-fn looked_part(text: &[u8], overlong: bool) -> &[u8]
-    requires { overlong ≡ is_overlong text.now }
-    ensures lines { lines_of result.now ≡ looked_lines text.now }
-    ensures within { length result.now ≤ length text.now }
-{
-    if overlong {
-        return ended_part(front(text, INPUT_LIMIT));
-    }
-    text
-}
-
-// The lines that are looked at, if any: none are played to their end at once.
-fn play_looked(alloc: Global, text: &[u8], overlong: bool, out: &mut Vec<u8>) -> Result<Status, Mem>
-    requires { length text.now ≤ 2 ^ 27 }
-    ensures { IfOk result (λ status. Finishes (outcome_of_lines overlong (lines_of text.now)) status out.old.items out.new.items) }
-{
-    if next_line(text).is_none() {
-        return push_end(out, overlong);
-    }
-    play_lines(alloc, text, overlong, out)
+    push_described(alloc, reader, number, overlong, out)
 }
 
 // What an input prints.
@@ -168,8 +163,10 @@ fn play_text(alloc: Global, text: &[u8], out: &mut Vec<u8>) -> Result<Status, Me
     requires { length text.now ≤ input_limit + 1 }
     ensures { IfOk result (λ status. Finishes (outcome_of text.now) status out.old.items out.new.items) }
 {
-    let overlong = text.len() > INPUT_LIMIT;
-    play_looked(alloc, looked_part(text, overlong), overlong, out)
+    if text.len() > INPUT_LIMIT {
+        return play_lines(alloc, told_part(front(text, INPUT_LIMIT)), true, out);
+    }
+    play_lines(alloc, text, false, out)
 }
 
 /// Plays the input that a source has left, and writes what it prints to a sink: a description, and then the steps of a

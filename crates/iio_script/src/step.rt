@@ -1,6 +1,6 @@
 //! The lines of a script as steps.
 
-ghost use Rattle.std.specs.Prelude.{◌≡◌, ◌≤◌, length, IfOk, IfErr, option_copied, true};
+ghost use Rattle.std.specs.Prelude.{◌≡◌, ◌≤◌, length, IfOk, IfErr, IfSome, option_copied, true, Some};
 ghost use Rattle.std.specs.List.{list_any};
 ghost use Rattle.std.specs.Str.{bytes_eq};
 ghost use Rattle.iio_text.specs.Words.{words_of, is_space};
@@ -8,10 +8,10 @@ ghost use Rattle.iio_attr.specs.Name.{is_name};
 ghost use Rattle.iio_script.specs.Fault.{Explains};
 ghost use Rattle.iio_desc.specs.Description.{Description};
 ghost use Rattle.iio_script.specs.Play.{IsRight};
-ghost use Rattle.iio_script.specs.Step.{is_step_word, are_lines, from_quote, has_quote_first, feed_step, fire_step, step_of_words, step_of};
+ghost use Rattle.iio_script.specs.Step.{is_step_word, are_lines, from_quote, has_quote_first, feed_step, fire_step, step_of_words, step_of_line, step_of};
 
 use iio_attr::Name;
-use iio_desc::{Desc, is_printable_text, two_words};
+use iio_desc::{Desc, fits_line, is_comment, is_printable_text, two_words};
 use iio_history::{Quoted, Step};
 use iio_text::words::{Blanks, next_word};
 use iio_text::{Unescape, Why, between_quotes, read_int, unescape};
@@ -129,14 +129,19 @@ fn read_fire(desc: &Desc, words: &[u8]) -> Result<Step, Why>
     Ok(Step::Fire(trigger, moment))
 }
 
-// A line by its first word.
-fn read_words(alloc: Global, desc: &Desc, line: &[u8]) -> Result<Step, StepFault>
+// A line by its first word, and by the words behind it.
+fn read_words(
+    alloc: Global,
+    desc: &Desc,
+    line: &[u8],
+    word: &[u8],
+    words: &[u8],
+) -> Result<Step, StepFault>
     requires { length desc.now.triggers ≤ 16 }
-    ensures ok { IfOk result (λ step. step_of_words desc.now line.now (words_of is_space line.now) ≡ Ok step) }
-    ensures err { IfErr result (λ e. Explains e (step_of_words desc.now line.now (words_of is_space line.now))) }
+    ensures ok { IfOk result (λ step. step_of_words desc.now line.now word.now (words_of is_space words.now) ≡ Ok step) }
+    ensures err { IfErr result (λ e. Explains e (step_of_words desc.now line.now word.now (words_of is_space words.now))) }
     ensures right { IfOk result (IsRight desc.now) }
 {
-    let (word, words) = next_word(line, Blanks::Spaces).ok_or(Why::Word)?;
     if word == b"fire".as_slice() {
         return Ok(read_fire(desc, words)?);
     }
@@ -146,15 +151,35 @@ fn read_words(alloc: Global, desc: &Desc, line: &[u8]) -> Result<Step, StepFault
     read_feed(alloc, line, word, words)
 }
 
-/// The step that a line of a script says, without its LF. An `Err` tells the first check that fails.
-pub fn read_step(alloc: Global, desc: &Desc, line: &[u8]) -> Result<Step, StepFault>
+// A line that is no comment and isn't too long.
+fn read_line(alloc: Global, desc: &Desc, line: &[u8]) -> Result<Option<Step>, StepFault>
     requires { length desc.now.triggers ≤ 16 }
-    ensures ok { IfOk result (λ step. step_of desc.now line.now ≡ Ok step) }
-    ensures err { IfErr result (λ e. Explains e (step_of desc.now line.now)) }
-    ensures right { IfOk result (IsRight desc.now) }
+    ensures ok { IfOk result (λ step. step_of_line desc.now line.now (words_of is_space line.now) ≡ Ok step) }
+    ensures err { IfErr result (λ e. Explains e (step_of_line desc.now line.now (words_of is_space line.now))) }
+    ensures right { IfOk result (λ step. IfSome step (IsRight desc.now)) }
 {
+    let Some((word, words)) = next_word(line, Blanks::Spaces) else {
+        return Ok(None);
+    };
     if !is_printable_text(line) {
         return Err(StepFault::Why(Why::Text));
     }
-    read_words(alloc, desc, line)
+    Ok(Some(read_words(alloc, desc, line, word, words)?))
+}
+
+/// The step that a line of a script says, without its LF. `None` comes exactly for a line without a word and for a
+/// comment, whose first byte is `#`, where it isn't too long. An `Err` tells the first check that fails.
+pub fn read_step(alloc: Global, desc: &Desc, line: &[u8]) -> Result<Option<Step>, StepFault>
+    requires { length desc.now.triggers ≤ 16 }
+    ensures ok { IfOk result (λ step. step_of desc.now line.now ≡ Ok step) }
+    ensures err { IfErr result (λ e. Explains e (step_of desc.now line.now)) }
+    ensures right { IfOk result (λ step. IfSome step (IsRight desc.now)) }
+{
+    if !fits_line(line) {
+        return Err(StepFault::Why(Why::Long));
+    }
+    if is_comment(line) {
+        return Ok(None);
+    }
+    read_line(alloc, desc, line)
 }

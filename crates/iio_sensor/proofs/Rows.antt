@@ -7,7 +7,8 @@ use Rattle.std.proofs.lemmas.List.{take_all}
 use Rattle.std.proofs.lemmas.List.Sums.{count_by_more_yes, count_by_more_no}
 use Rattle.std.proofs.lemmas.Int.{ints}
 use Rattle.iio_layout.specs.Shape.{RowsRecord}
-use Rattle.iio_sensor.specs.Recorded.{Rises, row_before}
+use Rattle.iio_layout.specs.Rows.{Rises}
+use Rattle.iio_sensor.specs.Recorded.{row_before}
 
 -- where the elements that pass stand before the others, their number is the place between
 pub count_to_point : (p : ℤ → Bool) (xs : List ℤ) (i : ℕ) → i ≤ length xs → IsPartitionPoint (λ x. p x ≡ true) (λ x. p x ≡ false) xs i → count_by p xs ≡ i

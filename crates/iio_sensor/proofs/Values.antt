@@ -11,6 +11,7 @@ use Rattle.iio_layout.specs.Layout.{format_at}
 use Rattle.iio_layout.specs.Scan.{first_value}
 use Rattle.iio_layout.specs.Shape.{ShapeRecord, formats_of, width_of, stamp_formats}
 use Rattle.iio_sensor.specs.Driver.{elements_below, values_below, with_bias}
+use Rattle.iio_sensor.specs.Laws.{length-elements_below, first_value_more}
 use Rattle.iio_sensor.specs.Recorded.{value_in}
 
 elements_more : (value : ℕ → ℤ) (k : ℕ) → elements_below value (k + 1) ≡ elements_below value k ++ value k ∷ []
@@ -20,33 +21,6 @@ elements_more value k = rw (add-one k) refl
 pub elements_set : (value : ℕ → ℤ) (out : List ℤ) (k : ℕ) (v : ℤ) → k < length out → v ≡ value k → take k out ≡ elements_below value k
     → take (k + 1) (set out k v) ≡ elements_below value (k + 1)
 elements_set value out k v h e w = take_more_set out k v h ∙ ap (λ t. t ++ v ∷ []) w ∙ ap (λ x. elements_below value k ++ x ∷ []) e ∙ sym (elements_more value k)
-
-length-elements_below : (value : ℕ → ℤ) (n : ℕ) → length (elements_below value n) ≡ n
-length-elements_below value zero = refl
-length-elements_below value (suc n) =
-    let e = length-elements_below value n in
-    length-append (elements_below value n) (value n ∷ []) ∙ omega arith
-
--- ---- where a channel's numbers begin
-
--- the numbers before a channel, with those of one channel more
-pub first_value_more : (formats : List Format) (c : ℕ) → c < length formats → first_value formats (c + 1) ≡ first_value formats c + (format_at formats c).repeat
-first_value_more formats c h = sum_by_more (λ f. f.repeat) formats c (stamp_format Little) h
-
--- each data channel has a type
-pub data_within : (shape : ShapeRecord) → length shape.channels ≤ length (formats_of shape)
-data_within shape =
-    omega (arith, length-append (map (λ channel. channel.ty) shape.channels) (stamp_formats shape.stamp), length-map shape.channels (λ channel. channel.ty))
-
-repeats_of : (n : ℕ) (xs : List Channel) → fold (λ a f. a + f.repeat) n (map (λ channel. channel.ty) xs) ≡ fold (λ a channel. a + channel.ty.repeat) n xs
-repeats_of n [] = refl
-repeats_of n (x ∷ xs) = repeats_of (n + x.ty.repeat) xs
-
--- all data channels have as many values as the shape's width
-pub first_value_all : (shape : ShapeRecord) → first_value (formats_of shape) (length shape.channels) ≡ width_of shape
-first_value_all shape =
-    ap (sum_by (λ f. f.repeat)) (take_at (map (λ channel. channel.ty) shape.channels) (stamp_formats shape.stamp) (length shape.channels) (length-map shape.channels (λ channel. channel.ty)))
-    ∙ repeats_of 0 shape.channels
 
 -- ---- the values of one channel more
 

@@ -1,3 +1,4 @@
 pub mod Driver
 pub mod Recorded
 pub mod View
+pub mod Laws

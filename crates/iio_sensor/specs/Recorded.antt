@@ -6,15 +6,6 @@ use Rattle.iio_layout.specs.Layout.{format_at}
 use Rattle.iio_layout.specs.Scan.{first_value}
 use Rattle.iio_sensor.specs.Driver.{Driver, with_bias}
 
--- each moment is after those before it
-abbrev pub Rises : List ℤ → Type 0
-Rises moments = (i j : ℕ) (d : ℤ) → i < j → j < length moments → slice_index_or moments i d <ℤ slice_index_or moments j d
-
--- moments that rise, and as many values for each as a row has
-pub record IsRecording (rows : RowsRecord) : Type 0 where
-  pub rises : Rises rows.moments
-  pub whole : length rows.values ≡ length rows.moments * rows.width
-
 -- how many moments have come
 abbrev pub come_by : List ℤ → ℤ → ℕ
 come_by moments t = count_by (λ m. int_le m t) moments

@@ -2,10 +2,11 @@
 
 ghost use Rattle.std.specs.Prelude.{◌≡◌, ℕ, ◌+◌, ◌*◌, ◌^◌, ◌<◌, ◌≤◌, length, take, pos, replicate, slice_index_or, slice_set, None, Some, OnOk, IfOk, is_err, false};
 ghost use Rattle.iio_layout.specs.Layout.{format_at, scan_size};
+ghost use Rattle.iio_layout.specs.Rows.{IsRecording, Rises};
 ghost use Rattle.iio_layout.specs.Scan.{first_value, scan_of};
 ghost use Rattle.iio_layout.specs.Shape.{count_of, formats_of, width_of};
 ghost use Rattle.iio_sensor.specs.Driver.{IsFresh, after_ask, after_bias, after_capture, ask_fails, bias_at, elements_below, next_count, value_of, values_below, values_of, with_bias};
-ghost use Rattle.iio_sensor.specs.Recorded.{IsRecording, Rises, come_by, driver_of, row_at, value_in};
+ghost use Rattle.iio_sensor.specs.Recorded.{come_by, driver_of, row_at, value_in};
 
 use crate::{Fault, MOST_BIASES, Sensor};
 use iio_layout::{MOST_CHANNELS, Rows, Shape, fill};

@@ -3,7 +3,8 @@ ghost use Rattle.iio_layout.specs.Layout.{scan_size};
 ghost use Rattle.iio_layout.specs.Scan.{scan_of};
 ghost use Rattle.iio_layout.specs.Shape.{count_of};
 ghost use Rattle.iio_sensor.specs.Driver.{Driver, after_ask, after_bias, after_capture, ask_fails, bias_at, value_of, values_of};
-ghost use Rattle.iio_sensor.specs.Recorded.{IsRecording, driver_of};
+ghost use Rattle.iio_layout.specs.Rows.{IsRecording};
+ghost use Rattle.iio_sensor.specs.Recorded.{driver_of};
 ghost use Rattle.iio_sensor.specs.declared.tests.Plug.TheVariants.{Given, Own};
 
 use super::*;

@@ -1,1 +1,7 @@
+pub mod BlockLaws
+pub mod FrontLaws
+pub mod LayoutLaws
+pub mod LookedLaws
 pub mod OneWord
+pub mod PlacingLaws
+pub mod ToldLaws

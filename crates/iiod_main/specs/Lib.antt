@@ -1,3 +1,6 @@
+pub mod Blocks
 pub mod Complete
 pub mod Exit
+pub mod Layout
+pub mod Placing
 pub mod Usage

@@ -8,9 +8,13 @@ use Rattle.iio_script.specs.declared.status.Status.TheVariants.{Usage, WriteFaul
 abbrev pub IsPlay : {A : Type 0} → List (String A) → Type 0
 IsPlay words = map string_bytes words ≡ codes "play" ∷ []
 
+-- the three words `layout DEVICE MASK`
+abbrev pub IsLayout : {A : Type 0} → List (String A) → (device mask : List ℕ) → Type 0
+IsLayout words device mask = map string_bytes words ≡ codes "layout" ∷ device ∷ mask ∷ []
+
 -- other words, or none
 abbrev pub IsOther : {A : Type 0} → List (String A) → Type 0
-IsOther words = IsPlay words → ⊥
+IsOther words = (IsPlay words → ⊥) × ((device mask : List ℕ) → IsLayout words device mask → ⊥)
 
 -- the line that names the commands
 abbrev pub usage_line : List ℕ

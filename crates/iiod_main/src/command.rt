@@ -1,11 +1,15 @@
 //! What the program does for its words.
 
-ghost use Rattle.std.specs.Prelude.{◌≡◌, ◌≤◌, ◌↔◌, None, IsTrue, IfSome, IfNone};
+ghost use Rattle.std.specs.Prelude.{◌≡◌, ℕ, ◌≤◌, ◌↔◌, List, None, IsNone, IsTrue, IfSome, IfNone};
 ghost use Rattle.iio_base.specs.Faults.{Rose};
+ghost use Rattle.iio_script.specs.Outcome.{outcome_of};
 ghost use Rattle.iio_script.specs.Play.{Plays};
+ghost use Rattle.iiod_main.specs.Blocks.{TakesBlocks};
 ghost use Rattle.iiod_main.specs.Complete.{Completes};
-ghost use Rattle.iiod_main.specs.Usage.{IsPlay, IsOther, IsUsage, PrintsUsage};
+ghost use Rattle.iiod_main.specs.Layout.{Lays, layout_of};
+ghost use Rattle.iiod_main.specs.Usage.{IsPlay, IsLayout, IsOther, IsUsage, PrintsUsage};
 
+use crate::layout::layout;
 use iio_io::{Sink, Source, write_whole};
 use iio_script::{Status, play};
 use std::alloc::Global;
@@ -19,6 +23,20 @@ fn is_play(words: &[String]) -> bool
         [word] => word.as_str() == "play",
         _ => false,
     }
+}
+
+// The device and the mask of the words `layout DEVICE MASK`. None exactly for other words.
+fn layout_words(words: &[String]) -> Option<(&[u8], &[u8])>
+    ensures found { IfSome result (λ named. IsLayout words.now named.0.now named.1.now) }
+    ensures none { IsNone result → (device mask : List ℕ) → IsLayout words.now device mask → ⊥ }
+{
+    let [word, device, mask] = words else {
+        return None;
+    };
+    if word.as_str() != "layout" {
+        return None;
+    }
+    Some((device.as_bytes(), mask.as_bytes()))
 }
 
 // Names the commands.
@@ -35,8 +53,10 @@ fn print_usage<K: Sink>(output: &mut K) -> Status
     }
 }
 
-/// Does what the words behind the program's name say. `play` plays the input that the source has left. Other words,
-/// and none, print the line that names the commands, and leave the input alone.
+/// Does what the words behind the program's name say. `play` plays the input that the source has left. `layout DEVICE
+/// MASK` reads the description of that input alone, and prints where the channels of the mask stand in a scan of the
+/// device; an unknown device and a wrong mask are refused at line 0. Other words, and none, print the line that names
+/// the commands, and leave the input alone.
 pub fn run<S: Source, K: Sink>(
     alloc: Global,
     words: &[String],
@@ -47,7 +67,15 @@ pub fn run<S: Source, K: Sink>(
         Plays left written result (K.written output.new))) }
     // Where neither count of faults rose, the whole was written, unless memory ran out.
     ensures complete { IsPlay words.now → S.faults input.old ≡ S.faults input.new → K.faults output.old ≡ K.faults output.new →
-        IfSome (S.left input.old) (λ left. IfSome (K.written output.old) (λ written. Completes left written result (K.written output.new))) }
+        IfSome (S.left input.old) (λ left. IfSome (K.written output.old) (λ written. Completes (outcome_of left) written result (K.written output.new))) }
+
+    ensures layout { (device mask : List ℕ) → IsLayout words.now device mask → IfSome (S.left input.old) (λ left. IfSome (K.written output.old) (λ written.
+        Lays left device mask written result (K.written output.new))) }
+    ensures layout_complete { (device mask : List ℕ) → IsLayout words.now device mask → S.faults input.old ≡ S.faults input.new → K.faults output.old ≡ K.faults output.new →
+        IfSome (S.left input.old) (λ left. IfSome (K.written output.old) (λ written. Completes (layout_of left device mask) written result (K.written output.new))) }
+    ensures layout_taken { (device mask : List ℕ) → IsLayout words.now device mask → IfSome (S.left input.old) (λ left. TakesBlocks left (S.left input.new)) }
+    ensures layout_words { (device mask : List ℕ) → IsLayout words.now device mask → result ≡ Status.Usage → ⊥ }
+
     ensures usage { IsOther words.now → IsUsage result }
     ensures usage_line { IsOther words.now → IfSome (K.written output.old) (λ written.
         PrintsUsage written result (K.written output.new)) }
@@ -60,6 +88,9 @@ pub fn run<S: Source, K: Sink>(
 {
     if is_play(words) {
         return play(alloc, input, output);
+    }
+    if let Some((device, mask)) = layout_words(words) {
+        return layout(alloc, device, mask, input, output);
     }
     print_usage(output)
 }

@@ -1,8 +1,13 @@
 //! The program: its words, its streams, and the status that it ends with.
 #![tactic(auto)]
 
+mod blocks;
 mod command;
 mod exit;
+mod layout;
+mod placing;
+#[cfg(test)]
+mod rows;
 #[cfg(test)]
 mod tests;
 

@@ -1,9 +1,12 @@
-use Rattle.std.proofs.Common.{◌≡◌, ◌≤◌, take}
-use Rattle.iio_script.specs.Input.{lines_of, ended_lines_of}
+use Rattle.std.proofs.Common.{◌≡◌, ◌≤◌, length, take}
+use Rattle.iio_script.specs.Input.{ended_part}
 use Rattle.iio_script.proofs.input.ended_part.Given as goal
 
-abbrev pub invariant-loop-i : goal.invariant-loop-i
-invariant-loop-i l = record {
-  lines : lines_of (take l.len l.text) ≡ ended_lines_of (take l.i l.text);
-  within : l.len ≤ l.i;
+abbrev pub invariant-loop-len : goal.invariant-loop-len
+invariant-loop-len l = record {
+  rest : ended_part (take l.len l.text) ≡ ended_part l.text;
+  within : l.len ≤ length l.text;
 }
+
+abbrev pub decreases-loop-len : goal.decreases-loop-len
+decreases-loop-len l = l.len

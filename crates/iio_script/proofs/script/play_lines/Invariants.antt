@@ -1,6 +1,6 @@
 use Rattle.std.proofs.Common.{◌≡◌, ◌+◌, ◌≤◌, length}
 use Rattle.iio_desc.specs.Draft.{blank_draft}
-use Rattle.iio_script.specs.Input.{lines_of}
+use Rattle.iio_desc.specs.Text.{lines_of}
 use Rattle.iio_script.specs.Outcome.{describe_lines}
 use Rattle.iio_script.proofs.script.play_lines.Given as goal
 

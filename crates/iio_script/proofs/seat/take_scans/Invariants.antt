@@ -4,7 +4,7 @@ use Rattle.iio_script.proofs.seat.take_scans.Given as goal
 
 abbrev pub invariant-loop-left : goal.invariant-loop-left
 invariant-loop-left l = record {
-  told : l.data.items ++ joined_scans (take l.left l.queue.scans) ≡ l.fn.data.items ++ joined_scans (take l.fn.count l.fn.queue.scans);
+  told : l.bytes.items ++ joined_scans (take l.left l.queue.scans) ≡ l.fn.bytes.items ++ joined_scans (take l.fn.count l.fn.queue.scans);
   rest : drop l.left l.queue.scans ≡ drop l.fn.count l.fn.queue.scans;
   same : l.queue ≡ record l.fn.queue { scans = l.queue.scans };
   size : length l.scan ≡ l.queue.size;

@@ -7,7 +7,8 @@ use Rattle.iio_layout.specs.Scan.{first_value}
 use Rattle.iio_layout.specs.Shape.{formats_of}
 use Rattle.iio_sensor.specs.Driver.{elements_below, values_below, with_bias}
 use Rattle.iio_sensor.specs.Recorded.{value_in}
-use Rattle.iio_sensor.proofs.Values.{values_put, data_within, first_value_more, first_value_all}
+use Rattle.iio_sensor.proofs.Values.{values_put}
+use Rattle.iio_sensor.specs.Laws.{data_within, first_value_more, first_value_all}
 use Rattle.iio_sensor.proofs.recorded.write_values.Goals as goal
 
 pub loop-c-preserved : goal.loop-c-preserved

@@ -1,17 +1,32 @@
-use Rattle.std.proofs.Common.{◌≡◌, List, [], ◌∷◌, ◌++◌, Some, ap, sym, ◌∙◌}
-use Rattle.iio_desc.specs.declared.description.DeviceDesc.{DeviceDesc}
-use Rattle.iio_desc.specs.Draft.{Sketch, device_of}
-use Rattle.iio_desc.specs.View.{IsOnTrigger}
-use Rattle.iio_desc.proofs.StageLemmas.{one_path, recording_of}
+use Rattle.std.proofs.Common.{◌≡◌, ◌≤◌, [], ◌∷◌, ◌++◌, length, arith, length-append}
+use Rattle.iio_desc.specs.Stage.{most_devices}
+use Rattle.iio_desc.specs.Draft.{device_of, devices_of}
+use Rattle.iio_desc.specs.View.{FitsCurrent}
+use Rattle.iio_desc.proofs.DeviceLemmas.{sound_push}
 use Rattle.iio_desc.proofs.reader.DescReader.finish.Goals as goal
+use Rattle.iio_desc.proofs.reader.DescReader.finish.Goals.{in-Some+in_ok-push, in_default}
 
-pub returns-clause-one : goal.returns-clause-one
-returns-clause-one c =
-    let s : Sketch = c.in_ok-sketch.sketch in
+pub returns-clause-sound : goal.returns-clause-sound
+returns-clause-sound c =
     let inside = c.self.inside in
-    let held : IsOnTrigger inside.triggers.items (Some s) = rw c.in_ok-sketch.ensures.ok_part at c.self.invariant.attached in
-    let devices : c.push_reserved.new.self.items ≡ device_of s ∷ [] =
-    c.push_reserved.ensures.items ∙ ap (λ (ds : List DeviceDesc). ds ++ c.into_device.result ∷ []) c.in_ok-devices.ensures.items
-    ∙ ap (λ (d : DeviceDesc). d ∷ []) c.into_device.ensures in
-    one_path c.new.result.items c.new.ensures.items inside.triggers.items c.push_reserved.new.self.items s c.self.invariant.few c.self.invariant.places held devices
-    (recording_of c.sketch.inside s c.sketch.invariant (sym c.sketch.view_is))
+    let inv = c.self.invariant in
+    elim c.match-current-2.branch [
+      | in-Some+in_ok-push w ↦
+          let s = w.in-Some.sketch in
+          let d = w.into_device.result in
+          let fits : FitsCurrent (length inside.triggers.items) inside.earlier s = rw w.in-Some.is at inv.current in
+          let count : length (inside.devices.items ++ device_of s ∷ []) ≤ most_devices = rw w.in-Some.is at inv.devices in
+          let pushed : w.push.new.self.items ≡ inside.devices.items ++ d ∷ [] = w.in_ok-push.ensures.items in
+          record {
+            triggers = inv.triggers;
+            devices = rw (w.devices-is, pushed) (omega (arith, count, length-append inside.devices.items (device_of s ∷ []), length-append inside.devices.items (d ∷ [])));
+            places = inv.places;
+            sound = rw (w.devices-is, pushed) (sound_push (length inside.triggers.items) inside.earlier inside.devices.items s d inv.sound fits w.into_device.ensures.value w.into_device.ensures.recording);
+          }
+      | in_default w ↦ record {
+        triggers = inv.triggers;
+        devices = rw w.devices-is (omega (arith, inv.devices, length-append inside.devices.items (devices_of inside.current)));
+        places = inv.places;
+        sound = rw w.devices-is inv.sound;
+      }
+    ]

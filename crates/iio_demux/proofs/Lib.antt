@@ -1,0 +1,4 @@
+pub mod CopyLemmas
+pub mod EntryLemmas
+pub mod ScanLemmas
+mod Worked

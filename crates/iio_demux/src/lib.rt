@@ -1,0 +1,13 @@
+//! Copy tables: from the scan of all that is captured to the scan that one buffer has asked for.
+//!
+//! A device is asked once for each capture, under the active mask. Each buffer has a mask of its own within it, and a
+//! table that copies its channels from the one scan to the places of its own (kernel, industrialio-buffer.c).
+#![tactic(auto)]
+
+mod table;
+
+pub use iio_base::Mem;
+pub use table::{Entry, Table};
+
+#[cfg(test)]
+mod tests;

@@ -1,0 +1,48 @@
+//! The first words of lines.
+
+ghost use Rattle.std.specs.Prelude.{◌≡◌};
+ghost use Rattle.iio_desc.specs.Line.{keyword_of};
+
+/// The line that a first word begins.
+#[derive(Clone, Copy, Debug, PartialEq, Eq)]
+pub enum Keyword {
+    /// `context "TEXT"`
+    Context,
+    /// `trigger NAME PLACES`
+    Trigger,
+    /// `device NAME TRIGGER`
+    Device,
+    /// `channel ID TYPE`
+    Channel,
+    /// `timestamp`, `timestamp be` or `timestamp le`
+    Timestamp,
+    /// `masks H ..`
+    Masks,
+    /// `row T v ..`
+    Row,
+}
+
+impl Keyword {
+    /// The line that a word begins. Rows come first, since there are the most of them.
+    pub fn of(word: &[u8]) -> Option<Keyword>
+        ensures { result ≡ keyword_of word.now }
+    {
+        if word == b"row".as_slice() {
+            Some(Keyword::Row)
+        } else if word == b"channel".as_slice() {
+            Some(Keyword::Channel)
+        } else if word == b"timestamp".as_slice() {
+            Some(Keyword::Timestamp)
+        } else if word == b"masks".as_slice() {
+            Some(Keyword::Masks)
+        } else if word == b"device".as_slice() {
+            Some(Keyword::Device)
+        } else if word == b"trigger".as_slice() {
+            Some(Keyword::Trigger)
+        } else if word == b"context".as_slice() {
+            Some(Keyword::Context)
+        } else {
+            None
+        }
+    }
+}
