@@ -72,17 +72,18 @@ fn timestamp_moves_with_mask(rt: HostRuntime) -> Result<(), Fail> {
     )
 }
 
-// Channels of 1, 4, 2 and 8 bytes: byte 0, bytes 4 to 7, 8 to 9, 16 to 23, and the timestamp behind them. What stands
-// in the padding isn't copied.
+/// Channels of 1, 4, 2 and 8 bytes: byte 0, bytes 4 to 7, 8 to 9, 16 to 23; a timestamp stands behind them.
+const MIXED: [&str; 4] = [
+    "le:u8/8>>0",
+    "le:s32/32>>0",
+    "be:u16/16>>0",
+    "le:s32/32X2>>0",
+];
+
+// What stands in the padding isn't copied.
 #[test]
 fn sizes_are_mixed(rt: HostRuntime) -> Result<(), Fail> {
-    let types = [
-        "le:u8/8>>0",
-        "le:s32/32>>0",
-        "be:u16/16>>0",
-        "le:s32/32X2>>0",
-    ];
-    let shape = device(rt.alloc(), &types)?;
+    let shape = device(rt.alloc(), &MIXED)?;
     let union = b"a\xee\xee\xeebcdefg\xee\xee\xee\xee\xee\xeehijklmnopqrstuvw";
     let cases: [(&str, &[Entry], &[u8]); 5] = [
         (

@@ -1,5 +1,5 @@
 -- What one word of a line takes off it.
-use Rattle.std.proofs.Common.{◌≡◌, ℕ, ◌+◌, ◌≤◌, ◌++◌, ◌||◌, Bool, true, false, not, cond, List, [], ◌∷◌, length, suc, ◌&&◌, take, take_while, arith, ap, sym, ◌∙◌, refl, length-append}
+use Rattle.std.proofs.Common.{◌≡◌, ℕ, ◌+◌, ◌++◌, ◌||◌, Bool, true, false, not, cond, List, [], ◌∷◌, length, suc, ◌&&◌, take, take_while, arith, ap, sym, ◌∙◌, refl}
 use Rattle.std.proofs.Math.Numerals.{one-add}
 use Rattle.std.proofs.lemmas.List.{append_cancel_left}
 use Rattle.std.specs.List.{list_any, prefix_len}

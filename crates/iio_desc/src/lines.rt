@@ -1,4 +1,4 @@
-//! Why a line of a description isn't read.
+//! Why a line of an input isn't read.
 
 ghost use Rattle.std.specs.Prelude.{◌≡◌};
 ghost use Rattle.iio_desc.specs.declared.lines.LineFault.TheVariants.{Why as Refused, Mem as NoMemory};
@@ -6,13 +6,16 @@ ghost use Rattle.iio_desc.specs.declared.lines.LineFault.TheVariants.{Why as Ref
 use iio_base::Mem;
 use iio_text::Why;
 use std::alloc::{AllocError, AllocFailed};
+use thiserror::Error;
 
-/// Why a line isn't read.
-#[derive(Clone, Copy, Debug, PartialEq, Eq)]
+/// Why a line isn't read, of a description or of a script.
+#[derive(Clone, Copy, Debug, PartialEq, Eq, Error)]
 pub enum LineFault {
     /// The first check that fails.
+    #[error("refused: {}", .0.text())]
     Why(Why),
     /// Want of memory.
+    #[error("out of memory")]
     Mem,
 }
 

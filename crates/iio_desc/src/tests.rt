@@ -374,6 +374,8 @@ fn texts(rt: HostRuntime) -> Result<(), Fail> {
     };
     let printed = format!(in alloc; "{fault}")?;
     assert_eq!(rt; printed.as_str(), "line 3 refused: type");
+    let printed = format!(in alloc; "{}", LineFault::Why(Why::BadType))?;
+    assert_eq!(rt; printed.as_str(), "refused: type");
     Ok(())
 }
 

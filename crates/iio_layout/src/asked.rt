@@ -13,10 +13,9 @@ use iio_mask::{Mask, pick};
 /// timestamp where it is wanted (kernel, `iio_scan_mask_match`). `None` comes exactly where masks are listed and none
 /// of them contains the wanted data channels.
 pub fn active(shape: &Shape, wanted: Mask) -> Option<Mask>
-    requires { wanted.bits < 2 ^ count_of shape.now }
     ensures value { option_map (λ m. m.bits) result ≡ active_of shape.now wanted.bits }
     ensures contains { IfSome result (λ m. is_within wanted.bits m.bits ≡ true) }
-    ensures below { IfSome result (λ m. m.bits < 2 ^ count_of shape.now) }
+    ensures below { wanted.bits < 2 ^ count_of shape.now → IfSome result (λ m. m.bits < 2 ^ count_of shape.now) }
 {
     let asked = pick(shape.listed(), data_part(shape, wanted))?;
     Some(with_stamp(shape, wanted, asked))
@@ -36,9 +35,8 @@ fn data_part(shape: &Shape, mask: Mask) -> Mask
 
 // The mask with the timestamp's bit besides, where the wanted one has it.
 fn with_stamp(shape: &Shape, wanted: Mask, mask: Mask) -> Mask
-    requires { mask.bits < 2 ^ count_of shape.now }
     ensures value { result.bits ≡ with_stamp shape.now wanted.bits mask.bits }
-    ensures below { result.bits < 2 ^ count_of shape.now }
+    ensures below { mask.bits < 2 ^ count_of shape.now → result.bits < 2 ^ count_of shape.now }
 {
     let stamp = shape.inputs();
     if shape.stamp().is_none() || !wanted.contains(stamp) {

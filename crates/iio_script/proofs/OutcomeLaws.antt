@@ -1,183 +1,95 @@
--- What an input prints, by the lines that are looked at; and what a run that ends early has written.
-use Rattle.std.proofs.Common.{◌≡◌, ℕ, ◌+◌, Bool, true, false, cond, List, [], ◌∷◌, ◌++◌, length, take, drop, Option, Some, None, IfSome, nat_lt, refl, sym, ap, ◌∙◌, subst, arith, append-nil, Result, Ok, Err, inl, inr}
+-- Of an input the bytes up to one past the limit say the same as all of them; and what a run has written that ended.
+use Rattle.std.proofs.Common.{◌≡◌, ℕ, ◌+◌, Bool, true, cond, List, [], length, take, drop, Option, Some, None, IfSome, nat_lt, refl, sym, ap, ◌∙◌, subst, arith, append-nil, inl, inr}
 use Rattle.std.proofs.lemmas.Bool.Decides.{nat_tests}
 use Rattle.std.proofs.lemmas.List.{take_all, take-take, length-take-le, take-append-drop}
 use Rattle.std.proofs.lemmas.Bool.{cases_lt}
-use Rattle.iio_text.specs.declared.refusals.Why.{Why}
-use Rattle.iio_text.specs.declared.refusals.Why.TheVariants.{Limit}
-use Rattle.iio_desc.specs.Description.{Description}
-use Rattle.iio_desc.specs.Line.{after_line, is_end, ended_by, finished}
+use Rattle.iio_desc.specs.Draft.{blank_draft}
 use Rattle.iio_desc.specs.Text.{lines_of}
-use Rattle.iio_history.specs.declared.step.Step.{Step}
-use Rattle.iio_history.specs.Transcript.{lines_of_step}
 use Rattle.iio_io.specs.Bytes.{TakesUpTo, WritesPart}
-use Rattle.iio_desc.specs.Draft.{Draft, blank_draft}
 use Rattle.iio_script.specs.declared.status.Status.{Status}
-use Rattle.iio_script.specs.declared.status.Status.TheVariants.{Done, Refused, Usage, ReadFault, WriteFault, Memory, TooLong}
-use Rattle.iio_script.specs.Input.{told_part, looked_lines, is_overlong, input_limit}
-use Rattle.iio_script.specs.Outcome.{Outcome, ended, refused, after_text, step_why, play_lines, described, describe_lines, outcome_of}
-use Rattle.iio_script.specs.Step.{step_of, takes}
-use Rattle.iio_script.specs.Play.{Finishes, WritesFront, WritesWhole, Plays}
-
-pub finishes_as : (one other : Outcome) (status : Status) (before after : List ℕ) → one ≡ other → Finishes one status before after → Finishes other status before after
-finishes_as one other status before after same f = subst (λ (o : Outcome). Finishes o status before after) same f
-
--- ---- what was written
-
-pub nothing_written : (text : List ℕ) (now : Option (List ℕ)) → IfSome now (λ before. WritesFront before text now)
-nothing_written text None = tt
-nothing_written text (Some before) = record { front = []; rest = text; parts = refl; written = ap Some (sym (append-nil before)) }
-
--- ---- how a script ends
-
-abbrev pub EndsScript : Status → Type 0
-EndsScript (Refused line why) = Unit {0}
-EndsScript Done = Unit {0}
-EndsScript TooLong = Unit {0}
-EndsScript status = ⊥
-
-ended_ends : (overlong : Bool) → EndsScript (ended overlong).status
-ended_ends true = tt
-ended_ends false = tt
-
-play_ends : (overlong : Bool) (desc : Description) (done : List Step) (n : ℕ) (lines : List (List ℕ)) → EndsScript (play_lines overlong desc done n lines).status
-play_ends overlong desc done n [] = ended_ends overlong
-play_ends overlong desc done n (line ∷ lines) = by_line (step_of desc line) (play_ends overlong desc done (n + 1) lines) (λ step. play_ends overlong desc (step ∷ done) (n + 1) lines)
-  where
-    by_taken : (b : Bool) (step : Step) → EndsScript (play_lines overlong desc (step ∷ done) (n + 1) lines).status
-        → EndsScript (cond b (after_text (lines_of_step desc done step) (play_lines overlong desc (step ∷ done) (n + 1) lines)) (refused n (step_why Limit))).status
-    by_taken true step ends = ends
-    by_taken false step ends = tt
-
-    by_step : (said : Option Step) → EndsScript (play_lines overlong desc done (n + 1) lines).status
-        → ((step : Step) → EndsScript (play_lines overlong desc (step ∷ done) (n + 1) lines).status)
-        → EndsScript (elim said as (λ _. Outcome) [
-          | None ↦ play_lines overlong desc done (n + 1) lines
-          | Some step ↦ cond (takes done step) (after_text (lines_of_step desc done step) (play_lines overlong desc (step ∷ done) (n + 1) lines)) (refused n (step_why Limit))
-        ]).status
-    by_step None past next = past
-    by_step (Some step) past next = by_taken (takes done step) step (next step)
-
-    by_line : (read : Result (Option Step) Why) → EndsScript (play_lines overlong desc done (n + 1) lines).status
-        → ((step : Step) → EndsScript (play_lines overlong desc (step ∷ done) (n + 1) lines).status)
-        → EndsScript (elim read as (λ _. Outcome) [
-          | Err why ↦ refused n (step_why why)
-          | Ok said ↦ elim said as (λ _. Outcome) [
-            | None ↦ play_lines overlong desc done (n + 1) lines
-            | Some step ↦ cond (takes done step) (after_text (lines_of_step desc done step) (play_lines overlong desc (step ∷ done) (n + 1) lines)) (refused n (step_why Limit))
-          ]
-        ]).status
-    by_line (Err why) past next = tt
-    by_line (Ok said) past next = by_step said past next
-
-described_ends : (overlong : Bool) (draft : Draft) (n : ℕ) → EndsScript (described overlong draft n).status
-described_ends true draft n = tt
-described_ends false draft n = by_finished (finished draft)
-  where
-    by_finished : (read : Result Description Why) → EndsScript (elim read as (λ _. Outcome) [ Err why ↦ refused n why | Ok desc ↦ ended false ]).status
-    by_finished (Err why) = tt
-    by_finished (Ok desc) = tt
-
-describe_ends : (overlong : Bool) (draft : Draft) (n : ℕ) (lines : List (List ℕ)) → EndsScript (describe_lines overlong draft n lines).status
-describe_ends overlong draft n [] = described_ends overlong draft n
-describe_ends overlong draft n (line ∷ lines) = by_end (is_end line) (λ more. describe_ends overlong more (n + 1) lines)
-  where
-    by_finished : (read : Result Description Why) → EndsScript (elim read as (λ _. Outcome) [ Err why ↦ refused n why | Ok desc ↦ play_lines overlong desc [] (n + 1) lines ]).status
-    by_finished (Err why) = tt
-    by_finished (Ok desc) = play_ends overlong desc [] (n + 1) lines
-
-    by_line : (read : Result Draft Why) → ((more : Draft) → EndsScript (describe_lines overlong more (n + 1) lines).status)
-        → EndsScript (elim read as (λ _. Outcome) [ Err why ↦ refused n why | Ok more ↦ describe_lines overlong more (n + 1) lines ]).status
-    by_line (Err why) next = tt
-    by_line (Ok more) next = next more
-
-    by_end : (b : Bool) → ((more : Draft) → EndsScript (describe_lines overlong more (n + 1) lines).status)
-        → EndsScript (cond b
-        (elim (ended_by draft line) as (λ _. Outcome) [ Err why ↦ refused n why | Ok desc ↦ play_lines overlong desc [] (n + 1) lines ])
-        (elim (after_line draft line) as (λ _. Outcome) [ Err why ↦ refused n why | Ok more ↦ describe_lines overlong more (n + 1) lines ])).status
-    by_end true next = by_finished (ended_by draft line)
-    by_end false next = by_line (after_line draft line) next
-
-outcome_ends : (input : List ℕ) → EndsScript (outcome_of input).status
-outcome_ends input = describe_ends (is_overlong input) blank_draft 1 (looked_lines input)
-
-pub finished_ends : (input : List ℕ) (status : Status) (before after : List ℕ) → Finishes (outcome_of input) status before after → EndsScript status
-finished_ends input status before after f = subst EndsScript (sym f.ends) (outcome_ends input)
-
-pub no_read_fault : (status : Status) → EndsScript status → status ≡ ReadFault → ⊥
-no_read_fault status ends is = subst EndsScript is ends
-
-pub no_usage : (status : Status) → EndsScript status → status ≡ Usage → ⊥
-no_usage status ends is = subst EndsScript is ends
-
-pub no_write_fault : (status : Status) → EndsScript status → status ≡ WriteFault → ⊥
-no_write_fault status ends is = subst EndsScript is ends
+use Rattle.iio_script.specs.declared.status.Status.TheVariants.{WriteFault, Memory}
+use Rattle.iio_script.specs.Ends.{Finishes, WritesFront, Writes}
+use Rattle.iio_script.specs.Input.{told_part, input_limit, is_overlong}
+use Rattle.iio_script.specs.Opening.{Opening, opening_from, opening_of}
+use Rattle.iio_script.specs.Outcome.{Outcome, played, outcome_of}
 
 -- ---- an input of which no more is read than one byte past the limit
 
-outcome_within : ℕ → List ℕ → Outcome
-outcome_within limit input =
-    describe_lines (nat_lt limit (length input)) blank_draft 1 (lines_of (cond (nat_lt limit (length input)) (told_part (take limit input)) input))
+part_within : ℕ → List ℕ → List ℕ
+part_within limit input = cond (nat_lt limit (length input)) (told_part (take limit input)) input
 
-read_within : (limit : ℕ) (input : List ℕ) → outcome_within limit (take (limit + 1) input) ≡ outcome_within limit input
-unfolding outcome_within
+opening_within : ℕ → List ℕ → Opening
+unfolding part_within
+opening_within limit input = opening_from (nat_lt limit (length input)) blank_draft 1 (lines_of (part_within limit input))
+
+-- whether it is too long is told by them, and so is the part that is looked at
+read_within : (limit : ℕ) (input : List ℕ) → (nat_lt limit (length (take (limit + 1) input)) ≡ nat_lt limit (length input)) × (part_within limit (take (limit + 1) input) ≡ part_within limit input)
+unfolding part_within
 read_within limit input = elim (cases_lt limit (length input)) [
   | inl over ↦
       let more : nat_lt limit (length input) ≡ true = grind (arith, nat_tests, over) in
       let len : length (take (limit + 1) input) ≡ limit + 1 = length-take-le (limit + 1) input (omega (arith, over)) in
       let still : nat_lt limit (limit + 1) ≡ true = grind (arith, nat_tests) in
-      let front : take limit (take (limit + 1) input) ≡ take limit input = take_front limit input in
-      rw (len, more, still, front) refl
-  | inr within ↦ rw (take_all (limit + 1) input (omega (arith, within))) refl
+      let front : take limit (take (limit + 1) input) ≡ take limit input = take-take limit (limit + 1) input (omega arith) in (
+        rw (len, more, still) refl,
+        rw (len, more, still, front) refl,
+      )
+  | inr within ↦
+      let all : take (limit + 1) input ≡ input = take_all (limit + 1) input (omega (arith, within)) in (rw all refl, rw all refl)
 ]
-  where
-    take_front : (n : ℕ) (xs : List ℕ) → take n (take (n + 1) xs) ≡ take n xs
-    take_front n xs = take-take n (n + 1) xs (omega arith)
+
+opening_by : (limit : ℕ) (input : List ℕ) → opening_within limit (take (limit + 1) input) ≡ opening_within limit input
+unfolding opening_within
+opening_by limit input =
+    let same = read_within limit input in
+    ap (λ (b : Bool). opening_from b blank_draft 1 (lines_of (part_within limit (take (limit + 1) input)))) same.0
+    ∙ ap (λ (part : List ℕ). opening_from (nat_lt limit (length input)) blank_draft 1 (lines_of part)) same.1
+
+opening_read : (input : List ℕ) → opening_of (take (input_limit + 1) input) ≡ opening_of input
+unfolding opening_within part_within
+opening_read input = opening_by input_limit input
+
+pub opening_front : (read : Opening) (text whole : List ℕ) → read ≡ opening_of text → text ≡ take (input_limit + 1) whole → read ≡ opening_of whole
+opening_front read text whole is front = is ∙ ap opening_of front ∙ opening_read whole
 
 outcome_read : (input : List ℕ) → outcome_of (take (input_limit + 1) input) ≡ outcome_of input
-unfolding outcome_within
-outcome_read input = read_within input_limit input
+unfolding part_within
+outcome_read input =
+    ap (λ (b : Bool). played b (opening_of (take (input_limit + 1) input))) (read_within input_limit input).0
+    ∙ ap (played (nat_lt input_limit (length input))) (opening_read input)
 
--- ---- what `play` has written
+finishes_as : (one other : Outcome) (status : Status) (before after : List ℕ) → one ≡ other → Finishes one status before after → Finishes other status before after
+finishes_as one other status before after same f = subst (λ (o : Outcome). Finishes o status before after) same f
 
-plays_whole : (input before : List ℕ) (status : Status) (after : Option (List ℕ)) → EndsScript status → WritesWhole before (outcome_of input) status after
-    → Plays input before status after
-plays_whole input before (Refused line why) after ends w = w
-plays_whole input before Done after ends w = w
-plays_whole input before TooLong after ends w = w
-plays_whole input before ReadFault after ends w = absurd ends
-plays_whole input before WriteFault after ends w = absurd ends
-plays_whole input before Memory after ends w = absurd ends
-plays_whole input before Usage after ends w = absurd ends
+-- what was printed by the head of a text is what the text prints
+pub finished_head : (read : Opening) (text : List ℕ) (overlong : Bool) (status : Status) (before after : List ℕ) → read ≡ opening_of text → overlong ≡ is_overlong text
+    → Finishes (played overlong read) status before after → Finishes (outcome_of text) status before after
+finished_head read text overlong status before after is long f =
+    finishes_as (played overlong read) (outcome_of text) status before after (ap (played overlong) is ∙ ap (λ (b : Bool). played b (opening_of text)) long) f
 
--- the outcome of what was read is that of what the source had left
-read_outcome : (left : List ℕ) (after : Option (List ℕ)) (text : List ℕ) → TakesUpTo left (input_limit + 1) text after → outcome_of text ≡ outcome_of left
-read_outcome left after text t = ap outcome_of t.bytes ∙ outcome_read left
+-- what is so of each outcome that a run printed is so of that of what the source had left
+pub of_left : (P : Outcome → Type 0) (left after : Option (List ℕ)) (text out : List ℕ) (status : Status) → IfSome left (λ xs. TakesUpTo xs (input_limit + 1) text after)
+    → Finishes (outcome_of text) status [] out → ((outcome : Outcome) → Finishes outcome status [] out → P outcome) → IfSome left (λ xs. P (outcome_of xs))
+of_left P None after text out status taken f each = tt
+of_left P (Some xs) after text out status taken f each =
+    each (outcome_of xs) (finishes_as (outcome_of text) (outcome_of xs) status [] out (ap outcome_of taken.bytes ∙ outcome_read xs) f)
 
-pub wrote_all : (left after written now : Option (List ℕ)) (text out : List ℕ) (status : Status)
-    → IfSome left (λ xs. TakesUpTo xs (input_limit + 1) text after) → Finishes (outcome_of text) status [] out
-    → IfSome written (λ before. now ≡ Some (before ++ out)) → IfSome left (λ xs. IfSome written (λ before. Plays xs before status now))
-wrote_all None after written now text out status taken f wrote = tt
-wrote_all (Some xs) after None now text out status taken f wrote = tt
-wrote_all (Some xs) after (Some before) now text out status taken f wrote =
-    let same : outcome_of text ≡ outcome_of xs = read_outcome xs after text taken in
-    plays_whole xs before status now (finished_ends text status [] out f) (record {
-      ends = f.ends ∙ ap (λ (o : Outcome). o.status) same;
-      written = wrote ∙ ap (λ (bytes : List ℕ). Some (before ++ bytes)) (f.printed ∙ ap (λ (o : Outcome). o.printed) same);
-    })
+-- ---- what a run has written
 
-pub wrote_part : (left after written now : Option (List ℕ)) (text out : List ℕ) (status : Status)
-    → IfSome left (λ xs. TakesUpTo xs (input_limit + 1) text after) → Finishes (outcome_of text) status [] out
-    → IfSome written (λ before. WritesPart before out now) → IfSome left (λ xs. IfSome written (λ before. Plays xs before WriteFault now))
-wrote_part None after written now text out status taken f wrote = tt
-wrote_part (Some xs) after None now text out status taken f wrote = tt
-wrote_part (Some xs) after (Some before) now text out status taken f wrote = record {
+pub wrote_part : (outcome : Outcome) (status : Status) (out : List ℕ) (written now : Option (List ℕ)) → Finishes outcome status [] out
+    → IfSome written (λ before. WritesPart before out now) → IfSome written (λ before. Writes outcome before WriteFault now)
+wrote_part outcome status out None now f wrote = tt
+wrote_part outcome status out (Some before) now f wrote = record {
   front = take wrote.count out;
   rest = drop wrote.count out;
-  parts = sym (f.printed ∙ ap (λ (o : Outcome). o.printed) (read_outcome xs after text taken)) ∙ sym (take-append-drop wrote.count out);
+  parts = sym f.printed ∙ sym (take-append-drop wrote.count out);
   written = wrote.appended;
 }
 
-pub wrote_none : (left written : Option (List ℕ)) → IfSome left (λ xs. IfSome written (λ before. Plays xs before Memory written))
+nothing_written : (text : List ℕ) (written : Option (List ℕ)) → IfSome written (λ before. WritesFront before text written)
+nothing_written text None = tt
+nothing_written text (Some before) = record { front = []; rest = text; parts = refl; written = ap Some (sym (append-nil before)) }
+
+pub wrote_none : (left written : Option (List ℕ)) → IfSome left (λ xs. IfSome written (λ before. Writes (outcome_of xs) before Memory written))
 wrote_none None written = tt
 wrote_none (Some xs) written = nothing_written (outcome_of xs).printed written

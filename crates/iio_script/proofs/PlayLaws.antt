@@ -25,7 +25,8 @@ use Rattle.iio_history.specs.Registry.{Member, open_answer}
 use Rattle.iio_history.specs.Log.{scans_asked}
 use Rattle.iio_script.specs.declared.status.Status.{Status}
 use Rattle.iio_script.specs.Bench.{devices_of, seat_joined, with_taken, offers_of, scan_at, SeatRecord, answers_by, seat_after, seat_after_items, seat_after_capture, seat_after_fire, IsOwn, Stands}
-use Rattle.iio_script.specs.Play.{accepts, step_lines, after_step, IsRight, names_of, BelongsTo, IsAt, IsReady, Finishes}
+use Rattle.iio_script.specs.Play.{accepts, step_lines, after_step, IsRight, names_of, BelongsTo, IsAt, IsReady}
+use Rattle.iio_script.specs.Ends.{Finishes}
 use Rattle.iio_script.proofs.BenchLaws.{stands_first, fire_lines_is, fire_stands}
 use Rattle.iio_script.proofs.ItemLaws.{IsFirst, AreFirst, IsOnePath, heard_own, answers_are, items_stand}
 use Rattle.iio_script.proofs.StreamLaws.{new_items-are, lines_behind}
@@ -263,6 +264,7 @@ goes_first player out overlong start rest w free fresh = record {
 ends_so : (outcome next total : Outcome) (out before new : List ℕ) (status : Status) → next ≡ outcome → out ++ next.printed ≡ before ++ total.printed → next.status ≡ total.status
     → Finishes outcome status out new → Finishes total status before new
 ends_so outcome next total out before new status is printed ends f = record {
+  end = f.end;
   ends = f.ends ∙ sym (ap (λ (o : Outcome). o.status) is) ∙ ends;
   printed = f.printed ∙ sym (ap (λ (o : Outcome). out ++ o.printed) is) ∙ printed;
 }

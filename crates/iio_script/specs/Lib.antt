@@ -1,7 +1,9 @@
 pub mod Step
 pub mod Input
+pub mod Opening
+pub mod Told
 pub mod Outcome
-pub mod Fault
+pub mod Ends
 pub mod Bench
 pub mod View
 pub mod Play

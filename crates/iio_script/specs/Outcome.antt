@@ -1,18 +1,17 @@
 -- What `play` prints for an input, and the status that it ends with. (This project's own.)
-use Rattle.std.specs.Prelude.{ℕ, ◌+◌, Bool, List, [], ◌∷◌, ◌++◌, codes, Some, None, Ok, Err, if◌then◌else◌}
+use Rattle.std.specs.Prelude.{ℕ, ◌+◌, Bool, true, List, [], ◌∷◌, ◌++◌, codes, Some, None, Ok, Err, if◌then◌else◌}
 use Rattle.std.specs.Fmt.{decimal}
 use Rattle.iio_text.specs.declared.refusals.Why.{Why}
 use Rattle.iio_text.specs.declared.refusals.Why.TheVariants.{Long, Word, Limit}
 use Rattle.iio_text.specs.Why.{why_text}
 use Rattle.iio_desc.specs.Description.{Description}
-use Rattle.iio_desc.specs.Draft.{Draft, blank_draft}
-use Rattle.iio_desc.specs.Line.{after_line, is_end, ended_by, finished}
 use Rattle.iio_history.specs.declared.step.Step.{Step}
 use Rattle.iio_history.specs.Transcript.{lines_of_step}
 use Rattle.iio_script.specs.declared.status.Status.{Status}
-use Rattle.iio_script.specs.declared.status.Status.TheVariants.{Done, Refused, TooLong}
+use Rattle.iio_script.specs.declared.status.Status.TheVariants.{Done, Refused as RefusedLine, TooLong}
 use Rattle.iio_script.specs.Step.{step_of, takes}
-use Rattle.iio_script.specs.Input.{is_overlong, looked_lines}
+use Rattle.iio_script.specs.Input.{is_overlong}
+use Rattle.iio_script.specs.Opening.{Opening, Described, Refused, Cut, opening_of}
 
 pub record Outcome : Type 0 where
   pub printed : List ℕ
@@ -27,7 +26,7 @@ step_why why = Word
 abbrev pub refused : ℕ → Why → Outcome
 refused n why = record {
   printed = codes "refused " ++ (decimal n ++ (32 ∷ (why_text why ++ 10 ∷ [])));
-  status = Refused n why;
+  status = RefusedLine n why;
 }
 
 -- the end behind the last line that is looked at
@@ -50,18 +49,12 @@ play_lines overlong desc done n (line ∷ lines) = elim (step_of desc line) [
   ]
 ]
 
--- the end of an input that has no script: its last device, if any, has a channel
-abbrev pub described : Bool → Draft → ℕ → Outcome
-described overlong draft n = if overlong then ended overlong else (elim (finished draft) [ Err why ↦ refused n why | Ok desc ↦ ended overlong ])
-
--- the description from line n on, and the script behind it
-abbrev pub describe_lines : Bool → Draft → ℕ → List (List ℕ) → Outcome
-describe_lines overlong draft n [] = described overlong draft n
-describe_lines overlong draft n (line ∷ lines) =
-    if is_end line
-    then (elim (ended_by draft line) [ Err why ↦ refused n why | Ok desc ↦ play_lines overlong desc [] (n + 1) lines ])
-    else (elim (after_line draft line) [ Err why ↦ refused n why | Ok more ↦ describe_lines overlong more (n + 1) lines ])
+-- what an input prints, by its head
+abbrev pub played : Bool → Opening → Outcome
+played overlong (Described desc first lines) = play_lines overlong desc [] first lines
+played overlong (Refused line why) = refused line why
+played overlong Cut = ended true
 
 -- what an input prints, and its end
 abbrev pub outcome_of : List ℕ → Outcome
-outcome_of input = describe_lines (is_overlong input) blank_draft 1 (looked_lines input)
+outcome_of input = played (is_overlong input) (opening_of input)

@@ -1,5 +1,5 @@
 -- The plain state of a run, what each step makes of it, and what it prints.
-use Rattle.std.specs.Prelude.{◌≡◌, ℕ, ◌-◌, ◌^◌, ◌<◌, Bool, true, List, [], ◌∷◌, ◌++◌, length, map, Option, Some, None}
+use Rattle.std.specs.Prelude.{◌≡◌, ℕ, ◌-◌, ◌^◌, ◌<◌, Bool, true, List, [], ◌∷◌, length, map, Option, Some, None}
 use Rattle.std.specs.Str.{bytes_eq}
 use Rattle.iiod_grammar.specs.Built.{said_by}
 use Rattle.iio_desc.specs.Description.{Description, trigger_name}
@@ -7,11 +7,8 @@ use Rattle.iio_desc.specs.Text.{lines_of}
 use Rattle.iio_history.specs.declared.step.Step.{Step}
 use Rattle.iio_history.specs.declared.step.Step.TheVariants.{Feed, Fire}
 use Rattle.iio_history.specs.Transcript.{feed_line, stream_of, events_of}
-use Rattle.iio_script.specs.declared.status.Status.{Status}
-use Rattle.iio_script.specs.declared.status.Status.TheVariants.{ReadFault, WriteFault, Memory}
 use Rattle.iio_script.specs.declared.player.Player.{Player}
 use Rattle.iio_script.specs.Step.{are_lines, names_in}
-use Rattle.iio_script.specs.Outcome.{Outcome, outcome_of}
 use Rattle.iio_script.specs.Bench.{SeatRecord, answers_by, seat_after_items, seat_after_fire, fired_lines, offers_of, IsOwn, Stands}
 
 -- ---- steps
@@ -60,30 +57,3 @@ pub record IsAt (desc : Description) (done : List Step) (who : Option (List ℕ)
   pub names : names_in done ≡ names_of who
   pub own : BelongsTo who seat
   pub whole : (name : List ℕ) → are_lines 0 (stream_of name done) ≡ true
-
--- ---- ends
-
--- a run that ended so printed the whole outcome
-pub record Finishes (outcome : Outcome) (status : Status) (before after : List ℕ) : Type 0 where
-  pub ends : status ≡ outcome.status
-  pub printed : after ≡ before ++ outcome.printed
-
--- a front part of a text was written
-pub record WritesFront (before text : List ℕ) (after : Option (List ℕ)) : Type 0 where
-  pub front : List ℕ
-  pub rest : List ℕ
-  pub parts : text ≡ front ++ rest
-  pub written : after ≡ Some (before ++ front)
-
--- the whole text was written, and the status is the outcome's
-pub record WritesWhole (before : List ℕ) (outcome : Outcome) (status : Status) (after : Option (List ℕ)) : Type 0 where
-  pub ends : status ≡ outcome.status
-  pub written : after ≡ Some (before ++ outcome.printed)
-
--- what `play` makes of an input: after a fault, or want of memory, a front part of the printed text is written, and else
--- all of it
-abbrev pub Plays : (input before : List ℕ) → Status → Option (List ℕ) → Type 0
-Plays input before ReadFault after = WritesFront before (outcome_of input).printed after
-Plays input before WriteFault after = WritesFront before (outcome_of input).printed after
-Plays input before Memory after = WritesFront before (outcome_of input).printed after
-Plays input before status after = WritesWhole before (outcome_of input) status after

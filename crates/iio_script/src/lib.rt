@@ -2,7 +2,9 @@
 #![tactic(auto)]
 
 mod bench;
+mod ends;
 mod input;
+mod opening;
 mod player;
 mod reply;
 mod script;
@@ -11,9 +13,12 @@ mod station;
 mod status;
 mod step;
 
+pub use ends::{push_end, push_refused, write_out};
 pub use iio_base::Mem;
-pub use input::{INPUT_LIMIT, front, told_part};
+pub use iio_desc::LineFault as StepFault;
+pub use input::INPUT_LIMIT;
+pub use opening::{Opening, open};
 pub use reply::push_digits;
-pub use script::{play, push_end, push_refused};
+pub use script::play;
 pub use status::Status;
-pub use step::{StepFault, read_step};
+pub use step::read_step;

@@ -5,43 +5,20 @@ ghost use Rattle.std.specs.List.{list_any};
 ghost use Rattle.std.specs.Str.{bytes_eq};
 ghost use Rattle.iio_text.specs.Words.{words_of, is_space};
 ghost use Rattle.iio_attr.specs.Name.{is_name};
-ghost use Rattle.iio_script.specs.Fault.{Explains};
 ghost use Rattle.iio_desc.specs.Description.{Description};
+ghost use Rattle.iio_desc.specs.Fault.{Explains};
 ghost use Rattle.iio_script.specs.Play.{IsRight};
 ghost use Rattle.iio_script.specs.Step.{is_step_word, are_lines, from_quote, has_quote_first, feed_step, fire_step, step_of_words, step_of_line, step_of};
 
 use iio_attr::Name;
-use iio_desc::{Desc, fits_line, is_comment, is_printable_text, two_words};
+use iio_desc::{Desc, LineFault, fits_line, is_comment, is_printable_text, two_words};
 use iio_history::{Quoted, Step};
 use iio_text::words::{Blanks, next_word};
 use iio_text::{Unescape, Why, between_quotes, read_int, unescape};
 use std::alloc::Global;
-use thiserror::Error;
 
 /// The most bytes of a connection's line before its LF.
 const MOST_LINE_BYTES: usize = 1024;
-
-/// Why a line is no step.
-#[derive(Clone, Copy, Debug, PartialEq, Eq, Error)]
-pub enum StepFault {
-    /// The first check that fails.
-    #[error("refused: {}", .0.text())]
-    Why(Why),
-    /// Want of memory.
-    #[error("out of memory")]
-    Mem,
-}
-
-impl From<Why> for StepFault {
-    ghost use Rattle.std.specs.Prelude.{◌≡◌};
-    ghost use Rattle.iio_script.specs.declared.step.StepFault.TheVariants.{Why as Refused};
-
-    ghost from_gives = { λ why e. e ≡ Refused why };
-
-    fn from(why: Why) -> StepFault {
-        StepFault::Why(why)
-    }
-}
 
 // Whether a word is one of the words of steps, which are no names of connections.
 fn is_step_word(word: &[u8]) -> bool
@@ -95,23 +72,23 @@ fn has_quote_first(words: &[u8]) -> bool
 }
 
 // `NAME "bytes"`
-fn read_feed(alloc: Global, line: &[u8], who: &[u8], words: &[u8]) -> Result<Step, StepFault>
+fn read_feed(alloc: Global, line: &[u8], who: &[u8], words: &[u8]) -> Result<Step, LineFault>
     requires { is_name who.now ≡ true }
     ensures ok { IfOk result (λ step. feed_step line.now who.now (words_of is_space words.now) ≡ Ok step) }
     ensures err { IfErr result (λ e. Explains e (feed_step line.now who.now (words_of is_space words.now))) }
     ensures right { IfOk result (λ step. (desc : Description) → IsRight desc step) }
 {
     if !has_quote_first(words) {
-        return Err(StepFault::Why(Why::Count));
+        return Err(LineFault::Why(Why::Count));
     }
     let inner = between_quotes(from_quote(line)).ok_or(Why::Text)?;
     let bytes = match unescape(alloc, inner) {
         Ok(bytes) => bytes,
-        Err(Unescape::BadEscape(_)) => return Err(StepFault::Why(Why::Text)),
-        Err(Unescape::Mem) => return Err(StepFault::Mem),
+        Err(Unescape::BadEscape(_)) => return Err(LineFault::Why(Why::Text)),
+        Err(Unescape::Mem) => return Err(LineFault::Mem),
     };
     if !are_lines(bytes.as_slice()) {
-        return Err(StepFault::Why(Why::Word));
+        return Err(LineFault::Why(Why::Word));
     }
     let name = Name::new(who).unwrap();
     Ok(Step::Feed(name, Quoted::new(bytes)))
@@ -136,7 +113,7 @@ fn read_words(
     line: &[u8],
     word: &[u8],
     words: &[u8],
-) -> Result<Step, StepFault>
+) -> Result<Step, LineFault>
     requires { length desc.now.triggers ≤ 16 }
     ensures ok { IfOk result (λ step. step_of_words desc.now line.now word.now (words_of is_space words.now) ≡ Ok step) }
     ensures err { IfErr result (λ e. Explains e (step_of_words desc.now line.now word.now (words_of is_space words.now))) }
@@ -146,13 +123,13 @@ fn read_words(
         return Ok(read_fire(desc, words)?);
     }
     if is_step_word(word) || Name::new(word).is_none() {
-        return Err(StepFault::Why(Why::Word));
+        return Err(LineFault::Why(Why::Word));
     }
     read_feed(alloc, line, word, words)
 }
 
 // A line that is no comment and isn't too long.
-fn read_line(alloc: Global, desc: &Desc, line: &[u8]) -> Result<Option<Step>, StepFault>
+fn read_line(alloc: Global, desc: &Desc, line: &[u8]) -> Result<Option<Step>, LineFault>
     requires { length desc.now.triggers ≤ 16 }
     ensures ok { IfOk result (λ step. step_of_line desc.now line.now (words_of is_space line.now) ≡ Ok step) }
     ensures err { IfErr result (λ e. Explains e (step_of_line desc.now line.now (words_of is_space line.now))) }
@@ -162,21 +139,21 @@ fn read_line(alloc: Global, desc: &Desc, line: &[u8]) -> Result<Option<Step>, St
         return Ok(None);
     };
     if !is_printable_text(line) {
-        return Err(StepFault::Why(Why::Text));
+        return Err(LineFault::Why(Why::Text));
     }
     Ok(Some(read_words(alloc, desc, line, word, words)?))
 }
 
 /// The step that a line of a script says, without its LF. `None` comes exactly for a line without a word and for a
 /// comment, whose first byte is `#`, where it isn't too long. An `Err` tells the first check that fails.
-pub fn read_step(alloc: Global, desc: &Desc, line: &[u8]) -> Result<Option<Step>, StepFault>
+pub fn read_step(alloc: Global, desc: &Desc, line: &[u8]) -> Result<Option<Step>, LineFault>
     requires { length desc.now.triggers ≤ 16 }
     ensures ok { IfOk result (λ step. step_of desc.now line.now ≡ Ok step) }
     ensures err { IfErr result (λ e. Explains e (step_of desc.now line.now)) }
     ensures right { IfOk result (λ step. IfSome step (IsRight desc.now)) }
 {
     if !fits_line(line) {
-        return Err(StepFault::Why(Why::Long));
+        return Err(LineFault::Why(Why::Long));
     }
     if is_comment(line) {
         return Ok(None);

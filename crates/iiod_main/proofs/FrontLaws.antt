@@ -1,12 +1,20 @@
 -- The lines that LF ends in a front part of a text.
-use Rattle.std.proofs.Common.{◌≡◌, ℕ, zero, suc, ◌+◌, ◌-◌, ◌≤◌, Bool, true, false, ◌||◌, cond, List, [], ◌∷◌, ◌++◌, length, take, drop, refl, ap, ◌∙◌, arith}
+use Rattle.std.proofs.Common.{◌≡◌, ℕ, zero, suc, ◌+◌, ◌-◌, ◌≤◌, Bool, true, false, ◌||◌, cond, List, [], ◌∷◌, ◌++◌, length, take, drop, refl, sym, ap, ◌∙◌, arith}
 use Rattle.std.proofs.Math.Seq.{take-add, take-append-add}
 use Rattle.std.proofs.lemmas.Bool.{false≢true}
 use Rattle.std.proofs.lemmas.List.{length-take-le}
 use Rattle.std.proofs.lemmas.List.Folds.{list_any-append}
 use Rattle.std.specs.List.{list_any}
 use Rattle.iio_desc.specs.Text.{is_line_end, onto_line, lines_of}
-use Rattle.iiod_main.specs.Blocks.{end_count, ended_lines}
+
+-- how many LFs a text has
+abbrev pub end_count : List ℕ → ℕ
+end_count [] = 0
+end_count (b ∷ bs) = cond (is_line_end b) (suc (end_count bs)) (end_count bs)
+
+-- the lines of a text that LF ends
+abbrev pub ended_lines : List ℕ → List (List ℕ)
+ended_lines text = take (end_count text) (lines_of text)
 
 -- ---- a text with more behind it
 
@@ -100,3 +108,12 @@ any-ended p line more none =
 
 pub any-open : (p : List ℕ → Bool) (line : List ℕ) → end_count line ≡ 0 → list_any p (ended_lines line) ≡ false
 any-open p line none = rw none refl
+
+-- bytes without LF
+open_step : (t : Bool) (bs : List ℕ) → (t || list_any is_line_end bs) ≡ false → (list_any is_line_end bs ≡ false → end_count bs ≡ 0) → cond t (suc (end_count bs)) (end_count bs) ≡ 0
+open_step true bs h rest = absurd (false≢true (sym h))
+open_step false bs h rest = rest h
+
+pub open_count : (line : List ℕ) → list_any is_line_end line ≡ false → end_count line ≡ 0
+open_count [] h = refl
+open_count (b ∷ bs) h = open_step (is_line_end b) bs h (open_count bs)

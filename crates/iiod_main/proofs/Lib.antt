@@ -5,3 +5,4 @@ pub mod LookedLaws
 pub mod OneWord
 pub mod PlacingLaws
 pub mod ToldLaws
+mod Worked

@@ -2,11 +2,13 @@
 use Rattle.std.proofs.Common.{◌≡◌, ℕ, ◌+◌, ◌-◌, ◌<◌, ◌≤◌, true, false, ◌||◌, List, [], ◌∷◌, ◌++◌, length, take, drop, min, get_or, refl, sym, ap, ◌∙◌, inl, inr, arith, append_assoc, append-nil, eqb-true}
 use Rattle.std.proofs.Math.Seq.{take-length}
 use Rattle.std.proofs.lemmas.Bool.{false≢true, cases_lt}
+use Rattle.std.proofs.lemmas.List.Folds.{list_any-append}
+use Rattle.std.specs.List.{list_any}
 use Rattle.std.proofs.lemmas.List.{take_more, drop_all, take-append-drop, drop-append-le, drop-take, length-take, length-take-le}
 use Rattle.iio_desc.specs.Text.{is_line_end}
 use Rattle.iio_desc.specs.Line.{is_end}
-use Rattle.iiod_main.specs.Blocks.{has_end, end_count, block, IsLooked}
-use Rattle.iiod_main.proofs.FrontLaws.{any-take, any-ended, any-open, end_count-append}
+use Rattle.iiod_main.specs.Blocks.{has_end, block, IsLooked}
+use Rattle.iiod_main.proofs.ToldLaws.{has_end-take, has_end-ended, has_end-open}
 
 -- the bytes of the line that isn't ended
 abbrev begun : List ℕ → ℕ → ℕ → List ℕ
@@ -17,9 +19,6 @@ pub looked_none : IsLooked [] 0 0
 looked_none = record { begun = omega arith; within = omega arith; unended = refl; same = λ more. refl }
 
 -- one byte more that is no LF
-plain : (b : ℕ) → is_line_end b ≡ false → end_count (b ∷ []) ≡ 0
-plain b h = rw h refl
-
 pub looked_more : (text : List ℕ) (line seen : ℕ) → IsLooked text line seen → seen < length text → is_line_end (get_or text seen 0) ≡ false
     → IsLooked text line (seen + 1)
 looked_more text line seen looked some not_lf =
@@ -31,7 +30,7 @@ looked_more text line seen looked some not_lf =
     record {
       begun = omega (arith, looked.begun);
       within = omega arith;
-      unended = rw line_next (end_count-append (begun text line seen) (b ∷ []) ∙ omega (arith, looked.unended, plain b not_lf));
+      unended = rw line_next (list_any-append is_line_end (begun text line seen) (b ∷ []) ∙ rw (looked.unended, not_lf) refl);
       same = λ more.
           rw (line_next, next) (ap has_end (append_assoc front (b ∷ []) more) ∙ looked.same (b ∷ more) ∙ ap has_end (sym (append_assoc (begun text line seen) (b ∷ []) more)));
     }
@@ -41,7 +40,7 @@ at_end : (text : List ℕ) (line seen : ℕ) (more : List ℕ) → IsLooked text
     → has_end (take (seen + 1) text ++ more) ≡ (is_end (begun text line seen) || has_end more)
 at_end text line seen more looked some lf =
     let next : take (seen + 1) text ≡ take seen text ++ 10 ∷ [] = take_more text seen 0 some ∙ ap (λ b. take seen text ++ b ∷ []) (eqb-true (get_or text seen 0) 10 lf) in
-    rw next (ap has_end (append_assoc (take seen text) (10 ∷ []) more) ∙ looked.same (10 ∷ more) ∙ any-ended is_end (begun text line seen) more looked.unended)
+    rw next (ap has_end (append_assoc (take seen text) (10 ∷ []) more) ∙ looked.same (10 ∷ more) ∙ has_end-ended (begun text line seen) more looked.unended)
 
 pub looked_line : (text : List ℕ) (line seen : ℕ) → IsLooked text line seen → seen < length text → is_line_end (get_or text seen 0) ≡ true
     → is_end (begun text line seen) ≡ false → IsLooked text (seen + 1) (seen + 1)
@@ -71,7 +70,7 @@ end_found text line seen looked some lf ends =
 pub looked_all : (text : List ℕ) (line : ℕ) → IsLooked text line (length text) → has_end text ≡ false
 looked_all text line looked =
     ap has_end (sym (ap (λ xs. xs ++ []) (take-length text) ∙ append-nil text)) ∙ looked.same [] ∙ ap has_end (append-nil (begun text line (length text)))
-    ∙ any-open is_end (begun text line (length text)) looked.unended
+    ∙ has_end-open (begun text line (length text)) looked.unended
 
 -- more bytes came behind it
 pub looked_grown : (text grown : List ℕ) (line seen : ℕ) → IsLooked text line (length text) → seen ≡ length text → take seen grown ≡ text
@@ -93,5 +92,5 @@ near_block left text line n k looked front few m ends = elim (cases_lt n m) [
   | inl later ↦ omega (arith, few, later)
   | inr within ↦
       let none : has_end text ≡ false = looked_all text line looked in
-      absurd (false≢true (sym none ∙ ap has_end front ∙ any-take is_end left m n (omega (arith, within)) ends))
+      absurd (false≢true (sym none ∙ ap has_end front ∙ has_end-take left m n (omega (arith, within)) ends))
 ]

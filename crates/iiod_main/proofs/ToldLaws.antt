@@ -1,13 +1,13 @@
 -- The lines of the part of a text that can be told.
-use Rattle.std.proofs.Common.{◌≡◌, ℕ, suc, ◌+◌, Bool, true, false, cond, List, [], ◌∷◌, ◌++◌, length, take, refl, sym, ap, ◌∙◌, arith, append-nil, eqb-true}
+use Rattle.std.proofs.Common.{◌≡◌, ℕ, suc, ◌≤◌, Bool, true, false, ◌||◌, cond, List, [], ◌∷◌, ◌++◌, length, take, refl, sym, ap, ◌∙◌, arith, append-nil, eqb-true}
 use Rattle.std.specs.Prelude.{reverse}
 use Rattle.std.proofs.lemmas.List.{length-append, take_all, reverse-append, reverse-reverse}
-use Rattle.iio_desc.specs.Line.{is_end}
-use Rattle.iio_desc.specs.Line.{fits_line}
+use Rattle.std.specs.List.{list_any}
+use Rattle.iio_desc.specs.Line.{is_end, fits_line}
 use Rattle.iio_desc.specs.Text.{is_line_end, onto_line, lines_of}
 use Rattle.iio_script.specs.Input.{from_line_end, ended_part, cut_line, told_part}
-use Rattle.iiod_main.specs.Blocks.{end_count, ended_lines}
-use Rattle.iiod_main.proofs.FrontLaws.{lines_of-front, ended_lines-front, end_count-append, length-ended_lines}
+use Rattle.iiod_main.specs.Blocks.{has_end}
+use Rattle.iiod_main.proofs.FrontLaws.{end_count, ended_lines, lines_of-front, ended_lines-front, end_count-append, length-ended_lines, any-take, any-ended, any-open, open_count}
 
 none_of : (lines : List (List ℕ)) → length lines ≡ 0 → lines ≡ []
 none_of [] h = refl
@@ -60,3 +60,18 @@ told_front text more = by_fits (fits_line (cut_line (text ++ more)))
     by_fits : (t : Bool) → (rest : List (List ℕ)) × (lines_of (cond t (ended_part (text ++ more)) (text ++ more)) ≡ ended_lines text ++ rest)
     by_fits true = let front = ended_lines-front text more in (front.0, lines_of-ended_part (text ++ more) ∙ front.1)
     by_fits false = lines_of-front text more
+
+-- ---- whether one of the lines that LF ends is the end of a description
+
+pub has_end-lines : (text : List ℕ) → has_end text ≡ list_any is_end (ended_lines text)
+has_end-lines text = ap (list_any is_end) (lines_of-ended_part text)
+
+pub has_end-take : (text : List ℕ) (m n : ℕ) → m ≤ n → has_end (take m text) ≡ true → has_end (take n text) ≡ true
+has_end-take text m n le h = has_end-lines (take n text) ∙ any-take is_end text m n le (sym (has_end-lines (take m text)) ∙ h)
+
+pub has_end-ended : (line more : List ℕ) → list_any is_line_end line ≡ false → has_end (line ++ 10 ∷ more) ≡ (is_end line || has_end more)
+has_end-ended line more none =
+    has_end-lines (line ++ 10 ∷ more) ∙ any-ended is_end line more (open_count line none) ∙ ap (λ t. is_end line || t) (sym (has_end-lines more))
+
+pub has_end-open : (line : List ℕ) → list_any is_line_end line ≡ false → has_end line ≡ false
+has_end-open line none = has_end-lines line ∙ any-open is_end line (open_count line none)

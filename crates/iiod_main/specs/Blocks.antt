@@ -1,26 +1,17 @@
 -- What is read of an input for its description. (This project's own.)
-use Rattle.std.specs.Prelude.{◌≡◌, ◌⊎◌, ℕ, suc, ◌+◌, ◌<◌, ◌≤◌, Bool, true, List, [], ◌∷◌, ◌++◌, length, take, drop, Option, Some, if◌then◌else◌}
+use Rattle.std.specs.Prelude.{◌≡◌, ◌⊎◌, ℕ, ◌+◌, ◌<◌, ◌≤◌, Bool, true, false, List, [], ◌++◌, length, take, drop, Option, Some}
 use Rattle.std.specs.List.{list_any}
 use Rattle.iio_desc.specs.Line.{is_end}
 use Rattle.iio_desc.specs.Text.{is_line_end, lines_of}
-use Rattle.iio_script.specs.Input.{input_limit}
+use Rattle.iio_script.specs.Input.{ended_part, input_limit}
 
 -- the most bytes that one read asks for
 abbrev pub block : ℕ
 block = 65536
 
--- how many LFs a text has
-abbrev pub end_count : List ℕ → ℕ
-end_count [] = 0
-end_count (b ∷ bs) = if is_line_end b then suc (end_count bs) else end_count bs
-
--- the lines of a text that LF ends
-abbrev pub ended_lines : List ℕ → List (List ℕ)
-ended_lines text = take (end_count text) (lines_of text)
-
--- whether one of them is the end of a description
+-- whether a line of a text, ended by LF, is the end of a description
 abbrev pub has_end : List ℕ → Bool
-has_end text = list_any is_end (ended_lines text)
+has_end text = list_any is_end (lines_of (ended_part text))
 
 -- a read put the next bytes behind those read before. None come at the end alone
 pub record ReadsBlock (left before after : List ℕ) (count : ℕ) (remaining : Option (List ℕ)) : Type 0 where
@@ -49,5 +40,5 @@ pub record TakesBlocks (left : List ℕ) (remaining : Option (List ℕ)) : Type 
 pub record IsLooked (text : List ℕ) (line seen : ℕ) : Type 0 where
   pub begun : line ≤ seen
   pub within : seen ≤ length text
-  pub unended : end_count (drop line (take seen text)) ≡ 0
+  pub unended : list_any is_line_end (drop line (take seen text)) ≡ false
   pub same : (more : List ℕ) → has_end (take seen text ++ more) ≡ has_end (drop line (take seen text) ++ more)

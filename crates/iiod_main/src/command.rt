@@ -2,11 +2,11 @@
 
 ghost use Rattle.std.specs.Prelude.{◌≡◌, ℕ, ◌≤◌, ◌↔◌, List, None, IsNone, IsTrue, IfSome, IfNone};
 ghost use Rattle.iio_base.specs.Faults.{Rose};
+ghost use Rattle.iio_script.specs.Ends.{Writes};
 ghost use Rattle.iio_script.specs.Outcome.{outcome_of};
-ghost use Rattle.iio_script.specs.Play.{Plays};
 ghost use Rattle.iiod_main.specs.Blocks.{TakesBlocks};
 ghost use Rattle.iiod_main.specs.Complete.{Completes};
-ghost use Rattle.iiod_main.specs.Layout.{Lays, layout_of};
+ghost use Rattle.iiod_main.specs.Layout.{layout_of};
 ghost use Rattle.iiod_main.specs.Usage.{IsPlay, IsLayout, IsOther, IsUsage, PrintsUsage};
 
 use crate::layout::layout;
@@ -64,13 +64,13 @@ pub fn run<S: Source, K: Sink>(
     output: &mut K,
 ) -> Status
     ensures transcript { IsPlay words.now → IfSome (S.left input.old) (λ left. IfSome (K.written output.old) (λ written.
-        Plays left written result (K.written output.new))) }
+        Writes (outcome_of left) written result (K.written output.new))) }
     // Where neither count of faults rose, the whole was written, unless memory ran out.
     ensures complete { IsPlay words.now → S.faults input.old ≡ S.faults input.new → K.faults output.old ≡ K.faults output.new →
         IfSome (S.left input.old) (λ left. IfSome (K.written output.old) (λ written. Completes (outcome_of left) written result (K.written output.new))) }
 
     ensures layout { (device mask : List ℕ) → IsLayout words.now device mask → IfSome (S.left input.old) (λ left. IfSome (K.written output.old) (λ written.
-        Lays left device mask written result (K.written output.new))) }
+        Writes (layout_of left device mask) written result (K.written output.new))) }
     ensures layout_complete { (device mask : List ℕ) → IsLayout words.now device mask → S.faults input.old ≡ S.faults input.new → K.faults output.old ≡ K.faults output.new →
         IfSome (S.left input.old) (λ left. IfSome (K.written output.old) (λ written. Completes (layout_of left device mask) written result (K.written output.new))) }
     ensures layout_taken { (device mask : List ℕ) → IsLayout words.now device mask → IfSome (S.left input.old) (λ left. TakesBlocks left (S.left input.new)) }

@@ -4,7 +4,7 @@ ghost use Rattle.std.specs.Prelude.{◌≡◌, ◌^◌, ◌<◌, ◌≤◌, ◌+
 ghost use Rattle.std.specs.List.{flat_map};
 ghost use Rattle.iio_mask.specs.Places.{has};
 ghost use Rattle.iio_layout.specs.Shape.{count_of};
-ghost use Rattle.iio_script.specs.Play.{Finishes};
+ghost use Rattle.iio_script.specs.Ends.{Finishes};
 ghost use Rattle.iiod_main.specs.Layout.{laid_under};
 ghost use Rattle.iiod_main.specs.Placing.{channel_line, channel_name, layout_text, scan_line, selected};
 

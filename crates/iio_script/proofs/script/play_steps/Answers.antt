@@ -1,13 +1,14 @@
 use Rattle.std.proofs.Common.{◌≡◌, ◌<◌, ◌^◌, true, false, Option, Some, None, IfSome, Ok, sym, ap, ◌∙◌, subst, arith}
 use Rattle.std.proofs.lemmas.Result.{IfOk-weaker}
 use Rattle.iio_text.specs.declared.refusals.Why.{Why}
+use Rattle.iio_desc.specs.declared.lines.LineFault.{LineFault}
+use Rattle.iio_desc.specs.Fault.{Explains}
 use Rattle.iio_desc.specs.Text.{lines_of}
 use Rattle.iio_history.specs.declared.step.Step.{Step}
-use Rattle.iio_script.specs.declared.step.StepFault.{StepFault}
-use Rattle.iio_script.specs.Fault.{Explains}
 use Rattle.iio_script.specs.Outcome.{refused, step_why}
 use Rattle.iio_script.specs.Step.{step_of}
-use Rattle.iio_script.specs.Play.{accepts, Finishes, IsRight}
+use Rattle.iio_script.specs.Ends.{Finishes}
+use Rattle.iio_script.specs.Play.{accepts, IsRight}
 use Rattle.iio_script.proofs.PlayLaws.{ends_refused, ends_named, ready, goes_on, goes_past}
 use Rattle.iio_script.proofs.script.play_steps.Goals as goal
 
@@ -16,7 +17,7 @@ returns-in-Err-Why c =
     IfOk-weaker c.push_refused.result _ _
     (λ status f. ends_refused c.desc.result.now c.args.player.now.bench.desc c.loop-line.player c.loop-line.out.items _ _ _ c.loop-line.next _ _ c.in-Some.line.now (lines_of c.in-Some.more.now) c.in-Err-Why.why status _
     c.loop-line.invariant.0 c.in-Some.ensures.found c.desc.ensures
-    (subst (λ (e : StepFault). Explains e (step_of c.desc.result.now c.in-Some.line.now)) c.in-Err-Why.field-0-is c.in-Err-Why.ensures.err)
+    (subst (λ (e : LineFault). Explains e (step_of c.desc.result.now c.in-Some.line.now)) c.in-Err-Why.field-0-is c.in-Err-Why.ensures.err)
     (subst (λ (why : Why). Finishes (refused c.loop-line.next why) status c.loop-line.out.items c.push_refused.new.out.items) (c.step_why.ensures ∙ ap step_why c.in-Err-Why.why-is) f))
     c.push_refused.ensures
 

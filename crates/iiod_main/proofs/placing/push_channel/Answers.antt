@@ -1,4 +1,4 @@
-use Rattle.std.proofs.Common.{◌≡◌, ◌++◌, ◌∙◌, ap}
+use Rattle.std.proofs.Common.{◌++◌, ◌∙◌, ap}
 use Rattle.std.specs.Fmt.{decimal}
 use Rattle.iio_scan_type.specs.Format.{size_of}
 use Rattle.iio_scan_type.specs.Text.{type_text}

@@ -1,0 +1,38 @@
+-- How a run ends, and what it has written then. (This project's own.)
+use Rattle.std.specs.Prelude.{◌≡◌, ℕ, List, ◌++◌, Option, Some}
+use Rattle.iio_script.specs.declared.status.Status.{Status}
+use Rattle.iio_script.specs.declared.status.Status.TheVariants.{Done, Refused, TooLong, ReadFault, WriteFault, Memory}
+use Rattle.iio_script.specs.Outcome.{Outcome}
+
+-- the status of a run that came to an end of its input
+abbrev pub IsEnd : Status → Type 0
+IsEnd Done = Unit {0}
+IsEnd (Refused line why) = Unit {0}
+IsEnd TooLong = Unit {0}
+IsEnd status = ⊥
+
+-- a run that ended so printed the whole outcome
+pub record Finishes (outcome : Outcome) (status : Status) (before after : List ℕ) : Type 0 where
+  pub end : IsEnd status
+  pub ends : status ≡ outcome.status
+  pub printed : after ≡ before ++ outcome.printed
+
+-- a front part of a text was written
+pub record WritesFront (before text : List ℕ) (after : Option (List ℕ)) : Type 0 where
+  pub front : List ℕ
+  pub rest : List ℕ
+  pub parts : text ≡ front ++ rest
+  pub written : after ≡ Some (before ++ front)
+
+-- the whole text was written, and the status is the outcome's
+pub record WritesWhole (before : List ℕ) (outcome : Outcome) (status : Status) (after : Option (List ℕ)) : Type 0 where
+  pub ends : status ≡ outcome.status
+  pub written : after ≡ Some (before ++ outcome.printed)
+
+-- what a run writes whose outcome is this one: after a fault, or want of memory, a front part of the printed text, and else
+-- all of it
+abbrev pub Writes : Outcome → (before : List ℕ) → Status → Option (List ℕ) → Type 0
+Writes outcome before ReadFault after = WritesFront before outcome.printed after
+Writes outcome before WriteFault after = WritesFront before outcome.printed after
+Writes outcome before Memory after = WritesFront before outcome.printed after
+Writes outcome before status after = WritesWhole before outcome status after

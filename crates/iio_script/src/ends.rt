@@ -1,0 +1,52 @@
+//! How a run ends, and what it has printed and written then.
+
+ghost use Rattle.std.specs.Prelude.{◌≡◌, ◌≤◌, [], None, IfOk, IfSome, IfNone};
+ghost use Rattle.iio_base.specs.Faults.{Rose};
+ghost use Rattle.iio_script.specs.Ends.{IsEnd, Finishes, Writes};
+ghost use Rattle.iio_script.specs.Outcome.{Outcome, refused, ended};
+
+use crate::reply::push_digits;
+use crate::status::Status;
+use iio_base::Mem;
+use iio_io::{Sink, write_whole};
+use iio_text::Why;
+
+/// The end at a refused line: `refused LINE WHY`
+pub fn push_refused(out: &mut Vec<u8>, line: u32, why: Why) -> Result<Status, Mem>
+    ensures { IfOk result (λ status. Finishes (refused line why) status out.old.items out.new.items) }
+{
+    out.extend_from_slice(b"refused ")?;
+    push_digits(out, line as usize)?;
+    out.push(b' ')?;
+    out.extend_from_slice(why.text().as_bytes())?;
+    out.push(b'\n')?;
+    Ok(Status::Refused { line, why })
+}
+
+/// The end behind the last line that is looked at.
+pub fn push_end(out: &mut Vec<u8>, overlong: bool) -> Result<Status, Mem>
+    ensures { IfOk result (λ status. Finishes (ended overlong) status out.old.items out.new.items) }
+{
+    if overlong {
+        out.extend_from_slice(b"too long\n")?;
+        return Ok(Status::TooLong);
+    }
+    Ok(Status::Done)
+}
+
+/// Writes what a run printed that ended so.
+pub fn write_out<K: Sink>(output: &mut K, printed: &[u8], status: Status) -> Status
+    requires { IsEnd status }
+    ensures written { (outcome : Outcome) → Finishes outcome status [] printed.now
+        → IfSome (K.written output.old) (λ written. Writes outcome written result (K.written output.new)) }
+    ensures read_fault { result ≡ Status.ReadFault → ⊥ }
+    ensures write_fault { result ≡ Status.WriteFault → Rose (K.faults output.old) (K.faults output.new) }
+    ensures words { result ≡ Status.Usage → ⊥ }
+    ensures counted { K.faults output.old ≤ K.faults output.new }
+    ensures silent { IfNone (K.written output.old) (K.written output.new ≡ None) }
+{
+    match write_whole(output, printed) {
+        Ok(()) => status,
+        Err(_) => Status::WriteFault,
+    }
+}
