@@ -4,7 +4,7 @@ use Rattle.iio_script.specs.declared.status.Status.{Status}
 use Rattle.iio_script.specs.declared.status.Status.TheVariants.{Done, Refused, TooLong, ReadFault, WriteFault, Memory}
 use Rattle.iio_script.specs.Outcome.{Outcome}
 
--- the status of a run that came to an end of its input
+-- the statuses of a run that came to its own end: none for a failed read or write, want of memory, or wrong words
 abbrev pub IsEnd : Status → Type 0
 IsEnd Done = Unit {0}
 IsEnd (Refused line why) = Unit {0}

@@ -6,6 +6,7 @@ use Rattle.iio_script.specs.declared.opening.Opening.{Opening as Read}
 use Rattle.iio_script.specs.declared.opening.Opening.TheVariants.{Described as ReadDescribed, Refused as ReadRefused, Cut as ReadCut}
 use Rattle.iio_script.specs.Opening.{Opening, Described, Refused, Cut}
 
+-- what it says
 abbrev pub told : Read → Opening
 told (ReadDescribed desc first script) = Described desc first (lines_of script.now)
 told (ReadRefused line why) = Refused line why
