@@ -42,6 +42,7 @@ pub fn write_out<K: Sink>(output: &mut K, printed: &[u8], status: Status) -> Sta
     ensures read_fault { result ≡ Status.ReadFault → ⊥ }
     ensures write_fault { result ≡ Status.WriteFault → Rose (K.faults output.old) (K.faults output.new) }
     ensures words { result ≡ Status.Usage → ⊥ }
+    ensures memory { result ≡ Status.Memory → ⊥ }
     ensures counted { K.faults output.old ≤ K.faults output.new }
     ensures silent { IfNone (K.written output.old) (K.written output.new ≡ None) }
 {
