@@ -1,4 +1,4 @@
--- The table of attributes as the code has it: rows with the attribute beside them.
+-- The table of attributes as the code has it: rows with the attribute beside them. No public clause cites this file.
 use Rattle.std.specs.Prelude.{ℕ, Bool, ◌&&◌, if◌then◌else◌, List, [], ◌∷◌, Option, Some, None, bytes_eq}
 use Rattle.iio_attr.specs.declared.attributes.Attr.{Attr}
 use Rattle.iio_attr.specs.declared.attributes.Scope.{Scope}

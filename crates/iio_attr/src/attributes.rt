@@ -12,27 +12,44 @@ use iio_text::{Errno, Fixed, Form, read_fixed};
 /// What an attribute belongs to.
 #[derive(Clone, Copy, Debug, PartialEq, Eq)]
 pub enum Scope {
+    /// The device.
     Device,
+    /// One of its channels.
     Channel,
+    /// The buffer of a connection that has the device open.
     Buffer,
 }
 
 /// An attribute. The names are those of the kernel's sysfs-bus-iio, but `Overruns`.
 #[derive(Clone, Copy, Debug, PartialEq, Eq)]
 pub enum Attr {
+    /// The device's name.
     Name,
+    /// How often the device samples, stored alone.
     SamplingFrequency,
+    /// A sample of the channel.
     Raw,
+    /// What the sensor adds to each sample.
     Calibbias,
+    /// What a sample is to be multiplied by, stored alone.
     Scale,
+    /// What is to be added to a sample first, stored alone.
     Offset,
+    /// What the sensor multiplies by, stored alone.
     Calibscale,
+    /// The threshold of rising values.
     ThreshRisingValue,
+    /// The threshold of falling values.
     ThreshFallingValue,
+    /// Whether rising values fire events.
     ThreshRisingEn,
+    /// Whether falling values fire events.
     ThreshFallingEn,
+    /// How many scans a full buffer refused.
     Overruns,
+    /// How many scans wait.
     DataAvailable,
+    /// How many scans the buffer has room for.
     Length,
 }
 

@@ -1,33 +1,12 @@
--- What entries make of a scan: one entry more.
-use Rattle.std.proofs.Common.{◌≡◌, ℕ, suc, ◌+◌, ◌-◌, ◌<◌, ◌≤◌, true, false, cond, List, [], ◌∷◌, ◌++◌, length, get_or, take, drop, Option, Some, None, refl, sym, ap, ◌∙◌, inl, inr, arith, find, slice_index}
-use borrow.Rule.Slice.PartMut.{put_mid}
-use Rattle.std.specs.Option.{option_or}
-use Rattle.std.proofs.lemmas.Bool.{cases_Bool, cases_lt}
+-- What entries make of a scan, one entry after another.
+use Rattle.std.proofs.Common.{◌≡◌, ℕ, ◌+◌, ◌<◌, ◌≤◌, true, false, cond, List, [], ◌∷◌, refl, sym, ◌∙◌, inl, inr, arith, slice_index, nat_lt}
+use Rattle.std.proofs.lemmas.Bool.{cases_lt}
 use Rattle.std.proofs.lemmas.Bool.Decides.{nat_tests}
-use Rattle.std.proofs.lemmas.List.{get_or_append_left, get_or-append_right, get_or_default, get_or-drop, get_or-take, length-drop, length-take, take_more}
-use Rattle.std.proofs.lemmas.List.Folds.{find-append}
 use Rattle.iio_demux.specs.declared.table.Entry.{Entry}
-use Rattle.iio_demux.specs.Table.{AreApart, byte_at, covers, source_of}
+use Rattle.iio_demux.specs.Table.{AreInOrder, byte_at, covers, source_of}
+use Rattle.iio_demux.proofs.MergeLemmas.{byte_at-cons}
 
--- where no entry has the byte, none is found
-find_none : (entries : List Entry) (j : ℕ) → ((k : ℕ) (d : Entry) → k < length entries → covers (get_or entries k d) j ≡ false)
-    → find (λ entry. covers entry j) entries ≡ None
-find_none [] j none = refl
-find_none (e ∷ es) j none = rw (none 0 e (omega arith)) (find_none es j (λ k d below. none (suc k) d (omega arith)))
-
--- nothing behind a first choice
-none_behind : (o : Option Entry) → option_or o None ≡ o
-none_behind None = refl
-none_behind (Some e) = refl
-
--- one entry more, where no entry before it has its bytes
-byte_at_more : (entries : List Entry) (entry : Entry) (union : List ℕ) (j : ℕ) → (covers entry j ≡ true → find (λ e. covers e j) entries ≡ None)
-    → byte_at (entries ++ entry ∷ []) union j ≡ cond (covers entry j) (source_of entry union j) (byte_at entries union j)
-byte_at_more entries entry union j first =
-    elim (cases_Bool (covers entry j)) [
-      | inl own ↦ rw (find-append (λ e. covers e j) entries (entry ∷ []), first own, own) refl
-      | inr other ↦ rw (find-append (λ e. covers e j) entries (entry ∷ []), other, none_behind (find (λ e. covers e j) entries)) refl
-    ]
+-- ---- where a byte lies
 
 -- where a byte lies that an entry has
 pub covers_tells : (entry : Entry) (j : ℕ) → covers entry j ≡ true → (entry.to ≤ j) × (j < entry.to + entry.length)
@@ -37,67 +16,65 @@ covers_tells entry j own = grind (arith, nat_tests)
 pub covers_within : (entry : Entry) (j : ℕ) → entry.to ≤ j → j < entry.to + entry.length → covers entry j ≡ true
 covers_within entry j after before = grind (arith, nat_tests)
 
--- none before it, and none behind its end
+-- none before it, and none after its end
 begins_after : (entry : Entry) (j : ℕ) → j < entry.to → covers entry j ≡ false
 begins_after entry j before = grind (arith, nat_tests)
 
 ends_before : (entry : Entry) (j : ℕ) → entry.to + entry.length ≤ j → covers entry j ≡ false
 ends_before entry j past = grind (arith, nat_tests)
 
--- the bytes of a channel that is copied aren't those of a channel before it
-pub copied_more : (entries : List Entry) (i : ℕ) (entry : Entry) (union old new : List ℕ) (j : ℕ) → i < length entries → entry ≡ get_or entries i entry
-    → AreApart entries → slice_index old j ≡ byte_at (take i entries) union j
-    → slice_index new j ≡ cond (covers entry j) (source_of entry union j) (slice_index old j)
-    → slice_index new j ≡ byte_at (take (i + 1) entries) union j
-copied_more entries i entry union old new j within read apart so_far written =
-    let before : covers entry j ≡ true → find (λ e. covers e j) (take i entries) ≡ None = λ own.
-    find_none (take i entries) j (λ k d below.
-    let earlier : k < i = omega (arith, length-take i entries) in
-    let ends = apart k i entry earlier within in
-    let same = get_or-take i entries k d earlier in
-    let any = get_or_default entries k d entry (omega arith) in
-    ends_before (get_or (take i entries) k d) j (rw (same, any) (omega (arith, ends, covers_tells entry j own, ap (λ (e : Entry). e.to) read))))
-    in
-    let more : take (i + 1) entries ≡ take i entries ++ entry ∷ [] = rw (← read) at (take_more entries i entry within) in
-    written ∙ ap (cond (covers entry j) (source_of entry union j)) so_far
-    ∙ sym (byte_at_more (take i entries) entry union j before) ∙ ap (λ (es : List Entry). byte_at es union j) (sym more)
+is_below : (j n : ℕ) → j < n → nat_lt j n ≡ true
+is_below j n below = grind (arith, nat_tests)
 
--- ---- one entry's bytes, written over what was there
+is_above : (j n : ℕ) → n ≤ j → nat_lt j n ≡ false
+is_above j n above = grind (arith, nat_tests)
 
--- before them
-written_before : (to k : ℕ) (old written : List ℕ) (j : ℕ) → to ≤ length old → j < to → get_or (put_mid to k old written) j 0 ≡ get_or old j 0
-written_before to k old written j room before =
-    get_or_append_left (take to old) (written ++ drop k (drop to old)) 0 j (omega (arith, length-take to old)) ∙ get_or-take to old j 0 before
+-- ---- one entry after another
 
--- from their place on
-written_behind : (to k : ℕ) (old written : List ℕ) (j : ℕ) → to ≤ length old → to ≤ j
-    → get_or (put_mid to k old written) j 0 ≡ get_or (written ++ drop k (drop to old)) (j - to) 0
-written_behind to k old written j room behind =
-    get_or-append_right (take to old) (written ++ drop k (drop to old)) to j 0 (omega (arith, length-take to old)) behind
+-- before the first entry the bytes are zero
+byte_before : (active_size buffer_size low : ℕ) (entries : List Entry) (scan : List ℕ) (j : ℕ) → AreInOrder active_size buffer_size low entries → j < low
+    → byte_at entries scan j ≡ 0
+byte_before active_size buffer_size low [] scan j order before = refl
+byte_before active_size buffer_size low (entry ∷ later) scan j order before =
+    byte_at-cons entry later scan j
+    ∙ rw (begins_after entry j (omega (arith, order.0)))
+    (byte_before active_size buffer_size (entry.to + entry.length) later scan j order.2 (omega (arith, order.0)))
 
--- past them
-written_past : (to k : ℕ) (old written : List ℕ) (j : ℕ) → length written ≡ k → to + k ≤ j
-    → get_or (written ++ drop k (drop to old)) (j - to) 0 ≡ get_or old j 0
-written_past to k old written j many past =
-    let place : to + (k + (j - to - k)) ≡ j = omega arith in
-    get_or-append_right written (drop k (drop to old)) k (j - to) 0 many (omega arith)
-    ∙ get_or-drop k (drop to old) (j - to - k) 0 ∙ get_or-drop to old (k + (j - to - k)) 0 ∙ ap (λ i. get_or old i 0) place
+-- entries that stand from a byte on end no earlier
+pub order_within : (active_size buffer_size low : ℕ) (entries : List Entry) → AreInOrder active_size buffer_size low entries → low ≤ buffer_size
+order_within active_size buffer_size low [] order = order
+order_within active_size buffer_size low (entry ∷ later) order =
+    omega (arith, order.0, order_within active_size buffer_size (entry.to + entry.length) later order.2)
 
--- the entry's bytes are those of the active scan, and all others are as they were
-pub written_bytes : (entry : Entry) (union old : List ℕ) (k m j : ℕ) → entry.from + entry.length ≤ length union → entry.to + entry.length ≤ length old → k ≡ entry.length → m ≡ entry.length
-    → get_or (put_mid entry.to m old (take k (drop entry.from union))) j 0 ≡ cond (covers entry j) (source_of entry union j) (get_or old j 0)
-written_bytes entry union old k m j there room is_read is_written =
-    let written = take k (drop entry.from union) in
-    let many : length written ≡ k = omega (arith, length-take k (drop entry.from union), length-drop entry.from union) in
-    elim (cases_lt j entry.to) [
-      | inl before ↦ rw (begins_after entry j before) (written_before entry.to m old written j (omega arith) before)
-      | inr behind ↦
-          written_behind entry.to m old written j (omega arith) behind
-          ∙ elim (cases_lt j (entry.to + entry.length)) [
-            | inl own ↦
-                rw (covers_within entry j behind own)
-                (get_or_append_left written (drop m (drop entry.to old)) 0 (j - entry.to) (omega (arith, many))
-                ∙ get_or-take k (drop entry.from union) (j - entry.to) 0 (omega arith) ∙ get_or-drop entry.from union (j - entry.to) 0)
-            | inr past ↦ rw (ends_before entry j past) (written_past entry.to m old written j (omega (arith, many)) (omega arith))
-          ]
+-- the bytes that are written before byte `start`, and those that the entries still to come make from there on
+abbrev pub so_far : (written : List ℕ) (start : ℕ) → List Entry → (scan : List ℕ) → ℕ → ℕ
+so_far written start entries scan j = cond (nat_lt j start) (slice_index written j) (byte_at entries scan j)
+
+-- an entry more was copied
+pub copied_more : (active_size buffer_size start end : ℕ) (entry : Entry) (later : List Entry) (scan old new : List ℕ) (j : ℕ)
+    → AreInOrder active_size buffer_size start (entry ∷ later) → end ≡ entry.to + entry.length
+    → (j < start → slice_index new j ≡ slice_index old j) → (start ≤ j → j < entry.to → slice_index new j ≡ 0)
+    → (covers entry j ≡ true → slice_index new j ≡ source_of entry scan j)
+    → so_far old start (entry ∷ later) scan j ≡ so_far new end later scan j
+copied_more active_size buffer_size start end entry later scan old new j order is_end kept gap bytes =
+    elim (cases_lt j start) [
+      | inl before ↦ rw (is_below j start before, is_below j end (omega (arith, order.0))) (sym (kept before))
+      | inr after ↦
+          rw (is_above j start after) (byte_at-cons entry later scan j
+          ∙ elim (cases_lt j entry.to) [
+            | inl unwritten ↦
+                rw (begins_after entry j unwritten, is_below j end (omega arith))
+                (byte_before active_size buffer_size (entry.to + entry.length) later scan j order.2 (omega arith) ∙ sym (gap after unwritten))
+            | inr from ↦
+                elim (cases_lt j (entry.to + entry.length)) [
+                  | inl own ↦ let inside = covers_within entry j from own in rw (inside, is_below j end (omega arith)) (sym (bytes inside))
+                  | inr past ↦ rw (ends_before entry j past, is_above j end (omega arith)) refl
+                ]
+          ])
     ]
+
+-- all were
+pub copied_all : (end : ℕ) (scan old new : List ℕ) (j : ℕ) → (j < end → slice_index new j ≡ slice_index old j) → (end ≤ j → slice_index new j ≡ 0)
+    → slice_index new j ≡ so_far old end [] scan j
+copied_all end scan old new j kept zero =
+    elim (cases_lt j end) [ inl before ↦ rw (is_below j end before) (kept before) | inr after ↦ rw (is_above j end after) (zero after) ]

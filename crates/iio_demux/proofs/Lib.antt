@@ -1,4 +1,5 @@
 pub mod CopyLemmas
 pub mod EntryLemmas
+pub mod MergeLemmas
 pub mod ScanLemmas
 mod Worked

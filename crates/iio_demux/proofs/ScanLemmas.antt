@@ -3,25 +3,26 @@ use Rattle.std.proofs.Common.{◌≡◌, ℕ, ℤ, zero, suc, ◌+◌, ◌-◌, 
 use Rattle.std.specs.List.{range_with_len}
 use Rattle.std.proofs.lemmas.Bool.{cases_Bool, cases_eq, false≢true}
 use Rattle.std.proofs.lemmas.List.FromFn.{fill_by_all}
-use Rattle.iio_mask.specs.Places.{has}
+use Rattle.iio_mask.specs.Mask.{has}
 use Rattle.iio_layout.specs.Shape.{ShapeRecord, count_of, formats_of, width_of}
 use Rattle.iio_layout.specs.Layout.{place_of, scan_size, size_at}
 use Rattle.iio_layout.specs.Scan.{scan_of}
 use Rattle.iio_layout.specs.Laws.{length-scan_of, scan_of-at, scan_of-outside}
-use Rattle.iio_demux.specs.Table.{byte_at, copied, covers, entries_of, entry_of, source_of}
+use Rattle.iio_demux.specs.Table.{byte_at, channel_entries, channel_entry, copied, covers, source_of, table_of}
 use Rattle.iio_demux.proofs.CopyLemmas.{covers_tells, covers_within}
+use Rattle.iio_demux.proofs.MergeLemmas.{copied-merged}
 
 -- the byte that entries of channels from a on have, by what it is in each of them, and by what it is in none
-byte_is : (shape : ShapeRecord) (active mine a n : ℕ) (union : List ℕ) (j byte : ℕ)
-    → ((c : ℕ) → a ≤ c → c < a + n → has mine c ≡ true → covers (entry_of shape active mine c) j ≡ true → byte ≡ source_of (entry_of shape active mine c) union j)
-    → (((c : ℕ) → a ≤ c → c < a + n → has mine c ≡ true → covers (entry_of shape active mine c) j ≡ false) → byte ≡ 0)
-    → byte ≡ byte_at (map (entry_of shape active mine) (filter (λ c. has mine c) (range_with_len a n))) union j
-byte_is shape active mine a zero union j byte inside outside = outside (λ c above below. absurd (omega arith))
-byte_is shape active mine a (suc n) union j byte inside outside =
-    let rest = byte_is shape active mine (a + 1) n union j byte (λ c above below. inside c (omega arith) (omega arith)) in
-    elim (cases_Bool (has mine a)) [
+byte_is : (shape : ShapeRecord) (active buffer a n : ℕ) (scan : List ℕ) (j byte : ℕ)
+    → ((c : ℕ) → a ≤ c → c < a + n → has buffer c ≡ true → covers (channel_entry shape active buffer c) j ≡ true → byte ≡ source_of (channel_entry shape active buffer c) scan j)
+    → (((c : ℕ) → a ≤ c → c < a + n → has buffer c ≡ true → covers (channel_entry shape active buffer c) j ≡ false) → byte ≡ 0)
+    → byte ≡ byte_at (map (channel_entry shape active buffer) (filter (λ c. has buffer c) (range_with_len a n))) scan j
+byte_is shape active buffer a zero scan j byte inside outside = outside (λ c above below. absurd (omega arith))
+byte_is shape active buffer a (suc n) scan j byte inside outside =
+    let rest = byte_is shape active buffer (a + 1) n scan j byte (λ c above below. inside c (omega arith) (omega arith)) in
+    elim (cases_Bool (has buffer a)) [
       | inl own ↦
-          elim (cases_Bool (covers (entry_of shape active mine a) j)) [
+          elim (cases_Bool (covers (channel_entry shape active buffer a) j)) [
             | inl first ↦ rw (own, first) (inside a (omega arith) (omega arith) own first)
             | inr other ↦
                 rw (own, other) (rest (λ none. outside (λ c above below selected.
@@ -39,24 +40,32 @@ byte_is shape active mine a (suc n) union j byte inside outside =
     ]
 
 -- a channel has the same bytes in both scans
-same_byte : (shape : ShapeRecord) (active mine c j : ℕ) (values : List ℤ) (t : ℤ) → length values ≡ width_of shape → c < count_of shape
-    → has active c ≡ true → has mine c ≡ true → covers (entry_of shape active mine c) j ≡ true
-    → get_or (scan_of shape mine values t) j 0 ≡ source_of (entry_of shape active mine c) (scan_of shape active values t) j
-same_byte shape active mine c j values t wide below selected own covered =
-    let lies = covers_tells (entry_of shape active mine c) j covered in
-    let k = j - place_of shape mine c in
+same_byte : (shape : ShapeRecord) (active buffer c j : ℕ) (values : List ℤ) (t : ℤ) → length values ≡ width_of shape → c < count_of shape
+    → has active c ≡ true → has buffer c ≡ true → covers (channel_entry shape active buffer c) j ≡ true
+    → get_or (scan_of shape buffer values t) j 0 ≡ source_of (channel_entry shape active buffer c) (scan_of shape active values t) j
+same_byte shape active buffer c j values t wide below selected own covered =
+    let lies = covers_tells (channel_entry shape active buffer c) j covered in
+    let k = j - place_of shape buffer c in
     let inside : k < size_at (formats_of shape) c = omega (arith, lies) in
-    let at : place_of shape mine c + k ≡ j = omega (arith, lies) in
-    rw at at (scan_of-at shape mine values t c k wide below own inside) ∙ sym (scan_of-at shape active values t c k wide below selected inside)
+    let at : place_of shape buffer c + k ≡ j = omega (arith, lies) in
+    rw at at (scan_of-at shape buffer values t c k wide below own inside) ∙ sym (scan_of-at shape active values t c k wide below selected inside)
 
--- of a capture's scan under the one mask the entries make its scan under the other
-pub copied-scan_of : (shape : ShapeRecord) (active mine : ℕ) (values : List ℤ) (t : ℤ) → ((c : ℕ) → IsTrue (has mine c) → IsTrue (has active c))
-    → length values ≡ width_of shape → copied (entries_of shape active mine) (scan_of shape active values t) (scan_size shape mine) ≡ scan_of shape mine values t
-copied-scan_of shape active mine values t within wide =
-    let union = scan_of shape active values t in
-    let own = scan_of shape mine values t in
-    sym (fill_by_all (byte_at (entries_of shape active mine) union) own (scan_size shape mine) 0 (length-scan_of shape mine values t wide)
-    (λ j below. byte_is shape active mine 0 (count_of shape) union j (get_or own j 0)
-    (λ c above inside selected covered. same_byte shape active mine c j values t wide (omega arith) (within c selected) selected covered)
-    (λ none. scan_of-outside shape mine values t j wide (λ c lies.
-    absurd (false≢true (sym (none c (omega arith) (omega (arith, lies.0)) lies.1) ∙ covers_within (entry_of shape active mine c) j lies.2 lies.3))))))
+-- of a capture's scan under the one mask the entries of its channels make its scan under the other
+copied-scan_of : (shape : ShapeRecord) (active buffer : ℕ) (values : List ℤ) (t : ℤ) → ((c : ℕ) → IsTrue (has buffer c) → IsTrue (has active c))
+    → length values ≡ width_of shape → copied (channel_entries shape active buffer (count_of shape)) (scan_of shape active values t) (scan_size shape buffer) ≡ scan_of shape buffer values t
+copied-scan_of shape active buffer values t within wide =
+    let scan = scan_of shape active values t in
+    let own = scan_of shape buffer values t in
+    sym (fill_by_all (byte_at (channel_entries shape active buffer (count_of shape)) scan) own (scan_size shape buffer) 0 (length-scan_of shape buffer values t wide)
+    (λ j below. byte_is shape active buffer 0 (count_of shape) scan j (get_or own j 0)
+    (λ c above inside selected covered. same_byte shape active buffer c j values t wide (omega arith) (within c selected) selected covered)
+    (λ none. scan_of-outside shape buffer values t j wide (λ c lies.
+    absurd (false≢true (sym (none c (omega arith) (omega (arith, lies.0)) lies.1) ∙ covers_within (channel_entry shape active buffer c) j lies.2 lies.3))))))
+
+-- and so does the table
+pub table_scans : (shape : ShapeRecord) (active buffer : ℕ) (values : List ℤ) (t : ℤ) → ((c : ℕ) → IsTrue (has buffer c) → IsTrue (has active c))
+    → length values ≡ width_of shape
+    → copied (table_of shape active buffer).entries (scan_of shape active values t) (table_of shape active buffer).buffer_size ≡ scan_of shape buffer values t
+table_scans shape active buffer values t within wide =
+    copied-merged (channel_entries shape active buffer (count_of shape)) (scan_of shape active values t) (scan_size shape buffer)
+    ∙ copied-scan_of shape active buffer values t within wide

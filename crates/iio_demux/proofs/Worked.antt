@@ -9,7 +9,7 @@ use Rattle.iio_layout.specs.declared.Direction.TheVariants.{Input}
 use Rattle.iio_layout.specs.declared.Channel.{Channel}
 use Rattle.iio_layout.specs.Shape.{ShapeRecord}
 use Rattle.iio_demux.specs.declared.table.Entry.{Entry}
-use Rattle.iio_demux.specs.Table.{copied, entries_of}
+use Rattle.iio_demux.specs.Table.{copied, table_of}
 
 abbrev unsigned : ℕ → Format
 unsigned bits = record { sign = Unsigned; realbits = bits; storagebits = bits; shift = 0; repeat = 1; endian = Little }
@@ -29,8 +29,16 @@ alike = record {
 }
 
 -- of all channels, voltage0 and the timestamp
-alike_entries : entries_of alike 63 33 ≡ entry 0 0 2 ∷ entry 16 8 8 ∷ []
+alike_entries : (table_of alike 63 33).entries ≡ entry 0 0 2 ∷ entry 16 8 8 ∷ []
 alike_entries = refl
+
+-- three neighbours, which are one entry
+alike_neighbours : (table_of alike 63 14).entries ≡ entry 2 0 6 ∷ []
+alike_neighbours = refl
+
+-- voltage0, voltage2 and voltage3, which are one entry, and the timestamp
+alike_parts : (table_of alike 63 45).entries ≡ entry 0 0 2 ∷ entry 4 2 4 ∷ entry 16 8 8 ∷ []
+alike_parts = refl
 
 alike_scan : copied (entry 0 0 2 ∷ entry 16 8 8 ∷ [])
     (1 ∷ 0 ∷ 2 ∷ 0 ∷ 3 ∷ 0 ∷ 4 ∷ 0 ∷ 5 ∷ 0 ∷ 0 ∷ 0 ∷ 0 ∷ 0 ∷ 0 ∷ 0 ∷ 2 ∷ 1 ∷ 0 ∷ 0 ∷ 0 ∷ 0 ∷ 0 ∷ 0 ∷ []) 16
@@ -42,7 +50,7 @@ abbrev mixed : ShapeRecord
 mixed = record { channels = voltage 0 8 ∷ voltage 1 32 ∷ voltage 2 16 ∷ []; stamp = Some Little; listed = [] }
 
 -- of all channels, the first and the last of data, with a byte of padding between them
-mixed_entries : entries_of mixed 15 5 ≡ entry 0 0 1 ∷ entry 8 2 2 ∷ []
+mixed_entries : (table_of mixed 15 5).entries ≡ entry 0 0 1 ∷ entry 8 2 2 ∷ []
 mixed_entries = refl
 
 mixed_scan : copied (entry 0 0 1 ∷ entry 8 2 2 ∷ []) (17 ∷ 9 ∷ 9 ∷ 9 ∷ 33 ∷ 34 ∷ 35 ∷ 36 ∷ 49 ∷ 50 ∷ []) 4 ≡ 17 ∷ 0 ∷ 49 ∷ 50 ∷ []

@@ -1,19 +1,19 @@
 //! The copy table of one buffer.
 
-ghost use Rattle.std.specs.Prelude.{◌≡◌, ℕ, ℤ, ◌+◌, ◌-◌, ◌^◌, ◌<◌, ◌≤◌, true, IfOk, IsTrue, List, [], if◌then◌else◌, length, slice_index, vec_capacity};
-ghost use Rattle.iio_mask.specs.Places.{has, is_within};
+ghost use Rattle.std.specs.Prelude.{◌≡◌, ℕ, ℤ, ◌+◌, ◌-◌, ◌^◌, ◌<◌, ◌≤◌, ◌++◌, true, IfOk, IsTrue, List, [], ◌∷◌, length, slice_index, vec_capacity, vec_len};
+ghost use Rattle.iio_mask.specs.Mask.{has, is_within};
 ghost use Rattle.iio_layout.specs.Layout.{scan_size};
 ghost use Rattle.iio_layout.specs.Scan.{scan_of};
 ghost use Rattle.iio_layout.specs.Shape.{count_of, width_of};
-ghost use Rattle.iio_demux.specs.Table.{AreApart, AreWithin, copied, covers, entries_of, source_of};
+ghost use Rattle.iio_demux.specs.Table.{AreInOrder, AreMerged, channel_entries, continues, copied, covers, merged, source_of, table_of};
 
 use iio_base::Mem;
-use iio_layout::{MOST_CHANNELS, Shape, scan_size};
+use iio_layout::{MAX_CHANNELS, Shape, scan_size};
 use iio_mask::Mask;
 use std::alloc::Global;
 use std::marker::Model;
 
-/// The bytes of one channel: `length` of them, from byte `from` of the active scan to byte `to` of the own scan.
+/// Bytes to copy: `length` of them, from byte `from` of the active scan to byte `to` of the buffer's scan.
 #[derive(Clone, Copy, Debug, PartialEq, Eq)]
 pub struct Entry {
     pub from: u32,
@@ -22,27 +22,40 @@ pub struct Entry {
 }
 
 impl Entry {
-    // Copies the channel's bytes, and leaves all others.
-    fn copy(self, union: &[u8], out: &mut [u8])
-        requires from { self.from + self.length ≤ length union.now }
+    // Whether `next` goes on, in both scans, where this entry ends.
+    fn is_continued_by(self, next: Entry) -> bool
+        ensures { result ≡ continues self next }
+    {
+        next.from.checked_sub(self.from) == Some(self.length)
+            && next.to.checked_sub(self.to) == Some(self.length)
+    }
+
+    // Copies the entry's bytes, with zero bytes before them from byte `start` on, and answers where they end.
+    fn copy(self, start: usize, scan: &[u8], out: &mut [u8]) -> usize
+        requires start { start ≤ self.to }
+        requires from { self.from + self.length ≤ length scan.now }
         requires to { self.to + self.length ≤ length out.old }
-        ensures { (j : ℕ) → slice_index out.new j
-            ≡ (if covers self j then source_of self union.now j else slice_index out.old j) }
+        ensures end { result ≡ self.to + self.length }
+        ensures kept { (j : ℕ) → j < start → slice_index out.new j ≡ slice_index out.old j }
+        ensures gap { (j : ℕ) → start ≤ j → j < self.to → slice_index out.new j ≡ 0 }
+        ensures bytes { (j : ℕ) → covers self j ≡ true → slice_index out.new j ≡ source_of self scan.now j }
     {
         let from = self.from as usize;
         let to = self.to as usize;
         let length = self.length as usize;
-        out[to..to + length].copy_from_slice(&union[from..from + length]);
+        out[start..to].fill(0);
+        out[to..to + length].copy_from_slice(&scan[from..from + length]);
+        to + length
     }
 }
 
-/// What to copy from the scan under the active mask to a buffer's own scan.
+/// What to copy from the scan under the active mask to the scan under a buffer's mask.
 #[derive(Debug, Drop)]
 pub struct Table {
+    // There is room for an entry of each channel.
     entries: Vec<Entry>,
-    // The sizes of the active scan and of the own scan.
-    whole: u32,
-    size: u32,
+    active_size: u32,
+    buffer_size: u32,
 }
 
 impl Model for Table {
@@ -58,80 +71,119 @@ impl Model for Table {
 }
 
 impl Table {
-    /// The table that copies from a scan under the mask `active` to one under `mine` (kernel,
+    /// The table that copies from a scan under the mask `active` to one under the mask `buffer` (kernel,
     /// `iio_buffer_update_demux`). All memory that the table ever takes is taken here.
-    pub fn build(alloc: Global, shape: &Shape, active: Mask, mine: Mask) -> Result<Table, Mem>
+    pub fn build(alloc: Global, shape: &Shape, active: Mask, buffer: Mask) -> Result<Table, Mem>
         requires below { active.bits < 2 ^ count_of shape.now }
-        requires within { is_within mine.bits active.bits ≡ true }
-        ensures entries { IfOk result (λ table. table.entries ≡ entries_of shape.now active.bits mine.bits) }
-        ensures whole { IfOk result (λ table. table.whole ≡ scan_size shape.now active.bits) }
-        ensures size { IfOk result (λ table. table.size ≡ scan_size shape.now mine.bits) }
+        requires within { is_within buffer.bits active.bits ≡ true }
+        ensures table { IfOk result (λ table. table ≡ table_of shape.now active.bits buffer.bits) }
 
-        // Of the active scan of any capture it makes the own scan of the same capture.
+        // Of the active scan of any capture it makes the buffer's scan of the same capture.
         ensures scans { IfOk result (λ table. (values : List ℤ) (t : ℤ) → length values ≡ width_of shape.now
-            → copied table.entries (scan_of shape.now active.bits values t) table.size ≡ scan_of shape.now mine.bits values t) }
+            → copied table.entries (scan_of shape.now active.bits values t) table.buffer_size ≡ scan_of shape.now buffer.bits values t) }
     {
-        let holds = mine.within(active);
+        let mut table = Table {
+            entries: Vec::with_capacity(alloc, MAX_CHANNELS)?,
+            active_size: 0,
+            buffer_size: 0,
+        };
+        table.remake(shape, active, buffer);
+        Ok(table)
+    }
+
+    /// Makes the table that `build` would make of these masks, in the memory of this one.
+    pub fn remake(&mut self, shape: &Shape, active: Mask, buffer: Mask)
+        requires below { active.bits < 2 ^ count_of shape.now }
+        requires within { is_within buffer.bits active.bits ≡ true }
+        ensures table { self.new ≡ table_of shape.now active.bits buffer.bits }
+        ensures scans { (values : List ℤ) (t : ℤ) → length values ≡ width_of shape.now
+            → copied self.new.entries (scan_of shape.now active.bits values t) self.new.buffer_size ≡ scan_of shape.now buffer.bits values t }
+    {
+        let holds = buffer.within(active);
         prove!(holds);
-        let mut entries = Vec::with_capacity(alloc, MOST_CHANNELS)?;
-        push_entries(shape, active, mine, &mut entries);
-        Ok(Table {
-            entries,
-            whole: scan_size(shape, active),
-            size: scan_size(shape, mine),
-        })
+        self.entries.clear();
+        push_entries(shape, active, buffer, &mut self.entries);
+        self.active_size = scan_size(shape, active);
+        self.buffer_size = scan_size(shape, buffer);
     }
 
-    /// Writes the own scan: each entry's bytes of the active scan `union` at their place, and zero bytes elsewhere,
+    /// Writes the buffer's scan: each entry's bytes of the active scan at their place, and zero bytes elsewhere,
     /// whatever was there before (kernel, `iio_demux`).
-    pub fn apply(&self, union: &[u8], out: &mut [u8])
-        requires whole { length union.now ≡ self.now.whole }
-        requires size { length out.old ≡ self.now.size }
-        ensures { out.new ≡ copied self.now.entries union.now self.now.size }
+    pub fn apply(&self, scan: &[u8], out: &mut [u8])
+        requires active { length scan.now ≡ self.now.active_size }
+        requires buffer { length out.old ≡ self.now.buffer_size }
+        ensures { out.new ≡ copied self.now.entries scan.now self.now.buffer_size }
     {
-        copy_entries(&self.entries, union, out);
+        copy_entries(&self.entries, scan, out);
     }
 
-    /// The entries, in the order of their channels.
+    /// The entries, in the order of their channels. Channels that are neighbours in both scans are in one.
     pub fn entries(&self) -> &[Entry]
-        ensures { result.now ≡ self.now.entries }
+        ensures entries { result.now ≡ self.now.entries }
+        ensures merged { AreMerged result.now }
     {
         &self.entries
     }
 }
 
-// Lists the entries of all channels of `mine`, each of which is in `active`.
-fn push_entries(shape: &Shape, active: Mask, mine: Mask, entries: &mut Vec<Entry>)
-    requires within { (c : ℕ) → IsTrue (has mine.bits c) → IsTrue (has active.bits c) }
-    requires none { entries.old.items ≡ [] }
-    requires room { MOST_CHANNELS ≤ vec_capacity entries.old }
-    ensures { entries.new.items ≡ entries_of shape.now active.bits mine.bits }
+// Adds an entry at the end, as one with the last where it continues that.
+fn push_merged(entries: &mut Vec<Entry>, entry: Entry)
+    requires room { vec_len entries.old < vec_capacity entries.old }
+    requires end { entry.to + entry.length < 2 ^ 32 }
+    ensures items { (before : List Entry) → entries.old.items ≡ merged before → entries.new.items ≡ merged (before ++ entry ∷ []) }
+    ensures few { vec_len entries.new ≤ vec_len entries.old + 1 }
+    ensures capacity { vec_capacity entries.new ≡ vec_capacity entries.old }
 {
-    let mut union_end: u32 = 0;
-    let mut own_end: u32 = 0;
+    let count = entries.len();
+    if count > 0 && entries[count - 1].is_continued_by(entry) {
+        entries[count - 1].length += entry.length;
+        return;
+    }
+    entries.push_reserved(entry);
+}
+
+// Lists the entries of all channels of the buffer's mask, each of which is in the active mask.
+fn push_entries(shape: &Shape, active: Mask, buffer: Mask, entries: &mut Vec<Entry>)
+    requires within { (c : ℕ) → IsTrue (has buffer.bits c) → IsTrue (has active.bits c) }
+    requires none { entries.old.items ≡ [] }
+    requires room { MAX_CHANNELS ≤ vec_capacity entries.old }
+    ensures items { entries.new.items ≡ merged (channel_entries shape.now active.bits buffer.bits (count_of shape.now)) }
+    ensures capacity { vec_capacity entries.new ≡ vec_capacity entries.old }
+{
+    let mut active_end: u32 = 0;
+    let mut buffer_end: u32 = 0;
     for c in 0..shape.count() {
         if !active.contains(c) {
             continue;
         }
         let length = shape.scan_type(c).size();
-        let from = union_end.next_multiple_of(length);
-        union_end = from + length;
-        if mine.contains(c) {
-            let to = own_end.next_multiple_of(length);
-            own_end = to + length;
-            entries.push_reserved(Entry { from, to, length });
+        let from = active_end.next_multiple_of(length);
+        active_end = from + length;
+        if buffer.contains(c) {
+            let to = buffer_end.next_multiple_of(length);
+            buffer_end = to + length;
+            push_merged(entries, Entry { from, to, length });
         }
     }
 }
 
-// Writes what the entries, which don't overlap, make of the active scan.
-fn copy_entries(entries: &[Entry], union: &[u8], out: &mut [u8])
-    requires within { AreWithin entries.now (length union.now) (length out.old) }
-    requires apart { AreApart entries.now }
-    ensures { out.new ≡ copied entries.now union.now (length out.old) }
+// Writes zero bytes from byte `start` on.
+fn zero_from(start: usize, out: &mut [u8])
+    requires { start ≤ length out.old }
+    ensures kept { (j : ℕ) → j < start → slice_index out.new j ≡ slice_index out.old j }
+    ensures zero { (j : ℕ) → start ≤ j → slice_index out.new j ≡ 0 }
 {
-    out.fill(0);
+    out[start..].fill(0);
+}
+
+// Writes what the entries make of the active scan.
+fn copy_entries(entries: &[Entry], scan: &[u8], out: &mut [u8])
+    requires { AreInOrder (length scan.now) (length out.old) 0 entries.now }
+    ensures { out.new ≡ copied entries.now scan.now (length out.old) }
+{
+    let mut end = 0;
     for entry in entries {
-        entry.copy(union, out);
+        end = entry.copy(end, scan, out);
     }
+    zero_from(end, out);
 }

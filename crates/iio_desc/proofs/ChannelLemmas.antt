@@ -1,49 +1,61 @@
 -- A channel more.
-use Rattle.std.proofs.Common.{◌≡◌, ℕ, zero, suc, ◌+◌, ◌<◌, Bool, true, false, ◌||◌, List, [], ◌∷◌, ◌++◌, length, get_or, AllPairs, sum_by, Option, Some, None, ℤ, is_none, ◌&&◌, ◌==◌, refl, ap, ◌∙◌, zero-add, arith}
+use Rattle.std.proofs.Common.{◌≡◌, ◌+◌, Bool, true, false, List, [], ◌∷◌, ◌++◌, length, get_or, AllPairs, sum_by, Option, Some, None, is_none, ◌&&◌, ◌==◌, refl, ap, ◌∙◌, zero-add}
 use Rattle.std.proofs.Math.Dec.{eqb-suc-zero}
 use Rattle.std.proofs.lemmas.Bool.{false≢true}
 use Rattle.std.proofs.lemmas.List.Sums.{sum_by-append}
-use Rattle.std.specs.List.{list_any}
 use Rattle.std.proofs.lemmas.List.Quantifiers.{all_pairs_push}
+use Rattle.std.specs.List.{list_any}
+use Rattle.iio_scan_type.specs.declared.Endian.{Endian}
 use Rattle.iio_scan_type.specs.Format.{Format}
 use Rattle.iio_layout.specs.declared.channel.Kind.{Kind}
 use Rattle.iio_layout.specs.declared.channel.Suffix.{Suffix}
 use Rattle.iio_layout.specs.declared.channel.Direction.TheVariants.{Input}
 use Rattle.iio_layout.specs.declared.channel.Channel.{Channel}
-use Rattle.iio_layout.specs.Shape.{same_channel}
-use Rattle.iio_scan_type.specs.declared.Endian.{Endian}
-use Rattle.iio_desc.specs.Draft.{Sketch}
-use Rattle.iio_desc.specs.Line.{has_id, has_only_channels}
+use Rattle.iio_layout.specs.Id.{same_id}
+use Rattle.iio_layout.specs.Shape.{id_at, same_channel}
+use Rattle.iio_desc.specs.PartialDevice.{PartialDevice, has_only_channels}
+use Rattle.iio_desc.proofs.ListLemmas.{none_at}
 
-or_false : (a b : Bool) → (a || b) ≡ false → (a ≡ false) × (b ≡ false)
-or_false true b h = (h, cc)
-or_false false b h = (refl, h)
-
--- where no element passes a test, none at a place does
-none_at : (p : Channel → Bool) (xs : List Channel) → list_any p xs ≡ false → (k : ℕ) (d : Channel) → k < length xs → p (get_or xs k d) ≡ false
-none_at p [] h k d lt = absurd (omega arith)
-none_at p (x ∷ xs) h zero d lt = (or_false (p x) (list_any p xs) h).0
-none_at p (x ∷ xs) h (suc k) d lt = none_at p xs (or_false (p x) (list_any p xs) h).1 k d (omega arith)
+-- channels of different IDs are different
+other_channel : (a c : Channel) → same_id (id_at a) (id_at c) ≡ false → same_channel a c ≡ false
+other_channel a c h = rw h refl
 
 -- channels stay distinct with one more that has an ID of its own
 pub distinct_push : (channels : List Channel) (id : Kind × Suffix) (ty : Format) → AllPairs (λ (a b : Channel). same_channel a b ≡ false) channels
-    → list_any (λ c. has_id id c) channels ≡ false
+    → list_any (λ c. same_id (id_at c) id) channels ≡ false
     → AllPairs (λ (a b : Channel). same_channel a b ≡ false) (channels ++ (record { kind = id.0; suffix = id.1; direction = Input; ty = ty }) ∷ [])
 distinct_push channels id ty distinct own =
-    all_pairs_push (λ (a b : Channel). same_channel a b ≡ false) channels (record { kind = id.0; suffix = id.1; direction = Input; ty = ty }) distinct
-    (λ k d lt. none_at (λ c. has_id id c) channels own k d lt)
+    let new : Channel = record { kind = id.0; suffix = id.1; direction = Input; ty = ty } in
+    all_pairs_push (λ (a b : Channel). same_channel a b ≡ false) channels new distinct
+    (λ k d lt. other_channel (get_or channels k d) new (none_at (λ c. same_id (id_at c) id) channels own k d lt))
 
 -- the values of a row with a channel more
 pub width_push : (channels : List Channel) (c : Channel) → sum_by (λ (x : Channel). x.ty.repeat) (channels ++ c ∷ []) ≡ sum_by (λ (x : Channel). x.ty.repeat) channels + c.ty.repeat
 width_push channels c = sum_by-append (λ (x : Channel). x.ty.repeat) channels (c ∷ []) ∙ ap (λ n. sum_by (λ (x : Channel). x.ty.repeat) channels + n) (zero-add c.ty.repeat)
 
--- a device whose only lines are channels has no timestamp, no masks and no rows
-pub only_channels : (s : Sketch) → has_only_channels s ≡ true → (s.stamp ≡ None) × (s.listed ≡ []) × (s.moments ≡ [])
-only_channels s h = only s.stamp s.listed s.moments h
-  where
-    only : (stamp : Option Endian) (listed : List ℕ) (moments : List ℤ) → (is_none stamp && length listed == 0 && length moments == 0) ≡ true
-        → (stamp ≡ None) × (listed ≡ []) × (moments ≡ [])
-    only (Some endian) listed moments h = cc
-    only None (m ∷ ms) moments h = absurd (false≢true (rw (eqb-suc-zero (length ms)) at h))
-    only None [] (m ∷ ms) h = absurd (false≢true (rw (eqb-suc-zero (length ms)) at h))
-    only None [] [] h = (refl, refl, refl)
+-- what a device has not, whose only lines are channels
+pub record OnlyChannels (s : PartialDevice) : Type 0 where
+  pub stamp : s.stamp ≡ None
+  pub listed : s.listed ≡ []
+  pub moments : s.moments ≡ []
+  pub attrs : s.attrs ≡ []
+
+no_item : {A : Type 0} (xs : List A) → (length xs == 0) ≡ true → xs ≡ []
+no_item [] h = refl
+no_item (x ∷ xs) h = absurd (false≢true (rw (eqb-suc-zero (length xs)) at h))
+
+both : (a b : Bool) → (a && b) ≡ true → (a ≡ true) × (b ≡ true)
+both true b h = (refl, h)
+both false b h = cc
+
+no_stamp : (o : Option Endian) → is_none o ≡ true → o ≡ None
+no_stamp None h = refl
+no_stamp (Some endian) h = cc
+
+pub only_channels : (s : PartialDevice) → has_only_channels s ≡ true → OnlyChannels s
+only_channels s h =
+    let stamp = both (is_none s.stamp) (length s.listed == 0 && length s.moments == 0 && is_none s.driver && length s.attrs == 0) h in
+    let attrs = both (length s.listed == 0 && length s.moments == 0 && is_none s.driver) (length s.attrs == 0) stamp.1 in
+    let driver = both (length s.listed == 0 && length s.moments == 0) (is_none s.driver) attrs.0 in
+    let moments = both (length s.listed == 0) (length s.moments == 0) driver.0 in
+    record { stamp = no_stamp s.stamp stamp.0; listed = no_item s.listed moments.0; moments = no_item s.moments moments.1; attrs = no_item s.attrs attrs.1 }

@@ -1,6 +1,8 @@
-pub mod WordLemmas
-pub mod RowLemmas
-pub mod ChannelLemmas
-pub mod MaskLemmas
-pub mod DeviceLemmas
-mod TextLemmas
+mod ChannelLemmas
+mod DeviceLemmas
+pub mod ListLemmas
+mod MaskLemmas
+mod ReaderLemmas
+mod RefusalLemmas
+mod RowLemmas
+mod WordLemmas

@@ -1,9 +1,9 @@
 -- What holds of masks that were read.
-use Rattle.std.proofs.Common.{◌≡◌, ℕ, ◌^◌, ◌<◌, ◌&&◌, nat_lt, Bool, true, false, cond, List, [], ◌∷◌, Option, Some, None, option_map, option_and_then, refl, subst, ltb-true}
+use Rattle.std.proofs.Common.{◌≡◌, ℕ, ◌^◌, ◌<◌, ◌&&◌, nat_lt, Bool, true, false, cond, List, [], ◌∷◌, Option, Some, None, option_and_then, refl, subst, ltb-true}
 use Rattle.std.specs.Prelude.{All}
 use Rattle.std.proofs.lemmas.List.Elements.{All-nil, All-cons}
 use Rattle.iio_mask.specs.Text.{mask_of}
-use Rattle.iio_desc.specs.Line.{listable, listed_of, masks_of}
+use Rattle.iio_desc.specs.DeviceLines.{before, listable, listed_of, masks_of}
 
 -- a mask has a data channel and no other
 abbrev pub IsListable : ℕ → ℕ → Type 0
@@ -36,7 +36,7 @@ All-masks_of channels count (w ∷ ws) ms h =
   where
     by_first : (first : Option ℕ) → listed_of channels count w ≡ first → (rest : Option (List ℕ))
         → ((ns : List ℕ) → rest ≡ Some ns → All (IsListable channels) ns)
-        → elim first as (λ _. Option (List ℕ)) [ None ↦ None | Some m ↦ option_map (λ (ns : List ℕ). m ∷ ns) rest ] ≡ Some ms → All (IsListable channels) ms
+        → before first rest ≡ Some ms → All (IsListable channels) ms
     by_first None is rest others e = cc
     by_first (Some m) is None others e = cc
     by_first (Some m) is (Some ns) others e =

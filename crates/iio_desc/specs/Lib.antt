@@ -1,8 +1,9 @@
 pub mod Description
-pub mod Draft
-pub mod Line
-pub mod Text
-pub mod Stage
+pub mod DescFault
+pub mod DescReader
+pub mod DeviceLines
+pub mod Lines
+pub mod PartialDesc
+pub mod PartialDevice
 pub mod View
-pub mod Fault
 pub mod WellFormed

@@ -1,53 +1,72 @@
--- What contracts see of a reader's fields.
-use Rattle.std.specs.Prelude.{◌≡◌, ℕ, ◌+◌, ◌*◌, ◌^◌, ◌<◌, ◌≤◌, false, length, map, All, AllPairs, IfSome, option_map}
-use Rattle.iio_layout.specs.Shape.{same_channel, stamp_formats}
-use Rattle.iio_desc.specs.declared.sketch.Sketch.TheInside.{Inside as SketchInside}
-use Rattle.iio_desc.specs.declared.reader.DescReader.TheInside.{Inside}
-use Rattle.iio_desc.specs.Draft.{Draft, Sketch, sketched_width, device_count, earlier_rows}
+-- What contracts see of the fields of what reads lines. No public clause cites this file.
+use Rattle.std.specs.Prelude.{◌≡◌, ℕ, ◌+◌, ◌*◌, ◌^◌, ◌<◌, ◌≤◌, true, false, length, map, All, AllPairs, IfSome, option_map, List}
+use Rattle.iio_scan_type.specs.declared.TheConstants.{MAX_CHANNEL_SIZE}
+use Rattle.iio_layout.specs.declared.shape.TheConstants.{MAX_CHANNELS}
 use Rattle.iio_layout.specs.Rows.{Rises}
-use Rattle.iio_desc.specs.WellFormed.{HasPlaces, IsWellFormedDevice}
-use Rattle.iio_desc.specs.Stage.{most_channels, most_triggers, most_devices, most_rows}
+use Rattle.iio_layout.specs.Shape.{same_channel, stamp_formats}
+use Rattle.iio_desc.specs.declared.limits.TheConstants.{MAX_TRIGGERS, MAX_DEVICES, MAX_ROWS}
+use Rattle.iio_desc.specs.declared.device_builder.DeviceBuilder.TheInside.{Inside as DeviceInside}
+use Rattle.iio_desc.specs.declared.desc_builder.DescBuilder.TheInside.{Inside}
+use Rattle.iio_desc.specs.Description.{DeviceRecord}
+use Rattle.iio_desc.specs.DeviceLines.{is_free}
+use Rattle.iio_desc.specs.PartialDesc.{PartialDesc, device_count, earlier_rows}
+use Rattle.iio_desc.specs.PartialDevice.{PartialDevice, row_width}
+use Rattle.iio_desc.specs.WellFormed.{HasPlaces, IsWrite, IsWellFormedDevice, share_driver}
 
-abbrev pub sketch_of : SketchInside → Sketch
-sketch_of s = record {
-  name = s.name;
-  trigger = s.trigger;
-  channels = s.channels.items;
-  stamp = s.stamp;
-  listed = map (λ mask. mask.bits) s.listed.items;
-  moments = s.moments.items;
-  values = s.values.items;
+abbrev pub partial_device : DeviceInside → PartialDevice
+partial_device b = record {
+  name = b.name;
+  trigger = b.trigger;
+  channels = b.channels.items;
+  stamp = b.stamp;
+  listed = map (λ mask. mask.bits) b.listed.items;
+  moments = b.moments.items;
+  values = b.values.items;
+  driver = b.driver;
+  attrs = b.attrs.items;
 }
 
--- the width is kept, the channels and masks are those of a shape, and the rows rise and are whole
-pub record IsSoundSketch (s : SketchInside) : Type 0 where
-  pub width : s.width ≡ sketched_width (sketch_of s)
-  pub narrow : s.width ≤ 8 * length s.channels.items
-  pub few : length s.channels.items + length (stamp_formats s.stamp) ≤ most_channels
-  pub distinct : AllPairs (λ a b. same_channel a b ≡ false) s.channels.items
-  pub listed : All (λ bits. (0 < bits) × (bits < 2 ^ length s.channels.items)) (map (λ mask. mask.bits) s.listed.items)
-  pub rises : Rises s.moments.items
-  pub whole : length s.values.items ≡ length s.moments.items * sketched_width (sketch_of s)
+-- the width is kept, the channels and masks are those of a shape, the rows rise and are whole, and the attributes can
+-- be written
+pub record IsSoundDevice (b : DeviceInside) : Type 0 where
+  pub width : b.width ≡ row_width (partial_device b)
+  pub narrow : b.width ≤ MAX_CHANNEL_SIZE * length b.channels.items
+  pub few : length b.channels.items + length (stamp_formats b.stamp) ≤ MAX_CHANNELS
+  pub distinct : AllPairs (λ a c. same_channel a c ≡ false) b.channels.items
+  pub listed : All (λ bits. (0 < bits) × (bits < 2 ^ length b.channels.items)) (map (λ mask. mask.bits) b.listed.items)
+  pub rises : Rises b.moments.items
+  pub whole : length b.values.items ≡ length b.moments.items * row_width (partial_device b)
+  pub writes : All (IsWrite (length b.channels.items)) b.attrs.items
 
-abbrev pub draft_of : Inside → Draft
-draft_of r = record {
-  context = option_map (λ context. context.items) r.context;
-  triggers = r.triggers.items;
-  devices = r.devices.items;
-  current = r.current;
+abbrev pub partial_desc : Inside → PartialDesc
+partial_desc b = record {
+  drivers = b.drivers;
+  context = option_map (λ context. context.items) b.context;
+  triggers = b.triggers.items;
+  devices = b.devices.items;
+  current = b.current;
 }
 
--- the device is on one of so many triggers, or on none, and so many rows are no more than there may be with its own
-pub record FitsCurrent (triggers earlier : ℕ) (s : Sketch) : Type 0 where
-  pub attached : IfSome s.trigger (λ t. t < triggers)
-  pub rows : earlier + length s.moments ≤ most_rows
+-- the device whose lines are being read is on one of so many triggers, or on none, has a driver that is handed in and
+-- that no device before has, or none, and so many rows are no more than there may be with its own
+pub record FitsCurrent (triggers drivers earlier : ℕ) (devices : List DeviceRecord) (device : PartialDevice) : Type 0 where
+  pub attached : IfSome device.trigger (λ t. t < triggers)
+  pub driven : IfSome device.driver (λ k. is_free drivers devices k ≡ true)
+  pub rows : earlier + length device.moments ≤ MAX_ROWS
 
 -- there are no more triggers, devices and rows than there may be, each is well formed, and rows are counted
-pub record IsSound (r : Inside) : Type 0 where
-  pub triggers : length r.triggers.items ≤ most_triggers
-  pub places : All HasPlaces r.triggers.items
-  pub devices : device_count (draft_of r) ≤ most_devices
-  pub sound : All (IsWellFormedDevice (length r.triggers.items)) r.devices.items
-  pub earlier : r.earlier ≡ earlier_rows (draft_of r)
-  pub rows : r.earlier ≤ most_rows
-  pub current : IfSome r.current (FitsCurrent (length r.triggers.items) r.earlier)
+pub record IsSound (b : Inside) : Type 0 where
+  pub triggers : length b.triggers.items ≤ MAX_TRIGGERS
+  pub places : All HasPlaces b.triggers.items
+  pub devices : device_count (partial_desc b) ≤ MAX_DEVICES
+  pub sound : All (IsWellFormedDevice (length b.triggers.items) b.drivers) b.devices.items
+  pub apart : AllPairs (λ v u. share_driver v u ≡ false) b.devices.items
+  pub earlier : b.earlier ≡ earlier_rows (partial_desc b)
+  pub rows : b.earlier ≤ MAX_ROWS
+  pub current : IfSome b.current (FitsCurrent (length b.triggers.items) b.drivers b.earlier b.devices.items)
+
+-- what a device keeps at the lines that are neither its rows nor its driver
+pub record KeepsPlace (old new : PartialDevice) : Type 0 where
+  pub trigger : new.trigger ≡ old.trigger
+  pub driver : new.driver ≡ old.driver
+  pub moments : new.moments ≡ old.moments

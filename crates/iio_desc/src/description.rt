@@ -1,29 +1,49 @@
 //! What a description says.
 
-ghost use Rattle.std.specs.Prelude.{◌≡◌, ◌≤◌, length, position};
+ghost use Rattle.std.specs.Prelude.{◌≡◌, ◌≤◌, ◌<◌, IfSome, length, position};
 ghost use Rattle.std.specs.Str.{bytes_eq};
+ghost use Rattle.iio_desc.specs.Description.{trigger_number};
 
-use iio_attr::Name;
+use iio_attr::{Attr, Name, Value};
 use iio_layout::{Rows, Shape};
 use std::marker::Model;
 
-/// A trigger, and how many devices it can serve at once.
+/// A trigger, and how many devices it can serve at once: 1 to 8.
 #[derive(Debug, Drop)]
 pub struct TriggerDesc {
     pub name: Name,
     pub places: u8,
 }
 
-/// A device: the number of its trigger, where it has one, its shape, and what its sensor recorded.
+/// A write of an attribute before the first step: of the device, or of the channel of that number.
+#[derive(Debug, Drop)]
+pub struct AttrDesc {
+    pub channel: Option<u32>,
+    pub attr: Attr,
+    pub value: Value,
+}
+
+/// A device: the number of its trigger, where it has one, its shape, what its sensor recorded, the number of its
+/// driver, where one is handed in, and the writes of its attributes in their order.
 #[derive(Debug, Drop)]
 pub struct DeviceDesc {
     pub name: Name,
     pub trigger: Option<u32>,
     pub shape: Shape,
     pub rows: Rows,
+    pub driver: Option<u32>,
+    pub attrs: Vec<AttrDesc>,
 }
 
-/// A whole description, in the order of its lines.
+impl Model for DeviceDesc {
+    ghost use Rattle.iio_desc.specs.Description.{DeviceRecord};
+
+    ghost Value = { DeviceRecord };
+
+    ghost view = { λ d. record { name = d.name; trigger = d.trigger; shape = d.shape; rows = d.rows; driver = d.driver; attrs = d.attrs.items } };
+}
+
+/// A whole description, in the order of its lines. It has at most 16 triggers and 16 devices.
 #[derive(Debug, Drop)]
 pub struct Desc {
     pub context: Vec<u8>,
@@ -32,35 +52,41 @@ pub struct Desc {
 }
 
 impl Model for Desc {
+    ghost use Rattle.std.specs.Prelude.{◌≤◌, length};
     ghost use Rattle.iio_desc.specs.Description.{Description};
+    ghost use Rattle.iio_desc.specs.declared.limits.TheConstants.{MAX_TRIGGERS, MAX_DEVICES};
 
     ghost Value = { Description };
 
     ghost view = { λ d. record { context = d.context.items; triggers = d.triggers.items; devices = d.devices.items } };
+
+    ghost invariant = { λ d. (length d.triggers.items ≤ MAX_TRIGGERS) × (length d.devices.items ≤ MAX_DEVICES) };
 }
 
-fn trigger_place(triggers: &[TriggerDesc], name: &[u8]) -> Option<usize>
-    ensures { result ≡ position (λ t. bytes_eq t.name name.now) triggers.now }
+/// The number of the trigger of that name.
+pub(crate) fn trigger_number(triggers: &[TriggerDesc], name: &[u8]) -> Option<usize>
+    ensures value { result ≡ trigger_number triggers.now name.now }
+    ensures within { IfSome result (λ number. number < length triggers.now) }
 {
     triggers.iter().position(|t| t.name.bytes() == name)
 }
 
-fn device_place(devices: &[DeviceDesc], name: &[u8]) -> Option<usize>
-    ensures { result ≡ position (λ d. bytes_eq d.name name.now) devices.now }
+fn device_number(devices: &[DeviceDesc], name: &[u8]) -> Option<usize>
+    ensures value { result ≡ position (λ d. bytes_eq d.name name.now) devices.now }
+    ensures within { IfSome result (λ number. number < length devices.now) }
 {
     devices.iter().position(|d| d.name.bytes() == name)
 }
 
 impl Desc {
-    ghost use Rattle.std.specs.Prelude.{◌≡◌, ◌≤◌, length};
+    ghost use Rattle.std.specs.Prelude.{◌≡◌};
     ghost use Rattle.iio_desc.specs.Description.{find_trigger, find_device};
 
     /// The number of the trigger of that name. None exactly where no trigger has it.
     pub fn find_trigger(&self, name: &[u8]) -> Option<u32>
-        requires { length self.now.triggers ≤ 16 }
         ensures { result ≡ find_trigger self.now name.now }
     {
-        match trigger_place(self.triggers.as_slice(), name) {
+        match trigger_number(self.triggers.as_slice(), name) {
             None => None,
             Some(number) => Some(number as u32),
         }
@@ -68,10 +94,9 @@ impl Desc {
 
     /// The number of the device of that name. None exactly where no device has it.
     pub fn find_device(&self, name: &[u8]) -> Option<u32>
-        requires { length self.now.devices ≤ 16 }
         ensures { result ≡ find_device self.now name.now }
     {
-        match device_place(self.devices.as_slice(), name) {
+        match device_number(self.devices.as_slice(), name) {
             None => None,
             Some(number) => Some(number as u32),
         }

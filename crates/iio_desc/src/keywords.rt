@@ -1,7 +1,7 @@
 //! The first words of lines.
 
 ghost use Rattle.std.specs.Prelude.{◌≡◌};
-ghost use Rattle.iio_desc.specs.Line.{keyword_of};
+ghost use Rattle.iio_desc.specs.Lines.{keyword_of};
 
 /// The line that a first word begins.
 #[derive(Clone, Copy, Debug, PartialEq, Eq)]
@@ -20,6 +20,10 @@ pub enum Keyword {
     Masks,
     /// `row T v ..`
     Row,
+    /// `driver K`
+    Driver,
+    /// `attr CHANNEL NAME VALUE`
+    Attr,
 }
 
 impl Keyword {
@@ -35,6 +39,10 @@ impl Keyword {
             Some(Keyword::Timestamp)
         } else if word == b"masks".as_slice() {
             Some(Keyword::Masks)
+        } else if word == b"attr".as_slice() {
+            Some(Keyword::Attr)
+        } else if word == b"driver".as_slice() {
+            Some(Keyword::Driver)
         } else if word == b"device".as_slice() {
             Some(Keyword::Device)
         } else if word == b"trigger".as_slice() {

@@ -1,24 +1,20 @@
-//! Descriptions: which triggers and devices there are, and what the devices' sensors recorded.
+//! Descriptions: which triggers and devices there are, what the devices' sensors recorded, and how their attributes
+//! are set at first.
 #![tactic(auto)]
 
+mod desc_builder;
 mod description;
+mod device_builder;
 mod keywords;
-mod lines;
+mod limits;
 mod reader;
-mod sketch;
-mod text;
-mod words;
 
-pub use description::{Desc, DeviceDesc, TriggerDesc};
+pub use crate::description::{AttrDesc, Desc, DeviceDesc, TriggerDesc};
+pub use crate::limits::{MAX_DEVICES, MAX_TRIGGERS};
+pub use crate::reader::{DescFault, DescReader, is_end, read_desc};
 pub use iio_attr::Name;
 pub use iio_base::Mem;
 pub use iio_layout::{Rows, Shape};
-pub use lines::LineFault;
-pub use reader::DescReader;
-pub use text::{DescFault, next_line, read_desc};
-pub use words::{
-    MOST_LINE_BYTES, count_words, fits_line, is_comment, is_end, is_printable_text, two_words,
-};
 
 #[cfg(test)]
 mod tests;

@@ -1,12 +1,19 @@
+ghost use Rattle.std.specs.Prelude.{◌≤◌, ◌<◌, IfOk};
+ghost use Rattle.iio_desc.specs.DescReader.{line_count};
+
 use super::*;
+use iio_attr::{Attr, Value};
 use iio_layout::{Channel, Direction, Kind, Suffix};
 use iio_scan_type::{Endian, read_type};
-use iio_text::Why;
+use iio_text::{Fixed, Form, Why};
 use std::alloc::Global;
 use std::process::Abort;
 use std::test::Fail;
 
-/// Lines for one reader, one after another, and why each is refused, if it is: a line that is refused changes nothing.
+/// How many drivers are handed in.
+const DRIVERS: u32 = 2;
+
+/// Lines after those above them that are not refused, and why each is refused, if it is.
 const LINES: &[(&str, Option<Why>)] = &[
     // Lines that mean nothing.
     ("", None),
@@ -19,8 +26,7 @@ const LINES: &[(&str, Option<Why>)] = &[
     ("timestamp \x7f", Some(Why::Text)),
     ("trigger t0 2\r", Some(Why::Text)),
     ("Trigger t0 2", Some(Why::Word)),
-    ("attr", Some(Why::Word)),
-    ("driver 0", Some(Why::Word)),
+    ("attribute", Some(Why::Word)),
     ("%%", Some(Why::Word)),
     ("%% x", Some(Why::Word)),
     // The lines of a device, before there is one.
@@ -28,6 +34,8 @@ const LINES: &[(&str, Option<Why>)] = &[
     ("channel", Some(Why::Order)),
     ("timestamp a b", Some(Why::Order)),
     ("masks", Some(Why::Order)),
+    ("driver 0", Some(Why::Order)),
+    ("attr", Some(Why::Order)),
     // The context.
     ("context", Some(Why::Count)),
     ("  context  ", Some(Why::Count)),
@@ -52,20 +60,21 @@ const LINES: &[(&str, Option<Why>)] = &[
     ("trigger t0 9", Some(Why::Number)),
     ("trigger t0 -1", Some(Why::Number)),
     ("trigger t0 02", Some(Why::Number)),
+    ("trigger t0 257", Some(Why::Number)),
     ("trigger t0 two", Some(Why::Number)),
     ("  trigger   t0 8 ", None),
     ("trigger t0 9", Some(Why::Taken)),
     ("trigger t1 9", Some(Why::Number)),
-    ("trigger t1 1", Some(Why::Limit)),
+    ("trigger t1 1", None),
     ("row 0 1", Some(Why::Order)),
     ("channel voltage0 le:u12/16>>4", Some(Why::Order)),
     // Devices.
     ("device _adc", Some(Why::Count)),
     ("device adc0 t0 t0", Some(Why::Count)),
     ("device - -", Some(Why::Name)),
-    ("device _adc t1", Some(Why::Name)),
-    ("device t0 t1", Some(Why::Taken)),
-    ("device adc0 t1", Some(Why::Trigger)),
+    ("device _adc t2", Some(Why::Name)),
+    ("device t0 t2", Some(Why::Taken)),
+    ("device adc0 t2", Some(Why::Trigger)),
     ("device adc0 T0", Some(Why::Trigger)),
     ("device adc0 --", Some(Why::Trigger)),
     ("device adc0 t0", None),
@@ -75,6 +84,8 @@ const LINES: &[(&str, Option<Why>)] = &[
     ("row", Some(Why::Order)),
     ("timestamp x", Some(Why::Order)),
     ("masks", Some(Why::Order)),
+    ("driver", Some(Why::Order)),
+    ("attr", Some(Why::Order)),
     // Channels.
     ("channel volt", Some(Why::Count)),
     ("channel voltage0 le:u12/16>>4 x", Some(Why::Count)),
@@ -89,11 +100,6 @@ const LINES: &[(&str, Option<Why>)] = &[
     ("channel voltage0 le:u12", Some(Why::Taken)),
     ("#channel", None),
     ("channel  accel_x  be:s24/32X2", None),
-    // The next device.
-    ("device _adc", Some(Why::Count)),
-    ("device adc0 t1", Some(Why::Taken)),
-    ("device adc1 t1", Some(Why::Trigger)),
-    ("device adc1 t0", Some(Why::Limit)),
     // The timestamp.
     ("timestamp x be", Some(Why::Count)),
     ("timestamp x", Some(Why::BadType)),
@@ -115,6 +121,27 @@ const LINES: &[(&str, Option<Why>)] = &[
     ("masks", Some(Why::Order)),
     ("timestamp", Some(Why::Order)),
     ("channel", Some(Why::Order)),
+    // Attributes.
+    ("attr", Some(Why::Count)),
+    ("attr - scale", Some(Why::Count)),
+    ("attr - sampling_frequency 1 1", Some(Why::Count)),
+    ("attr voltage1 scale 1", Some(Why::Attr)),
+    ("attr timestamp scale 1", Some(Why::Attr)),
+    ("attr -- sampling_frequency 1", Some(Why::Attr)),
+    ("attr - scale 1", Some(Why::Attr)),
+    ("attr voltage0 sampling_frequency 1", Some(Why::Attr)),
+    ("attr - length 1", Some(Why::Attr)),
+    ("attr voltage0 Scale 1", Some(Why::Attr)),
+    ("attr - name x", Some(Why::Attr)),
+    ("attr voltage0 raw 1", Some(Why::Attr)),
+    ("attr voltage0 scale .", Some(Why::Attr)),
+    ("attr voltage0 scale 2147483648", Some(Why::Attr)),
+    ("attr accel_x thresh_rising_en 2", Some(Why::Attr)),
+    ("attr - sampling_frequency 1.5", Some(Why::Attr)),
+    (" attr  -  sampling_frequency  100 ", None),
+    ("attr voltage0 scale -0.00025", None),
+    ("attr accel_x thresh_rising_value 5", None),
+    ("attr accel_x thresh_rising_en 1", None),
     // Rows, of three numbers.
     ("row", Some(Why::Count)),
     ("row x", Some(Why::Count)),
@@ -137,16 +164,54 @@ const LINES: &[(&str, Option<Why>)] = &[
     ("row 0 3 9223372036854775807 4", None),
     ("row 0 3 4 5", Some(Why::Moment)),
     ("row 1000000 4096 -9223372036854775808 0", None),
-    ("trigger t0 1", Some(Why::Taken)),
-    ("device adc0 t0", Some(Why::Taken)),
+    ("driver 0", Some(Why::Order)),
+    ("attr voltage0 scale 2", None),
     ("row 1000001 0 0 0 ~", Some(Why::Count)),
+    // The next device, with an attribute before its driver.
+    ("device _adc", Some(Why::Count)),
+    ("device adc0 t9", Some(Why::Taken)),
+    ("device adc1 t9", Some(Why::Trigger)),
+    ("device adc1 t0", None),
+    ("driver 1", Some(Why::Order)),
+    ("channel temp le:s16/16>>0", None),
+    ("attr temp offset -3", None),
+    ("masks 00000001", Some(Why::Order)),
+    ("timestamp", Some(Why::Order)),
+    ("channel current le:u8/8", Some(Why::Order)),
+    ("driver", Some(Why::Count)),
+    ("driver 0 1", Some(Why::Count)),
+    ("driver x", Some(Why::Driver)),
+    ("driver -1", Some(Why::Driver)),
+    ("driver 01", Some(Why::Driver)),
+    ("driver 2", Some(Why::Driver)),
+    ("driver 4294967297", Some(Why::Driver)),
+    ("driver 1", None),
+    ("driver 0", Some(Why::Order)),
+    ("row 0 1", Some(Why::Order)),
+    ("masks 00000001", Some(Why::Order)),
+    ("timestamp", Some(Why::Order)),
+    ("channel current le:u8/8", Some(Why::Order)),
+    ("attr - sampling_frequency 2", None),
+    // A driver is used once.
+    ("device adc2 -", None),
+    ("channel voltage0 be:u8/8", None),
+    ("driver 1", Some(Why::Driver)),
+    ("driver 0", None),
+    ("row 0 1", Some(Why::Order)),
+    ("trigger adc2 1", Some(Why::Taken)),
+    ("trigger t2 1", None),
 ];
 
 /// Lines after which a description may not end yet.
-const UNFINISHED: [&[&str]; 2] = [
-    &["device adc0 -"],
-    &["trigger t0 8", "device adc0 t0", "# channel", ""],
+const UNFINISHED: [(&[&str], u32); 2] = [
+    (&["device adc0 -"], 2),
+    (&["trigger t0 8", "device adc0 t0", "# channel", ""], 5),
 ];
+
+// A refusal at a line.
+fn refused(number: u32, why: Why) -> DescFault {
+    DescFault::Line { number, why }
+}
 
 // An input channel of that kind, suffix and type.
 fn input(kind: Kind, suffix: Suffix, ty: &str) -> Result<Channel, Fail> {
@@ -158,18 +223,24 @@ fn input(kind: Kind, suffix: Suffix, ty: &str) -> Result<Channel, Fail> {
     })
 }
 
-// A reader that has been given the lines.
-fn after_lines(alloc: Global, lines: &[&str]) -> Result<DescReader, Fail> {
-    let mut reader = DescReader::new(alloc);
+// A reader that has been given the lines, of which there are few.
+fn after_lines(alloc: Global, lines: &[&str]) -> Result<DescReader, Fail>
+    ensures { IfOk result (λ reader. line_count reader ≤ 1000) }
+{
+    let mut reader = DescReader::new(alloc, DRIVERS)?;
+    if lines.len() > 1000 {
+        return Err("too many lines")?;
+    }
     for line in lines {
-        reader.line(alloc, line.as_bytes())?;
+        reader.line(line.as_bytes())?;
     }
     Ok(reader)
 }
 
-fn check_device(rt: &impl Abort, device: &DeviceDesc) -> Result<(), Fail> {
+fn check_adc0(rt: &impl Abort, device: &DeviceDesc) -> Result<(), Fail> {
     assert!(rt; device.name.bytes() == b"adc0".as_slice());
     assert_eq!(rt; device.trigger, Some(0));
+    assert_eq!(rt; device.driver, None);
     assert_eq!(rt; device.shape.stamp(), Some(Endian::Big));
     assert_eq!(rt; device.shape.inputs(), 2);
     let voltage = input(Kind::Voltage, Suffix::Number(0), "le:u12/16>>4")?;
@@ -185,24 +256,105 @@ fn check_device(rt: &impl Abort, device: &DeviceDesc) -> Result<(), Fail> {
     Ok(())
 }
 
-#[test]
-fn lines_and_what_they_say(rt: HostRuntime) -> Result<(), Fail> {
-    let mut reader = DescReader::new(rt.alloc());
-    for (line, want) in LINES.iter() {
-        let why = reader.line(rt.alloc(), line.as_bytes()).err();
-        assert_eq!(rt; why, want.map(LineFault::Why), "at {line}");
+fn check_attrs(rt: &impl Abort, attrs: &[AttrDesc], want: &[(Option<u32>, Attr, Fixed)]) {
+    assert_eq!(rt; attrs.len(), want.len());
+    for (write, (channel, attr, value)) in attrs.iter().zip(want) {
+        assert_eq!(rt; write.channel, *channel);
+        assert_eq!(rt; write.attr, *attr);
+        match &write.value {
+            Value::Number(number) => assert_eq!(rt; *number, *value),
+            _ => panic!(rt; "no number"),
+        }
     }
-    let desc = reader.finish(rt.alloc())?;
+}
+
+fn number(negative: bool, whole: u32, part: u32, form: Form) -> Fixed {
+    Fixed {
+        negative,
+        whole,
+        part,
+        form,
+    }
+}
+
+// What the accepted lines of the table say.
+fn check_desc(rt: &impl Abort, desc: &Desc) -> Result<(), Fail> {
     assert!(rt; desc.context.is_empty());
-    assert_eq!(rt; desc.triggers.len(), 1);
+    assert_eq!(rt; desc.triggers.len(), 3);
     assert!(rt; desc.triggers[0].name.bytes() == b"t0".as_slice());
     assert_eq!(rt; desc.triggers[0].places, 8);
-    assert_eq!(rt; desc.devices.len(), 1);
-    assert_eq!(rt; desc.find_trigger(b"t0"), Some(0));
+    assert_eq!(rt; desc.find_trigger(b"t2"), Some(2));
     assert_eq!(rt; desc.find_trigger(b"adc0"), None);
-    assert_eq!(rt; desc.find_device(b"adc0"), Some(0));
+    assert_eq!(rt; desc.find_device(b"adc1"), Some(1));
     assert_eq!(rt; desc.find_device(b"t0"), None);
-    check_device(&rt, &desc.devices[0])
+    assert_eq!(rt; desc.devices.len(), 3);
+    check_adc0(rt, &desc.devices[0])?;
+    let attrs = [
+        (
+            None,
+            Attr::SamplingFrequency,
+            number(false, 100, 0, Form::Int),
+        ),
+        (Some(0), Attr::Scale, number(true, 0, 250, Form::Micro)),
+        (
+            Some(1),
+            Attr::ThreshRisingValue,
+            number(false, 5, 0, Form::Int),
+        ),
+        (
+            Some(1),
+            Attr::ThreshRisingEn,
+            number(false, 1, 0, Form::Int),
+        ),
+        (Some(0), Attr::Scale, number(false, 2, 0, Form::Micro)),
+    ];
+    check_attrs(rt, desc.devices[0].attrs.as_slice(), attrs.as_slice());
+    assert_eq!(rt; desc.devices[1].trigger, Some(0));
+    assert_eq!(rt; desc.devices[1].driver, Some(1));
+    let attrs = [
+        (Some(0), Attr::Offset, number(true, 3, 0, Form::Int)),
+        (
+            None,
+            Attr::SamplingFrequency,
+            number(false, 2, 0, Form::Int),
+        ),
+    ];
+    check_attrs(rt, desc.devices[1].attrs.as_slice(), attrs.as_slice());
+    assert_eq!(rt; desc.devices[2].trigger, None);
+    assert_eq!(rt; desc.devices[2].driver, Some(0));
+    Ok(())
+}
+
+#[test]
+fn lines_and_what_they_say(rt: HostRuntime) -> Result<(), Fail> {
+    let alloc = rt.alloc();
+    let mut accepted = Vec::new(alloc);
+    let mut next = 1u32;
+    for (line, want) in LINES.iter() {
+        let mut reader = after_lines(alloc, accepted.as_slice())?;
+        let fault = reader.line(line.as_bytes()).err();
+        assert_eq!(rt; fault, want.map(|why| refused(next, why)), "at {line}");
+        if want.is_none() {
+            accepted.push(*line)?;
+            next = next.saturating_add(1);
+        }
+    }
+    let desc = after_lines(alloc, accepted.as_slice())?.finish()?;
+    check_desc(&rt, &desc)
+}
+
+#[test]
+fn fault_for_good(rt: HostRuntime) -> Result<(), Fail> {
+    let alloc = rt.alloc();
+    let word = refused(1, Why::Word);
+    let mut reader = DescReader::new(alloc, DRIVERS)?;
+    assert_eq!(rt; reader.line(b"x"), Err(word));
+    assert_eq!(rt; reader.line(b"trigger t0 2"), Err(word));
+    assert_eq!(rt; reader.finish().err(), Some(word));
+    let mut reader = after_lines(alloc, ["trigger t0 2"].as_slice())?;
+    assert_eq!(rt; reader.line(b"trigger t0 2"), Err(refused(2, Why::Taken)));
+    assert_eq!(rt; reader.end(b"%%").err(), Some(refused(2, Why::Taken)));
+    Ok(())
 }
 
 /// Lines that end a description, and why each is refused, if it is.
@@ -216,12 +368,12 @@ const ENDS: &[(&str, Option<Why>)] = &[
 #[test]
 fn ends_that_come_too_early(rt: HostRuntime) -> Result<(), Fail> {
     let alloc = rt.alloc();
-    let order = Some(LineFault::Why(Why::Order));
-    for lines in UNFINISHED {
-        let why = after_lines(alloc, lines)?.finish(alloc).err();
-        assert_eq!(rt; why, order, "after {lines:?}");
-        let why = after_lines(alloc, lines)?.end(alloc, b"%% x").err();
-        assert_eq!(rt; why, order, "after {lines:?}");
+    for (lines, number) in UNFINISHED {
+        let order = Some(refused(number, Why::Order));
+        let fault = after_lines(alloc, lines)?.finish().err();
+        assert_eq!(rt; fault, order, "after {lines:?}");
+        let fault = after_lines(alloc, lines)?.end(b"%% x").err();
+        assert_eq!(rt; fault, order, "after {lines:?}");
     }
     Ok(())
 }
@@ -230,17 +382,17 @@ fn ends_that_come_too_early(rt: HostRuntime) -> Result<(), Fail> {
 fn lines_that_end(rt: HostRuntime) -> Result<(), Fail> {
     let alloc = rt.alloc();
     for (line, want) in ENDS.iter() {
-        let why = DescReader::new(alloc).end(alloc, line.as_bytes()).err();
-        assert_eq!(rt; why, want.map(LineFault::Why), "at {line}");
+        let fault = DescReader::new(alloc, 0)?.end(line.as_bytes()).err();
+        assert_eq!(rt; fault, want.map(|why| refused(1, why)), "at {line}");
     }
     let lines = [r#"context "<a\x41\n/>""#];
-    let desc = after_lines(alloc, lines.as_slice())?.end(alloc, b"%%")?;
+    let desc = after_lines(alloc, lines.as_slice())?.end(b"%%")?;
     assert!(rt; desc.context.as_slice() == b"<aA\n/>".as_slice());
     assert!(rt; desc.triggers.is_empty() && desc.devices.is_empty());
     Ok(())
 }
 
-// A line of that many bytes: one, and spaces behind it.
+// A line of that many bytes: one, and spaces after it.
 fn long_line(alloc: Global, first: u8, len: usize) -> Result<Vec<u8>, Fail> {
     let mut line = Vec::new(alloc);
     line.push(first)?;
@@ -251,7 +403,6 @@ fn long_line(alloc: Global, first: u8, len: usize) -> Result<Vec<u8>, Fail> {
 #[test]
 fn long_lines(rt: HostRuntime) -> Result<(), Fail> {
     let alloc = rt.alloc();
-    let mut reader = DescReader::new(alloc);
     for (first, len, want) in [
         (b'#', 1_048_576, None),
         (b' ', 1_048_576, None),
@@ -263,37 +414,42 @@ fn long_lines(rt: HostRuntime) -> Result<(), Fail> {
         (b'\t', 1_048_577, Some(Why::Long)),
     ] {
         let line = long_line(alloc, first, len)?;
-        let why = reader.line(alloc, line.as_slice()).err();
-        assert_eq!(rt; why, want.map(LineFault::Why), "{first} {len}");
+        let mut reader = DescReader::new(alloc, 0)?;
+        let fault = reader.line(line.as_slice()).err();
+        assert_eq!(rt; fault, want.map(|why| refused(1, why)), "{first} {len}");
     }
     let line = long_line(alloc, b'\t', 1_048_577)?;
-    let why = reader.end(alloc, line.as_slice()).err();
-    assert_eq!(rt; why, Some(LineFault::Why(Why::Long)));
+    let fault = DescReader::new(alloc, 0)?.end(line.as_slice()).err();
+    assert_eq!(rt; fault, Some(refused(1, Why::Long)));
     Ok(())
 }
 
-// A reader of a device with that many channels.
-fn with_channels(alloc: Global, count: u32) -> Result<DescReader, Fail> {
+// A reader of a device with that many channels, which are few.
+fn with_channels(alloc: Global, count: u32) -> Result<DescReader, Fail>
+    requires { count < 1000 }
+    ensures { IfOk result (λ reader. line_count reader ≤ 2000) }
+{
     let mut reader = after_lines(alloc, ["device adc0 -"].as_slice())?;
     for number in 0..count {
         let line = format!(in alloc; "channel voltage{number} le:u8/8")?;
-        reader.line(alloc, line.as_bytes())?;
+        reader.line(line.as_bytes())?;
     }
     Ok(reader)
 }
 
 #[test]
-fn most_channels(rt: HostRuntime) -> Result<(), Fail> {
+fn max_channels(rt: HostRuntime) -> Result<(), Fail> {
     let alloc = rt.alloc();
-    let mut full = with_channels(alloc, 64)?;
-    let mut stamped = with_channels(alloc, 63)?;
-    stamped.line(alloc, b"timestamp")?;
     for line in [b"channel temp le:u8/8".as_slice(), b"timestamp"] {
-        let why = full.line(alloc, line).err();
-        assert_eq!(rt; why, Some(LineFault::Why(Why::Limit)));
+        let mut full = with_channels(alloc, 64)?;
+        let fault = full.line(line).err();
+        assert_eq!(rt; fault, Some(refused(66, Why::Limit)));
     }
+    let full = with_channels(alloc, 64)?;
+    let mut stamped = with_channels(alloc, 63)?;
+    stamped.line(b"timestamp")?;
     for reader in [full, stamped] {
-        let desc = reader.finish(alloc)?;
+        let desc = reader.finish()?;
         assert_eq!(rt; desc.devices.len(), 1);
         assert_eq!(rt; desc.devices[0].trigger, None);
         assert_eq!(rt; desc.devices[0].shape.count(), 64);
@@ -311,35 +467,55 @@ fn masks(alloc: Global, count: u32) -> Result<Vec<u8>, Fail> {
 }
 
 #[test]
-fn most_masks(rt: HostRuntime) -> Result<(), Fail> {
+fn max_masks(rt: HostRuntime) -> Result<(), Fail> {
     let alloc = rt.alloc();
-    let mut reader = with_channels(alloc, 64)?;
     let mut line = masks(alloc, 17)?;
-    let why = reader.line(alloc, line.as_slice()).err();
-    assert_eq!(rt; why, Some(LineFault::Why(Why::Limit)));
+    let fault = with_channels(alloc, 64)?.line(line.as_slice()).err();
+    assert_eq!(rt; fault, Some(refused(66, Why::Limit)));
     line.push(b'0')?;
-    let why = reader.line(alloc, line.as_slice()).err();
-    assert_eq!(rt; why, Some(LineFault::Why(Why::Mask)));
-    reader.line(alloc, masks(alloc, 16)?.as_slice())?;
-    let desc = reader.finish(alloc)?;
+    let fault = with_channels(alloc, 64)?.line(line.as_slice()).err();
+    assert_eq!(rt; fault, Some(refused(66, Why::Mask)));
+    let mut reader = with_channels(alloc, 64)?;
+    reader.line(masks(alloc, 16)?.as_slice())?;
+    let desc = reader.finish()?;
     assert_eq!(rt; desc.devices.len(), 1);
     Ok(())
 }
 
-#[test]
-fn most_rows(rt: HostRuntime) -> Result<(), Fail> {
-    let alloc = rt.alloc();
-    let limit = Some(LineFault::Why(Why::Limit));
-    let lines = ["device adc0 -", "channel temp le:u16/16>>0"];
-    let mut reader = after_lines(alloc, lines.as_slice())?;
-    for moment in 0..1_000_000 {
-        let line = format!(in alloc; "row {moment} 7")?;
-        reader.line(alloc, line.as_bytes())?;
+// A reader of 16 triggers and 16 devices.
+fn full_reader(alloc: Global) -> Result<DescReader, Fail>
+    ensures { IfOk result (λ reader. line_count reader ≤ 2000) }
+{
+    let mut reader = DescReader::new(alloc, 0)?;
+    for number in 0u32..16 {
+        let line = format!(in alloc; "trigger t{number} 1")?;
+        reader.line(line.as_bytes())?;
+        let line = format!(in alloc; "device d{number} t{number}")?;
+        reader.line(line.as_bytes())?;
+        reader.line(b"channel temp le:u8/8")?;
     }
-    assert_eq!(rt; reader.line(alloc, b"row 1000000 7").err(), limit);
-    let moment = Some(LineFault::Why(Why::Moment));
-    assert_eq!(rt; reader.line(alloc, b"row 999999 7").err(), moment);
+    Ok(reader)
+}
+
+#[test]
+fn max_triggers_and_devices(rt: HostRuntime) -> Result<(), Fail> {
+    let alloc = rt.alloc();
+    for line in [b"trigger t16 1".as_slice(), b"device d16 t0"] {
+        let fault = full_reader(alloc)?.line(line).err();
+        assert_eq!(rt; fault, Some(refused(49, Why::Limit)));
+    }
+    let desc = full_reader(alloc)?.finish()?;
+    assert_eq!(rt; desc.find_trigger(b"t15"), Some(15));
+    assert_eq!(rt; desc.find_device(b"d15"), Some(15));
     Ok(())
+}
+
+// What a text says, which is short.
+fn read_text(alloc: Global, text: &str, drivers: u32) -> Result<Desc, DescFault> {
+    if text.len() > 1000 {
+        return Err(DescFault::Mem);
+    }
+    read_desc(alloc, text.as_bytes(), drivers)
 }
 
 #[test]
@@ -350,37 +526,36 @@ fn texts(rt: HostRuntime) -> Result<(), Fail> {
         ("\n\n# a\n", None),
         ("device a -\nchannel temp le:u8/8\n", None),
         ("device a -\nchannel temp le:u8/8", None),
+        (
+            "device a -\nchannel temp le:u8/8\ndriver 7",
+            Some((3, Why::Driver)),
+        ),
         ("device a -", Some((2, Why::Order))),
         ("device a -\n", Some((2, Why::Order))),
         ("device a -\n\n# x\n", Some((4, Why::Order))),
         ("\n# a\nrow\ndevice", Some((3, Why::Order))),
         ("%%\n", Some((1, Why::Word))),
-        ("trigger t 1\ntrigger u 1", Some((2, Why::Limit))),
     ] {
-        let read = read_desc(alloc, text.as_bytes());
-        let why = want.map(|(number, why)| DescFault::Line { number, why });
-        assert_eq!(rt; read.err(), why, "of {text:?}");
+        let fault = read_text(alloc, text, 7).err();
+        assert_eq!(rt;
+            fault,
+            want.map(|(number, why)| refused(number, why)),
+            "of {text:?}"
+        );
     }
-    let read = read_desc(
-        alloc,
-        b"context \"x\"\ntrigger t 3\ndevice d t\nchannel temp le:u8/8\nrow 4 5",
-    )?;
+    let text = "context \"x\"\ntrigger t 3\ndevice d t\nchannel temp le:u8/8\ndriver 6";
+    let read = read_text(alloc, text, 7)?;
     assert!(rt; read.context.as_slice() == b"x".as_slice());
     assert_eq!(rt; read.devices.len(), 1);
-    assert_eq!(rt; read.devices[0].rows.values.as_slice(), [5].as_slice());
-    let fault = DescFault::Line {
-        number: 3,
-        why: Why::BadType,
-    };
-    let printed = format!(in alloc; "{fault}")?;
+    assert_eq!(rt; read.devices[0].driver, Some(6));
+    let printed = format!(in alloc; "{}", refused(3, Why::BadType))?;
     assert_eq!(rt; printed.as_str(), "line 3 refused: type");
-    let printed = format!(in alloc; "{}", LineFault::Why(Why::BadType))?;
-    assert_eq!(rt; printed.as_str(), "refused: type");
+    assert_eq!(rt; DescFault::from(Mem), DescFault::Mem);
     Ok(())
 }
 
 #[test]
-fn words_and_ends(rt: HostRuntime) {
+fn lines_that_end_a_description(rt: HostRuntime) {
     for (line, want) in [
         ("%%", true),
         ("%% ", true),
@@ -394,25 +569,4 @@ fn words_and_ends(rt: HostRuntime) {
     ] {
         assert_eq!(rt; is_end(line.as_bytes()), want, "of {line}");
     }
-    for (text, want) in [(" a  bc ", 2), ("", 0), ("a", 1), ("a b c", 3)] {
-        assert_eq!(rt; count_words(text.as_bytes()), want, "of {text}");
-        let words = two_words(text.as_bytes());
-        assert_eq!(rt; words.is_some(), want == 2, "of {text}");
-        if let Some((first, second)) = words {
-            assert!(rt; first == b"a".as_slice() && second == b"bc".as_slice());
-        }
-    }
-    for (line, want) in [
-        (" ~", true),
-        ("", true),
-        ("\x1f", false),
-        ("a\x7f", false),
-        ("\u{80}", false),
-    ] {
-        assert_eq!(rt; is_printable_text(line.as_bytes()), want, "of {line:?}");
-    }
-    assert!(rt; is_comment(b"#") && !is_comment(b" #") && !is_comment(b""));
-    assert!(rt; fits_line(b"#"));
-    assert_eq!(rt; LineFault::from(Why::Name), LineFault::Why(Why::Name));
-    assert_eq!(rt; LineFault::from(Mem), LineFault::Mem);
 }

@@ -1,140 +1,176 @@
--- Who has which device open after a history. There is no queue, no scan and no copy table in it.
-use Rattle.std.specs.Prelude.{ℕ, zero, suc, ◌+◌, ◌*◌, ◌==◌, ◌||◌, ◌&&◌, not, nat_lt, Bool, true, false, List, [], ◌∷◌, ◌++◌, map, length, slice_get, slice_set, Option, Some, None, Result, Ok, Err, if◌then◌else◌}
+-- Who has which device open after a history, what is outstanding at the triggers, and what the drivers were asked: plain
+-- data. There is no queue, no scan and no copy table in it.
+use Rattle.std.specs.Prelude.{ℕ, suc, ◌==◌, ◌||◌, ◌&&◌, not, Bool, false, List, [], ◌∷◌, map, slice_get, slice_index_or, Option, Some, None, if◌then◌else◌, ℤ}
 use Rattle.std.specs.Str.{bytes_eq}
-use Rattle.iio_text.specs.declared.errors.Errno.{Errno}
-use Rattle.iio_text.specs.declared.errors.Errno.TheVariants.{EBUSY, ENODEV, EINVAL, ENOSPC}
-use Rattle.iio_mask.specs.Places.{union_of}
-use Rattle.iio_mask.specs.Text.{mask_of}
-use Rattle.iio_layout.specs.Shape.{ShapeRecord, count_of}
-use Rattle.iio_layout.specs.Active.{active_of, has_data}
-use Rattle.iio_layout.specs.Layout.{scan_size}
-use Rattle.iiod_grammar.specs.Command.{Open}
-use Rattle.iio_desc.specs.Description.{Description, find_device, place_count}
-use Rattle.iio_desc.specs.declared.description.DeviceDesc.{DeviceDesc}
-use Rattle.iio_history.specs.Event.{Event, Heard}
+use Rattle.iio_text.specs.declared.values.Fixed.{Fixed}
+use Rattle.iio_mask.specs.Mask.{union_of_all}
+use Rattle.iio_layout.specs.Shape.{ShapeRecord}
+use Rattle.iio_layout.specs.Active.{active_of}
+use Rattle.iio_sensor.specs.Driver.{Driver}
+use Rattle.iio_desc.specs.Description.{Description, find_device}
+use Rattle.iio_event.specs.Monitor.{MonitorRecord}
+use Rattle.iio_history.specs.Places.{is_empty}
+use Rattle.iio_history.specs.Who.{Who, same, is_among}
 
--- one connection's membership of a device
+-- ---- plain data
+
+-- the description, and the drivers that were handed in
+pub record Setup : Type 0 where
+  pub desc : Description
+  pub drivers : List Driver
+
+-- a membership of a device: whose it is, the mask of its OPEN, and how many scans its queue holds
 pub record Member : Type 0 where
-  pub who : List ℕ
+  pub who : Who
   pub mask : ℕ
   pub capacity : ℕ
 
--- what stands at a device: its trigger, its members in the order of their joining, and the number of its present
--- attachment (kernel, driver-api/iio: a device is attached to its trigger while a buffer of it is enabled)
-pub record Device : Type 0 where
+-- the values of a channel's attributes that are only kept
+pub record ChannelValues : Type 0 where
+  pub scale : Fixed
+  pub offset : Fixed
+  pub calibscale : Fixed
+
+-- what stands at a device, but for its shape and its members
+pub record Site : Type 0 where
+  pub plugged : Bool
   pub trigger : Option ℕ
-  pub members : List Member
+  -- how often a first member has joined: the number of the present attachment
   pub attachment : ℕ
+  pub driver : Driver
+  pub sampling_frequency : Fixed
+  pub values : List ChannelValues
+  pub monitor : MonitorRecord Who
 
--- before the first event nobody has a device open
-abbrev pub idle_device : DeviceDesc → Device
-idle_device d = record { trigger = d.trigger; members = []; attachment = 0 }
+-- a device: its shape, which nothing changes, and its members in the order of their joining
+pub record Device : Type 0 where
+  pub shape : ShapeRecord
+  pub site : Site
+  pub members : List Member
 
--- the connection's membership
-abbrev pub member_of : List ℕ → List Member → Option Member
+-- what a device is to its trigger, to its sensor and to a new member: there are no names in it
+pub record Outline : Type 0 where
+  pub shape : ShapeRecord
+  pub site : Site
+  pub masks : List ℕ
+
+-- a device that a trigger woke, the number of its attachment then, and the moment of the poll
+pub record Entry : Type 0 where
+  pub device : ℕ
+  pub attachment : ℕ
+  pub moment : ℤ
+
+pub record Trigger : Type 0 where
+  pub entries : List Entry
+  pub missed : ℕ
+
+-- a connection: whether it has ended, and the buffers count of each device
+pub record User : Type 0 where
+  pub who : List ℕ
+  pub ended : Bool
+  pub buffers : List ℕ
+
+pub record Registry : Type 0 where
+  pub clock : ℤ
+  pub users : List User
+  pub triggers : List Trigger
+  pub devices : List Device
+
+-- one accepted trigger event of a device: its moment, and the value of every element of every channel, in order
+pub record Capture : Type 0 where
+  pub moment : ℤ
+  pub values : List ℤ
+
+-- ---- words on it
+
+abbrev pub mask_of_member : Member → ℕ
+mask_of_member m = m.mask
+
+abbrev pub outline_of : Device → Outline
+outline_of d = record { shape = d.shape; site = d.site; masks = map mask_of_member d.members }
+
+abbrev pub outlines_of : Registry → List Outline
+outlines_of r = map outline_of r.devices
+
+abbrev pub is_member : Who → List Member → Bool
+is_member who [] = false
+is_member who (m ∷ ms) = same who m.who || is_member who ms
+
+-- its membership
+abbrev pub member_of : Who → List Member → Option Member
 member_of who [] = None
-member_of who (m ∷ ms) = if bytes_eq m.who who then Some m else member_of who ms
+member_of who (m ∷ ms) = if same who m.who then Some m else member_of who ms
 
-abbrev pub is_empty : {A : Type 0} → List A → Bool
-is_empty [] = true
-is_empty (x ∷ xs) = false
+-- the members that are none of these
+abbrev pub without_members : List Who → List Member → List Member
+without_members gone [] = []
+without_members gone (m ∷ ms) = if is_among m.who gone then without_members gone ms else m ∷ without_members gone ms
+
+-- the mask that a device's sensor is asked under
+abbrev pub active_mask : Outline → Option ℕ
+active_mask o = active_of o.shape (union_of_all o.masks)
 
 abbrev pub is_at : Option ℕ → ℕ → Bool
-is_at None trigger = false
-is_at (Some t) trigger = t == trigger
+is_at None k = false
+is_at (Some j) k = j == k
 
--- whether the device is attached to the trigger
-abbrev pub is_attached : ℕ → Device → Bool
-is_attached trigger d = is_at d.trigger trigger && not (is_empty d.members)
+-- whether the device of that number has the name
+abbrev pub is_named : Setup → List ℕ → ℕ → Bool
+is_named s name k = is_at (find_device s.desc name) k
+
+-- whether the device is attached to the trigger: while it has a member (kernel, driver-api/iio: while its buffer is
+-- enabled)
+abbrev pub is_attached : ℕ → Outline → Bool
+is_attached trigger o = is_at o.site.trigger trigger && not (is_empty o.masks)
 
 -- how many devices are attached to the trigger
-abbrev pub attached_count : ℕ → List Device → ℕ
+abbrev pub attached_count : ℕ → List Outline → ℕ
 attached_count trigger [] = 0
-attached_count trigger (d ∷ ds) = if is_attached trigger d then suc (attached_count trigger ds) else attached_count trigger ds
+attached_count trigger (o ∷ os) = if is_attached trigger o then suc (attached_count trigger os) else attached_count trigger os
 
--- the union of the members' masks
-abbrev pub union_of_members : List Member → ℕ
-union_of_members [] = 0
-union_of_members (m ∷ ms) = union_of m.mask (union_of_members ms)
+-- the connection of that name
+abbrev pub user_named : List ℕ → List User → Option User
+user_named name [] = None
+user_named name (u ∷ us) = if bytes_eq u.who name then Some u else user_named name us
 
--- how many buffers a connection's OPEN makes (this project's own)
-abbrev pub buffers_count : ℕ
-buffers_count = 4
+-- whether it is there and has ended, and whether it is there and hasn't
+abbrev pub has_ended : List ℕ → List User → Bool
+has_ended name us = elim (user_named name us) [ None ↦ false | Some u ↦ u.ended ]
 
--- the most scans and the most bytes of a member's queue (this project's own)
-abbrev pub most_scans : ℕ
-most_scans = 65536
+abbrev pub is_live : List ℕ → List User → Bool
+is_live name us = elim (user_named name us) [ None ↦ false | Some u ↦ not u.ended ]
 
-abbrev pub most_bytes : ℕ
-most_bytes = 4194304
+-- before a SET the buffers count is 4
+abbrev pub first_buffers : ℕ
+first_buffers = 4
 
--- whether a queue of that capacity for scans of that size isn't made: no scan, too many, or too many bytes
-abbrev pub is_excess : ℕ → ℕ → Bool
-is_excess capacity size = capacity == 0 || nat_lt most_scans capacity || nat_lt most_bytes (capacity * size)
+-- a connection's buffers count of device k
+abbrev pub buffers_of : List User → List ℕ → ℕ → ℕ
+buffers_of us name k = elim (user_named name us) [ None ↦ first_buffers | Some u ↦ slice_index_or u.buffers k first_buffers ]
 
-abbrev pub exceeds : DeviceDesc → Member → Bool
-exceeds d m = is_excess m.capacity (scan_size d.shape m.mask)
+-- ---- entries
 
--- the refusals of an OPEN from its capacity on, in their order
-abbrev pub may_join : Description → List Device → DeviceDesc → Device → Member → Result Member Errno
-may_join desc devices d now m =
-    if exceeds d m then Err EINVAL
-    else (elim (member_of m.who now.members) [
-      | Some other ↦ Err EBUSY
-      | None ↦ elim now.trigger [
-        | None ↦ Err EINVAL
-        | Some t ↦ elim (active_of d.shape (union_of m.mask (union_of_members now.members))) [
-          | None ↦ Err EINVAL
-          | Some active ↦ if is_attached t now || nat_lt (attached_count t devices) (place_count desc t) then Ok m else Err ENOSPC
-        ]
-      ]
-    ])
+abbrev pub entries_at : List Trigger → ℕ → List Entry
+entries_at triggers trigger = elim (slice_get triggers trigger) [ None ↦ [] | Some t ↦ t.entries ]
 
--- a mask that a connection asks for, with a data channel in it
-abbrev pub mask_in : ShapeRecord → List ℕ → Option ℕ
-mask_in shape text = elim (mask_of text (count_of shape)) [ None ↦ None | Some mask ↦ if has_data shape mask then Some mask else None ]
+-- the device's entry
+abbrev pub entry_of : ℕ → List Entry → Option Entry
+entry_of device [] = None
+entry_of device (e ∷ es) = if e.device == device then Some e else entry_of device es
 
-abbrev pub mask_asked : DeviceDesc → List ℕ → Option ℕ
-mask_asked d text = mask_in d.shape text
+abbrev pub without_entry : ℕ → List Entry → List Entry
+without_entry device [] = []
+without_entry device (e ∷ es) = if e.device == device then without_entry device es else e ∷ without_entry device es
 
--- a new membership with its device's number
-abbrev pub placed : ℕ → Result Member Errno → Result (ℕ × Member) Errno
-placed k (Err e) = Err e
-placed k (Ok m) = Ok (k, m)
+-- an entry for each device that is attached, in the order of devices; `device` is the first one's number
+abbrev pub entries_from : ℕ → ℕ → ℤ → List Outline → List Entry
+entries_from device trigger moment [] = []
+entries_from device trigger moment (o ∷ os) =
+    if is_attached trigger o
+    then record { device = device; attachment = o.site.attachment; moment = moment } ∷ entries_from (suc device) trigger moment os
+    else entries_from (suc device) trigger moment os
 
--- the answer to an OPEN of a device that is there
-abbrev pub open_at : Description → List Device → DeviceDesc → Device → List ℕ → ℕ → ℕ → List ℕ → Result (ℕ × Member) Errno
-open_at desc devices d now who k samples text = elim (mask_asked d text) [
-  | None ↦ Err EINVAL
-  | Some mask ↦ placed k (may_join desc devices d now (record { who = who; mask = mask; capacity = samples * buffers_count }))
-]
-
--- the answer to an OPEN: the device and the new membership, or the first refusal that applies
-abbrev pub open_answer : Description → List Device → List ℕ → List ℕ → ℕ → List ℕ → Result (ℕ × Member) Errno
-open_answer desc devices who name samples text = elim (find_device desc name) [
-  | None ↦ Err ENODEV
-  | Some k ↦ elim (slice_get desc.devices k) [
-    | None ↦ Err ENODEV
-    | Some d ↦ elim (slice_get devices k) [ None ↦ Err ENODEV | Some now ↦ open_at desc devices d now who k samples text ]
-  ]
-]
-
--- a device that a member joined: the first member's joining is a new attachment
-abbrev pub joined : Member → Device → Device
-joined m d = record d { members = d.members ++ m ∷ []; attachment = if is_empty d.members then d.attachment + 1 else d.attachment }
-
-abbrev pub with_member : List Device → ℕ → Member → List Device
-with_member devices k m = elim (slice_get devices k) [ None ↦ devices | Some d ↦ slice_set devices k (joined m d) ]
-
--- what stands at the devices after one more event
-abbrev pub devices_after_event : Description → List Device → Event → List Device
-devices_after_event desc devices (Heard who (Ok (Open name samples text cyclic))) = elim (open_answer desc devices who name samples text) [
-  | Err e ↦ devices
-  | Ok j ↦ with_member devices j.0 j.1
-]
-devices_after_event desc devices event = devices
-
--- what stands at the devices after a history
-abbrev pub devices_after : Description → List Event → List Device
-devices_after desc [] = map idle_device desc.devices
-devices_after desc (e ∷ h) = devices_after_event desc (devices_after desc h) e
+-- whether the handling of an entry asks the sensor: the entry is of the present attachment, there is a member, and the
+-- device is plugged
+abbrev pub is_current : Entry → Outline → Bool
+is_current e o = e.attachment == o.site.attachment && not (is_empty o.masks) && o.site.plugged

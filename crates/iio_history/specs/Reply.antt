@@ -1,84 +1,166 @@
--- The answer to an item of a connection after a history (libiio 0.25's iiod; the form of READBUF's answer is this
--- project's own, made after it).
-use Rattle.std.specs.Prelude.{ℕ, ◌/◌, nat_lt, List, [], ◌∷◌, ◌++◌, take, length, Some, None, slice_get, Result, Ok, Err, if◌then◌else◌}
-use Rattle.std.specs.Fmt.{decimal}
+-- The answer to an item of a connection, by what stands after a history: READBUF and the numbers of a buffer are by the
+-- member's queue, all else by the registry. (Commands and answers: libiio 0.25's iiod; docs/FORMATS.md says which part is
+-- this project's own.)
+use Rattle.std.specs.Prelude.{ℕ, ℤ, pos, ◌/◌, not, nat_lt, List, [], ◌∷◌, take, length, codes, Option, Some, None, is_none, slice_get, Result, Ok, Err, if◌then◌else◌}
+use Rattle.std.specs.Fmt.{decimal, signed_decimal}
+use Rattle.std.specs.Option.{ok_or}
+use Rattle.iio_base.specs.Refusals.{ensure, ◌>>=◌}
 use Rattle.iio_text.specs.declared.errors.Errno.{Errno}
-use Rattle.iio_text.specs.declared.errors.Errno.TheVariants.{EBADF, EAGAIN, ENODEV, EINVAL}
-use Rattle.iio_text.specs.Errno.{errno_number}
-use Rattle.iio_mask.specs.Text.{mask_text}
-use Rattle.iio_layout.specs.Shape.{ShapeRecord, count_of}
+use Rattle.iio_text.specs.declared.errors.Errno.TheVariants.{EBADF, EAGAIN, EBUSY, EIO, ENODEV, EINVAL, ENOSYS}
+use Rattle.iio_attr.specs.declared.attributes.Attr.{Attr}
+use Rattle.iio_attr.specs.declared.attributes.Attr.TheVariants as attr
+use Rattle.iio_layout.specs.Shape.{count_of}
 use Rattle.iio_layout.specs.Layout.{scan_size}
-use Rattle.iiod_grammar.specs.declared.Refused.{Refused}
-use Rattle.iiod_grammar.specs.declared.Refused.TheVariants.{Empty}
-use Rattle.iiod_grammar.specs.Command.{Command, Open, ReadBuf}
-use Rattle.iio_desc.specs.Description.{Description, find_device}
-use Rattle.iio_history.specs.Event.{Event}
-use Rattle.iio_history.specs.Registry.{Device, Member, member_of, open_answer, devices_after}
-use Rattle.iio_history.specs.Log.{membership_log}
-use Rattle.iio_history.specs.Queue.{private_queue}
+use Rattle.iio_sensor.specs.Driver.{value_of, ask_fails}
+use Rattle.iiod_grammar.specs.declared.command.Refused.TheVariants.{Empty}
+use Rattle.iiod_grammar.specs.Command.{Place, Help, Version, Print, Timeout, Open, Close, Read, ReadBuf, WriteBuf, GetTrig, SetTrig, SetBuffers, EvOpen, EvRead, EvClose}
+use Rattle.iiod_reply.specs.Reply.{Reply, Nothing, Number, Refusal, Line, Value, Raw, Block}
+use Rattle.iio_desc.specs.Description.{find_device, device_name, trigger_name}
+use Rattle.iio_history.specs.Places.{is_empty}
+use Rattle.iio_history.specs.Who.{Who, Conn, same}
+use Rattle.iiod_grammar.specs.Stream.{Item, Said, Written, End}
+use Rattle.iio_event.specs.Code.{event_bytes}
+use Rattle.iio_event.specs.Monitor.{is_holder}
+use Rattle.iio_history.specs.Registry.{Setup, outline_of, buffers_of}
+use Rattle.iio_history.specs.Attributes.{is_of_buffer, value_text}
+use Rattle.iio_history.specs.Opening.{open_answer, trigger_answer}
+use Rattle.iio_history.specs.Act.{found, write_found}
+use Rattle.iio_history.specs.Fold.{is_buffers_count}
+use Rattle.iio_history.specs.Told.{Seat, Station, Told, device_of, registry_of}
 
--- a plain answer: a number and LF
-abbrev pub number_answer : ℕ → List ℕ
-number_answer n = decimal n ++ 10 ∷ []
+-- an answer, or a refusal
+abbrev pub replied : Result Reply Errno → Reply
+replied (Ok reply) = reply
+replied (Err e) = Refusal e
 
--- a refusal: minus the error's number
-abbrev pub refusal_answer : Errno → List ℕ
-refusal_answer e = 45 ∷ number_answer (errno_number e)
+abbrev pub zero_reply : Reply
+zero_reply = Number (pos 0)
 
--- the bytes of scans, one after the other
-abbrev pub joined_scans : List (List ℕ) → List ℕ
-joined_scans [] = []
-joined_scans (s ∷ ss) = s ++ joined_scans ss
+-- ---- who is spoken of
 
--- the digits of a mask and LF
-abbrev pub mask_line : ℕ → ℕ → List ℕ
-mask_line channels mask = mask_text channels mask ++ 10 ∷ []
+-- a device, and its number
+pub record Known : Type 0 where
+  pub number : ℕ
+  pub station : Station
 
--- a block: how many bytes, the member's own mask, the bytes, and a closing 0 exactly where they are fewer than asked
-abbrev pub block_answer : ℕ → ℕ → List ℕ → ℕ → List ℕ
-block_answer channels mask bytes asked =
-    number_answer (length bytes) ++ (mask_line channels mask ++ (bytes ++ (if nat_lt (length bytes) asked then number_answer 0 else [])))
+-- the device of that name
+abbrev pub known : Setup → Told → List ℕ → Result Known Errno
+known s m name = do
+  k ← ok_or (find_device s.desc name) ENODEV
+  st ← ok_or (slice_get m.stations k) ENODEV
+  Ok (record { number = k; station = st })
 
--- what READBUF gives from a queue: as many whole scans as were asked for and wait, the oldest first
-abbrev pub read_answer : ShapeRecord → ℕ → List (List ℕ) → ℕ → List ℕ
-read_answer shape mask [] asked = refusal_answer EAGAIN
-read_answer shape mask (s ∷ ss) asked =
-    block_answer (count_of shape) mask (joined_scans (take (asked / scan_size shape mask) (s ∷ ss))) asked
+-- the device of that name, where it is plugged
+abbrev pub there : Setup → Told → List ℕ → Result Known Errno
+there s m name = do
+  x ← known s m name
+  plugged ← ensure x.station.site.plugged ENODEV
+  Ok x
 
--- READBUF: the device is unknown; it isn't open here; less than one scan is asked for; else what the queue gives.
--- `scans_at` has what waits for a member of a device.
-abbrev pub read_buffer_answer : Description → List Device → (ℕ → Member → List (List ℕ)) → List ℕ → List ℕ → ℕ → List ℕ
-read_buffer_answer desc devices scans_at who name asked = elim (find_device desc name) [
-  | None ↦ refusal_answer ENODEV
-  | Some k ↦ elim (slice_get desc.devices k) [
-    | None ↦ refusal_answer ENODEV
-    | Some d ↦ elim (slice_get devices k) [
-      | None ↦ refusal_answer ENODEV
-      | Some now ↦ elim (member_of who now.members) [
-        | None ↦ refusal_answer EBADF
-        | Some m ↦ if nat_lt asked (scan_size d.shape m.mask) then number_answer 0 else read_answer d.shape m.mask (scans_at k m) asked
-      ]
-    ]
-  ]
-]
+abbrev pub seat_of : Who → List Seat → Option Seat
+seat_of who [] = None
+seat_of who (x ∷ xs) = if same who x.member.who then Some x else seat_of who xs
 
--- the answer to an item where this stands at the devices: a line without a word has none, and what is no command is
--- refused
-abbrev pub reply_by : Description → List Device → (ℕ → Member → List (List ℕ)) → List ℕ → Result Command Refused → List ℕ
-reply_by desc devices scans_at who (Err Empty) = []
-reply_by desc devices scans_at who (Err refused) = refusal_answer EINVAL
-reply_by desc devices scans_at who (Ok (Open name samples text cyclic)) =
-    elim (open_answer desc devices who name samples text) [ Err e ↦ refusal_answer e | Ok j ↦ number_answer 0 ]
-reply_by desc devices scans_at who (Ok (ReadBuf name asked)) = read_buffer_answer desc devices scans_at who name asked
-reply_by desc devices scans_at who (Ok command) = refusal_answer EINVAL
+-- ---- buffers
 
--- the scans that wait for a member of a device after a history
-abbrev pub scans_after : Description → List Event → ℕ → Member → List (List ℕ)
-scans_after desc h k m = elim (slice_get desc.devices k) [
-  | None ↦ []
-  | Some d ↦ (private_queue d.shape m.mask m.capacity (membership_log desc m.who k h)).scans
-]
+-- as many scans as are asked for and wait; nothing where less than one is asked for
+abbrev pub read_buffer : Station → Seat → ℕ → Result Reply Errno
+read_buffer st x asked =
+    let size = scan_size st.shape x.member.mask in
+    if nat_lt asked size then Ok zero_reply
+    else (do
+      some ← ensure (not (is_empty x.queue.scans)) (if st.site.plugged then EAGAIN else ENODEV)
+      Ok (Block (count_of st.shape) x.member.mask (take (asked / size) x.queue.scans) asked))
 
--- the answer to an item of a connection after a history
-abbrev pub reply_to : Description → List Event → List ℕ → Result Command Refused → List ℕ
-reply_to desc h who item = reply_by desc (devices_after desc h) (scans_after desc h) who item
+abbrev pub buffer_number : Attr → Seat → ℕ
+buffer_number attr.Overruns x = x.queue.lost
+buffer_number attr.DataAvailable x = length x.queue.scans
+buffer_number a x = x.member.capacity
+
+abbrev pub buffer_value : Attr → Option Seat → Result Reply Errno
+buffer_value a seat = do
+  x ← ok_or seat EBADF
+  Ok (Value (decimal (buffer_number a x)))
+
+-- ---- attributes
+
+-- `raw` asks the sensor, where the device has no member
+abbrev pub raw_value : ℤ → Station → ℕ → Result Reply Errno
+raw_value clock st c = do
+  alone ← ensure (is_empty st.seats) EBUSY
+  asked ← ensure (not (ask_fails st.site.driver)) EIO
+  Ok (Value (signed_decimal (value_of st.site.driver st.shape clock c 0)))
+
+abbrev pub attribute_value : Setup → ℤ → Known → Option ℕ → Attr → Result Reply Errno
+attribute_value s clock x (Some c) attr.Raw = raw_value clock x.station c
+attribute_value s clock x channel a = Ok (Value (value_text (device_name s.desc x.number) channel a x.station.site))
+
+abbrev pub read_value : Setup → ℤ → Known → Who → Place → Option (List ℕ) → Result Reply Errno
+read_value s clock x who place attribute = do
+  target ← found (device_of x.station) who place attribute
+  if is_of_buffer place attribute
+      then buffer_value target.attribute (seat_of who x.station.seats)
+      else attribute_value s clock x target.channel target.attribute
+
+abbrev pub trigger_value : Setup → Option ℕ → Reply
+trigger_value s None = zero_reply
+trigger_value s (Some t) = Value (trigger_name s.desc t)
+
+-- ---- the answer to an item
+
+abbrev pub reply : Setup → Told → List ℕ → Item → Reply
+reply s m name (Said (Err Empty)) = Nothing
+reply s m name (Said (Err refused)) = Refusal EINVAL
+reply s m name (Said (Ok Help)) = Line (codes "Commands of libiio 0.25 iiod, profile iiosim0")
+reply s m name (Said (Ok Version)) = Line (codes "0.25.iiosim0")
+reply s m name (Said (Ok Print)) = Value s.desc.context
+reply s m name (Said (Ok (Timeout milliseconds))) = zero_reply
+reply s m name (Said (Ok (Open device samples text cyclic))) = replied (do
+  x ← known s m device
+  member ← open_answer s (registry_of m) (device_of x.station) (Conn name) (buffers_of (registry_of m).users name x.number) samples text cyclic
+  Ok zero_reply)
+reply s m name (Said (Ok (Close device))) = replied (do
+  x ← known s m device
+  seat ← ok_or (seat_of (Conn name) x.station.seats) EBADF
+  Ok zero_reply)
+reply s m name (Said (Ok (ReadBuf device bytes))) = replied (do
+  x ← known s m device
+  seat ← ok_or (seat_of (Conn name) x.station.seats) EBADF
+  read_buffer x.station seat bytes)
+reply s m name (Said (Ok (Read device place attribute))) = replied (do
+  x ← known s m device
+  read_value s m.clock x (Conn name) place attribute)
+reply s m name (Written device None payload) = Refusal EINVAL
+reply s m name (Written device (Some target) payload) = replied (do
+  x ← known s m device
+  setting ← write_found (device_of x.station) (Conn name) target.0 target.1 payload
+  Ok (Number (pos (length payload))))
+reply s m name (Said (Ok (WriteBuf device bytes))) = replied (do
+  x ← there s m device
+  Err ENOSYS)
+reply s m name (Said (Ok (GetTrig device))) = replied (do
+  x ← there s m device
+  Ok (trigger_value s x.station.site.trigger))
+reply s m name (Said (Ok (SetTrig device trigger))) = replied (do
+  x ← known s m device
+  set ← trigger_answer s (outline_of (device_of x.station)) trigger
+  Ok zero_reply)
+reply s m name (Said (Ok (SetBuffers device n))) = replied (do
+  x ← there s m device
+  set ← ensure (is_buffers_count n) EINVAL
+  Ok zero_reply)
+reply s m name (Said (Ok (EvOpen device))) = replied (do
+  x ← there s m device
+  free ← ensure (is_none x.station.site.monitor.holder) EBUSY
+  Ok zero_reply)
+reply s m name (Said (Ok (EvRead device))) = replied (do
+  x ← there s m device
+  holder ← ensure (is_holder same (Conn name) x.station.site.monitor) EBADF
+  event ← ok_or (slice_get x.station.site.monitor.events 0) EAGAIN
+  Ok (Raw (event_bytes event)))
+reply s m name (Said (Ok (EvClose device))) = replied (do
+  x ← there s m device
+  holder ← ensure (is_holder same (Conn name) x.station.site.monitor) EBADF
+  Ok zero_reply)
+reply s m name (End (Some e)) = Refusal e
+reply s m name item = Nothing

@@ -1,104 +1,141 @@
--- The steps of a script as events, and the lines that they print (this project's own).
-use Rattle.std.specs.Prelude.{ℕ, ℤ, List, [], ◌∷◌, ◌++◌, drop, length, codes, Option, Some, None, Result, if◌then◌else◌}
-use Rattle.std.specs.Fmt.{decimal}
-use Rattle.std.specs.Str.{bytes_eq}
+-- What the steps of a script print (this project's own).
+use Rattle.std.specs.Prelude.{ℕ, ℤ, List, [], ◌∷◌, ◌++◌, map, length, codes, Option, Some, None, slice_get, if◌then◌else◌}
+use Rattle.std.specs.Fmt.{decimal, signed_decimal}
 use Rattle.iio_text.specs.Escape.{quoted}
-use Rattle.iiod_grammar.specs.declared.Refused.{Refused}
-use Rattle.iiod_grammar.specs.Command.{Command}
-use Rattle.iiod_grammar.specs.Stream.{items_of}
-use Rattle.iio_desc.specs.Description.{Description, trigger_name, device_name}
-use Rattle.iio_history.specs.declared.step.Step.{Step}
-use Rattle.iio_history.specs.declared.step.Step.TheVariants.{Feed, Fire}
-use Rattle.iio_history.specs.Event.{Event, Heard, Polled, Handled}
-use Rattle.iio_history.specs.Registry.{is_empty, devices_after}
-use Rattle.iio_history.specs.Outstanding.{Entry, outstanding, missed_polls, entries_of_poll}
-use Rattle.iio_history.specs.Capture.{Capture, capture_of}
-use Rattle.iio_history.specs.Reply.{reply_to}
+use Rattle.iio_sensor.specs.Driver.{next_count}
+use Rattle.iio_desc.specs.Description.{trigger_name, device_name}
+use Rattle.iiod_reply.specs.Reply.{line, text_of}
+use Rattle.iio_history.specs.Places.{is_empty}
+use Rattle.iiod_grammar.specs.Stream.{Scanner, InLine, items_from}
+use Rattle.iio_history.specs.Event.{Event, Arrived, Heard, Dropped, Polled, Handled, Clock, Sensed, Unplugged}
+use Rattle.iio_history.specs.Registry.{Setup, Entry, Trigger, entries_at, entry_of, entries_from, outline_of, outlines_of, has_ended, is_live}
+use Rattle.iio_history.specs.Act.{Act, Capturing, Failing, handled_act}
+use Rattle.iio_history.specs.Fold.{Sensed as Sensing, sensed}
+use Rattle.iio_history.specs.Told.{Line, Station, Told, device_of, registry_of, told}
+use Rattle.iio_history.specs.Reply.{reply}
+use Rattle.std.specs.Str.{bytes_eq}
 
--- all bytes that a connection was fed in these steps, the newest step first
-abbrev pub stream_of : List ℕ → List Step → List ℕ
-stream_of who [] = []
-stream_of who (Feed speaker bytes ∷ steps) = if bytes_eq speaker who then stream_of who steps ++ bytes else stream_of who steps
-stream_of who (Fire trigger moment ∷ steps) = stream_of who steps
+-- triggers and devices go by their numbers in the description
+pub data Step : Type 0 where
+  Feed : (name : List ℕ) (bytes : List ℕ) → Step
+  Fire : (trigger : ℕ) (moment : ℤ) → Step
+  Poll : (trigger : ℕ) (moment : ℤ) → Step
+  Handle : (trigger : ℕ) (device : ℕ) → Step
+  Sense : (device : ℕ) (moment : ℤ) → Step
+  SetClock : (moment : ℤ) → Step
+  Drop : (name : List ℕ) → Step
+  Unplug : (device : ℕ) → Step
 
--- the items that a feed makes whole: those of the whole stream beyond those before it
-abbrev pub new_items : List ℕ → List ℕ → List (Result Command Refused)
-new_items before bytes = drop (length (items_of before)) (items_of (before ++ bytes))
+-- ---- the events of a step
 
--- a history that goes on by a connection's items
-abbrev pub after_items : List ℕ → List (Result Command Refused) → List Event → List Event
-after_items who [] h = h
-after_items who (item ∷ items) h = after_items who items (Heard who item ∷ h)
+abbrev pub line_named : List ℕ → List Line → Option Line
+line_named name [] = None
+line_named name (l ∷ ls) = if bytes_eq l.user.who name then Some l else line_named name ls
 
--- a history that goes on by the handling of these entries of a trigger
-abbrev pub after_handled : ℕ → List Entry → List Event → List Event
-after_handled trigger [] h = h
-after_handled trigger (e ∷ es) h = after_handled trigger es (Handled trigger e.device ∷ h)
+-- what a connection has begun
+abbrev pub begun_by : List ℕ → List Line → Scanner
+begun_by name ls = elim (line_named name ls) [ None ↦ InLine [] | Some l ↦ l.begun ]
 
--- a history that goes on by a poll and, where it is accepted, by the handling of each entry that it made
-abbrev pub after_fire : Description → ℕ → ℤ → List Event → List Event
-after_fire desc trigger moment h =
-    if is_empty (outstanding desc trigger h)
-    then after_handled trigger (entries_of_poll trigger moment (devices_after desc h)) (Polled trigger moment ∷ h)
-    else Polled trigger moment ∷ h
+-- the entries that a poll makes, where it is accepted
+abbrev pub poll_entries : Told → ℕ → ℤ → List Entry
+poll_entries m trigger moment = if is_empty (entries_at m.triggers trigger) then entries_from 0 trigger moment (outlines_of (registry_of m)) else []
 
--- the events of a list of steps, the newest first
-abbrev pub events_of : Description → List Step → List Event
-events_of desc [] = []
-events_of desc (Feed who bytes ∷ steps) = after_items who (new_items (stream_of who steps) bytes) (events_of desc steps)
-events_of desc (Fire trigger moment ∷ steps) = after_fire desc trigger moment (events_of desc steps)
+-- the events that a step stands for, the first of them first: a feed stands for the items that its bytes make whole, a fire
+-- for a poll and, where that is accepted, for the handling of each entry that it made
+abbrev pub events_of_step : Told → Step → List Event
+events_of_step m (Feed name bytes) =
+    if has_ended name (registry_of m).users then []
+    else Arrived name bytes ∷ map (λ item. Heard name item) (items_from (begun_by name m.lines) bytes)
+events_of_step m (Fire trigger moment) = Polled trigger moment ∷ map (λ e. Handled trigger e.device) (poll_entries m trigger moment)
+events_of_step m (Poll trigger moment) = Polled trigger moment ∷ []
+events_of_step m (Handle trigger device) = Handled trigger device ∷ []
+events_of_step m (Sense device moment) = Sensed device moment ∷ []
+events_of_step m (SetClock moment) = Clock moment ∷ []
+events_of_step m (Drop name) = Dropped name ∷ []
+events_of_step m (Unplug device) = Unplugged device ∷ []
 
--- the answers to a connection's items, one after the other
-abbrev pub answers_to : Description → List ℕ → List (Result Command Refused) → List Event → List ℕ
-answers_to desc who [] h = []
-answers_to desc who (item ∷ items) h = reply_to desc h who item ++ answers_to desc who items (Heard who item ∷ h)
+-- ---- what an event prints, by what stands before it
 
--- what a handling prints at the end of its line
-abbrev pub handled_word : Option Capture → List ℕ
-handled_word None = codes "idle"
-handled_word (Some c) = codes "captured"
+-- words with a space between
+abbrev pub spaced : List (List ℕ) → List ℕ
+spaced [] = []
+spaced (w ∷ []) = w
+spaced (w ∷ ws) = w ++ 32 ∷ spaced ws
 
--- the line of a handling
-abbrev pub handle_text : List ℕ → List ℕ → List ℕ → List ℕ
-handle_text trigger device word = codes "handle " ++ (trigger ++ (32 ∷ (device ++ (32 ∷ (word ++ 10 ∷ [])))))
+abbrev pub printed : List (List ℕ) → List ℕ
+printed words = line (spaced words)
 
-abbrev pub handle_line : Description → ℕ → ℕ → Option Capture → List ℕ
-handle_line desc trigger device capture = handle_text (trigger_name desc trigger) (device_name desc device) (handled_word capture)
+abbrev pub missed_at : List Trigger → ℕ → ℕ
+missed_at triggers trigger = elim (slice_get triggers trigger) [ None ↦ 0 | Some t ↦ t.missed ]
 
-abbrev pub handle_lines : Description → ℕ → List Entry → List Event → List ℕ
-handle_lines desc trigger [] h = []
-handle_lines desc trigger (e ∷ es) h = handle_line desc trigger e.device (capture_of desc h trigger e.device) ++ handle_lines desc trigger es (Handled trigger e.device ∷ h)
+abbrev pub poll_words : Told → ℕ → ℤ → List (List ℕ)
+poll_words m trigger moment =
+    if is_empty (entries_at m.triggers trigger)
+    then codes "accepted" ∷ decimal (length (poll_entries m trigger moment)) ∷ []
+    else codes "missed" ∷ decimal (next_count (missed_at m.triggers trigger)) ∷ []
 
--- the line of a poll
-abbrev pub poll_text : List ℕ → List ℕ → ℕ → List ℕ
-poll_text trigger word n = codes "poll " ++ (trigger ++ (32 ∷ (word ++ (32 ∷ (decimal n ++ 10 ∷ [])))))
+abbrev pub act_word : Act → List ℕ
+act_word (Capturing c) = codes "captured"
+act_word (Failing moment) = codes "fault"
+act_word act = codes "idle"
 
-abbrev pub poll_line : Description → ℕ → List ℕ → ℕ → List ℕ
-poll_line desc trigger word n = poll_text (trigger_name desc trigger) word n
+abbrev pub handled_word : Option Station → Option Entry → List ℕ
+handled_word (Some st) (Some e) = act_word (handled_act (outline_of (device_of st)) (Some e))
+handled_word st e = codes "none"
 
--- the lines of a poll, and of the handlings where it is accepted
-abbrev pub fire_lines : Description → ℕ → ℤ → List Event → List ℕ
-fire_lines desc trigger moment h =
-    let entries = entries_of_poll trigger moment (devices_after desc h) in
-    if is_empty (outstanding desc trigger h)
-    then poll_line desc trigger (codes "accepted") (length entries) ++ handle_lines desc trigger entries (Polled trigger moment ∷ h)
-    else poll_line desc trigger (codes "missed") (missed_polls desc trigger (Polled trigger moment ∷ h))
+abbrev pub sensed_words : Sensing → List (List ℕ)
+sensed_words x = if x.fault then codes "fault" ∷ [] else codes "sensed" ∷ decimal x.count ∷ []
 
--- the line of a feed: the connection, and the answers to the lines that it made whole
-abbrev pub feed_line : List ℕ → List ℕ → List ℕ
-feed_line who answers = who ++ (32 ∷ (quoted answers ++ 10 ∷ []))
+abbrev pub sense_words : Option Station → ℤ → List (List ℕ)
+sense_words None moment = codes "gone" ∷ []
+sense_words (Some st) moment = if st.site.plugged then sensed_words (sensed st.shape moment st.site) else codes "gone" ∷ []
 
--- the lines that a step prints after the steps before it, the newest of them first
-abbrev pub lines_of_step : Description → List Step → Step → List ℕ
-lines_of_step desc steps (Feed who bytes) =
-    feed_line who (answers_to desc who (new_items (stream_of who steps) bytes) (events_of desc steps))
-lines_of_step desc steps (Fire trigger moment) = fire_lines desc trigger moment (events_of desc steps)
+abbrev pub unplug_word : Option Station → List ℕ
+unplug_word None = codes "gone"
+unplug_word (Some st) = if st.site.plugged then codes "unplugged" else codes "gone"
 
--- the transcript of further steps, in the script's order
-abbrev pub transcript_from : Description → List Step → List Step → List ℕ
-transcript_from desc done [] = []
-transcript_from desc done (s ∷ steps) = lines_of_step desc done s ++ transcript_from desc (s ∷ done) steps
+abbrev pub event_text : Setup → Told → Event → List ℕ
+event_text s m (Heard name item) = text_of (reply s m name item)
+event_text s m (Polled trigger moment) = printed (codes "poll" ∷ trigger_name s.desc trigger ∷ poll_words m trigger moment)
+event_text s m (Handled trigger device) =
+    printed (codes "handle" ∷ trigger_name s.desc trigger ∷ device_name s.desc device ∷ handled_word (slice_get m.stations device) (entry_of device (entries_at m.triggers trigger)) ∷ [])
+event_text s m (Sensed device moment) = printed (device_name s.desc device ∷ sense_words (slice_get m.stations device) moment)
+event_text s m (Clock moment) = printed (codes "clock" ∷ signed_decimal moment ∷ [])
+event_text s m (Dropped name) = printed (name ∷ (if is_live name (registry_of m).users then codes "dropped" else codes "closed") ∷ [])
+event_text s m (Unplugged device) = printed (device_name s.desc device ∷ unplug_word (slice_get m.stations device) ∷ [])
+event_text s m e = []
 
--- the printed lines of a script's steps
-abbrev pub transcript : Description → List Step → List ℕ
-transcript desc steps = transcript_from desc [] steps
+-- ---- the lines of steps
+
+-- the history with further events, the first of them first
+abbrev pub and_then : List Event → List Event → List Event
+and_then h [] = h
+and_then h (e ∷ es) = and_then (e ∷ h) es
+
+-- what further events print after a history
+abbrev pub texts_after : Setup → List Event → List Event → List ℕ
+texts_after s h [] = []
+texts_after s h (e ∷ es) = event_text s (told s h) e ++ texts_after s (e ∷ h) es
+
+abbrev pub closed_line : List ℕ → List ℕ
+closed_line name = printed (name ∷ codes "closed" ∷ [])
+
+-- a step's lines, where its events print that text; a feed says besides whether the connection has ended
+abbrev pub step_text : Told → Told → Step → List ℕ → List ℕ
+step_text before after (Feed name bytes) text =
+    (if has_ended name (registry_of before).users then [] else printed (name ∷ quoted text ∷ []))
+    ++ (if has_ended name (registry_of after).users then closed_line name else [])
+step_text before after step text = text
+
+-- the history with a step
+abbrev pub with_step : Setup → List Event → Step → List Event
+with_step s h step = and_then h (events_of_step (told s h) step)
+
+-- the lines that a step prints after a history
+abbrev pub lines_of_step : Setup → List Event → Step → List ℕ
+lines_of_step s h step = step_text (told s h) (told s (with_step s h step)) step (texts_after s h (events_of_step (told s h) step))
+
+-- the transcript of steps after a history
+abbrev pub transcript : Setup → List Event → List Step → List ℕ
+transcript s h [] = []
+transcript s h (step ∷ steps) = lines_of_step s h step ++ transcript s (with_step s h step) steps

@@ -4,7 +4,7 @@ use Rattle.std.proofs.Math.Seq.{take-add}
 use Rattle.std.proofs.lemmas.List.{drop-drop, length-drop, length-take-le, take-append-le, take_all, drop_all}
 use Rattle.iio_io.specs.Bytes.{Takes, TakesUpTo}
 
--- where the bytes written are told, those behind `before` are the first `done` of `bytes`
+-- where the bytes written are told, those after `before` are the first `done` of `bytes`
 abbrev pub WroteSoFar : Option (List ℕ) → List ℕ → ℕ → Option (List ℕ) → Type 0
 WroteSoFar before bytes done mid = IfSome before (λ xs. mid ≡ Some (xs ++ take done bytes))
 
@@ -31,14 +31,14 @@ WroteSoFar-more (Some xs) mid after bytes done n h k =
     ∙ ap (λ ys. xs ++ ys) (sym (take-add done n bytes)))
 
 -- a read more, into the front `piece` of a longer one
-pub ReadSoFar-more : (before mid after : Option (List ℕ)) (items piece behind items' : List ℕ) (n k n' : ℕ)
+pub ReadSoFar-more : (before mid after : Option (List ℕ)) (items piece unread items' : List ℕ) (n k n' : ℕ)
     → ReadSoFar before items n mid → k ≤ length piece → IfSome mid (λ ys. Takes ys piece k after)
-    → items' ≡ items ++ take k (piece ++ behind) → n' ≡ n + length (take k (piece ++ behind))
+    → items' ≡ items ++ take k (piece ++ unread) → n' ≡ n + length (take k (piece ++ unread))
     → ReadSoFar before items' n' after
-ReadSoFar-more None mid after items piece behind items' n k n' h le t e m = tt
-ReadSoFar-more (Some xs) mid after items piece behind items' n k n' h le t e m =
+ReadSoFar-more None mid after items piece unread items' n k n' h le t e m = tt
+ReadSoFar-more (Some xs) mid after items piece unread items' n k n' h le t e m =
     let taken = subst (λ (y : Option (List ℕ)). IfSome y (λ ys. Takes ys piece k after)) h.1 t in
-    let cut = take-append-le k piece behind le in
+    let cut = take-append-le k piece unread le in
     let count : n' ≡ n + k = omega (arith, m, ap length cut, length-take-le k piece le) in
     let all = length-drop n xs in (
       e ∙ ap (λ ys. items ++ ys) (cut ∙ taken.bytes) ∙ ap (λ ys. ys ++ take k (drop n xs)) h.0 ∙ sym (take-add n k xs) ∙ ap (λ c. take c xs) (sym count),

@@ -5,11 +5,11 @@
 //! write(2) are used by iiod.
 #![tactic(auto)]
 
-pub mod memory;
-pub mod standard;
+mod memory;
+mod standard;
 mod tally;
-pub mod traits;
-pub mod whole;
+mod traits;
+mod whole;
 
 pub use iio_base::Mem;
 pub use memory::{MemSink, MemSource};

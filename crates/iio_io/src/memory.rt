@@ -1,9 +1,10 @@
-// A source and a sink in memory, for tests and for work without an outside.
+//! A source and a sink in memory, for tests and for work without an outside.
+
 ghost use Rattle.std.specs.Prelude.{◌≡◌, ◌^◌, ◌⊎◌, ◌-◌, ◌+◌, ◌≤◌, ◌++◌, ◌↔◌, ℕ, [], length, take, drop, min, IfOk, OnErr, IsErr, IsTrue};
 ghost use Rattle.iio_io.specs.Memory.{IsFull, IsListed, one_more};
 
-use super::tally::Tally;
-use super::traits::{Failed, Sink, Source};
+use crate::tally::Tally;
+use crate::traits::{Failed, Sink, Source};
 use iio_base::Mem;
 use std::alloc::Global;
 use std::marker::Model;
@@ -99,7 +100,7 @@ impl Source for MemSource {
     }
 }
 
-/// A sink in memory with room for so many bytes in all. It fails at the listed calls, counted from
+/// A sink in memory that takes at most `room` bytes in all. It fails at the listed calls, counted from
 /// 1, and where no room is left.
 #[derive(Drop)]
 pub struct MemSink {

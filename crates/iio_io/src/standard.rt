@@ -1,13 +1,70 @@
-// Standard input and standard output. They tell no content: nothing is known of what the system gives or takes.
-ghost use Rattle.std.specs.Prelude.{◌≡◌, ◌+◌, ◌-◌, ◌^◌, ◌<◌, ◌≤◌, min, length, IfOk, MatchResult};
+//! Standard input and standard output. They tell no content: nothing is known of what the system gives or takes.
 
-use super::tally::Tally;
-use super::traits::{Failed, Sink, Source};
+ghost use Rattle.std.specs.Prelude.{◌≡◌, ◌+◌, ◌-◌, ◌^◌, ◌<◌, ◌≤◌, min, length, IfOk, MatchResult};
+ghost use Rattle.std.specs.Io.KnownBytes.{ReadConsumes, WriteAppends};
+
+use crate::tally::Tally;
+use crate::traits::{Failed, Sink, Source};
 use std::io::{ErrorKind, Read, Stdin, Stdout, Write};
 use std::marker::Model;
 
 // How often a read or a write that a signal cut short is tried.
 const TRIES: usize = 64;
+
+// One read, tried again where a signal cut it short. A failure takes no byte.
+#[tactic(auto, using(crate::proofs::Kept::keeps_refl, crate::proofs::Kept::keeps_trans, crate::proofs::Kept::kept_consumes))]
+fn read_retrying<R: Read>(
+    input: &mut R,
+    faults: &mut Tally,
+    out: &mut [u8],
+) -> Result<usize, Failed>
+    ensures fits { IfOk result (λ n. n ≤ length out.new) }
+    ensures bytes { ReadConsumes (R.remaining input.old) (R.remaining input.new) result out.new }
+    ensures count { MatchResult result (λ _. faults.new ≡ faults.old) (λ _. faults.new ≡ faults.old + 1) }
+{
+    for _ in 0..TRIES {
+        match input.read(out) {
+            Ok(count) => return Ok(count),
+            Err(e) => {
+                if e.kind() != ErrorKind::Interrupted {
+                    break;
+                }
+            }
+        }
+    }
+    faults.rise();
+    Err(Failed)
+}
+
+// One write, tried again where a signal cut it short. A failure adds no byte.
+#[tactic(auto, using(crate::proofs::Kept::keeps_refl, crate::proofs::Kept::keeps_trans, crate::proofs::Kept::kept_appends))]
+fn write_retrying<W: Write>(
+    output: &mut W,
+    faults: &mut Tally,
+    bytes: &[u8],
+) -> Result<usize, Failed>
+    ensures fits { IfOk result (λ n. n ≤ length bytes.now) }
+    ensures some { IfOk result (λ n. 0 < length bytes.now → 1 ≤ n) }
+    ensures bytes { WriteAppends (W.contents output.old) (W.contents output.new) result bytes.now }
+    ensures count { MatchResult result (λ _. faults.new ≡ faults.old) (λ _. faults.new ≡ faults.old + 1) }
+{
+    if bytes.is_empty() {
+        return Ok(0);
+    }
+    for _ in 0..TRIES {
+        match output.write(bytes) {
+            Ok(0) => break,
+            Ok(count) => return Ok(count),
+            Err(e) => {
+                if e.kind() != ErrorKind::Interrupted {
+                    break;
+                }
+            }
+        }
+    }
+    faults.rise();
+    Err(Failed)
+}
 
 /// Standard input, seen as its count of failed reads. A read that a signal cut short is tried again.
 #[derive(Drop)]
@@ -54,18 +111,7 @@ impl Source for StdSource {
         ensures fits { IfOk result (λ n. n ≤ length out.new) }
         ensures count { MatchResult result (λ _. self.new ≡ self.old) (λ _. self.new ≡ self.old + 1) }
     {
-        for _ in 0..TRIES {
-            match self.input.read(out) {
-                Ok(count) => return Ok(count),
-                Err(e) => {
-                    if e.kind() != ErrorKind::Interrupted {
-                        break;
-                    }
-                }
-            }
-        }
-        self.faults.rise();
-        Err(Failed)
+        read_retrying(&mut self.input, &mut self.faults, out)
     }
 }
 
@@ -117,21 +163,6 @@ impl Sink for StdSink {
         ensures some { IfOk result (λ n. 0 < length bytes.now → 1 ≤ n) }
         ensures count { MatchResult result (λ _. self.new ≡ self.old) (λ _. self.new ≡ self.old + 1) }
     {
-        if bytes.is_empty() {
-            return Ok(0);
-        }
-        for _ in 0..TRIES {
-            match self.output.write(bytes) {
-                Ok(0) => break,
-                Ok(count) => return Ok(count),
-                Err(e) => {
-                    if e.kind() != ErrorKind::Interrupted {
-                        break;
-                    }
-                }
-            }
-        }
-        self.faults.rise();
-        Err(Failed)
+        write_retrying(&mut self.output, &mut self.faults, bytes)
     }
 }

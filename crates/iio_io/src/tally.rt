@@ -1,7 +1,8 @@
-// A count of faults that rises at every fault.
-//
-// It's a `u64` up to that type's end. Past it, which no run reaches, the count goes on in the proof
-// alone: so `failed` and `counted` of the traits hold without a bound on the number of faults.
+//! A count of faults that rises at every fault.
+//!
+//! It's a `u64` up to that type's end. Past it, which no run reaches, the count goes on in the proof alone: so `failed`
+//! and `counted` of the traits hold without a bound on the number of faults.
+
 ghost use Rattle.std.specs.Prelude.{◌≡◌, ℕ, ◌+◌, ◌-◌, ◌^◌, min};
 ghost use base.Fml.{ftrue};
 

@@ -1,4 +1,5 @@
-// What is read from and what is written to.
+//! What is read from and what is written to.
+
 ghost use Rattle.std.specs.Prelude.{◌≡◌, ℕ, ◌<◌, ◌≤◌, List, [], ◌++◌, length, take, Option, Some, None, IfSome, IfNone, IfOk, OnErr};
 ghost use Rattle.iio_base.specs.Faults.{Rose};
 ghost use Rattle.iio_io.specs.Bytes.{Takes};
@@ -35,6 +36,7 @@ pub trait Source {
         ensures silent { IfNone (left self.old) (left self.new ≡ None) }
         ensures end { IfOk result
             (λ n. n ≡ 0 → 0 < length out.old → IfSome (left self.old) (λ xs. xs ≡ [])) }
+        ensures steady { IfOk result (λ _. faults self.new ≡ faults self.old) }
         ensures counted { faults self.old ≤ faults self.new }
         ensures failed { OnErr result (Rose (faults self.old) (faults self.new)) }
         ensures kept { OnErr result (left self.new ≡ left self.old) };

@@ -1,9 +1,10 @@
-// Whole texts over sources and sinks that take and give pieces.
+//! Whole texts over sources and sinks that take and give pieces.
+
 ghost use Rattle.std.specs.Prelude.{◌≡◌, ◌+◌, ◌<◌, ◌≤◌, ◌^◌, ◌++◌, Some, None, IfSome, IfNone, IfOk, OnOk, OnErr, vec_len};
 ghost use Rattle.iio_base.specs.Faults.{Rose};
 ghost use Rattle.iio_io.specs.Bytes.{TakesAtMost, TakesUpTo, WritesPart};
 
-use super::traits::{Failed, Sink, Source};
+use crate::traits::{Failed, Sink, Source};
 use std::alloc::{AllocError, Global};
 use std::error::Error;
 use std::fmt;
@@ -84,6 +85,8 @@ pub fn read_whole<S: Source>(
     ensures silent { IfNone (S.left source.old) (S.left source.new ≡ None) }
     ensures counted { S.faults source.old ≤ S.faults source.new }
     ensures failed { result ≡ Err ReadEnd.Failed → Rose (S.faults source.old) (S.faults source.new) }
+    ensures memory { result ≡ Err ReadEnd.Mem → S.faults source.new ≡ S.faults source.old }
+    ensures steady { IfOk result (λ _. S.faults source.new ≡ S.faults source.old) }
 {
     let mut bytes = Vec::new(alloc);
     let mut piece = [0u8; PIECE];

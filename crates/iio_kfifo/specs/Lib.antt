@@ -1,2 +1,2 @@
-pub mod Offers
+pub mod Offered
 pub mod Queue

@@ -1,8 +1,8 @@
 -- A queue of whole scans, as contracts see it. (Kernel driver-api/iio, "Buffers": kfifo; what a full queue does and
 -- the count of lost scans are this project's own.)
 use Rattle.std.specs.Prelude.{◌≡◌, ℕ, zero, suc, ◌+◌, ◌<◌, List, [], ◌∷◌, ◌++◌, length, take, drop}
-use Rattle.iio_kfifo.specs.declared.offers.Offered.{Offered}
-use Rattle.iio_kfifo.specs.declared.offers.Offered.TheVariants.{Taken, Lost}
+use Rattle.iio_kfifo.specs.declared.tail.Offered.{Offered}
+use Rattle.iio_kfifo.specs.declared.tail.Offered.TheVariants.{Taken, Lost}
 
 -- the scans that wait, oldest first, the numbers taken in and lost so far, the bytes of a scan, and the most scans that wait
 pub record Queue : Type 0 where

@@ -1,7 +1,8 @@
-// Queues that fill, overrun and wrap round. Expected values by hand.
+//! Queues that fill, overrun and wrap round. Expected values by hand.
+
 ghost use Rattle.std.specs.Prelude.{◌≡◌, ◌+◌, ◌-◌, ◌^◌, ◌<◌, length};
 
-use super::{Kfifo, Offered, Tail};
+use crate::{Kfifo, Offered, Tail};
 use std::test::Fail;
 
 // A queue of one scan: of three scans the first waits, and the fourth comes in once that is taken.

@@ -123,7 +123,7 @@ number_of-decimal n small =
     let value = digits_value-decimal own n (omega arith) in
     sym (number_there (decimal n) n (starts_decimal n small) (digits_decimal own n (omega arith)) (sym value) small)
 
--- ---- what stands behind a kind
+-- ---- what stands after a kind
 
 axis_of-spelled : (text : List ℕ) (suffix : Suffix) → axis_of text ≡ Some suffix → 95 ∷ text ≡ suffix_text suffix
 axis_of-spelled [] suffix h = cc h
@@ -195,10 +195,10 @@ suffix_after-spelled kind text suffix h =
       | inl there ↦
           let word = kind_text kind in
           let begins : word ≡ take (length word) text = (bytes_decides word (take (length word) text)).0 there in
-          let behind : drop (length word) text ≡ suffix_text suffix = suffix_of-spelled (drop (length word) text) suffix (rw there at h) in
+          let after : drop (length word) text ≡ suffix_text suffix = suffix_of-spelled (drop (length word) text) suffix (rw there at h) in
           sym (take-append-drop (length word) text)
           ∙ ap (λ (front : List ℕ). front ++ drop (length word) text) (sym begins)
-          ∙ ap (λ (back : List ℕ). word ++ back) behind
+          ∙ ap (λ (back : List ℕ). word ++ back) after
       | inr not_there ↦ let g = rw not_there at h in cc g
     ]
 

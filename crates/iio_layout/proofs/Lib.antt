@@ -2,4 +2,6 @@ pub mod IdLemmas
 pub mod ShapeLemmas
 pub mod LayoutLemmas
 pub mod ActiveLemmas
+pub mod ValueLemmas
+pub mod ScanLemmas
 mod Worked

@@ -1,4 +1,4 @@
--- The ID of a channel: its kind, and behind it nothing, a number, or an axis. (Kernel ABI, sysfs-bus-iio: the names
+-- The ID of a channel: its kind, and after it nothing, a number, or an axis. (Kernel ABI, sysfs-bus-iio: the names
 -- of channels, as `voltage0` and `accel_x`.)
 use Rattle.std.specs.Prelude.{ℕ, ◌+◌, ◌<◌, ◌==◌, nat_eq, nat_lt, Bool, false, not, if◌then◌else◌, ◌&&◌, ◌||◌, List, [], ◌∷◌, ◌++◌, length, drop, codes, Option, Some, None, option_map}
 use Rattle.std.specs.List.{starts_with}
@@ -19,7 +19,7 @@ kind_text Anglvel = codes "anglvel"
 kind_text Magn = codes "magn"
 kind_text Temp = codes "temp"
 
--- what stands behind it; a number has no leading zero
+-- what stands after it; a number has no leading zero
 abbrev pub suffix_text : Suffix → List ℕ
 suffix_text Bare = []
 suffix_text (Number n) = decimal n
@@ -31,7 +31,7 @@ suffix_text Z = codes "_z"
 abbrev pub id_text : Kind → Suffix → List ℕ
 id_text kind suffix = kind_text kind ++ suffix_text suffix
 
--- a number behind a kind has 16 bits
+-- a number after a kind has 16 bits
 abbrev pub FitsSuffix : Suffix → Type 0
 FitsSuffix Bare = Unit {0}
 FitsSuffix (Number n) = n < 65536
@@ -62,7 +62,7 @@ number_of text =
     if starts_number text && (all_ascii_digits text && nat_lt (digits_value 10 text) 65536) then Some (digits_value 10 text)
     else None
 
--- what the bytes behind a kind say: nothing, `_` and an axis, or a number
+-- what the bytes after a kind say: nothing, `_` and an axis, or a number
 abbrev pub suffix_of : List ℕ → Option Suffix
 suffix_of [] = Some Bare
 suffix_of (c ∷ cs) = if c == 95 then axis_of cs else option_map (λ n. Number n) (number_of (c ∷ cs))

@@ -1,17 +1,18 @@
--- What holds of every layout and every scan: how long a scan is, and each of its bytes.
-use Rattle.std.proofs.Common.{◌≡◌, ℕ, zero, suc, ◌+◌, ◌-◌, ◌*◌, ◌^◌, ◌<◌, ◌≤◌, Bool, true, false, List, [], ◌∷◌, ◌++◌, length, get_or, map, take, drop, replicate, sum_by, fold, Option, Some, None, ℤ, refl, sym, ap, ◌∙◌, inl, inr, arith}
+-- Laws of layouts and scans, for proofs alone: no public clause cites this file. How many values a capture has, how long
+-- a scan is, and each of its bytes.
+use Rattle.std.proofs.Common.{◌≡◌, ℕ, zero, suc, ◌+◌, ◌-◌, ◌*◌, ◌^◌, ◌<◌, ◌≤◌, Bool, true, false, List, [], ◌∷◌, ◌++◌, length, get_or, map, take, drop, replicate, sum_by, fold, Option, Some, None, ℤ, refl, sym, ap, ◌∙◌, inl, inr, arith, add-one}
 use Rattle.std.specs.Int.{bytes_high_first, bytes_low_first, next_multiple_of}
 use Rattle.std.proofs.lemmas.Bool.{cases_Bool, cases_lt}
-use Rattle.std.proofs.lemmas.List.{get_or_append_left, get_or-append_right, get_or_past, get_or-replicate, length-append, length-drop, length-map, length-replicate, length-take}
+use Rattle.std.proofs.lemmas.List.{get_or_append_left, get_or-append_right, get_or_past, get_or-replicate, length-append, length-drop, length-map, length-replicate, length-take, take_all}
 use Rattle.std.proofs.lemmas.List.Sums.{sum_by-append, sum_by_more, sum_by-take-le}
-use Rattle.iio_mask.specs.Places.{has}
+use Rattle.iio_mask.specs.Mask.{has}
 use Rattle.iio_scan_type.specs.Bytes.{channel_bytes, element_bytes, low_bits, number_bytes}
 use Rattle.iio_scan_type.specs.Format.{Format, element_size, size_of, stamp_format}
 use Rattle.iio_scan_type.specs.declared.Endian.{Endian}
 use Rattle.iio_scan_type.specs.declared.Endian.TheVariants.{Big, Little}
 use Rattle.iio_layout.specs.declared.channel.Channel.{Channel}
 use Rattle.iio_layout.specs.Layout.{Covers, end_after, end_below, format_at, largest_below, place_of, scan_size, size_at}
-use Rattle.iio_layout.specs.Scan.{capture_values, field_at, field_of, first_value, front_below, padded, scan_of, values_at, with_field}
+use Rattle.iio_layout.specs.Scan.{capture_values, elements_below, field_at, field_of, first_value, front_below, padded, scan_of, values_at, values_below, values_by, with_field}
 use Rattle.iio_layout.specs.Shape.{ShapeRecord, count_of, formats_of, stamp_formats, width_of}
 
 -- ---- how many bytes a channel has
@@ -24,7 +25,7 @@ length-high_first : (k n : ℕ) → length (bytes_high_first k n) ≡ k
 length-high_first zero n = refl
 length-high_first (suc k) n = let rest = length-high_first k n in omega (arith, rest)
 
-length-number_bytes : (endian : Endian) (size n : ℕ) → length (number_bytes endian size n) ≡ size
+pub length-number_bytes : (endian : Endian) (size n : ℕ) → length (number_bytes endian size n) ≡ size
 length-number_bytes Little size n = length-low_first 0 size n
 length-number_bytes Big size n = length-high_first size n
 
@@ -58,6 +59,39 @@ pub count_is : (shape : ShapeRecord) → count_of shape ≡ length shape.channel
 count_is shape =
     length-append (map (λ channel. channel.ty) shape.channels) (stamp_formats shape.stamp)
     ∙ ap (λ n. n + length (stamp_formats shape.stamp)) (length-map shape.channels (λ channel. channel.ty))
+
+-- as many elements as were asked for
+pub length-elements_below : (value : ℕ → ℤ) (n : ℕ) → length (elements_below value n) ≡ n
+length-elements_below value zero = refl
+length-elements_below value (suc n) =
+    let before = length-elements_below value n in
+    let both = length-append (elements_below value n) (value n ∷ []) in
+    omega (arith, before, both)
+
+-- the values before a channel, with those of one channel more
+pub first_value_more : (formats : List Format) (c : ℕ) → c < length formats → first_value formats (c + 1) ≡ first_value formats c + (format_at formats c).repeat
+first_value_more formats c h = sum_by_more (λ f. f.repeat) formats c (stamp_format Little) h
+
+-- all data channels have as many values as the shape's width
+pub first_value_all : (shape : ShapeRecord) → first_value (formats_of shape) (length shape.channels) ≡ width_of shape
+first_value_all shape =
+    first_value_is shape.channels (stamp_formats shape.stamp) (length shape.channels) (omega arith)
+    ∙ ap (λ xs. sum_by (λ channel. channel.ty.repeat) xs) (take_all (length shape.channels) shape.channels (omega arith))
+
+pub length-values_below : (formats : List Format) (value : ℕ → ℕ → ℤ) (c : ℕ) → c ≤ length formats → length (values_below formats value c) ≡ first_value formats c
+length-values_below formats value zero within = refl
+length-values_below formats value (suc c) within =
+    let before = length-values_below formats value c (omega arith) in
+    let own = length-elements_below (value c) (format_at formats c).repeat in
+    let more = first_value_more formats c (omega arith) in
+    let both = length-append (values_below formats value c) (elements_below (value c) (format_at formats c).repeat) in
+    both ∙ rw (← add-one c) (omega (arith, before, own, more))
+
+-- the elements of all data channels are as many as the shape's width
+pub length-values_by : (shape : ShapeRecord) (value : ℕ → ℕ → ℤ) → length (values_by shape value) ≡ width_of shape
+length-values_by shape value =
+    let count = count_is shape in
+    length-values_below (formats_of shape) value (length shape.channels) (omega arith) ∙ first_value_all shape
 
 repeats_all : (xs : List Channel) (n : ℕ)
     → fold (λ a f. a + f.repeat) n (map (λ channel. channel.ty) xs) ≡ fold (λ a channel. a + channel.ty.repeat) n xs
@@ -152,14 +186,14 @@ length-scan_of shape mask values t wide =
 
 -- ---- each byte
 
--- zero bytes behind a list read as what is past its end
-zeros_behind : (bytes : List ℕ) (k j : ℕ) → get_or (bytes ++ replicate k 0) j 0 ≡ get_or bytes j 0
-zeros_behind bytes k j =
+-- zero bytes after a list read as what is past its end
+zeros_after : (bytes : List ℕ) (k j : ℕ) → get_or (bytes ++ replicate k 0) j 0 ≡ get_or bytes j 0
+zeros_after bytes k j =
     elim (cases_lt j (length bytes)) [
       | inl inside ↦ get_or_append_left bytes (replicate k 0) 0 j inside
-      | inr behind ↦
-          get_or-append_right bytes (replicate k 0) (length bytes) j 0 refl behind
-          ∙ zero_at k (j - length bytes) ∙ sym (get_or_past bytes j 0 behind)
+      | inr after ↦
+          get_or-append_right bytes (replicate k 0) (length bytes) j 0 refl after
+          ∙ zero_at k (j - length bytes) ∙ sym (get_or_past bytes j 0 after)
     ]
   where
     zero_at : (k i : ℕ) → get_or {A = ℕ} (replicate k 0) i 0 ≡ 0
@@ -174,7 +208,7 @@ front_stays : (selected : Bool) (front : List ℕ) (size : ℕ) (field : List �
     → get_or (with_field selected front size field) j 0 ≡ get_or front j 0
 front_stays true front size field j inside =
     get_or_append_left (padded front size) field 0 j (let pad = length-padded front size in omega (arith, pad))
-    ∙ zeros_behind front (next_multiple_of (length front) size - length front) j
+    ∙ zeros_after front (next_multiple_of (length front) size - length front) j
 front_stays false front size field j inside = refl
 
 -- a channel's own bytes stand at its place
@@ -183,8 +217,8 @@ front_own : (front : List ℕ) (end size : ℕ) (field : List ℕ) (j : ℕ) →
 front_own front end size field j is_end =
     let place = next_multiple_of end size in
     let pad : length (padded front size) ≡ place = length-padded front size ∙ ap (λ n. next_multiple_of n size) is_end in
-    let behind : place + j - place ≡ j = omega arith in
-    get_or-append_right (padded front size) field place (place + j) 0 pad (omega arith) ∙ ap (λ i. get_or field i 0) behind
+    let after : place + j - place ≡ j = omega arith in
+    get_or-append_right (padded front size) field place (place + j) 0 pad (omega arith) ∙ ap (λ i. get_or field i 0) after
 
 front_at : (formats : List Format) (mask : ℕ) (values : List ℤ) (n c j : ℕ) → AreSized formats values n → c < n → has mask c ≡ true → j < size_at formats c
     → get_or (front_below formats mask values n) (next_multiple_of (end_below formats mask c) (size_at formats c) + j) 0 ≡ get_or (field_at formats values c) j 0
@@ -212,7 +246,7 @@ scan_of-at shape mask values t c j wide within selected inside =
     let formats = formats_of shape in
     let all = capture_values values t in
     let front = front_below formats mask all (count_of shape) in
-    zeros_behind front (next_multiple_of (length front) (largest_below formats mask (count_of shape)) - length front) (place_of shape mask c + j)
+    zeros_after front (next_multiple_of (length front) (largest_below formats mask (count_of shape)) - length front) (place_of shape mask c + j)
     ∙ front_at formats mask all (count_of shape) c j (all_sized shape values t wide) within selected inside
 
 -- byte j lies in no selected channel before channel n
@@ -237,10 +271,10 @@ front_zero formats mask values (suc n) j sized outside =
           rw selected (elim (cases_lt j place) [
             | inl ahead ↦
                 get_or_append_left (padded front size) field 0 j (omega arith)
-                ∙ zeros_behind front (next_multiple_of (length front) size - length front) j ∙ rest
-            | inr behind ↦
+                ∙ zeros_after front (next_multiple_of (length front) size - length front) j ∙ rest
+            | inr after ↦
                 elim (cases_lt j (place + size)) [
-                  | inl own ↦ absurd (outside n (omega arith) selected behind own)
+                  | inl own ↦ absurd (outside n (omega arith) selected after own)
                   | inr past ↦
                       get_or_past (padded front size ++ field) j 0
                       (let both = length-append (padded front size) field in let own = sized n (omega arith) in omega (arith, both, own))
@@ -256,6 +290,6 @@ scan_of-outside shape mask values t j wide outside =
     let formats = formats_of shape in
     let all = capture_values values t in
     let front = front_below formats mask all (count_of shape) in
-    zeros_behind front (next_multiple_of (length front) (largest_below formats mask (count_of shape)) - length front) j
+    zeros_after front (next_multiple_of (length front) (largest_below formats mask (count_of shape)) - length front) j
     ∙ front_zero formats mask all (count_of shape) j (all_sized shape values t wide)
-    (λ c below selected behind inside. outside c (below, selected, behind, inside))
+    (λ c below selected after inside. outside c (below, selected, after, inside))

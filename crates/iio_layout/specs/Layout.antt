@@ -1,7 +1,7 @@
 -- Where the selected channels stand in a scan, and how long it is. (Kernel: `iio_compute_scan_bytes`.)
 use Rattle.std.specs.Prelude.{◌≡◌, ◌<◌, ◌≤◌, ℕ, zero, suc, ◌+◌, max, Bool, true, false, if◌then◌else◌, List, slice_index_or}
 use Rattle.std.specs.Int.{next_multiple_of}
-use Rattle.iio_mask.specs.Places.{has}
+use Rattle.iio_mask.specs.Mask.{has}
 use Rattle.iio_scan_type.specs.Format.{Format, size_of, stamp_format}
 use Rattle.iio_scan_type.specs.declared.Endian.TheVariants.{Little}
 use Rattle.iio_layout.specs.Shape.{ShapeRecord, formats_of, count_of}
@@ -13,7 +13,7 @@ format_at formats c = slice_index_or formats c (stamp_format Little)
 abbrev pub size_at : List Format → ℕ → ℕ
 size_at formats c = size_of (format_at formats c)
 
--- where a channel of this size ends, behind one that ends there; one that isn't selected takes no room
+-- where a channel of this size ends, after one that ends there; one that isn't selected takes no room
 abbrev pub end_after : Bool → ℕ → ℕ → ℕ
 end_after true end size = next_multiple_of end size + size
 end_after false end size = end

@@ -2,7 +2,7 @@
 -- of `iio_compute_scan_bytes`; that padding is zero bytes is this project's own.)
 use Rattle.std.specs.Prelude.{ℕ, zero, suc, ◌-◌, Bool, true, false, List, [], ◌∷◌, ◌++◌, length, take, drop, replicate, sum_by, ℤ}
 use Rattle.std.specs.Int.{next_multiple_of}
-use Rattle.iio_mask.specs.Places.{has}
+use Rattle.iio_mask.specs.Mask.{has}
 use Rattle.iio_scan_type.specs.Format.{Format}
 use Rattle.iio_scan_type.specs.Bytes.{channel_bytes}
 use Rattle.iio_layout.specs.Shape.{ShapeRecord, formats_of, count_of}
@@ -24,7 +24,7 @@ field_at formats values c = channel_bytes (format_at formats c) (values_at forma
 abbrev pub padded : List ℕ → ℕ → List ℕ
 padded bytes size = bytes ++ replicate (next_multiple_of (length bytes) size - length bytes) 0
 
--- a channel behind what stands before it: at a multiple of its size; one that isn't selected has no bytes
+-- a channel after what stands before it: at a multiple of its size; one that isn't selected has no bytes
 abbrev pub with_field : Bool → List ℕ → ℕ → List ℕ → List ℕ
 with_field true front size field = padded front size ++ field
 with_field false front size field = front
@@ -38,6 +38,20 @@ front_below formats mask values (suc c) =
 -- the values of a capture in the order of the channels: the moment is the timestamp's one value, and stands last
 abbrev pub capture_values : List ℤ → ℤ → List ℤ
 capture_values values t = values ++ t ∷ []
+
+-- the elements of a channel before element k, where `value k` is element k
+abbrev pub elements_below : (ℕ → ℤ) → ℕ → List ℤ
+elements_below value zero = []
+elements_below value (suc k) = elements_below value k ++ value k ∷ []
+
+-- the elements of the channels before channel c, where `value c k` is element k of channel c
+abbrev pub values_below : List Format → (ℕ → ℕ → ℤ) → ℕ → List ℤ
+values_below formats value zero = []
+values_below formats value (suc c) = values_below formats value c ++ elements_below (value c) (format_at formats c).repeat
+
+-- the elements of all data channels, in their order
+abbrev pub values_by : ShapeRecord → (ℕ → ℕ → ℤ) → List ℤ
+values_by shape value = values_below (formats_of shape) value (length shape.channels)
 
 -- the scan under a mask of these values and this moment
 abbrev pub scan_of : ShapeRecord → ℕ → List ℤ → ℤ → List ℕ

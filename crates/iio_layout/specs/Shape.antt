@@ -7,6 +7,7 @@ use Rattle.iio_layout.specs.declared.channel.Suffix.{Suffix}
 use Rattle.iio_layout.specs.declared.channel.Direction.{Direction}
 use Rattle.iio_layout.specs.declared.channel.Direction.TheVariants.{Input, Output}
 use Rattle.iio_layout.specs.declared.channel.Channel.{Channel}
+use Rattle.iio_layout.specs.declared.shape.TheConstants.{MAX_CHANNELS}
 use Rattle.iio_layout.specs.Id.{id_of, same_id}
 
 -- a device's channels in the order of their numbers; the byte order of its timestamp, which is the last channel,
@@ -64,10 +65,10 @@ same_direction Output Output = true
 abbrev pub same_channel : Channel → Channel → Bool
 same_channel a b = same_id (id_at a) (id_at b) && same_direction a.direction b.direction
 
--- there is a channel, there are at most 64 with the timestamp, no two are the same, and each listed mask has a
+-- there is a channel, there are at most 64, with the timestamp, no two are the same, and each listed mask has a
 -- channel and neither the timestamp's bit nor one above it (this project's own limits)
 pub record IsShape (shape : ShapeRecord) : Type 0 where
   pub some : 0 < length shape.channels
-  pub few : count_of shape ≤ 64
+  pub few : count_of shape ≤ MAX_CHANNELS
   pub distinct : AllPairs (λ a b. same_channel a b ≡ false) shape.channels
   pub listed : All (λ mask. (0 < mask) × (mask < 2 ^ length shape.channels)) shape.listed

@@ -1,6 +1,7 @@
 -- What contracts see of a shape's fields.
 use Rattle.std.specs.Prelude.{◌≡◌, ℕ, ◌<◌, map, length, slice_index}
 use Rattle.iio_layout.specs.declared.shape.Shape.TheInside.{Inside}
+use Rattle.iio_layout.specs.declared.shape.TheConstants.{MAX_CHANNELS}
 use Rattle.iio_layout.specs.Shape.{ShapeRecord, IsShape, formats_of, width_of}
 use Rattle.iio_layout.specs.Scan.{first_value}
 
@@ -11,5 +12,5 @@ record_of a = record { channels = a.channels.items; stamp = a.stamp; listed = ma
 pub record IsSound (a : Inside) : Type 0 where
   pub shape : IsShape (record_of a)
   pub starts : (c : ℕ) → c < length a.channels.items → slice_index a.starts c ≡ first_value (formats_of (record_of a)) c
-  pub room : length a.starts ≡ 64
+  pub room : length a.starts ≡ MAX_CHANNELS
   pub width : a.width ≡ width_of (record_of a)

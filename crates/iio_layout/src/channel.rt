@@ -62,7 +62,7 @@ impl Kind {
     }
 }
 
-/// Appends the text of an ID: the word of its kind, and behind it nothing, the number without leading zeros, or `_x`,
+/// Appends the text of an ID: the word of its kind, and after it nothing, the number without leading zeros, or `_x`,
 /// `_y`, `_z`. Where memory runs out nothing is appended.
 pub fn write_id(out: &mut Vec<u8>, kind: Kind, suffix: Suffix) -> Result<(), Mem>
     ensures ok { OnOk result (out.new.items ≡ out.old.items ++ id_text kind suffix) }
@@ -94,7 +94,7 @@ fn write_suffix(out: &mut Vec<u8>, suffix: Suffix) -> Result<(), Mem>
     Ok(())
 }
 
-/// The ID that a text spells: the word of a kind, and behind it nothing, a number from 0 to 65535 without leading
+/// The ID that a text spells: the word of a kind, and after it nothing, a number from 0 to 65535 without leading
 /// zeros, or `_x`, `_y`, `_z`. `None` comes exactly where it spells none.
 pub fn read_id(text: &[u8]) -> Option<(Kind, Suffix)>
     ensures value { result ≡ id_of text.now }
@@ -104,7 +104,7 @@ pub fn read_id(text: &[u8]) -> Option<(Kind, Suffix)>
     id_among_kinds(text)
 }
 
-// The first kind whose word the text begins with, and what stands behind it.
+// The first kind whose word the text begins with, and what stands after it.
 fn id_among_kinds(text: &[u8]) -> Option<(Kind, Suffix)>
     ensures { result ≡ id_of text.now }
 {
@@ -124,7 +124,7 @@ fn id_among_kinds(text: &[u8]) -> Option<(Kind, Suffix)>
     None
 }
 
-// What stands behind the word of a kind.
+// What stands after the word of a kind.
 fn suffix_after(kind: Kind, text: &[u8]) -> Option<Suffix>
     ensures { result ≡ suffix_after kind text.now }
 {

@@ -1,18 +1,22 @@
 //! The shape of a device, and the layout of its scans.
 #![tactic(auto)]
 
-mod asked;
+mod active_mask;
 mod channel;
 mod layout;
 mod rows;
+mod scan;
 mod shape;
+mod values;
 
-pub use asked::active;
+pub use active_mask::active;
 pub use channel::{Channel, Direction, Kind, Suffix, read_id, write_id};
 pub use iio_base::Mem;
-pub use layout::{fill, place, scan_size};
+pub use layout::{place, scan_size};
 pub use rows::Rows;
-pub use shape::{MOST_CHANNELS, Shape};
+pub use scan::{fill, fill_from};
+pub use shape::{MAX_CHANNELS, Shape};
+pub use values::Values;
 
 #[cfg(test)]
 mod tests;

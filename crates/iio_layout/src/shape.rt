@@ -15,7 +15,7 @@ use std::alloc::Global;
 use std::marker::Model;
 
 /// The most channels of a device, with its timestamp: a mask has a bit for each.
-pub const MOST_CHANNELS: usize = 64;
+pub const MAX_CHANNELS: usize = 64;
 
 /// A device's channels in the order of their numbers, its timestamp, which is the last channel, and the masks that
 /// its sensor can be asked under, where they are listed.
@@ -25,7 +25,7 @@ pub struct Shape {
     stamp: Option<Endian>,
     listed: Vec<Mask>,
     // Where each channel's values begin among those of a capture, and how many there are in all.
-    starts: [u16; 64],
+    starts: [u16; MAX_CHANNELS],
     width: u16,
 }
 
@@ -42,9 +42,9 @@ impl Model for Shape {
 }
 
 impl Shape {
-    /// The shape of these channels. `None` comes exactly where there is no channel, where there are more than 64 with
-    /// the timestamp, where two have the same kind, suffix and direction, or where a listed mask has no channel, the
-    /// timestamp's bit, or a bit at or above the channel count.
+    /// The shape of these channels. `None` comes exactly where there is no channel, where there are more than
+    /// `MAX_CHANNELS` with the timestamp, where two have the same kind, suffix and direction, or where a listed mask has
+    /// no channel, the timestamp's bit, or a bit at or above the channel count.
     pub fn new(channels: Vec<Channel>, stamp: Option<Endian>, listed: Vec<Mask>) -> Option<Shape>
         ensures shape { IfSome result (λ s. s ≡ record { channels = channels.items; stamp = stamp; listed = map (λ m. m.bits) listed.items }) }
         ensures sound { IfSome result (λ s. IsShape s) }
@@ -145,9 +145,11 @@ impl Shape {
     }
 
     /// Where the values of data channel `c` begin among those of a capture.
-    pub(crate) fn first_value(&self, c: u32) -> usize
+    #[inline]
+    pub fn first_value(&self, c: u32) -> usize
         requires { c < length self.now.channels }
-        ensures { result ≡ first_value (formats_of self.now) c }
+        ensures value { result ≡ first_value (formats_of self.now) c }
+        ensures small { result < 2 ^ 16 }
     {
         usize::from(self.starts[c as usize])
     }
@@ -157,7 +159,7 @@ impl Shape {
 fn is_shape(channels: &[Channel], stamp: Option<Endian>, listed: &[Mask]) -> bool
     ensures { IsTrue result ↔ IsShape (record { channels = channels.now; stamp = stamp; listed = map (λ m. m.bits) listed.now }) }
 {
-    if channels.is_empty() || channels.len() > most_channels(stamp) {
+    if channels.is_empty() || channels.len() > max_channels(stamp) {
         return false;
     }
     if !are_distinct(channels) {
@@ -167,12 +169,12 @@ fn is_shape(channels: &[Channel], stamp: Option<Endian>, listed: &[Mask]) -> boo
 }
 
 // The most data channels: the timestamp is a channel too.
-fn most_channels(stamp: Option<Endian>) -> usize
-    ensures { result + length (stamp_formats stamp) ≡ MOST_CHANNELS }
+fn max_channels(stamp: Option<Endian>) -> usize
+    ensures { result + length (stamp_formats stamp) ≡ MAX_CHANNELS }
 {
     match stamp {
-        Some(_) => MOST_CHANNELS - 1,
-        None => MOST_CHANNELS,
+        Some(_) => MAX_CHANNELS - 1,
+        None => MAX_CHANNELS,
     }
 }
 
@@ -218,27 +220,27 @@ fn is_same(a: &Channel, b: &Channel) -> bool
 
 // Whether each mask has a channel, and none at or above that number.
 fn are_listable(listed: &[Mask], inputs: u32) -> bool
-    requires { inputs ≤ 64 }
+    requires { inputs ≤ MAX_CHANNELS }
     ensures { IsTrue result ↔ All (λ mask. (0 < mask.bits) × (mask.bits < 2 ^ inputs)) listed.now }
 {
     listed.iter().all(|mask| is_listable(mask.bits, inputs))
 }
 
 fn is_listable(bits: u64, inputs: u32) -> bool
-    requires { inputs ≤ 64 }
+    requires { inputs ≤ MAX_CHANNELS }
     ensures { IsTrue result ↔ ((0 < bits) × (bits < 2 ^ inputs)) }
 {
     bits != 0 && (inputs == 64 || bits < 1 << inputs)
 }
 
 // Where the values of each channel begin, and how many there are in all.
-fn starts_of(channels: &[Channel]) -> ([u16; 64], u16)
-    requires { length channels.now ≤ 64 }
+fn starts_of(channels: &[Channel]) -> ([u16; MAX_CHANNELS], u16)
+    requires { length channels.now ≤ MAX_CHANNELS }
     ensures starts { (c : ℕ) → c < length channels.now → slice_index result.0 c ≡ sum_by (λ channel. channel.ty.repeat) (take c channels.now) }
-    ensures room { length result.0 ≡ 64 }
+    ensures room { length result.0 ≡ MAX_CHANNELS }
     ensures width { result.1 ≡ sum_by (λ channel. channel.ty.repeat) channels.now }
 {
-    let mut starts = [0; 64];
+    let mut starts = [0; MAX_CHANNELS];
     let mut width = 0;
     for (c, channel) in channels.iter().enumerate() {
         starts[c] = width;

@@ -1,3 +1,5 @@
+ghost use Rattle.std.specs.Prelude.{◌+◌, ◌*◌, pos};
+
 use super::*;
 use iio_mask::Mask;
 use iio_scan_type::{Endian, read_type};
@@ -120,6 +122,78 @@ fn timestamp_moves_with_mask(rt: HostRuntime) -> Result<(), Fail> {
     Ok(())
 }
 
+// accel_x of four elements of 32 bits, and a timestamp.
+fn quaternion(alloc: Global) -> Result<Shape, Fail> {
+    let mut channels = Vec::new(alloc);
+    channels.push(channel("accel_x", "le:s32/32X4>>0")?)?;
+    let shape = Shape::new(channels, Some(Endian::Little), Vec::new(alloc));
+    Ok(shape.ok_or("no shape")?)
+}
+
+#[test]
+fn sixteen_byte_channel(rt: HostRuntime) -> Result<(), Fail> {
+    let shape = quaternion(rt.alloc())?;
+    let row = ([1, 2, 3, -1].as_slice(), 258);
+    check_scan(
+        &rt,
+        rt.alloc(),
+        &shape,
+        "00000003",
+        row,
+        b"\x01\0\0\0\x02\0\0\0\x03\0\0\0\xff\xff\xff\xff\x02\x01\0\0\0\0\0\0\0\0\0\0\0\0\0\0",
+    )?;
+    let both = Mask { bits: 3 };
+    assert!(rt; shape.count() == 2);
+    assert!(rt; both.contains(0) && both.contains(1));
+    assert_eq!(rt; place(&shape, both, 0), 0);
+    assert_eq!(rt; place(&shape, both, 1), 16);
+    Ok(())
+}
+
+// Bytes of 1 and 16: the second channel stands at 16.
+#[test]
+fn sixteen_bytes_after_one(rt: HostRuntime) -> Result<(), Fail> {
+    let alloc = rt.alloc();
+    let mut channels = Vec::new(alloc);
+    channels.push(channel("temp", "le:u8/8>>0")?)?;
+    channels.push(channel("accel_x", "be:s16/16X8>>0")?)?;
+    let shape = Shape::new(channels, None, Vec::new(alloc)).ok_or("no shape")?;
+    check_scan(
+        &rt,
+        alloc,
+        &shape,
+        "00000003",
+        (&[90, 1, 2, 3, 4, 5, 6, 7, 8], 0),
+        b"Z\0\0\0\0\0\0\0\0\0\0\0\0\0\0\0\0\x01\0\x02\0\x03\0\x04\0\x05\0\x06\0\x07\0\x08",
+    )
+}
+
+// Values that are reckoned: 10 for each channel, and 1 for each element. Only those of channel 63 are asked for.
+struct Reckoned;
+
+impl Values for Reckoned {
+    ghost inputs = { λ _. 64 };
+
+    ghost value = { λ _ c k. pos (10 * c + k) };
+
+    fn value(&self, c: u32, k: u32) -> i64 {
+        10 * i64::from(c) + i64::from(k)
+    }
+}
+
+#[test]
+fn one_channel_of_64(rt: HostRuntime) -> Result<(), Fail> {
+    let shape = voltages(rt.alloc(), 64, "le:s64/64X2>>0", None)?.ok_or("no shape")?;
+    assert!(rt; shape.count() == 64);
+    assert!(rt; shape.inputs() == 64);
+    let last = Mask { bits: 1 << 63 };
+    let mut out = [0xaa; 16];
+    assert!(rt; scan_size(&shape, last) == 16);
+    fill_from(&shape, last, &Reckoned, 0, &mut out);
+    assert_eq!(rt; &out, b"\x76\x02\0\0\0\0\0\0\x77\x02\0\0\0\0\0\0");
+    Ok(())
+}
+
 #[test]
 fn thirty_three_channels(rt: HostRuntime) -> Result<(), Fail> {
     let shape = voltages(rt.alloc(), 33, "le:u8/8>>0", None)?.ok_or("no shape")?;
@@ -141,6 +215,8 @@ fn sizes(rt: HostRuntime) -> Result<(), Fail> {
         (9, "le:s64/64>>0", "000001ff", 72),
         (1, "le:s32/32X2>>0", "00000001", 8),
         (2, "le:u8/8>>0", "00000003", 2),
+        (1, "le:s64/64X2>>0", "00000001", 16),
+        (64, "le:s16/16X8>>0", "ffffffffffffffff", 1024),
     ] {
         let shape = voltages(rt.alloc(), count, ty, None)?.ok_or("no shape")?;
         let channels = shape.count();

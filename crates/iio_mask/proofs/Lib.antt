@@ -1,2 +1,4 @@
 pub mod PlaceLemmas
 pub mod TextLemmas
+pub mod ChannelLemmas
+pub mod UnionLemmas

@@ -5,7 +5,7 @@ use Rattle.std.proofs.lemmas.Bool.{cases_Bool, cases_eq, cases_lt, cases_order, 
 use Rattle.std.proofs.lemmas.Nat.Bits.{bit_at_and, bit_at_or, bit_at-lt, bit_at_above, same_from_bits, bit_at_cat_low, bit_at_cat_high, bit_at-suc, bit_at_lowest}
 use Rattle.std.proofs.lemmas.Nat.{pow_pos}
 use Rattle.std.proofs.Math.Nat.{mul_comm}
-use Rattle.iio_mask.specs.Places.{has, is_within, without_channel}
+use Rattle.iio_mask.specs.Mask.{has, is_within, without_channel}
 
 -- the greater of two bits is 1 where one of them is
 max_is_one : (x y : ℕ) → x < 2 → y < 2 → (max x y == 1) ≡ (x == 1 || y == 1)

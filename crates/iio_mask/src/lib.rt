@@ -1,8 +1,9 @@
 //! Scan masks: which channels of a device are selected, and the text of a mask.
 #![tactic(auto)]
 
-ghost use Rattle.std.specs.Prelude.{◌≡◌, ℕ, ◌-◌, ◌^◌, ◌<◌, ◌≤◌, ◌↔◌, ◌&&◌, ◌||◌, ◌++◌, ◌==◌, nat_lt, not, true, map, option_map, replicate, string_bytes, IsTrue, IfOk, IfSome, Some, None, MatchOption, length};
-ghost use Rattle.iio_mask.specs.Places.{has, union_of, is_within, without_channel, picked};
+ghost use Rattle.std.specs.Prelude.{◌≡◌, ℕ, ◌-◌, ◌^◌, ◌<◌, ◌≤◌, ◌↔◌, ◌&&◌, ◌||◌, ◌++◌, ◌==◌, nat_lt, not, true, map, option_map, replicate, string_bytes, IsTrue, IfOk, IfSome, IfNone, Some, None, MatchOption, length, Contains, List, [], ◌∷◌};
+ghost use Rattle.iio_mask.specs.Mask.{channels_of, has, union_of, union_of_all, is_within, without_channel, matching_mask};
+ghost use Rattle.std.specs.List.{list_any};
 ghost use Rattle.iio_mask.specs.Text.{digit_count, mask_of, mask_text, number_of, sized_bytes, IsMaskText};
 
 pub use iio_base::Mem;
@@ -65,13 +66,32 @@ impl Mask {
     pub fn union(self, other: Mask) -> Mask
         ensures value { result.bits ≡ union_of self.bits other.bits }
         ensures places { (c : ℕ) → has result.bits c ≡ (has self.bits c || has other.bits c) }
+        ensures first { is_within self.bits result.bits ≡ true }
+        ensures second { is_within other.bits result.bits ≡ true }
     {
         Mask {
             bits: self.bits | other.bits,
         }
     }
 
+    /// Takes the first channel out of the mask. `None` comes exactly where there is none.
+    #[inline]
+    pub fn pop_first(&mut self) -> Option<u32>
+        ensures some { IfSome result (λ c. channels_of self.old.bits ≡ c ∷ channels_of self.new.bits) }
+        ensures none { IfNone result ((channels_of self.old.bits ≡ []) × (self.new ≡ self.old)) }
+        ensures member { IfSome result (λ c. has self.old.bits c ≡ true) }
+        ensures fewer { IfSome result (λ _. self.new.bits < self.old.bits) }
+    {
+        if self.bits == 0 {
+            return None;
+        }
+        let first = self.bits.trailing_zeros();
+        self.bits -= 1 << first;
+        Some(first)
+    }
+
     /// Whether channel c is in the mask; none from 64 on is.
+    #[inline]
     pub fn contains(self, c: u32) -> bool
         ensures { result ≡ has self.bits c }
     {
@@ -100,7 +120,7 @@ impl Mask {
 /// The mask to ask for where these masks are listed: the first that contains all that is wanted. Where none are
 /// listed, it is what is wanted; `None` exactly where masks are listed and none of them contains it.
 pub fn pick(listed: &[Mask], wanted: Mask) -> Option<Mask>
-    ensures { option_map (λ m. m.bits) result ≡ picked (map (λ m. m.bits) listed.now) wanted.bits }
+    ensures { option_map (λ m. m.bits) result ≡ matching_mask (map (λ m. m.bits) listed.now) wanted.bits }
 {
     if listed.is_empty() {
         return Some(wanted);
@@ -108,7 +128,24 @@ pub fn pick(listed: &[Mask], wanted: Mask) -> Option<Mask>
     listed.iter().find(|m| wanted.within(**m)).copied()
 }
 
+/// What holds of the union of any masks, for contracts that speak of several. It does nothing.
+pub fn union_laws()
+    // One mask more, wherever it stands among them, adds its channels.
+    ensures one_more { (before after : List ℕ) (mask : ℕ) →
+        union_of_all (before ++ mask ∷ after) ≡ union_of mask (union_of_all (before ++ after)) }
+    // One mask less leaves a union within the one before.
+    ensures one_less { (before after : List ℕ) (mask : ℕ) →
+        is_within (union_of_all (before ++ after)) (union_of_all (before ++ mask ∷ after)) ≡ true }
+    // Each of the masks lies within their union.
+    ensures member { (masks : List ℕ) (mask : ℕ) → Contains masks mask → is_within mask (union_of_all masks) ≡ true }
+    // A channel is in the union exactly where it is in one of the masks.
+    ensures places { (masks : List ℕ) (c : ℕ) → has (union_of_all masks) c ≡ list_any (λ mask. has mask c) masks }
+    // Masks with the same channels are the same.
+    ensures same { (mask other : ℕ) → ((c : ℕ) → has mask c ≡ has other c) → mask ≡ other }
+{}
+
 // Whether bit c is 1.
+#[inline]
 fn has(bits: u64, c: u32) -> bool
     ensures { result ≡ has bits c }
 {

@@ -62,6 +62,17 @@ fn sets(rt: HostRuntime) {
     assert!(rt; mask.within(Mask { bits: 0b1101 }) && !mask.within(other));
     assert_eq!(rt; mask.without(2).bits, 0b001);
     assert_eq!(rt; mask.without(1).bits, 0b101);
+    union_laws();
+}
+
+#[test]
+fn pops_the_channels_in_order(rt: HostRuntime) {
+    let mut mask = Mask {
+        bits: 0x8000_0000_0000_0011,
+    };
+    for channel in [Some(0), Some(4), Some(63), None, None] {
+        assert_eq!(rt; mask.pop_first(), channel);
+    }
 }
 
 #[test]

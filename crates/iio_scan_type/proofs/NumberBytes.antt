@@ -1,9 +1,10 @@
 -- Bytes of numbers, and numbers of bytes.
-use Rattle.std.proofs.Common.{◌≡◌, ℕ, zero, suc, ◌+◌, ◌-◌, ◌*◌, ◌^◌, ◌≤◌, List, [], ◌∷◌, ◌++◌, length, take, drop, reverse, replicate, refl, ap, ◌∙◌, arith}
+use Rattle.std.proofs.Common.{◌≡◌, ℕ, zero, suc, ◌+◌, ◌-◌, ◌*◌, ◌^◌, ◌≤◌, List, [], ◌∷◌, ◌++◌, length, take, drop, reverse, replicate, refl, ap, ◌∙◌, inl, inr, arith}
 use Rattle.std.proofs.Math.Nat.{pow-succ'}
+use Rattle.std.proofs.lemmas.Bool.{cases_lt}
 use Rattle.std.proofs.lemmas.List.{reverse-append, take-replicate, drop_all, append-nil}
 use Rattle.std.proofs.lemmas.Grind.{common_steps}
-use Rattle.std.specs.Int.{bytes_low_first, byte_at, from_le_bytes, from_be_bytes, w64}
+use Rattle.std.specs.Int.{bytes_low_first, bytes_high_first, byte_at, from_le_bytes, from_be_bytes, w64}
 use Rattle.iio_scan_type.specs.Bytes.{low_first_number}
 
 -- fewer bytes are the first of more
@@ -11,6 +12,15 @@ pub take-bytes_low_first : (i k m n : ℕ) → k ≤ m → take k (bytes_low_fir
 take-bytes_low_first i zero m n h = refl
 take-bytes_low_first i (suc k) zero n h = absurd (omega arith)
 take-bytes_low_first i (suc k) (suc m) n h = ap (λ t. byte_at i n ∷ t) (take-bytes_low_first (suc i) k m n (omega arith))
+
+-- and the last
+pub drop-bytes_high_first : (k m n : ℕ) → k ≤ m → drop (m - k) (bytes_high_first m n) ≡ bytes_high_first k n
+drop-bytes_high_first k zero n h = let none : k ≡ 0 = omega arith in rw none refl
+drop-bytes_high_first k (suc m) n h =
+    elim (cases_lt m k) [
+      | inl all ↦ let same : k ≡ suc m = omega arith in let none : suc m - suc m ≡ 0 = omega arith in rw (same, none) refl
+      | inr fewer ↦ let next : suc m - k ≡ suc (m - k) = omega arith in rw next (drop-bytes_high_first k m n fewer)
+    ]
 
 regroup : (x l p y : ℕ) → x + 256 * (l + p * y) ≡ x + 256 * l + 256 * p * y
 regroup x l p y = grind arith

@@ -6,7 +6,7 @@ use Rattle.std.proofs.lemmas.Bool.Decides.{nat_tests}
 use Rattle.std.proofs.lemmas.Int.{ints, to_z_pos, to_z-of_z}
 use Rattle.std.specs.Int.{IsPowerOfTwo, w64, cast_unsigned, cast_signed, int_shr, saturate_signed, int_min, int_max}
 use Rattle.iio_scan_type.specs.Bytes.{low_bits, value_by, value_in}
-use Rattle.iio_scan_type.specs.Format.{Format, size_of, IsInProfile, most_realbits, is_storage, is_repeat, least_by, greatest_by}
+use Rattle.iio_scan_type.specs.Format.{Format, size_of, IsInProfile, max_realbits, is_storage, is_repeat, least_by, greatest_by}
 use Rattle.iio_scan_type.specs.declared.Sign.TheVariants.{Signed, Unsigned}
 
 last_row : (x y : ℕ) → 0 < x → 0 < y → x * y - 1 ≡ (x - 1) * y + (y - 1)
@@ -120,7 +120,7 @@ pub record Bounds (f : Format) : Type 0 where
   pub storage : IsTrue (is_storage f.storagebits)
   pub repeat : IsTrue (is_repeat f.repeat)
   pub few : f.repeat ≤ 8
-  pub most : f.realbits ≤ most_realbits f.sign
+  pub most : f.realbits ≤ max_realbits f.sign
 
 pub bounds_of : (f : Format) → IsInProfile f → Bounds f
 bounds_of f h = record { some = grind (arith, nat_tests); within = grind (arith, nat_tests); word = grind (arith, nat_tests); storage = grind (arith, nat_tests); repeat = grind (arith, nat_tests); few = grind (arith, nat_tests); most = grind (arith, nat_tests) }

@@ -4,7 +4,7 @@ use Rattle.std.specs.Int.{int_min, int_max}
 use Rattle.iio_scan_type.specs.declared.Sign.{Sign}
 use Rattle.iio_scan_type.specs.declared.Sign.TheVariants.{Signed, Unsigned}
 use Rattle.iio_scan_type.specs.declared.Endian.{Endian}
-use Rattle.iio_scan_type.specs.declared.TheConstants.{CHANNEL_LIMIT}
+use Rattle.iio_scan_type.specs.declared.TheConstants.{MAX_CHANNEL_SIZE, MAX_REPEAT}
 
 -- a scan type: sign, bits of the value, bits of its storage, places it is shifted to the left, elements, byte order
 -- (kernel ABI, sysfs-bus-iio, `in_*_type`)
@@ -25,9 +25,9 @@ abbrev pub size_of : Format → ℕ
 size_of f = f.storagebits / 8 * f.repeat
 
 -- the most bits of a value: each value is a signed number of 64 bits (this project's own)
-abbrev pub most_realbits : Sign → ℕ
-most_realbits Signed = 64
-most_realbits Unsigned = 63
+abbrev pub max_realbits : Sign → ℕ
+max_realbits Signed = 64
+max_realbits Unsigned = 63
 
 -- a storage of whole words
 abbrev pub is_storage : ℕ → Bool
@@ -35,13 +35,13 @@ is_storage n = n == 8 || n == 16 || n == 32 || n == 64
 
 -- a count of elements
 abbrev pub is_repeat : ℕ → Bool
-is_repeat n = n == 1 || n == 2 || n == 4 || n == 8
+is_repeat n = n == 1 || n == 2 || n == 4 || n == MAX_REPEAT
 
 -- the scan types that there are (this project's own profile)
 abbrev pub in_profile : Format → Bool
 in_profile f =
-    is_storage f.storagebits && is_repeat f.repeat && nat_le (size_of f) CHANNEL_LIMIT && nat_le 1 f.realbits
-    && nat_le f.realbits (most_realbits f.sign)
+    is_storage f.storagebits && is_repeat f.repeat && nat_le (size_of f) MAX_CHANNEL_SIZE && nat_le 1 f.realbits
+    && nat_le f.realbits (max_realbits f.sign)
     && nat_le (f.realbits + f.shift) f.storagebits
 
 -- the same, as a fact

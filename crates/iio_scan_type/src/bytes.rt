@@ -1,20 +1,52 @@
 //! Numbers as bytes in a byte order.
 #![tactic(auto)]
 
-ghost use Rattle.std.specs.Prelude.{◌≡◌, ◌^◌, ◌<◌, ◌≤◌, ◌*◌, length};
+ghost use Rattle.std.specs.Prelude.{◌≡◌, ◌^◌, ◌-◌, ◌<◌, ◌≤◌, ◌*◌, length, take, drop};
 ghost use Rattle.iio_scan_type.specs.Bytes.{number_bytes, number_of};
 
 use crate::Endian;
 
 /// Writes the lowest bytes of a number, as many as there is room for.
+#[inline]
 pub fn write_number(number: u64, endian: Endian, out: &mut [u8])
     requires { length out.old ≤ 8 }
     ensures { out.new ≡ number_bytes endian (length out.old) number }
 {
-    let size = out.len();
     match endian {
-        Endian::Little => out.copy_from_slice(&number.to_le_bytes()[..size]),
-        Endian::Big => out.copy_from_slice(&number.to_be_bytes()[8 - size..]),
+        Endian::Little => write_front(&number.to_le_bytes(), out),
+        Endian::Big => write_back(&number.to_be_bytes(), out),
+    }
+}
+
+// Each size of an element has a copy of its own, whose length is known when it is compiled.
+
+/// The first bytes.
+#[inline]
+fn write_front(bytes: &[u8; 8], out: &mut [u8])
+    requires { length out.old ≤ 8 }
+    ensures { out.new ≡ take (length out.old) bytes.now }
+{
+    match out.len() {
+        1 => out.copy_from_slice(&bytes[..1]),
+        2 => out.copy_from_slice(&bytes[..2]),
+        4 => out.copy_from_slice(&bytes[..4]),
+        8 => out.copy_from_slice(bytes),
+        size => out.copy_from_slice(&bytes[..size]),
+    }
+}
+
+/// The last bytes.
+#[inline]
+fn write_back(bytes: &[u8; 8], out: &mut [u8])
+    requires { length out.old ≤ 8 }
+    ensures { out.new ≡ drop (8 - length out.old) bytes.now }
+{
+    match out.len() {
+        1 => out.copy_from_slice(&bytes[7..]),
+        2 => out.copy_from_slice(&bytes[6..]),
+        4 => out.copy_from_slice(&bytes[4..]),
+        8 => out.copy_from_slice(bytes),
+        size => out.copy_from_slice(&bytes[8 - size..]),
     }
 }
 

@@ -5,10 +5,10 @@
 //! sysfs-bus-iio).
 #![tactic(auto)]
 
-ghost use Rattle.std.specs.Prelude.{◌≡◌, ℕ, ◌+◌, ◌/◌, ◌%◌, ◌^◌, ◌<◌, ◌≤◌, ◌+ℤ◌, ◌≤ℤ◌, length, pos, slice_index_or, Some, None};
+ghost use Rattle.std.specs.Prelude.{◌≡◌, ℕ, ◌+◌, ◌*◌, ◌/◌, ◌%◌, ◌^◌, ◌<◌, ◌≤◌, ◌+ℤ◌, ◌≤ℤ◌, length, pos, slice_index_or, Some, None};
 ghost use Rattle.std.specs.Int.{IsPowerOfTwo};
 ghost use Rattle.iio_scan_type.specs.Bytes.{channel_bytes, element_at, element_bytes, low_bits, number_of, value_at, value_in};
-ghost use Rattle.iio_scan_type.specs.Format.{IsInProfile, IsInRange, element_size, greatest_of, is_repeat, is_storage, least_of, most_realbits, saturated, size_of, stamp_format};
+ghost use Rattle.iio_scan_type.specs.Format.{IsInProfile, IsInRange, element_size, greatest_of, is_repeat, is_storage, least_of, max_realbits, saturated, size_of, stamp_format};
 ghost use Rattle.iio_scan_type.specs.Text.{profiled};
 
 use std::marker::Model;
@@ -23,7 +23,10 @@ pub use iio_base::Mem;
 pub use text::{print_type, read_type};
 
 /// The most bytes of a channel, all its elements together.
-pub const CHANNEL_LIMIT: u32 = 8;
+pub const MAX_CHANNEL_SIZE: u32 = 16;
+
+/// The most elements of a channel.
+pub const MAX_REPEAT: u8 = 8;
 
 /// Whether the values of a type have a sign.
 #[derive(Clone, Copy, Debug, PartialEq, Eq)]
@@ -40,7 +43,7 @@ pub enum Endian {
 }
 
 /// The type of a channel's elements. Each one is in the profile: a storage of 8, 16, 32 or 64 bits,
-/// 1, 2, 4 or 8 elements, at most `CHANNEL_LIMIT` bytes in all, and a value of 1 to 63 bits, or of 64
+/// 1, 2, 4 or `MAX_REPEAT` elements, at most `MAX_CHANNEL_SIZE` bytes in all, and a value of 1 to 63 bits, or of 64
 /// where it is signed, which lies within its storage after the shift.
 #[derive(Clone, Copy, Debug, PartialEq, Eq)]
 pub struct ScanType {
@@ -75,11 +78,11 @@ fn is_storage(bits: u8) -> bool
 fn is_repeat(count: u8) -> bool
     ensures { result ≡ is_repeat count }
 {
-    count == 1 || count == 2 || count == 4 || count == 8
+    count == 1 || count == 2 || count == 4 || count == MAX_REPEAT
 }
 
-fn most_realbits(sign: Sign) -> u8
-    ensures { result ≡ most_realbits sign }
+fn max_realbits(sign: Sign) -> u8
+    ensures { result ≡ max_realbits sign }
 {
     match sign {
         Sign::Signed => 64,
@@ -108,9 +111,9 @@ impl ScanType {
     {
         if is_storage(storagebits)
             && is_repeat(repeat)
-            && storagebits as u32 / 8 * repeat as u32 <= CHANNEL_LIMIT
+            && storagebits as u32 / 8 * repeat as u32 <= MAX_CHANNEL_SIZE
             && 1 <= realbits
-            && realbits <= most_realbits(sign)
+            && realbits <= max_realbits(sign)
             && realbits as u32 + shift as u32 <= storagebits as u32
         {
             Some(ScanType {
@@ -169,33 +172,48 @@ impl ScanType {
     }
 
     /// The number of elements of a channel.
+    #[inline]
     pub fn repeat(&self) -> u8
         ensures value { result ≡ self.now.repeat }
         ensures some { 1 ≤ result }
-        ensures few { result ≤ CHANNEL_LIMIT }
+        ensures few { result ≤ MAX_REPEAT }
     {
         self.repeat
     }
 
     /// The byte order of an element.
+    #[inline]
     pub fn endian(&self) -> Endian
         ensures { result ≡ self.now.endian }
     {
         self.endian
     }
 
+    /// How many bytes one element has: the bits of its storage, in bytes.
+    #[inline]
+    pub fn element_size(&self) -> u32
+        ensures value { result ≡ element_size self.now }
+        ensures whole { result * self.now.repeat ≡ size_of self.now }
+        ensures some { 1 ≤ result }
+        ensures few { result ≤ MAX_CHANNEL_SIZE }
+    {
+        u32::from(self.storagebits / 8)
+    }
+
     /// How many bytes a channel of this type has in a scan: all its elements. It is a power of two.
+    #[inline]
     pub fn size(&self) -> u32
         ensures value { result ≡ size_of self.now }
         ensures profile { IsInProfile self.now }
         ensures power { IsPowerOfTwo result }
         ensures some { 1 ≤ result }
-        ensures few { result ≤ CHANNEL_LIMIT }
+        ensures few { result ≤ MAX_CHANNEL_SIZE }
     {
         self.storagebits as u32 / 8 * self.repeat as u32
     }
 
     /// The least and the greatest value.
+    #[inline]
     pub fn range(&self) -> (i64, i64)
         ensures least { result.0 ≡ least_of self.now }
         ensures greatest { result.1 ≡ greatest_of self.now }
@@ -211,6 +229,7 @@ impl ScanType {
     }
 
     /// The value, or the nearer end of the range where it lies outside.
+    #[inline]
     pub fn saturate(&self, value: i64) -> i64
         ensures value { result ≡ saturated self.now value }
         ensures in_range { IsInRange self.now result }
@@ -220,6 +239,7 @@ impl ScanType {
     }
 
     /// The exact sum of both, or the nearer end of the range where it lies outside.
+    #[inline]
     pub fn saturating_sum(&self, value: i64, bias: i64) -> i64
         ensures value { result ≡ saturated self.now (value +ℤ bias) }
         ensures in_range { IsInRange self.now result }
@@ -244,8 +264,10 @@ impl ScanType {
         }
     }
 
-    /// Writes one element.
-    fn put_element(&self, value: i64, out: &mut [u8])
+    /// Writes one element in its storage. Bits that lie outside the shifted value are 0. Of a value outside the range
+    /// its lowest `realbits` bits are written.
+    #[inline]
+    pub fn put_element(&self, value: i64, out: &mut [u8])
         requires { length out.old ≡ element_size self.now }
         ensures { out.new ≡ element_bytes self.now value }
     {

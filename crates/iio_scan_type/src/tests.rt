@@ -1,21 +1,24 @@
 use super::*;
 use std::process::Abort;
 
-/// A text that is right, and how it is printed.
-const RIGHT: [(&str, &str); 10] = [
-    ("le:u12/16>>4", "le:u12/16>>4"),
-    ("be:u12/16", "be:u12/16>>0"),
-    ("be:u12/16>>0", "be:u12/16>>0"),
-    ("le:s32/32X2>>0", "le:s32/32X2>>0"),
-    ("le:s32/32X2", "le:s32/32X2>>0"),
-    ("le:s8/8X8>>0", "le:s8/8X8>>0"),
-    ("le:s64/64>>0", "le:s64/64>>0"),
-    ("be:u63/64>>1", "be:u63/64>>1"),
-    ("be:u1/8>>7", "be:u1/8>>7"),
-    ("le:s1/64>>63", "le:s1/64>>63"),
+/// A text that is valid, how it is printed, and the bytes of a channel.
+const VALID: [(&str, &str, u32); 13] = [
+    ("le:u12/16>>4", "le:u12/16>>4", 2),
+    ("be:u12/16", "be:u12/16>>0", 2),
+    ("be:u12/16>>0", "be:u12/16>>0", 2),
+    ("le:s32/32X2>>0", "le:s32/32X2>>0", 8),
+    ("le:s32/32X2", "le:s32/32X2>>0", 8),
+    ("le:s32/32X4>>0", "le:s32/32X4>>0", 16),
+    ("le:s64/64X2>>0", "le:s64/64X2>>0", 16),
+    ("be:s16/16X8>>0", "be:s16/16X8>>0", 16),
+    ("le:s8/8X8>>0", "le:s8/8X8>>0", 8),
+    ("le:s64/64>>0", "le:s64/64>>0", 8),
+    ("be:u63/64>>1", "be:u63/64>>1", 8),
+    ("be:u1/8>>7", "be:u1/8>>7", 1),
+    ("le:s1/64>>63", "le:s1/64>>63", 8),
 ];
 
-const WRONG: [&str; 26] = [
+const INVALID: [&str; 28] = [
     "",
     "le",
     "le:",
@@ -40,7 +43,9 @@ const WRONG: [&str; 26] = [
     "le:u12/16>>5",
     "le:u0/16>>0",
     "le:u64/64>>0",
-    "le:s32/32X4>>0",
+    "le:s64/64X4>>0",
+    "le:s32/32X8>>0",
+    "le:s8/8X16>>0",
     "le:u112/16>>4",
 ];
 
@@ -111,11 +116,12 @@ const ENDS: [(&str, i64, &[u8], i64, &[u8]); 19] = [
 
 #[test]
 fn texts(rt: HostRuntime) -> Result<(), Mem> {
-    for (text, printed) in RIGHT {
-        let ty = read_type(text.as_bytes()).expect(&rt, "a right text");
+    for (text, printed, size) in VALID {
+        let ty = read_type(text.as_bytes()).expect(&rt, "a valid text");
         assert_eq!(rt; print_type(rt.alloc(), &ty)?.as_str(), printed);
+        assert_eq!(rt; ty.size(), size, "{text}");
     }
-    for text in WRONG {
+    for text in INVALID {
         assert!(rt; read_type(text.as_bytes()).is_none(), "{text}");
     }
     let stamp = ScanType::stamp(Endian::Little);
@@ -135,14 +141,14 @@ fn parts(rt: HostRuntime) {
     assert_eq!(rt; ty.size(), 4);
     assert_eq!(rt; read_type(b"be:u12/16X2>>4"), Some(ty));
     assert_eq!(rt;
-        ScanType::new(Sign::Signed, 32, 32, 0, 4, Endian::Little),
+        ScanType::new(Sign::Signed, 64, 64, 0, 4, Endian::Little),
         None
     );
 }
 
 /// What the one element of a type is written as, and read from that.
 fn written(rt: &impl Abort, ty: &ScanType, value: i64, bytes: &[u8], text: &str) {
-    let mut room = [0x55; 8];
+    let mut room = [0x55; 16];
     let size = ty.size() as usize;
     let out = &mut room[..size];
     assert!(rt; ty.repeat() == 1, "{text}");
@@ -175,4 +181,16 @@ fn elements(rt: HostRuntime) {
     assert_eq!(rt; ty.saturate(-5000), -2048);
     assert_eq!(rt; ty.saturate(-5), -5);
     assert_eq!(rt; ty.saturating_sum(40, 2), 42);
+    assert_eq!(rt; ty.element_size(), 2);
+    let mut element = [0xff; 2];
+    ty.put_element(-2, &mut element);
+    assert_eq!(rt; element, [0xff, 0xe0]);
+    let ty = ScanType::new(Sign::Signed, 32, 32, 0, 4, Endian::Little).expect(&rt, "16 bytes");
+    let mut out = [0x55; 16];
+    ty.put(&[1, 2, 3, -1], &mut out);
+    assert_eq!(rt;
+        out,
+        [1, 0, 0, 0, 2, 0, 0, 0, 3, 0, 0, 0, 255, 255, 255, 255]
+    );
+    assert_eq!(rt; ty.get(&out, 3), -1);
 }

@@ -4,26 +4,26 @@ use Rattle.std.proofs.Common.{◌≡◌, ℕ, ◌+◌, ◌≤◌, Bool, true, fa
 use Rattle.std.proofs.lemmas.List.{append-nil}
 use Rattle.std.specs.Str.{bytes_eq}
 use Rattle.iio_kfifo.specs.Queue.{Queue}
-use Rattle.iio_desc.specs.declared.description.DeviceDesc.{DeviceDesc}
+use Rattle.iio_desc.specs.Description.{DeviceRecord}
 use Rattle.iio_desc.specs.Description.{Description, trigger_name}
-use Rattle.iiod_grammar.specs.declared.Refused.{Refused}
+use Rattle.iiod_grammar.specs.declared.command.Refused.{Refused}
 use Rattle.iiod_grammar.specs.Command.{Command}
-use Rattle.iio_history.specs.Event.{Event, Heard, Polled, Handled}
-use Rattle.iio_history.specs.Registry.{Device, idle_device, devices_after}
-use Rattle.iio_history.specs.Outstanding.{Entry, outstanding, entries_of_poll, without_device}
-use Rattle.iio_history.specs.Capture.{Capture, capture_of, capture_of_entry, entry_of_device, values_at}
-use Rattle.iio_history.specs.Log.{Entry as Logged, Captured, logged_capture, membership_log, joins, scans_asked, logged_take}
-use Rattle.iio_history.specs.Queue.{Queue as Private, offered, private_queue}
-use Rattle.iio_history.specs.Transcript.{poll_line, handle_line, handle_lines, fire_lines, after_fire, after_handled}
+use Rattle.iio_single.specs.Event.{Event, Heard, Polled, Handled}
+use Rattle.iio_single.specs.Registry.{Device, idle_device, devices_after}
+use Rattle.iio_single.specs.Outstanding.{Entry, outstanding, entries_of_poll, without_device}
+use Rattle.iio_single.specs.Capture.{Capture, capture_of, capture_of_entry, entry_of_device, values_at}
+use Rattle.iio_single.specs.Log.{Entry as Logged, Captured, logged_capture, membership_log, joins, scans_asked, logged_take}
+use Rattle.iio_single.specs.Queue.{Queue as Private, offered, private_queue}
+use Rattle.iio_single.specs.Transcript.{poll_line, handle_line, handle_lines, fire_lines, after_fire, after_handled}
 use Rattle.iio_script.specs.Bench.{path_of, SeatRecord, member_of_seat, devices_of, offered_to, seat_after_fire, seat_after_capture, scan_at, fired_lines, HasQueue, Stands}
 
 -- a description with these devices
-abbrev pub with_devices : Description → List DeviceDesc → Description
+abbrev pub with_devices : Description → List DeviceRecord → Description
 with_devices base ds = record base { devices = ds }
 
 -- ---- before the first step nobody has a device open
 
-first_devices : (ds : List DeviceDesc) → length ds ≤ 1 → map idle_device ds ≡ devices_of ds None
+first_devices : (ds : List DeviceRecord) → length ds ≤ 1 → map idle_device ds ≡ devices_of ds None
 first_devices [] few = refl
 first_devices (d ∷ []) few = refl
 first_devices (d ∷ e ∷ ds) few = absurd (omega arith)
@@ -37,14 +37,14 @@ passed_over : {A : Type 0} (b : Bool) (x y : A) → cond (b && false) x y ≡ y
 passed_over true x y = refl
 passed_over false x y = refl
 
-no_entry : (d : DeviceDesc) (t : ℤ) → entries_of_poll 0 t (devices_of (d ∷ []) None) ≡ []
+no_entry : (d : DeviceRecord) (t : ℤ) → entries_of_poll 0 t (devices_of (d ∷ []) None) ≡ []
 no_entry d t = by_trigger d.trigger
   where
     by_trigger : (k : Option ℕ) → entries_of_poll 0 t (record { trigger = k; members = []; attachment = 0 } ∷ []) ≡ []
     by_trigger None = refl
     by_trigger (Some k) = passed_over _ _ _
 
-one_entry : (d : DeviceDesc) (t : ℤ) (m : SeatRecord) → d.trigger ≡ Some 0
+one_entry : (d : DeviceRecord) (t : ℤ) (m : SeatRecord) → d.trigger ≡ Some 0
     → entries_of_poll 0 t (devices_of (d ∷ []) (Some m)) ≡ record { device = 0; attachment = 1; moment = t } ∷ []
 one_entry d t m on = ap (λ (k : Option ℕ). entries_of_poll 0 t (record { trigger = k; members = member_of_seat m ∷ []; attachment = 1 } ∷ [])) on
 
@@ -68,7 +68,7 @@ history_is desc t h seat s = rw s.idle (ap (λ (ds : List Device). after_handled
 
 -- ---- the capture that the handling makes
 
-fired_capture : (base : Description) (d : DeviceDesc) (t : ℤ) (h : List Event) (m : SeatRecord) → Stands (path_of base d) h (Some m)
+fired_capture : (base : Description) (d : DeviceRecord) (t : ℤ) (h : List Event) (m : SeatRecord) → Stands (path_of base d) h (Some m)
     → capture_of (path_of base d) (Polled 0 t ∷ h) 0 0 ≡ Some (record { moment = t; values = values_at d.shape d.rows t })
 fired_capture base d t h m s =
     let desc : Description = path_of base d in
@@ -83,7 +83,7 @@ pub fire_lines_is : (desc : Description) (t : ℤ) (h : List Event) (seat : Opti
 unfolding lines_by
 fire_lines_is desc t h seat few s = lines_are desc t h seat s ∙ by_devices desc desc.devices seat few s
   where
-    by_devices : (base : Description) (ds : List DeviceDesc) (seat : Option SeatRecord) → length ds ≤ 1 → Stands (with_devices base ds) h seat
+    by_devices : (base : Description) (ds : List DeviceRecord) (seat : Option SeatRecord) → length ds ≤ 1 → Stands (with_devices base ds) h seat
         → lines_by (with_devices base ds) t h (entries_of_poll 0 t (devices_of ds seat)) ≡ fired_lines (trigger_name base 0) ds seat
     by_devices base [] seat few s = append-nil (poll_line (with_devices base []) 0 (codes "accepted") 0)
     by_devices base (d ∷ []) None few s =
@@ -118,12 +118,12 @@ pub capacity_kept : (scan : List ℕ) (k : Queue) → (offered_to scan k).capaci
 capacity_kept scan k = capacity_by (nat_lt (length k.scans) k.capacity) scan k
 
 -- the log of the member has the capture
-fired_log : (base : Description) (d : DeviceDesc) (t : ℤ) (h : List Event) (m : SeatRecord) → Stands (path_of base d) h (Some m)
+fired_log : (base : Description) (d : DeviceRecord) (t : ℤ) (h : List Event) (m : SeatRecord) → Stands (path_of base d) h (Some m)
     → membership_log (path_of base d) m.who 0 (Handled 0 0 ∷ Polled 0 t ∷ h)
     ≡ Captured (record { moment = t; values = values_at d.shape d.rows t }) ∷ membership_log (path_of base d) m.who 0 h
 fired_log base d t h m s = ap (λ (c : Option Capture). logged_capture c (membership_log (path_of base d) m.who 0 h)) (fired_capture base d t h m s)
 
-fired_queue : (base : Description) (d : DeviceDesc) (t : ℤ) (h : List Event) (m : SeatRecord) → Stands (path_of base d) h (Some m)
+fired_queue : (base : Description) (d : DeviceRecord) (t : ℤ) (h : List Event) (m : SeatRecord) → Stands (path_of base d) h (Some m)
     → HasQueue (path_of base d) (Handled 0 0 ∷ Polled 0 t ∷ h) (seat_after_capture d t (Some m))
 fired_queue base d t h m s =
     let scan = scan_at d m t in
@@ -132,12 +132,12 @@ fired_queue base d t h m s =
     ∙ ap (λ (l : List Logged). (private_queue d.shape bits m.queue.capacity l).scans) (fired_log base d t h m s)
     ∙ offer_is scan (private_queue d.shape bits m.queue.capacity (membership_log (path_of base d) m.who 0 h)) m.queue s.queue
 
-seated_device : (d : DeviceDesc) (t : ℤ) (m : SeatRecord) → devices_of (d ∷ []) (Some m) ≡ devices_of (d ∷ []) (seat_after_capture d t (Some m))
+seated_device : (d : DeviceRecord) (t : ℤ) (m : SeatRecord) → devices_of (d ∷ []) (Some m) ≡ devices_of (d ∷ []) (seat_after_capture d t (Some m))
 seated_device d t m = ap (λ (n : ℕ). (record { trigger = d.trigger; members = (record { who = m.who; mask = m.mask.bits; capacity = n }) ∷ []; attachment = 1 }) ∷ []) (sym (capacity_kept (scan_at d m t) m.queue))
 
 -- ---- the state afterwards
 
-polled_stands : (base : Description) (d : DeviceDesc) (t : ℤ) (h : List Event) → Stands (path_of base d) h None → Stands (path_of base d) (Polled 0 t ∷ h) None
+polled_stands : (base : Description) (d : DeviceRecord) (t : ℤ) (h : List Event) → Stands (path_of base d) h None → Stands (path_of base d) (Polled 0 t ∷ h) None
 polled_stands base d t h s = record {
   idle = polled_entries (path_of base d) t h None s ∙ no_entry d t;
   devices = s.devices;
@@ -145,7 +145,7 @@ polled_stands base d t h s = record {
   attached = tt;
 }
 
-captured_stands : (base : Description) (d : DeviceDesc) (t : ℤ) (h : List Event) (m : SeatRecord) → Stands (path_of base d) h (Some m)
+captured_stands : (base : Description) (d : DeviceRecord) (t : ℤ) (h : List Event) (m : SeatRecord) → Stands (path_of base d) h (Some m)
     → Stands (path_of base d) (Handled 0 0 ∷ Polled 0 t ∷ h) (seat_after_capture d t (Some m))
 captured_stands base d t h m s = record {
   idle = ap (without_device 0) (polled_entries (path_of base d) t h (Some m) s ∙ one_entry d t m s.attached);
@@ -158,7 +158,7 @@ pub fire_stands : (desc : Description) (t : ℤ) (h : List Event) (seat : Option
     → Stands desc (after_fire desc 0 t h) (seat_after_fire desc.devices t seat)
 fire_stands desc t h seat few s = rw (history_is desc t h seat s) (by_devices desc desc.devices seat few s)
   where
-    by_devices : (base : Description) (ds : List DeviceDesc) (seat : Option SeatRecord) → length ds ≤ 1 → Stands (with_devices base ds) h seat
+    by_devices : (base : Description) (ds : List DeviceRecord) (seat : Option SeatRecord) → length ds ≤ 1 → Stands (with_devices base ds) h seat
         → Stands (with_devices base ds) (after_handled 0 (entries_of_poll 0 t (devices_of ds seat)) (Polled 0 t ∷ h)) (seat_after_fire ds t seat)
     by_devices base [] None few s = record { idle = polled_entries (with_devices base []) t h None s; devices = s.devices; queue = tt; attached = tt }
     by_devices base [] (Some m) few s = absurd s.attached

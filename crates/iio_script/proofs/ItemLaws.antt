@@ -4,20 +4,20 @@ use Rattle.std.specs.Str.{bytes_eq}
 use Rattle.std.proofs.lemmas.Slice.Eq.{bytes_eq-Decides}
 use Rattle.iio_text.specs.declared.errors.Errno.{Errno}
 use Rattle.iio_text.specs.declared.errors.Errno.TheVariants.{EBUSY, EINVAL, ENOSPC, ENODEV}
-use Rattle.iio_mask.specs.Places.{union_of}
+use Rattle.iio_mask.specs.Mask.{union_of}
 use Rattle.iio_layout.specs.Active.{active_of}
-use Rattle.iio_desc.specs.declared.description.DeviceDesc.{DeviceDesc}
+use Rattle.iio_desc.specs.Description.{DeviceRecord}
 use Rattle.iio_desc.specs.Description.{Description, find_device, place_count}
-use Rattle.iiod_grammar.specs.declared.Refused.{Refused}
-use Rattle.iiod_grammar.specs.declared.Refused.TheVariants.{Empty}
+use Rattle.iiod_grammar.specs.declared.command.Refused.{Refused}
+use Rattle.iiod_grammar.specs.declared.command.Refused.TheVariants.{Empty}
 use Rattle.iiod_grammar.specs.Command.{Command, Open, ReadBuf}
 use Rattle.iio_layout.specs.Layout.{scan_size}
-use Rattle.iio_history.specs.Event.{Event, Heard}
-use Rattle.iio_history.specs.Registry.{Device, Member, is_attached, attached_count, exceeds, buffers_count, placed, open_at, mask_asked, may_join, open_answer, with_member, devices_after, devices_after_event}
-use Rattle.iio_history.specs.Queue.{private_queue}
-use Rattle.iio_history.specs.Log.{Entry as Logged, Taken, membership_log, joins, scans_asked}
-use Rattle.iio_history.specs.Transcript.{answers_to, after_items}
-use Rattle.iio_history.specs.Reply.{number_answer, reply_to, reply_by, read_answer, read_buffer_answer, scans_after}
+use Rattle.iio_single.specs.Event.{Event, Heard}
+use Rattle.iio_single.specs.Registry.{Device, Member, is_attached, attached_count, exceeds, buffers_count, placed, open_at, mask_asked, may_join, open_answer, with_member, devices_after, devices_after_event}
+use Rattle.iio_single.specs.Queue.{private_queue}
+use Rattle.iio_single.specs.Log.{Entry as Logged, Taken, membership_log, joins, scans_asked}
+use Rattle.iio_single.specs.Transcript.{answers_to, after_items}
+use Rattle.iio_single.specs.Reply.{number_answer, reply_to, reply_by, read_answer, read_buffer_answer, scans_after}
 use Rattle.iio_script.specs.Bench.{path_of, SeatRecord, member_of_seat, device_of_seat, devices_of, scans_of, answer_by, seat_of_member, seat_joined, with_taken, seat_after, answers_by, seat_after_items, HasQueue, IsAttached, IsOwn, Stands}
 use Rattle.iio_script.proofs.BenchLaws.{with_devices, log_kept}
 
@@ -29,15 +29,15 @@ pub same_bytes : (xs ys : List ℕ) → xs ≡ ys → bytes_eq xs ys ≡ true
 same_bytes xs ys h = (bytes_eq-Decides xs ys).1 h
 
 -- the one device, or none
-pub found : (base : Description) (d : DeviceDesc) (name : List ℕ) → bytes_eq d.name name ≡ true → find_device (path_of base d) name ≡ Some 0
+pub found : (base : Description) (d : DeviceRecord) (name : List ℕ) → bytes_eq d.name name ≡ true → find_device (path_of base d) name ≡ Some 0
 found base d name h = rw h refl
 
-pub missing : (base : Description) (d : DeviceDesc) (name : List ℕ) → bytes_eq d.name name ≡ false → find_device (path_of base d) name ≡ None
+pub missing : (base : Description) (d : DeviceRecord) (name : List ℕ) → bytes_eq d.name name ≡ false → find_device (path_of base d) name ≡ None
 missing base d name h = rw h refl
 
 -- ---- the answer to READBUF depends on what waits for the member alone
 
-read_seat : (base : Description) (d : DeviceDesc) (f g : ℕ → Member → List (List ℕ)) (who name : List ℕ) (asked : ℕ) (s : SeatRecord)
+read_seat : (base : Description) (d : DeviceRecord) (f g : ℕ → Member → List (List ℕ)) (who name : List ℕ) (asked : ℕ) (s : SeatRecord)
     → f 0 (member_of_seat s) ≡ g 0 (member_of_seat s)
     → read_buffer_answer (path_of base d) (devices_of (d ∷ []) (Some s)) f who name asked ≡ read_buffer_answer (path_of base d) (devices_of (d ∷ []) (Some s)) g who name asked
 read_seat base d f g who name asked s same = elim (cases (bytes_eq d.name name)) [
@@ -48,20 +48,20 @@ read_seat base d f g who name asked s same = elim (cases (bytes_eq d.name name))
   ])
 ]
 
-read_none : (base : Description) (d : DeviceDesc) (f g : ℕ → Member → List (List ℕ)) (who name : List ℕ) (asked : ℕ)
+read_none : (base : Description) (d : DeviceRecord) (f g : ℕ → Member → List (List ℕ)) (who name : List ℕ) (asked : ℕ)
     → read_buffer_answer (path_of base d) (devices_of (d ∷ []) None) f who name asked ≡ read_buffer_answer (path_of base d) (devices_of (d ∷ []) None) g who name asked
 read_none base d f g who name asked = elim (cases (bytes_eq d.name name)) [
   | inr none ↦ rw (missing base d name none, read_buffer_answer) refl
   | inl one ↦ rw (found base d name one, read_buffer_answer) refl
 ]
 
-read_same : (base : Description) (d : DeviceDesc) (h : List Event) (seat : Option SeatRecord) (who name : List ℕ) (asked : ℕ) → HasQueue (path_of base d) h seat
+read_same : (base : Description) (d : DeviceRecord) (h : List Event) (seat : Option SeatRecord) (who name : List ℕ) (asked : ℕ) → HasQueue (path_of base d) h seat
     → read_buffer_answer (path_of base d) (devices_of (d ∷ []) seat) (scans_after (path_of base d) h) who name asked
     ≡ read_buffer_answer (path_of base d) (devices_of (d ∷ []) seat) (scans_of seat) who name asked
 read_same base d h None who name asked queue = read_none base d (scans_after (path_of base d) h) (scans_of None) who name asked
 read_same base d h (Some s) who name asked queue = read_seat base d (scans_after (path_of base d) h) (scans_of (Some s)) who name asked s queue
 
-answer_by_devices : (base : Description) (ds : List DeviceDesc) (h : List Event) (seat : Option SeatRecord) (who name : List ℕ) (asked : ℕ) → length ds ≤ 1
+answer_by_devices : (base : Description) (ds : List DeviceRecord) (h : List Event) (seat : Option SeatRecord) (who name : List ℕ) (asked : ℕ) → length ds ≤ 1
     → HasQueue (with_devices base ds) h seat
     → read_buffer_answer (with_devices base ds) (devices_of ds seat) (scans_after (with_devices base ds) h) who name asked
     ≡ read_buffer_answer (with_devices base ds) (devices_of ds seat) (scans_of seat) who name asked
@@ -103,13 +103,13 @@ IsFirst None = Unit {0}
 IsFirst (Some k) = k ≡ 0
 
 -- an accepted OPEN finds the device without a member, and on its trigger
-pub record IsJoining (d : DeviceDesc) (who : List ℕ) (seat : Option SeatRecord) (m : Member) : Type 0 where
+pub record IsJoining (d : DeviceRecord) (who : List ℕ) (seat : Option SeatRecord) (m : Member) : Type 0 where
   pub empty : seat ≡ None
   pub own : m.who ≡ who
   pub attached : d.trigger ≡ Some 0
 
 -- the checks of a device without a member
-trigger_checked : Description → DeviceDesc → Member → Option ℕ → Result Member Errno
+trigger_checked : Description → DeviceRecord → Member → Option ℕ → Result Member Errno
 trigger_checked desc d m trigger = elim trigger [
   | None ↦ Err EINVAL
   | Some t ↦ elim (active_of d.shape (union_of m.mask 0)) [
@@ -118,7 +118,7 @@ trigger_checked desc d m trigger = elim trigger [
   ]
 ]
 
-trigger_passed : (desc : Description) (d : DeviceDesc) (m n : Member) (trigger : Option ℕ) → d.trigger ≡ trigger → IsFirst trigger → trigger_checked desc d m trigger ≡ Ok n
+trigger_passed : (desc : Description) (d : DeviceRecord) (m n : Member) (trigger : Option ℕ) → d.trigger ≡ trigger → IsFirst trigger → trigger_checked desc d m trigger ≡ Ok n
     → (m ≡ n) × (d.trigger ≡ Some 0)
 unfolding trigger_checked
 trigger_passed desc d m n None is first h = cc
@@ -131,7 +131,7 @@ trigger_passed desc d m n (Some t) is first h = (by_pick (active_of d.shape (uni
     by_pick None h = cc
     by_pick (Some active) h = pass _ ENOSPC m n h
 
-joined_member : (base : Description) (d : DeviceDesc) (who : List ℕ) (seat : Option SeatRecord) (m n : Member) → IsFirst d.trigger → IsOwn who seat → m.who ≡ who
+joined_member : (base : Description) (d : DeviceRecord) (who : List ℕ) (seat : Option SeatRecord) (m n : Member) → IsFirst d.trigger → IsOwn who seat → m.who ≡ who
     → may_join (path_of base d) (devices_of (d ∷ []) seat) d (device_of_seat d seat) m ≡ Ok n → IsJoining d who seat n
 unfolding trigger_checked
 joined_member base d who None m n first own same h =
@@ -142,15 +142,15 @@ joined_member base d who (Some s) m n first own same h =
     absurd (busy (bytes_eq s.who m.who) s _ n (guard (exceeds d m) EINVAL _ n h) mine)
 
 -- what an OPEN answers where the device is there
-pub open_found : (base : Description) (d : DeviceDesc) (seat : Option SeatRecord) (who name text : List ℕ) (samples : ℕ) → bytes_eq d.name name ≡ true
+pub open_found : (base : Description) (d : DeviceRecord) (seat : Option SeatRecord) (who name text : List ℕ) (samples : ℕ) → bytes_eq d.name name ≡ true
     → open_answer (path_of base d) (devices_of (d ∷ []) seat) who name samples text ≡ open_at (path_of base d) (devices_of (d ∷ []) seat) d (device_of_seat d seat) who 0 samples text
 open_found base d seat who name text samples one = rw (found base d name one, open_answer) refl
 
-pub open_missing : (base : Description) (d : DeviceDesc) (seat : Option SeatRecord) (who name text : List ℕ) (samples : ℕ) → bytes_eq d.name name ≡ false
+pub open_missing : (base : Description) (d : DeviceRecord) (seat : Option SeatRecord) (who name text : List ℕ) (samples : ℕ) → bytes_eq d.name name ≡ false
     → open_answer (path_of base d) (devices_of (d ∷ []) seat) who name samples text ≡ Err ENODEV
 open_missing base d seat who name text samples none = rw (missing base d name none, open_answer) refl
 
-joined_at : (base : Description) (d : DeviceDesc) (seat : Option SeatRecord) (who text : List ℕ) (samples : ℕ) (j : ℕ × Member) → IsFirst d.trigger → IsOwn who seat
+joined_at : (base : Description) (d : DeviceRecord) (seat : Option SeatRecord) (who text : List ℕ) (samples : ℕ) (j : ℕ × Member) → IsFirst d.trigger → IsOwn who seat
     → open_at (path_of base d) (devices_of (d ∷ []) seat) d (device_of_seat d seat) who 0 samples text ≡ Ok j → (j.0 ≡ 0) × IsJoining d who seat j.1
 joined_at base d seat who text samples j first own h = by_mask (mask_asked d text) h
   where
@@ -169,7 +169,7 @@ joined_at base d seat who text samples j first own h = by_mask (mask_asked d tex
             let same : m ≡ j.1 = cc in
             (sym place, subst (λ (x : Member). IsJoining d who seat x) same (joined_member base d who seat (record { who = who; mask = mask; capacity = samples * buffers_count }) m first own refl is))
 
-pub joined_by : (base : Description) (d : DeviceDesc) (seat : Option SeatRecord) (who name text : List ℕ) (samples : ℕ) (j : ℕ × Member) → IsFirst d.trigger → IsOwn who seat
+pub joined_by : (base : Description) (d : DeviceRecord) (seat : Option SeatRecord) (who name text : List ℕ) (samples : ℕ) (j : ℕ × Member) → IsFirst d.trigger → IsOwn who seat
     → open_answer (path_of base d) (devices_of (d ∷ []) seat) who name samples text ≡ Ok j → (j.0 ≡ 0) × IsJoining d who seat j.1
 joined_by base d seat who name text samples j first own h = by_name (cases (bytes_eq d.name name))
   where
@@ -184,7 +184,7 @@ abbrev scans_by : Description → SeatRecord → List Logged → List (List ℕ)
 scans_by desc m log = elim (slice_get desc.devices 0) [ None ↦ [] | Some d ↦ (private_queue d.shape m.mask.bits m.queue.capacity log).scans ]
 
 -- an accepted OPEN begins a log
-joined_log : (base : Description) (d : DeviceDesc) (h : List Event) (seat : Option SeatRecord) (who name text : List ℕ) (samples : ℕ) (cyclic : Bool) (j : ℕ × Member)
+joined_log : (base : Description) (d : DeviceRecord) (h : List Event) (seat : Option SeatRecord) (who name text : List ℕ) (samples : ℕ) (cyclic : Bool) (j : ℕ × Member)
     → Stands (path_of base d) h seat → open_answer (path_of base d) (devices_of (d ∷ []) seat) who name samples text ≡ Ok j → j.0 ≡ 0 → j.1.who ≡ who
     → membership_log (path_of base d) j.1.who 0 (Heard who (Ok (Open name samples text cyclic)) ∷ h) ≡ []
 joined_log base d h seat who name text samples cyclic j s is place own =
@@ -194,10 +194,10 @@ joined_log base d h seat who name text samples cyclic j s is place own =
     rw (mine, joins_now) refl
 
 -- the first member of the device
-seat_placed : (d : DeviceDesc) (seat : Option SeatRecord) (j : ℕ × Member) → j.0 ≡ 0 → seat ≡ None → with_member (devices_of (d ∷ []) seat) j.0 j.1 ≡ devices_of (d ∷ []) (Some (seat_of_member d j.1))
+seat_placed : (d : DeviceRecord) (seat : Option SeatRecord) (j : ℕ × Member) → j.0 ≡ 0 → seat ≡ None → with_member (devices_of (d ∷ []) seat) j.0 j.1 ≡ devices_of (d ∷ []) (Some (seat_of_member d j.1))
 seat_placed d seat j place empty = ap (λ (k : ℕ). with_member (devices_of (d ∷ []) seat) k j.1) place ∙ ap (λ (o : Option SeatRecord). with_member (devices_of (d ∷ []) o) 0 j.1) empty
 
-open_step : (base : Description) (d : DeviceDesc) (h : List Event) (seat : Option SeatRecord) (who name text : List ℕ) (samples : ℕ) (cyclic : Bool)
+open_step : (base : Description) (d : DeviceRecord) (h : List Event) (seat : Option SeatRecord) (who name text : List ℕ) (samples : ℕ) (cyclic : Bool)
     → IsFirst d.trigger → IsOwn who seat → Stands (path_of base d) h seat → (r : Result (ℕ × Member) Errno) → open_answer (path_of base d) (devices_of (d ∷ []) seat) who name samples text ≡ r
     → Stands (path_of base d) (Heard who (Ok (Open name samples text cyclic)) ∷ h) (elim r [ Err e ↦ seat | Ok j ↦ seat_joined (d ∷ []) j.1 ])
 open_step base d h seat who name text samples cyclic first own s (Err e) is = record {
@@ -225,16 +225,16 @@ open_step base d h seat who name text samples cyclic first own s (Ok j) is =
     }
 
 -- READBUF
-taken_devices : (d : DeviceDesc) (r : Option ℕ) (seat : Option SeatRecord) → devices_of (d ∷ []) seat ≡ devices_of (d ∷ []) (elim r as (λ _. Option SeatRecord) [ None ↦ seat | Some k ↦ option_map (with_taken k) seat ])
+taken_devices : (d : DeviceRecord) (r : Option ℕ) (seat : Option SeatRecord) → devices_of (d ∷ []) seat ≡ devices_of (d ∷ []) (elim r as (λ _. Option SeatRecord) [ None ↦ seat | Some k ↦ option_map (with_taken k) seat ])
 taken_devices d None seat = refl
 taken_devices d (Some k) None = refl
 taken_devices d (Some k) (Some m) = refl
 
-taken_attached : (d : DeviceDesc) (r : Option ℕ) (m : SeatRecord) → d.trigger ≡ Some 0 → IsAttached (d ∷ []) (elim r as (λ _. Option SeatRecord) [ None ↦ Some m | Some k ↦ option_map (with_taken k) (Some m) ])
+taken_attached : (d : DeviceRecord) (r : Option ℕ) (m : SeatRecord) → d.trigger ≡ Some 0 → IsAttached (d ∷ []) (elim r as (λ _. Option SeatRecord) [ None ↦ Some m | Some k ↦ option_map (with_taken k) (Some m) ])
 taken_attached d None m on = on
 taken_attached d (Some k) m on = on
 
-taken_queue : (base : Description) (d : DeviceDesc) (h : List Event) (m : SeatRecord) (who name : List ℕ) (bytes : ℕ) → m.who ≡ who → Stands (path_of base d) h (Some m)
+taken_queue : (base : Description) (d : DeviceRecord) (h : List Event) (m : SeatRecord) (who name : List ℕ) (bytes : ℕ) → m.who ≡ who → Stands (path_of base d) h (Some m)
     → (r : Option ℕ) → scans_asked (path_of base d) (devices_of (d ∷ []) (Some m)) who 0 (Ok (ReadBuf name bytes)) ≡ r
     → HasQueue (path_of base d) (Heard who (Ok (ReadBuf name bytes)) ∷ h) (elim r as (λ _. Option SeatRecord) [ None ↦ Some m | Some k ↦ option_map (with_taken k) (Some m) ])
 taken_queue base d h m who name bytes own s None is =
@@ -248,7 +248,7 @@ taken_queue base d h m who name bytes own s (Some k) is =
     let log : membership_log (path_of base d) m.who 0 (Heard who (Ok (ReadBuf name bytes)) ∷ h) ≡ Taken k ∷ membership_log (path_of base d) m.who 0 h = rw (mine, asked) refl in
     ap (scans_by (path_of base d) m) log ∙ ap (λ (scans : List (List ℕ)). drop k scans) s.queue
 
-read_step : (base : Description) (d : DeviceDesc) (h : List Event) (seat : Option SeatRecord) (who name : List ℕ) (bytes : ℕ) → IsOwn who seat → Stands (path_of base d) h seat
+read_step : (base : Description) (d : DeviceRecord) (h : List Event) (seat : Option SeatRecord) (who name : List ℕ) (bytes : ℕ) → IsOwn who seat → Stands (path_of base d) h seat
     → (r : Option ℕ) → scans_asked (path_of base d) (devices_of (d ∷ []) seat) who 0 (Ok (ReadBuf name bytes)) ≡ r
     → Stands (path_of base d) (Heard who (Ok (ReadBuf name bytes)) ∷ h) (elim r as (λ _. Option SeatRecord) [ None ↦ seat | Some k ↦ option_map (with_taken k) seat ])
 read_step base d h None who name bytes own s None is = record { idle = s.idle; devices = s.devices; queue = tt; attached = tt }
@@ -277,7 +277,7 @@ none_stands base h None who (Ok (ReadBuf name bytes)) s = record { idle = s.idle
 none_stands base h None who item s = record { idle = s.idle; devices = s.devices; queue = tt; attached = tt }
 none_stands base h (Some m) who item s = absurd s.attached
 
-one_stands : (base : Description) (d : DeviceDesc) (h : List Event) (seat : Option SeatRecord) (who : List ℕ) (item : Result Command Refused) → IsFirst d.trigger → IsOwn who seat
+one_stands : (base : Description) (d : DeviceRecord) (h : List Event) (seat : Option SeatRecord) (who : List ℕ) (item : Result Command Refused) → IsFirst d.trigger → IsOwn who seat
     → Stands (path_of base d) h seat → Stands (path_of base d) (Heard who item ∷ h) (seat_after (path_of base d) seat who item)
 one_stands base d h seat who (Ok (Open name samples text cyclic)) first own s =
     open_step base d h seat who name text samples cyclic first own s (open_answer (path_of base d) (devices_of (d ∷ []) seat) who name samples text) refl
@@ -291,7 +291,7 @@ one_stands base d h seat who item first own s = record {
 }
 
 -- the description of this stage: at most one device, whose trigger, if any, is the first
-abbrev pub AreFirst : List DeviceDesc → Type 0
+abbrev pub AreFirst : List DeviceRecord → Type 0
 AreFirst [] = Unit {0}
 AreFirst (d ∷ ds) = IsFirst d.trigger × AreFirst ds
 
@@ -303,7 +303,7 @@ pub heard_stands : (desc : Description) (h : List Event) (seat : Option SeatReco
     → Stands desc (Heard who item ∷ h) (seat_after desc seat who item)
 heard_stands desc h seat who item one own s = by_devices desc desc.devices one.few one.first s
   where
-    by_devices : (base : Description) (ds : List DeviceDesc) → length ds ≤ 1 → AreFirst ds → Stands (with_devices base ds) h seat
+    by_devices : (base : Description) (ds : List DeviceRecord) → length ds ≤ 1 → AreFirst ds → Stands (with_devices base ds) h seat
         → Stands (with_devices base ds) (Heard who item ∷ h) (seat_after (with_devices base ds) seat who item)
     by_devices base [] few first s = none_stands base h seat who item s
     by_devices base (d ∷ []) few first s = one_stands base d h seat who item first.0 own s
@@ -315,7 +315,7 @@ none_own base seat who (Ok (Open name samples text cyclic)) own = own
 none_own base seat who (Ok (ReadBuf name bytes)) own = own
 none_own base seat who item own = own
 
-one_own : (base : Description) (d : DeviceDesc) (seat : Option SeatRecord) (who : List ℕ) (item : Result Command Refused) → IsFirst d.trigger → IsOwn who seat
+one_own : (base : Description) (d : DeviceRecord) (seat : Option SeatRecord) (who : List ℕ) (item : Result Command Refused) → IsFirst d.trigger → IsOwn who seat
     → IsOwn who (seat_after (path_of base d) seat who item)
 one_own base d seat who (Ok (Open name samples text cyclic)) first own = opened (open_answer (path_of base d) (devices_of (d ∷ []) seat) who name samples text) refl
   where
@@ -335,7 +335,7 @@ pub heard_own : (desc : Description) (seat : Option SeatRecord) (who : List ℕ)
     → IsOwn who (seat_after desc seat who item)
 heard_own desc seat who item one own = by_devices desc desc.devices one.few one.first
   where
-    by_devices : (base : Description) (ds : List DeviceDesc) → length ds ≤ 1 → AreFirst ds → IsOwn who (seat_after (with_devices base ds) seat who item)
+    by_devices : (base : Description) (ds : List DeviceRecord) → length ds ≤ 1 → AreFirst ds → IsOwn who (seat_after (with_devices base ds) seat who item)
     by_devices base [] few first = none_own base seat who item own
     by_devices base (d ∷ []) few first = one_own base d seat who item first.0 own
     by_devices base (d ∷ e ∷ ds) few first = absurd (omega arith)

@@ -6,6 +6,7 @@ pub mod ItemLaws
 pub mod QueueLemmas
 pub mod MaskLemmas
 pub mod OpenLemmas
+pub mod OpeningLaws
 pub mod ReadLemmas
 pub mod StreamLaws
 pub mod PlayLaws

@@ -1,7 +1,7 @@
 -- Data channels of a mask.
 use Rattle.std.proofs.Common.{◌≡◌, ℕ, zero, suc, ◌<◌, Bool, true, false, ◌||◌, inl, inr, refl, subst, arith}
 use Rattle.std.proofs.lemmas.Bool.{cases_lt}
-use Rattle.iio_mask.specs.Places.{has}
+use Rattle.iio_mask.specs.Mask.{has}
 use Rattle.iio_layout.specs.Active.{has_below}
 
 or_right : (a b : Bool) → b ≡ true → (a || b) ≡ true

@@ -4,27 +4,27 @@ use Rattle.std.specs.Str.{bytes_eq}
 use Rattle.std.specs.Int.Bits.{or_zero_r}
 use Rattle.iio_text.specs.declared.errors.Errno.{Errno}
 use Rattle.iio_text.specs.declared.errors.Errno.TheVariants.{EINVAL, ENOSPC}
-use Rattle.iio_desc.specs.declared.description.DeviceDesc.{DeviceDesc}
+use Rattle.iio_desc.specs.Description.{DeviceRecord}
 use Rattle.iio_desc.specs.Description.{Description, place_count}
 use Rattle.iio_layout.specs.Active.{active_of}
 use Rattle.iio_layout.specs.Layout.{scan_size}
-use Rattle.iio_history.specs.Registry.{Member, is_attached, attached_count, mask_asked, may_join, is_excess, exceeds, buffers_count, placed, open_at, open_answer}
+use Rattle.iio_single.specs.Registry.{Member, is_attached, attached_count, mask_asked, may_join, is_excess, exceeds, buffers_count, placed, open_at, open_answer}
 use Rattle.iio_script.specs.Bench.{path_of, SeatRecord, StationRecord, device_of_seat, devices_of, IsOwn, IsOnTrigger, admitted, joined_by, answered, seat_opened}
 use Rattle.iio_script.proofs.ItemLaws.{open_found, same_bytes}
 
 -- a mask that isn't one of the device's, or has no data channel
-pub open_without_mask : (base : Description) (d : DeviceDesc) (seat : Option SeatRecord) (who name text : List ℕ) (samples : ℕ) → bytes_eq d.name name ≡ true
+pub open_without_mask : (base : Description) (d : DeviceRecord) (seat : Option SeatRecord) (who name text : List ℕ) (samples : ℕ) → bytes_eq d.name name ≡ true
     → mask_asked d text ≡ None → open_answer (path_of base d) (devices_of (d ∷ []) seat) who name samples text ≡ Err EINVAL
 open_without_mask base d seat who name text samples one none = open_found base d seat who name text samples one ∙ rw (none, open_at) refl
 
 -- a right mask leaves the answer to the rest
-with_mask : (base : Description) (d : DeviceDesc) (seat : Option SeatRecord) (who name text : List ℕ) (samples mask : ℕ) → bytes_eq d.name name ≡ true
+with_mask : (base : Description) (d : DeviceRecord) (seat : Option SeatRecord) (who name text : List ℕ) (samples mask : ℕ) → bytes_eq d.name name ≡ true
     → mask_asked d text ≡ Some mask → open_answer (path_of base d) (devices_of (d ∷ []) seat) who name samples text
     ≡ placed 0 (may_join (path_of base d) (devices_of (d ∷ []) seat) d (device_of_seat d seat) (record { who = who; mask = mask; capacity = samples * buffers_count }))
 with_mask base d seat who name text samples mask one some = open_found base d seat who name text samples one ∙ rw (some, open_at) refl
 
 -- no scan, too many, or too many bytes
-pub open_exceeds : (base : Description) (d : DeviceDesc) (seat : Option SeatRecord) (who name text : List ℕ) (samples mask : ℕ) → bytes_eq d.name name ≡ true
+pub open_exceeds : (base : Description) (d : DeviceRecord) (seat : Option SeatRecord) (who name text : List ℕ) (samples mask : ℕ) → bytes_eq d.name name ≡ true
     → mask_asked d text ≡ Some mask → exceeds d (record { who = who; mask = mask; capacity = samples * buffers_count }) ≡ true
     → open_answer (path_of base d) (devices_of (d ∷ []) seat) who name samples text ≡ Err EINVAL
 open_exceeds base d seat who name text samples mask one some over =
@@ -37,7 +37,7 @@ joined m (Ok done) = Ok (0, m)
 joined m (Err e) = Err e
 
 -- the device's trigger and its listed masks
-free_answer : (base : Description) (d : DeviceDesc) (m : Member) (trigger : Option ℕ) → d.trigger ≡ trigger → IsOnTrigger base trigger
+free_answer : (base : Description) (d : DeviceRecord) (m : Member) (trigger : Option ℕ) → d.trigger ≡ trigger → IsOnTrigger base trigger
     → placed 0 (elim trigger as (λ _. Result Member Errno) [
       | None ↦ Err EINVAL
       | Some t ↦ elim (active_of d.shape m.mask) [
@@ -70,7 +70,7 @@ free_answer base d m (Some t) is on = by_pick (active_of d.shape m.mask)
         by_either false = refl
 
 -- the connection has the device open, or nobody has
-join_answer : (base : Description) (d : DeviceDesc) (m : Member) (seat : Option SeatRecord) → IsOwn m.who seat → IsOnTrigger base d.trigger → exceeds d m ≡ false
+join_answer : (base : Description) (d : DeviceRecord) (m : Member) (seat : Option SeatRecord) → IsOwn m.who seat → IsOnTrigger base d.trigger → exceeds d m ≡ false
     → placed 0 (may_join (path_of base d) (devices_of (d ∷ []) seat) d (device_of_seat d seat) m) ≡ joined m (admitted (record { device = d; seat = seat }) m.mask)
 unfolding joined
 join_answer base d m None own on within =
@@ -85,7 +85,7 @@ join_answer base d m (Some s) own on within =
     let mine : bytes_eq s.who m.who ≡ true = same_bytes s.who m.who own in
     rw (within, may_join) (rw mine refl)
 
-pub open_by_joining : (base : Description) (d : DeviceDesc) (seat : Option SeatRecord) (who name text : List ℕ) (samples mask : ℕ) → bytes_eq d.name name ≡ true
+pub open_by_joining : (base : Description) (d : DeviceRecord) (seat : Option SeatRecord) (who name text : List ℕ) (samples mask : ℕ) → bytes_eq d.name name ≡ true
     → mask_asked d text ≡ Some mask → is_excess (samples * 4) (scan_size d.shape mask) ≡ false → IsOwn who seat → IsOnTrigger base d.trigger
     → open_answer (path_of base d) (devices_of (d ∷ []) seat) who name samples text
     ≡ joined (record { who = who; mask = mask; capacity = samples * 4 }) (admitted (record { device = d; seat = seat }) mask)

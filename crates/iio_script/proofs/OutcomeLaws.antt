@@ -3,13 +3,13 @@ use Rattle.std.proofs.Common.{◌≡◌, ℕ, ◌+◌, Bool, true, cond, List, [
 use Rattle.std.proofs.lemmas.Bool.Decides.{nat_tests}
 use Rattle.std.proofs.lemmas.List.{take_all, take-take, length-take-le, take-append-drop}
 use Rattle.std.proofs.lemmas.Bool.{cases_lt}
-use Rattle.iio_desc.specs.Draft.{blank_draft}
-use Rattle.iio_desc.specs.Text.{lines_of}
+use Rattle.iio_desc.specs.PartialDesc.{new_desc}
+use Rattle.iio_text.specs.Lines.{lines_of}
 use Rattle.iio_io.specs.Bytes.{TakesUpTo, WritesPart}
 use Rattle.iio_script.specs.declared.status.Status.{Status}
 use Rattle.iio_script.specs.declared.status.Status.TheVariants.{WriteFault, Memory}
 use Rattle.iio_script.specs.Ends.{Finishes, WritesFront, Writes}
-use Rattle.iio_script.specs.Input.{told_part, input_limit, is_overlong}
+use Rattle.iio_history.specs.Input.{told_part, input_limit, is_overlong}
 use Rattle.iio_script.specs.Opening.{Opening, opening_from, opening_of}
 use Rattle.iio_script.specs.Outcome.{Outcome, played, outcome_of}
 
@@ -20,7 +20,7 @@ part_within limit input = cond (nat_lt limit (length input)) (told_part (take li
 
 opening_within : ℕ → List ℕ → Opening
 unfolding part_within
-opening_within limit input = opening_from (nat_lt limit (length input)) blank_draft 1 (lines_of (part_within limit input))
+opening_within limit input = opening_from (nat_lt limit (length input)) (new_desc 0) 1 (lines_of (part_within limit input))
 
 -- whether it is too long is told by them, and so is the part that is looked at
 read_within : (limit : ℕ) (input : List ℕ) → (nat_lt limit (length (take (limit + 1) input)) ≡ nat_lt limit (length input)) × (part_within limit (take (limit + 1) input) ≡ part_within limit input)
@@ -42,8 +42,8 @@ opening_by : (limit : ℕ) (input : List ℕ) → opening_within limit (take (li
 unfolding opening_within
 opening_by limit input =
     let same = read_within limit input in
-    ap (λ (b : Bool). opening_from b blank_draft 1 (lines_of (part_within limit (take (limit + 1) input)))) same.0
-    ∙ ap (λ (part : List ℕ). opening_from (nat_lt limit (length input)) blank_draft 1 (lines_of part)) same.1
+    ap (λ (b : Bool). opening_from b (new_desc 0) 1 (lines_of (part_within limit (take (limit + 1) input)))) same.0
+    ∙ ap (λ (part : List ℕ). opening_from (nat_lt limit (length input)) (new_desc 0) 1 (lines_of part)) same.1
 
 opening_read : (input : List ℕ) → opening_of (take (input_limit + 1) input) ≡ opening_of input
 unfolding opening_within part_within

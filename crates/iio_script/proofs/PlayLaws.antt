@@ -5,24 +5,24 @@ use Rattle.std.specs.Str.{bytes_eq}
 use Rattle.std.proofs.lemmas.Slice.Eq.{bytes_eq-Decides}
 use Rattle.iio_text.specs.declared.refusals.Why.{Why}
 use Rattle.iio_text.specs.declared.refusals.Why.TheVariants.{Limit}
-use Rattle.iiod_grammar.specs.declared.Refused.{Refused}
+use Rattle.iiod_grammar.specs.declared.command.Refused.{Refused}
 use Rattle.iiod_grammar.specs.Command.{Command, Open, ReadBuf}
-use Rattle.iiod_grammar.specs.Built.{said_by}
+use Rattle.iio_single.specs.Stream.{item_of}
 use Rattle.iio_desc.specs.declared.description.TriggerDesc.{TriggerDesc}
-use Rattle.iio_desc.specs.declared.description.DeviceDesc.{DeviceDesc}
+use Rattle.iio_desc.specs.Description.{DeviceRecord}
 use Rattle.iio_desc.specs.Description.{Description}
-use Rattle.iio_desc.specs.Text.{lines_of}
-use Rattle.iio_desc.specs.WellFormed.{IsWellFormed}
-use Rattle.iio_history.specs.declared.step.Step.{Step}
-use Rattle.iio_history.specs.declared.step.Step.TheVariants.{Feed, Fire}
-use Rattle.iio_history.specs.Transcript.{new_items, stream_of, events_of, lines_of_step, feed_line, answers_to, after_items}
+use Rattle.iio_text.specs.Lines.{lines_of}
+use Rattle.iio_single.specs.Served.{IsServed}
+use Rattle.iio_single.specs.declared.step.Step.{Step}
+use Rattle.iio_single.specs.declared.step.Step.TheVariants.{Feed, Fire}
+use Rattle.iio_single.specs.Transcript.{new_items, stream_of, events_of, lines_of_step, feed_line, answers_to, after_items}
 use Rattle.iio_script.specs.declared.player.Player.{Player}
 use Rattle.iio_script.specs.Step.{are_lines, names_in, takes, step_of}
 use Rattle.iio_script.specs.Outcome.{Outcome, after_text, refused, step_why, play_lines}
 use Rattle.iio_text.specs.declared.errors.Errno.{Errno}
 use Rattle.iio_kfifo.specs.Queue.{Queue}
-use Rattle.iio_history.specs.Registry.{Member, open_answer}
-use Rattle.iio_history.specs.Log.{scans_asked}
+use Rattle.iio_single.specs.Registry.{Member, open_answer}
+use Rattle.iio_single.specs.Log.{scans_asked}
 use Rattle.iio_script.specs.declared.status.Status.{Status}
 use Rattle.iio_script.specs.Bench.{devices_of, seat_joined, with_taken, offers_of, scan_at, SeatRecord, answers_by, seat_after, seat_after_items, seat_after_capture, seat_after_fire, IsOwn, Stands}
 use Rattle.iio_script.specs.Play.{accepts, step_lines, after_step, IsRight, names_of, BelongsTo, IsAt, IsReady}
@@ -37,18 +37,18 @@ first_of : (triggers : ℕ) (k : Option ℕ) → triggers ≤ 1 → IfSome k (λ
 first_of triggers None few within = tt
 first_of triggers (Some t) few within = omega (arith, within)
 
-are_first : (triggers : ℕ) (ds : List DeviceDesc) → triggers ≤ 1 → ((k : ℕ) (d : DeviceDesc) → k < length ds → IsFirst (get_or ds k d).trigger) → AreFirst ds
+are_first : (triggers : ℕ) (ds : List DeviceRecord) → triggers ≤ 1 → ((k : ℕ) (d : DeviceRecord) → k < length ds → IsFirst (get_or ds k d).trigger) → AreFirst ds
 are_first triggers [] few each = tt
 are_first triggers (d ∷ ds) few each = (each 0 d (omega arith), are_first triggers ds few (λ k e within. each (suc k) e (omega (arith, within))))
 
-pub one_path : (desc : Description) → IsWellFormed desc → IsOnePath desc
+pub one_path : (desc : Description) → IsServed desc → IsOnePath desc
 one_path desc w = record {
   few = w.devices;
-  first = are_first (length desc.triggers) desc.devices w.triggers (λ k d within. first_of (length desc.triggers) (get_or desc.devices k d).trigger w.triggers ((w.sound k d within).attached));
+  first = are_first (length desc.triggers) desc.devices w.triggers (λ k d within. first_of (length desc.triggers) (get_or desc.devices k d).trigger w.triggers ((w.well_formed.sound k d within).attached));
 }
 
 -- before the first step
-pub at_first : (desc : Description) → IsWellFormed desc → IsAt desc [] None None
+pub at_first : (desc : Description) → IsServed desc → IsAt desc [] None None
 at_first desc w = record { stands = stands_first desc w.devices; names = refl; own = refl; whole = λ name. refl }
 
 -- ---- a connection's name
@@ -98,22 +98,22 @@ whole_by false stream bytes h g = h
 
 fed_lines : (desc : Description) (done : List Step) (p : Player) (who bytes : List ℕ) → IsOnePath desc → IsAt desc done p.who p.bench.seat
     → are_lines 0 bytes ≡ true → IsOwn who p.bench.seat
-    → lines_of_step desc done (Feed who bytes) ≡ feed_line who (answers_by desc p.bench.seat who (map said_by (lines_of bytes)))
+    → lines_of_step desc done (Feed who bytes) ≡ feed_line who (answers_by desc p.bench.seat who (map item_of (lines_of bytes)))
 fed_lines desc done p who bytes one at lines own =
     ap (λ (items : List (Result Command Refused)). feed_line who (answers_to desc who items (events_of desc done)))
     (new_items-are (stream_of who done) bytes (at.whole who) lines)
-    ∙ ap (feed_line who) (answers_are desc (map said_by (lines_of bytes)) (events_of desc done) p.bench.seat who one own at.stands)
+    ∙ ap (feed_line who) (answers_are desc (map item_of (lines_of bytes)) (events_of desc done) p.bench.seat who one own at.stands)
 
 -- the trigger that fires is the one of the description
-only_trigger : (desc : Description) (k : ℕ) → IsWellFormed desc → k < length desc.triggers → k ≡ 0
+only_trigger : (desc : Description) (k : ℕ) → IsServed desc → k < length desc.triggers → k ≡ 0
 only_trigger desc k w within = let few = w.triggers in omega (arith, within, few)
 
-fired_lines_are : (p : Player) (done : List Step) (k : ℕ) (moment : ℤ) → IsWellFormed p.bench.desc → IsAt p.bench.desc done p.who p.bench.seat → k ≡ 0
+fired_lines_are : (p : Player) (done : List Step) (k : ℕ) (moment : ℤ) → IsServed p.bench.desc → IsAt p.bench.desc done p.who p.bench.seat → k ≡ 0
     → lines_of_step p.bench.desc done (Fire k moment) ≡ step_lines p (Fire k moment)
 fired_lines_are p done zero moment w at first = fire_lines_is p.bench.desc moment (events_of p.bench.desc done) p.bench.seat w.devices at.stands
 fired_lines_are p done (suc k) moment w at first = absurd (omega (arith, first))
 
-pub step_lines-are : (p : Player) (done : List Step) (step : Step) → IsWellFormed p.bench.desc → IsAt p.bench.desc done p.who p.bench.seat
+pub step_lines-are : (p : Player) (done : List Step) (step : Step) → IsServed p.bench.desc → IsAt p.bench.desc done p.who p.bench.seat
     → IsRight p.bench.desc step → accepts p step ≡ true
     → lines_of_step p.bench.desc done step ≡ step_lines p step
 step_lines-are p done (Feed who bytes) w at right same =
@@ -121,34 +121,34 @@ step_lines-are p done (Feed who bytes) w at right same =
 step_lines-are p done (Fire k moment) w at right same = fired_lines_are p done k moment w at (only_trigger p.bench.desc k w right)
 
 fed_stands : (desc : Description) (done : List Step) (seat : Option SeatRecord) (who bytes : List ℕ) → IsOnePath desc → Stands desc (events_of desc done) seat
-    → new_items (stream_of who done) bytes ≡ map said_by (lines_of bytes) → IsOwn who seat
-    → Stands desc (events_of desc (Feed who bytes ∷ done)) (seat_after_items desc seat who (map said_by (lines_of bytes)))
+    → new_items (stream_of who done) bytes ≡ map item_of (lines_of bytes) → IsOwn who seat
+    → Stands desc (events_of desc (Feed who bytes ∷ done)) (seat_after_items desc seat who (map item_of (lines_of bytes)))
 fed_stands desc done seat who bytes one stands items own =
-    subst (λ (is : List (Result Command Refused)). Stands desc (after_items who is (events_of desc done)) (seat_after_items desc seat who (map said_by (lines_of bytes))))
-    (sym items) (items_stand desc (map said_by (lines_of bytes)) (events_of desc done) seat who one own stands)
+    subst (λ (is : List (Result Command Refused)). Stands desc (after_items who is (events_of desc done)) (seat_after_items desc seat who (map item_of (lines_of bytes))))
+    (sym items) (items_stand desc (map item_of (lines_of bytes)) (events_of desc done) seat who one own stands)
 
 fed_at : (desc : Description) (done : List Step) (who : Option (List ℕ)) (seat : Option SeatRecord) (speaker bytes : List ℕ) → IsOnePath desc → IsAt desc done who seat
     → are_lines 0 bytes ≡ true → elim who as (λ _. Bool) [ None ↦ true | Some name ↦ bytes_eq name speaker ] ≡ true
-    → IsAt desc (Feed speaker bytes ∷ done) (Some speaker) (seat_after_items desc seat speaker (map said_by (lines_of bytes)))
+    → IsAt desc (Feed speaker bytes ∷ done) (Some speaker) (seat_after_items desc seat speaker (map item_of (lines_of bytes)))
 fed_at desc done who seat speaker bytes one at lines same =
     let own = owned_by who seat speaker at.own same in
     record {
       stands = fed_stands desc done seat speaker bytes one at.stands (new_items-are (stream_of speaker done) bytes (at.whole speaker) lines) own;
       names = named_by (names_in done) who speaker at.names same;
-      own = items_own desc (map said_by (lines_of bytes)) seat speaker one own;
+      own = items_own desc (map item_of (lines_of bytes)) seat speaker one own;
       whole = λ name. whole_by (bytes_eq speaker name) (stream_of name done) bytes (at.whole name) lines;
     }
 
-captured_own : (who : Option (List ℕ)) (d : DeviceDesc) (t : ℤ) (seat : Option SeatRecord) → BelongsTo who seat → BelongsTo who (seat_after_capture d t seat)
+captured_own : (who : Option (List ℕ)) (d : DeviceRecord) (t : ℤ) (seat : Option SeatRecord) → BelongsTo who seat → BelongsTo who (seat_after_capture d t seat)
 captured_own None d t seat own = rw own refl
 captured_own (Some name) d t None own = own
 captured_own (Some name) d t (Some s) own = own
 
-fired_own : (who : Option (List ℕ)) (ds : List DeviceDesc) (t : ℤ) (seat : Option SeatRecord) → BelongsTo who seat → BelongsTo who (seat_after_fire ds t seat)
+fired_own : (who : Option (List ℕ)) (ds : List DeviceRecord) (t : ℤ) (seat : Option SeatRecord) → BelongsTo who seat → BelongsTo who (seat_after_fire ds t seat)
 fired_own who [] t seat own = own
 fired_own who (d ∷ ds) t seat own = captured_own who d t seat own
 
-fired_at : (desc : Description) (done : List Step) (who : Option (List ℕ)) (seat : Option SeatRecord) (k : ℕ) (t : ℤ) → IsWellFormed desc → IsAt desc done who seat → k ≡ 0
+fired_at : (desc : Description) (done : List Step) (who : Option (List ℕ)) (seat : Option SeatRecord) (k : ℕ) (t : ℤ) → IsServed desc → IsAt desc done who seat → k ≡ 0
     → IsAt desc (Fire k t ∷ done) who (seat_after_fire desc.devices t seat)
 fired_at desc done who seat zero t w at first = record {
   stands = fire_stands desc t (events_of desc done) seat w.devices at.stands;
@@ -158,7 +158,7 @@ fired_at desc done who seat zero t w at first = record {
 }
 fired_at desc done who seat (suc k) t w at first = absurd (omega (arith, first))
 
-pub step_at : (p : Player) (done : List Step) (step : Step) → IsWellFormed p.bench.desc → IsAt p.bench.desc done p.who p.bench.seat
+pub step_at : (p : Player) (done : List Step) (step : Step) → IsServed p.bench.desc → IsAt p.bench.desc done p.who p.bench.seat
     → IsRight p.bench.desc step → accepts p step ≡ true
     → IsAt p.bench.desc (step ∷ done) (after_step p step).who (after_step p step).bench.seat
 step_at p done (Feed who bytes) w at right same = fed_at p.bench.desc done p.who p.bench.seat who bytes (one_path p.bench.desc w) at right same
@@ -193,7 +193,7 @@ right_here one other (Fire k moment) same right = subst (λ (ts : List TriggerDe
 
 -- ---- counts of offers
 
-opened_offers : (ds : List DeviceDesc) (seat : Option SeatRecord) (r : Result (ℕ × Member) Errno)
+opened_offers : (ds : List DeviceRecord) (seat : Option SeatRecord) (r : Result (ℕ × Member) Errno)
     → offers_of (elim r as (λ _. Option SeatRecord) [ Err e ↦ seat | Ok j ↦ seat_joined ds j.1 ]) ≤ offers_of seat
 opened_offers ds seat (Err e) = omega arith
 opened_offers [] seat (Ok j) = omega arith
@@ -223,16 +223,16 @@ offer_by : (b : Bool) (scan : List ℕ) (q : Queue) → (cond b (record q { scan
 offer_by true scan q = omega arith
 offer_by false scan q = omega arith
 
-capture_offers : (d : DeviceDesc) (t : ℤ) (seat : Option SeatRecord) → offers_of (seat_after_capture d t seat) ≤ offers_of seat + 1
+capture_offers : (d : DeviceRecord) (t : ℤ) (seat : Option SeatRecord) → offers_of (seat_after_capture d t seat) ≤ offers_of seat + 1
 capture_offers d t None = omega arith
 capture_offers d t (Some s) = offer_by (nat_lt (length s.queue.scans) s.queue.capacity) (scan_at d s t) s.queue
 
-fire_offers : (ds : List DeviceDesc) (t : ℤ) (seat : Option SeatRecord) → offers_of (seat_after_fire ds t seat) ≤ offers_of seat + 1
+fire_offers : (ds : List DeviceRecord) (t : ℤ) (seat : Option SeatRecord) → offers_of (seat_after_fire ds t seat) ≤ offers_of seat + 1
 fire_offers [] t seat = omega arith
 fire_offers (d ∷ ds) t seat = capture_offers d t seat
 
 step_offers : (p : Player) (step : Step) → offers_of (after_step p step).bench.seat ≤ offers_of p.bench.seat + 1
-step_offers p (Feed who bytes) = let few = items_offers p.bench.desc (map said_by (lines_of bytes)) p.bench.seat who in omega (arith, few)
+step_offers p (Feed who bytes) = let few = items_offers p.bench.desc (map item_of (lines_of bytes)) p.bench.seat who in omega (arith, few)
 step_offers p (Fire k moment) = fire_offers p.bench.desc.devices moment p.bench.seat
 
 step_desc : (p : Player) (step : Step) → (after_step p step).bench.desc ≡ p.bench.desc
@@ -250,7 +250,7 @@ pub record Goes (desc : Description) (player : Player) (out before : List ℕ) (
   pub status : (play_lines overlong desc done number rest).status ≡ total.status
   pub offers : offers_of player.bench.seat + start ≤ number
 
-pub goes_first : (player : Player) (out : List ℕ) (overlong : Bool) (start : ℕ) (rest : List (List ℕ)) → IsWellFormed player.bench.desc → player.bench.seat ≡ None → player.who ≡ None
+pub goes_first : (player : Player) (out : List ℕ) (overlong : Bool) (start : ℕ) (rest : List (List ℕ)) → IsServed player.bench.desc → player.bench.seat ≡ None → player.who ≡ None
     → Goes player.bench.desc player out out (play_lines overlong player.bench.desc [] start rest) overlong start start rest
 goes_first player out overlong start rest w free fresh = record {
   done = [];
@@ -322,12 +322,12 @@ goes_past here desc player out before total overlong number start rest line more
 
 goes_after : (here desc : Description) (player : Player) (out before : List ℕ) (total : Outcome) (overlong : Bool) (number start : ℕ) (rest : List (List ℕ))
     (line : List ℕ) (more : List (List ℕ)) (step : Step)
-    → IsWellFormed desc → Goes desc player out before total overlong number start rest → rest ≡ line ∷ more → here.triggers ≡ player.bench.desc.triggers
+    → IsServed desc → Goes desc player out before total overlong number start rest → rest ≡ line ∷ more → here.triggers ≡ player.bench.desc.triggers
     → step_of here line ≡ Ok (Some step) → IsRight here step → accepts player step ≡ true
     → Goes desc (after_step player step) (out ++ step_lines player step) before total overlong (number + 1) start more
 goes_after here desc player out before total overlong number start rest line more step w goes lines triggers is right own =
     let own_desc : Description = player.bench.desc in
-    let sound : IsWellFormed own_desc = subst IsWellFormed (sym goes.same) w in
+    let sound : IsServed own_desc = subst IsServed (sym goes.same) w in
     let few = step_offers player step in
     let inside : IsRight own_desc step = right_here here own_desc step triggers right in
     let said : step_of desc line ≡ Ok (Some step) = said_so here desc player line (Ok (Some step)) triggers goes.same is in
@@ -351,7 +351,7 @@ goes_after here desc player out before total overlong number start rest line mor
 
 pub goes_on : (here desc : Description) (player new : Player) (out after before : List ℕ) (total : Outcome) (overlong : Bool) (number start : ℕ) (rest : List (List ℕ))
     (line : List ℕ) (more : List (List ℕ)) (step : Step)
-    → IsWellFormed desc → Goes desc player out before total overlong number start rest → rest ≡ line ∷ more → here.triggers ≡ player.bench.desc.triggers
+    → IsServed desc → Goes desc player out before total overlong number start rest → rest ≡ line ∷ more → here.triggers ≡ player.bench.desc.triggers
     → step_of here line ≡ Ok (Some step) → IsRight here step → accepts player step ≡ true → new ≡ after_step player step → after ≡ out ++ step_lines player step
     → Goes desc new after before total overlong (number + 1) start more
 goes_on here desc player new out after before total overlong number start rest line more step w goes lines triggers is right own state text =

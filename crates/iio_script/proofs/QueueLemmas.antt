@@ -1,6 +1,6 @@
 -- Scans that are taken one after another.
 use Rattle.std.proofs.Common.{◌≡◌, ℕ, zero, suc, ◌-◌, ◌<◌, List, [], ◌∷◌, ◌++◌, take, drop, refl, sub-one, arith}
-use Rattle.iio_history.specs.Reply.{joined_scans}
+use Rattle.iio_single.specs.Reply.{joined_scans}
 
 pub take_first : (n : ℕ) (scan : List ℕ) (scans old : List (List ℕ)) → 0 < n → old ≡ scan ∷ scans → joined_scans (take n old) ≡ scan ++ joined_scans (take (n - 1) scans)
 take_first zero scan scans old some h = absurd (omega arith)

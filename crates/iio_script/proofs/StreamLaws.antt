@@ -1,10 +1,10 @@
 -- Streams of whole lines: what a feed makes whole is what it has.
 use Rattle.std.proofs.Common.{◌≡◌, ℕ, ◌+◌, ◌==◌, ◌&&◌, Bool, true, false, cond, List, [], ◌∷◌, ◌++◌, length, map, drop, nat_lt, refl, sym, ap, ◌∙◌, subst, arith, eqb-true}
-use Rattle.iiod_grammar.specs.Built.{said_by}
-use Rattle.iiod_grammar.specs.Stream.{ended_lines, items_of, onto_line as onto_ended}
-use Rattle.iio_history.specs.Transcript.{new_items}
-use Rattle.iio_desc.specs.Text.{lines_of, onto_line}
-use Rattle.iio_script.specs.Step.{are_lines, most_line_bytes}
+use Rattle.iio_single.specs.Stream.{item_of}
+use Rattle.iio_single.specs.Stream.{ended_lines, items_of, onto_line as onto_ended}
+use Rattle.iio_single.specs.Transcript.{new_items}
+use Rattle.iio_text.specs.Lines.{lines_of, onto_line}
+use Rattle.iio_script.specs.Step.{are_lines, max_line_bytes}
 
 and_right : (a b : Bool) → (a && b) ≡ true → b ≡ true
 and_right true b h = h
@@ -12,14 +12,14 @@ and_right false b h = cc
 
 -- what stands behind the first byte of a line
 after_byte : (n b : ℕ) (bs : List ℕ) → (b == 10) ≡ false → are_lines n (b ∷ bs) ≡ true → are_lines (n + 1) bs ≡ true
-after_byte n b bs plain h = by_return (b == 13) (subst (λ (t : Bool). cond t (are_lines 0 bs) (cond (b == 13) false (nat_lt n most_line_bytes && are_lines (n + 1) bs)) ≡ true) plain h)
+after_byte n b bs plain h = by_return (b == 13) (subst (λ (t : Bool). cond t (are_lines 0 bs) (cond (b == 13) false (nat_lt n max_line_bytes && are_lines (n + 1) bs)) ≡ true) plain h)
   where
-    by_return : (t : Bool) → cond t false (nat_lt n most_line_bytes && are_lines (n + 1) bs) ≡ true → are_lines (n + 1) bs ≡ true
+    by_return : (t : Bool) → cond t false (nat_lt n max_line_bytes && are_lines (n + 1) bs) ≡ true → are_lines (n + 1) bs ≡ true
     by_return true g = cc
-    by_return false g = and_right (nat_lt n most_line_bytes) (are_lines (n + 1) bs) g
+    by_return false g = and_right (nat_lt n max_line_bytes) (are_lines (n + 1) bs) g
 
 after_end : (n b : ℕ) (bs : List ℕ) → (b == 10) ≡ true → are_lines n (b ∷ bs) ≡ true → are_lines 0 bs ≡ true
-after_end n b bs ends h = subst (λ (t : Bool). cond t (are_lines 0 bs) (cond (b == 13) false (nat_lt n most_line_bytes && are_lines (n + 1) bs)) ≡ true) ends h
+after_end n b bs ends h = subst (λ (t : Bool). cond t (are_lines 0 bs) (cond (b == 13) false (nat_lt n max_line_bytes && are_lines (n + 1) bs)) ≡ true) ends h
 
 -- a line that has begun ends
 abbrev Begins : List (List ℕ) → Type 0
@@ -61,11 +61,11 @@ lines_by_return false false n cs more h next = h
 
 lines_by : (t : Bool) (n c : ℕ) (cs b : List ℕ) → (c == 10) ≡ t → are_lines n (c ∷ cs) ≡ true
     → ((m : ℕ) → are_lines m cs ≡ true → are_lines m (cs ++ b) ≡ true)
-    → cond t (are_lines 0 (cs ++ b)) (cond (c == 13) false (nat_lt n most_line_bytes && are_lines (n + 1) (cs ++ b))) ≡ true
+    → cond t (are_lines 0 (cs ++ b)) (cond (c == 13) false (nat_lt n max_line_bytes && are_lines (n + 1) (cs ++ b))) ≡ true
 lines_by true n c cs b is h next = next 0 (after_end n c cs is h)
 lines_by false n c cs b is h next =
-    lines_by_return (c == 13) (nat_lt n most_line_bytes) n cs (cs ++ b)
-    (subst (λ (t : Bool). cond t (are_lines 0 cs) (cond (c == 13) false (nat_lt n most_line_bytes && are_lines (n + 1) cs)) ≡ true) is h)
+    lines_by_return (c == 13) (nat_lt n max_line_bytes) n cs (cs ++ b)
+    (subst (λ (t : Bool). cond t (are_lines 0 cs) (cond (c == 13) false (nat_lt n max_line_bytes && are_lines (n + 1) cs)) ≡ true) is h)
     (next (n + 1))
 
 pub lines_behind : (n : ℕ) (a b : List ℕ) → are_lines n a ≡ true → are_lines 0 b ≡ true → are_lines n (a ++ b) ≡ true
@@ -86,13 +86,13 @@ pub all_ended : (n : ℕ) (bs : List ℕ) → are_lines n bs ≡ true → ended_
 all_ended n [] h = refl
 all_ended n (b ∷ bs) h = ended_by (b == 10) n b bs refl h (λ m k. all_ended m bs k)
 
-drop_front : (xs ys : List (List ℕ)) → drop (length (map said_by xs)) (map said_by (xs ++ ys)) ≡ map said_by ys
+drop_front : (xs ys : List (List ℕ)) → drop (length (map item_of xs)) (map item_of (xs ++ ys)) ≡ map item_of ys
 drop_front [] ys = refl
 drop_front (x ∷ xs) ys = drop_front xs ys
 
 -- what a feed of whole lines makes whole
-pub new_items-are : (before bytes : List ℕ) → are_lines 0 before ≡ true → are_lines 0 bytes ≡ true → new_items before bytes ≡ map said_by (lines_of bytes)
+pub new_items-are : (before bytes : List ℕ) → are_lines 0 before ≡ true → are_lines 0 bytes ≡ true → new_items before bytes ≡ map item_of (lines_of bytes)
 new_items-are before bytes whole lines =
-    ap (λ (ls : List (List ℕ)). drop (length (items_of before)) (map said_by ls)) (ended_behind 0 before bytes whole)
+    ap (λ (ls : List (List ℕ)). drop (length (items_of before)) (map item_of ls)) (ended_behind 0 before bytes whole)
     ∙ drop_front (ended_lines before) (ended_lines bytes)
-    ∙ ap (map said_by) (all_ended 0 bytes lines)
+    ∙ ap (map item_of) (all_ended 0 bytes lines)

@@ -8,17 +8,17 @@ use Rattle.iio_layout.specs.Shape.{ShapeRecord}
 use Rattle.iio_layout.specs.Layout.{scan_size}
 use Rattle.iio_layout.specs.Scan.{scan_of}
 use Rattle.iio_kfifo.specs.Queue.{Queue}
-use Rattle.iio_desc.specs.declared.description.DeviceDesc.{DeviceDesc}
+use Rattle.iio_desc.specs.Description.{DeviceRecord}
 use Rattle.iio_desc.specs.Description.{Description, place_count}
-use Rattle.iiod_grammar.specs.declared.Refused.{Refused}
+use Rattle.iiod_grammar.specs.declared.command.Refused.{Refused}
 use Rattle.iiod_grammar.specs.Command.{Command, Open, ReadBuf}
-use Rattle.iio_history.specs.Event.{Event}
-use Rattle.iio_history.specs.Registry.{Device, Member, open_answer, devices_after}
-use Rattle.iio_history.specs.Outstanding.{outstanding}
-use Rattle.iio_history.specs.Capture.{values_at}
-use Rattle.iio_history.specs.Log.{scans_asked}
-use Rattle.iio_history.specs.Reply.{number_answer, read_answer, reply_by, scans_after}
-use Rattle.iio_history.specs.Transcript.{poll_text, handle_text}
+use Rattle.iio_single.specs.Event.{Event}
+use Rattle.iio_single.specs.Registry.{Device, Member, open_answer, devices_after}
+use Rattle.iio_single.specs.Outstanding.{outstanding}
+use Rattle.iio_single.specs.Capture.{values_at}
+use Rattle.iio_single.specs.Log.{scans_asked}
+use Rattle.iio_single.specs.Reply.{number_answer, read_answer, reply_by, scans_after}
+use Rattle.iio_single.specs.Transcript.{poll_text, handle_text}
 
 -- the one member, with its queue
 pub record SeatRecord : Type 0 where
@@ -30,11 +30,11 @@ abbrev pub member_of_seat : SeatRecord → Member
 member_of_seat s = record { who = s.who; mask = s.mask.bits; capacity = s.queue.capacity }
 
 -- what stands at a device
-abbrev pub device_of_seat : DeviceDesc → Option SeatRecord → Device
+abbrev pub device_of_seat : DeviceRecord → Option SeatRecord → Device
 device_of_seat d None = record { trigger = d.trigger; members = []; attachment = 0 }
 device_of_seat d (Some s) = record { trigger = d.trigger; members = member_of_seat s ∷ []; attachment = 1 }
 
-abbrev pub devices_of : List DeviceDesc → Option SeatRecord → List Device
+abbrev pub devices_of : List DeviceRecord → Option SeatRecord → List Device
 devices_of [] seat = []
 devices_of (d ∷ ds) seat = device_of_seat d seat ∷ []
 
@@ -50,14 +50,14 @@ abbrev pub answer_by : Description → Option SeatRecord → List ℕ → Result
 answer_by desc seat who item = reply_by desc (devices_of desc.devices seat) (scans_of seat) who item
 
 -- a member that joined the device
-abbrev pub seat_of_member : DeviceDesc → Member → SeatRecord
+abbrev pub seat_of_member : DeviceRecord → Member → SeatRecord
 seat_of_member d m = record {
   who = m.who;
   mask = record { bits = m.mask };
   queue = record { scans = []; taken = 0; lost = 0; size = scan_size d.shape m.mask; capacity = m.capacity };
 }
 
-abbrev pub seat_joined : List DeviceDesc → Member → Option SeatRecord
+abbrev pub seat_joined : List DeviceRecord → Member → Option SeatRecord
 seat_joined [] m = None
 seat_joined (d ∷ ds) m = Some (seat_of_member d m)
 
@@ -102,24 +102,24 @@ offered_to scan q =
     if nat_lt (length q.scans) q.capacity then record q { scans = q.scans ++ scan ∷ []; taken = q.taken + 1 } else record q { lost = q.lost + 1 }
 
 -- the scan of a member at a moment
-abbrev pub scan_at : DeviceDesc → SeatRecord → ℤ → List ℕ
+abbrev pub scan_at : DeviceRecord → SeatRecord → ℤ → List ℕ
 scan_at d s t = scan_of d.shape s.mask.bits (values_at d.shape d.rows t) t
 
 -- the member after its device's trigger fired
-abbrev pub seat_after_capture : DeviceDesc → ℤ → Option SeatRecord → Option SeatRecord
+abbrev pub seat_after_capture : DeviceRecord → ℤ → Option SeatRecord → Option SeatRecord
 seat_after_capture d t None = None
 seat_after_capture d t (Some s) = Some (record s { queue = offered_to (scan_at d s t) s.queue })
 
-abbrev pub seat_after_fire : List DeviceDesc → ℤ → Option SeatRecord → Option SeatRecord
+abbrev pub seat_after_fire : List DeviceRecord → ℤ → Option SeatRecord → Option SeatRecord
 seat_after_fire [] t seat = seat
 seat_after_fire (d ∷ ds) t seat = seat_after_capture d t seat
 
 -- the lines of that, by the trigger's name
-abbrev pub captured_lines : List ℕ → DeviceDesc → Option SeatRecord → List ℕ
+abbrev pub captured_lines : List ℕ → DeviceRecord → Option SeatRecord → List ℕ
 captured_lines trigger d None = poll_text trigger (codes "accepted") 0
 captured_lines trigger d (Some s) = poll_text trigger (codes "accepted") 1 ++ handle_text trigger d.name (codes "captured")
 
-abbrev pub fired_lines : List ℕ → List DeviceDesc → Option SeatRecord → List ℕ
+abbrev pub fired_lines : List ℕ → List DeviceRecord → Option SeatRecord → List ℕ
 fired_lines trigger [] seat = poll_text trigger (codes "accepted") 0
 fired_lines trigger (d ∷ ds) seat = captured_lines trigger d seat
 
@@ -131,7 +131,7 @@ HasQueue desc h None = Unit {0}
 HasQueue desc h (Some s) = scans_after desc h 0 (member_of_seat s) ≡ s.queue.scans
 
 -- a device that has a member is on the one trigger
-abbrev pub IsAttached : List DeviceDesc → Option SeatRecord → Type 0
+abbrev pub IsAttached : List DeviceRecord → Option SeatRecord → Type 0
 IsAttached ds None = Unit {0}
 IsAttached [] (Some s) = ⊥
 IsAttached (d ∷ ds) (Some s) = d.trigger ≡ Some 0
@@ -156,7 +156,7 @@ offers_of (Some s) = s.queue.taken + s.queue.lost
 -- ---- a device with its member, and the whole
 
 pub record StationRecord : Type 0 where
-  pub device : DeviceDesc
+  pub device : DeviceRecord
   pub seat : Option SeatRecord
 
 -- the plain state of the program
@@ -165,7 +165,7 @@ pub record BenchRecord : Type 0 where
   pub seat : Option SeatRecord
 
 -- a description with this one device
-abbrev pub path_of : Description → DeviceDesc → Description
+abbrev pub path_of : Description → DeviceRecord → Description
 path_of base d = record base { devices = d ∷ [] }
 
 -- a device's trigger, if any, is the one of a description, and has a place
@@ -195,6 +195,6 @@ answered (Ok j) = Ok tt
 answered (Err e) = Err e
 
 -- the member after an OPEN of that answer
-abbrev pub seat_opened : List DeviceDesc → Option SeatRecord → Result (ℕ × Member) Errno → Option SeatRecord
+abbrev pub seat_opened : List DeviceRecord → Option SeatRecord → Result (ℕ × Member) Errno → Option SeatRecord
 seat_opened ds seat (Ok j) = seat_joined ds j.1
 seat_opened ds seat (Err e) = seat

@@ -1,5 +1,6 @@
 -- How a run ends, and what it has written then. (This project's own.)
-use Rattle.std.specs.Prelude.{◌≡◌, ℕ, List, ◌++◌, Option, Some}
+use Rattle.std.specs.Prelude.{◌≡◌, ℕ, ◌≤◌, List, ◌++◌, Option, Some, None, IfNone}
+use Rattle.iio_base.specs.Faults.{Rose}
 use Rattle.iio_script.specs.declared.status.Status.{Status}
 use Rattle.iio_script.specs.declared.status.Status.TheVariants.{Done, Refused, TooLong, ReadFault, WriteFault, Memory}
 use Rattle.iio_script.specs.Outcome.{Outcome}
@@ -36,3 +37,21 @@ Writes outcome before ReadFault after = WritesFront before outcome.printed after
 Writes outcome before WriteFault after = WritesFront before outcome.printed after
 Writes outcome before Memory after = WritesFront before outcome.printed after
 Writes outcome before status after = WritesWhole before outcome status after
+
+-- the status of a run whose outcome is this one: the outcome's, unless a read or a write failed or memory ran out
+abbrev pub HasStatus : Outcome → Status → Type 0
+HasStatus outcome ReadFault = Unit {0}
+HasStatus outcome WriteFault = Unit {0}
+HasStatus outcome Memory = Unit {0}
+HasStatus outcome status = status ≡ outcome.status
+
+-- what a run shows of its source and its sink by its status, where each is seen by the bytes that it tells and by its count
+-- of faults: a failed read or write is answered only where one came, want of memory only where none did; no count falls,
+-- and what isn't told stays so
+pub record ShowsFaults {S K : Type 0} (left : S → Option (List ℕ)) (reads : S → ℕ) (written : K → Option (List ℕ)) (writes : K → ℕ)
+    (status : Status) (source source' : S) (sink sink' : K) : Type 0 where
+  pub read_fault : status ≡ ReadFault → Rose (reads source) (reads source')
+  pub write_fault : status ≡ WriteFault → Rose (writes sink) (writes sink')
+  pub memory : status ≡ Memory → (reads source' ≡ reads source) × (writes sink' ≡ writes sink)
+  pub counted : (reads source ≤ reads source') × (writes sink ≤ writes sink')
+  pub silent : (IfNone (left source) (left source' ≡ None)) × (IfNone (written sink) (written sink' ≡ None))

@@ -1,5 +1,5 @@
+pub mod Status
 pub mod Step
-pub mod Input
 pub mod Opening
 pub mod Told
 pub mod Outcome

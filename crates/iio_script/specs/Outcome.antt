@@ -5,12 +5,12 @@ use Rattle.iio_text.specs.declared.refusals.Why.{Why}
 use Rattle.iio_text.specs.declared.refusals.Why.TheVariants.{Long, Word, Limit}
 use Rattle.iio_text.specs.Why.{why_text}
 use Rattle.iio_desc.specs.Description.{Description}
-use Rattle.iio_history.specs.declared.step.Step.{Step}
-use Rattle.iio_history.specs.Transcript.{lines_of_step}
+use Rattle.iio_single.specs.declared.step.Step.{Step}
+use Rattle.iio_single.specs.Transcript.{lines_of_step}
 use Rattle.iio_script.specs.declared.status.Status.{Status}
 use Rattle.iio_script.specs.declared.status.Status.TheVariants.{Done, Refused as RefusedLine, TooLong}
 use Rattle.iio_script.specs.Step.{step_of, takes}
-use Rattle.iio_script.specs.Input.{is_overlong}
+use Rattle.iio_history.specs.Input.{is_overlong}
 use Rattle.iio_script.specs.Opening.{Opening, Described, Refused, Cut, opening_of}
 
 pub record Outcome : Type 0 where

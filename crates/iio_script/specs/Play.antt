@@ -1,12 +1,12 @@
 -- The plain state of a run, what each step makes of it, and what it prints.
 use Rattle.std.specs.Prelude.{◌≡◌, ℕ, ◌-◌, ◌^◌, ◌<◌, Bool, true, List, [], ◌∷◌, length, map, Option, Some, None}
 use Rattle.std.specs.Str.{bytes_eq}
-use Rattle.iiod_grammar.specs.Built.{said_by}
+use Rattle.iio_single.specs.Stream.{item_of}
 use Rattle.iio_desc.specs.Description.{Description, trigger_name}
-use Rattle.iio_desc.specs.Text.{lines_of}
-use Rattle.iio_history.specs.declared.step.Step.{Step}
-use Rattle.iio_history.specs.declared.step.Step.TheVariants.{Feed, Fire}
-use Rattle.iio_history.specs.Transcript.{feed_line, stream_of, events_of}
+use Rattle.iio_text.specs.Lines.{lines_of}
+use Rattle.iio_single.specs.declared.step.Step.{Step}
+use Rattle.iio_single.specs.declared.step.Step.TheVariants.{Feed, Fire}
+use Rattle.iio_single.specs.Transcript.{feed_line, stream_of, events_of}
 use Rattle.iio_script.specs.declared.player.Player.{Player}
 use Rattle.iio_script.specs.Step.{are_lines, names_in}
 use Rattle.iio_script.specs.Bench.{SeatRecord, answers_by, seat_after_items, seat_after_fire, fired_lines, offers_of, IsOwn, Stands}
@@ -20,7 +20,7 @@ accepts p (Fire trigger moment) = true
 
 -- what a step prints
 abbrev pub step_lines : Player → Step → List ℕ
-step_lines p (Feed who bytes) = feed_line who (answers_by p.bench.desc p.bench.seat who (map said_by (lines_of bytes)))
+step_lines p (Feed who bytes) = feed_line who (answers_by p.bench.desc p.bench.seat who (map item_of (lines_of bytes)))
 step_lines p (Fire trigger moment) = fired_lines (trigger_name p.bench.desc trigger) p.bench.desc.devices p.bench.seat
 
 -- the state after a step
@@ -28,7 +28,7 @@ abbrev pub with_seat : Player → Option (List ℕ) → Option SeatRecord → Pl
 with_seat p who seat = record { bench = record p.bench { seat = seat }; who = who }
 
 abbrev pub after_step : Player → Step → Player
-after_step p (Feed who bytes) = with_seat p (Some who) (seat_after_items p.bench.desc p.bench.seat who (map said_by (lines_of bytes)))
+after_step p (Feed who bytes) = with_seat p (Some who) (seat_after_items p.bench.desc p.bench.seat who (map item_of (lines_of bytes)))
 after_step p (Fire trigger moment) = with_seat p p.who (seat_after_fire p.bench.desc.devices moment p.bench.seat)
 
 -- fed bytes are whole lines, and the trigger is one of the description's

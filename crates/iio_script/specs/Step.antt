@@ -1,17 +1,19 @@
 -- What each line of a script says, and the first check that fails where it is refused. (This project's own.)
 use Rattle.std.specs.Prelude.{ℕ, ◌+◌, ◌==◌, ◌||◌, ◌&&◌, nat_lt, Bool, true, false, List, [], ◌∷◌, length, codes, Option, Some, None, Result, Ok, Err, if◌then◌else◌}
-use Rattle.std.specs.List.{list_all, list_any}
+use Rattle.std.specs.List.{list_any}
+use Rattle.std.specs.Option.{ok_or}
 use Rattle.std.specs.Str.{bytes_eq}
 use Rattle.iio_text.specs.declared.refusals.Why.{Why}
-use Rattle.iio_text.specs.declared.refusals.Why.TheVariants.{Long, Text, Word, Count, Trigger, Number}
-use Rattle.iio_text.specs.Words.{words_of, is_space}
+use Rattle.iio_text.specs.declared.refusals.Why.TheVariants.{Text, Word, Count, Trigger, Number}
+use Rattle.iio_text.specs.Words.{two_of}
 use Rattle.iio_text.specs.Numbers.{int_of}
 use Rattle.iio_text.specs.Escape.{quoted_of}
 use Rattle.iio_attr.specs.Name.{is_name}
 use Rattle.iio_desc.specs.Description.{Description, find_trigger}
-use Rattle.iio_desc.specs.Line.{checked, said, known, two_of, is_printable, is_comment, fits_line}
-use Rattle.iio_history.specs.declared.step.Step.{Step}
-use Rattle.iio_history.specs.declared.step.Step.TheVariants.{Feed, Fire}
+use Rattle.iio_base.specs.Refusals.{ensure, ◌>>=◌, ◌>>◌}
+use Rattle.iio_text.specs.Lines.{words_of_line}
+use Rattle.iio_single.specs.declared.step.Step.{Step}
+use Rattle.iio_single.specs.declared.step.Step.TheVariants.{Feed, Fire}
 
 -- the words of steps, which are no names of connections
 abbrev pub step_words : List (List ℕ)
@@ -22,18 +24,18 @@ abbrev pub is_step_word : List ℕ → Bool
 is_step_word word = list_any (λ w. bytes_eq word w) step_words
 
 -- the most names of connections in a script
-abbrev pub most_names : ℕ
-most_names = 1
+abbrev pub max_names : ℕ
+max_names = 1
 
 -- the most bytes of a connection's line before its LF
-abbrev pub most_line_bytes : ℕ
-most_line_bytes = 1024
+abbrev pub max_line_bytes : ℕ
+max_line_bytes = 1024
 
--- whether these bytes are whole lines that a connection may send, behind so many bytes of a line: each has an LF, none
+-- whether these bytes are whole lines that a connection may send, after so many bytes of a line: each has an LF, none
 -- has a CR, and none is too long
 abbrev pub are_lines : ℕ → List ℕ → Bool
 are_lines n [] = n == 0
-are_lines n (b ∷ bs) = if b == 10 then are_lines 0 bs else (if b == 13 then false else nat_lt n most_line_bytes && are_lines (n + 1) bs)
+are_lines n (b ∷ bs) = if b == 10 then are_lines 0 bs else (if b == 13 then false else nat_lt n max_line_bytes && are_lines (n + 1) bs)
 
 -- the part of a line from its first quote on
 abbrev pub from_quote : List ℕ → List ℕ
@@ -50,17 +52,19 @@ has_quote_first (word ∷ words) = begins_quote word
 
 -- `NAME "bytes"`
 abbrev pub feed_step : List ℕ → List ℕ → List (List ℕ) → Result Step Why
-feed_step line who words =
-    checked (has_quote_first words) Count (
-    said (quoted_of (from_quote line)) Text (λ bytes.
-    checked (are_lines 0 bytes) Word (Ok (Feed who bytes))))
+feed_step line who words = do
+  ensure (has_quote_first words) Count
+  bytes ← ok_or (quoted_of (from_quote line)) Text
+  ensure (are_lines 0 bytes) Word
+  Ok (Feed who bytes)
 
 -- `fire TRIGGER T`
 abbrev pub fire_step : Description → List (List ℕ) → Result Step Why
-fire_step desc words =
-    said (two_of words) Count (λ w.
-    said (find_trigger desc w.0) Trigger (λ trigger.
-    said (int_of w.1) Number (λ moment. Ok (Fire trigger moment))))
+fire_step desc words = do
+  pair ← ok_or (two_of words) Count
+  trigger ← ok_or (find_trigger desc pair.0) Trigger
+  moment ← ok_or (int_of pair.1) Number
+  Ok (Fire trigger moment)
 
 -- a line by its first word
 abbrev pub step_of_words : Description → List ℕ → List ℕ → List (List ℕ) → Result Step Why
@@ -72,12 +76,15 @@ step_of_words desc line word words =
 -- a line with these words; without a word it means nothing
 abbrev pub step_of_line : Description → List ℕ → List (List ℕ) → Result (Option Step) Why
 step_of_line desc line [] = Ok None
-step_of_line desc line (word ∷ words) =
-    checked (list_all is_printable line) Text (known (step_of_words desc line word words) (λ step. Ok (Some step)))
+step_of_line desc line (word ∷ words) = do
+  step ← step_of_words desc line word words
+  Ok (Some step)
 
 -- the step that a line says; a comment means nothing
 abbrev pub step_of : Description → List ℕ → Result (Option Step) Why
-step_of desc line = checked (fits_line line) Long (if is_comment line then Ok None else step_of_line desc line (words_of is_space line))
+step_of desc line = do
+  words ← words_of_line line
+  step_of_line desc line words
 
 -- the names of the connections that were fed in these steps, the newest step first
 abbrev pub names_in : List Step → List (List ℕ)
@@ -87,5 +94,5 @@ names_in (Fire trigger moment ∷ steps) = names_in steps
 
 -- whether a script goes on by this step, as far as the number of its names goes
 abbrev pub takes : List Step → Step → Bool
-takes steps (Feed who bytes) = list_any (λ name. bytes_eq name who) (names_in steps) || nat_lt (length (names_in steps)) most_names
+takes steps (Feed who bytes) = list_any (λ name. bytes_eq name who) (names_in steps) || nat_lt (length (names_in steps)) max_names
 takes steps (Fire trigger moment) = true

@@ -1,7 +1,7 @@
 -- What the head of an input was read as.
 use Rattle.std.specs.Prelude.{◌+◌, ◌^◌, ◌<◌, length}
-use Rattle.iio_desc.specs.Text.{lines_of}
-use Rattle.iio_desc.specs.WellFormed.{IsWellFormed}
+use Rattle.iio_text.specs.Lines.{lines_of}
+use Rattle.iio_single.specs.Served.{IsServed}
 use Rattle.iio_script.specs.declared.opening.Opening.{Opening as Read}
 use Rattle.iio_script.specs.declared.opening.Opening.TheVariants.{Described as ReadDescribed, Refused as ReadRefused, Cut as ReadCut}
 use Rattle.iio_script.specs.Opening.{Opening, Described, Refused, Cut}
@@ -12,8 +12,8 @@ told (ReadDescribed desc first script) = Described desc first (lines_of script.n
 told (ReadRefused line why) = Refused line why
 told ReadCut = Cut
 
--- the description is a right one, and the numbers of the lines behind it have 32 bits
+-- the description is one that is served, and the numbers of the lines after it have 32 bits
 abbrev pub IsSoundOpening : Read → Type 0
-IsSoundOpening (ReadDescribed desc first script) = IsWellFormed desc × (first + length script.now < 2 ^ 32)
+IsSoundOpening (ReadDescribed desc first script) = IsServed desc × (first + length script.now < 2 ^ 32)
 IsSoundOpening (ReadRefused line why) = Unit {0}
 IsSoundOpening ReadCut = Unit {0}

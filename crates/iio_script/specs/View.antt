@@ -5,9 +5,9 @@ use Rattle.iio_layout.specs.Layout.{scan_size}
 use Rattle.iio_layout.specs.Active.{active_of}
 use Rattle.iio_layout.specs.Scan.{scan_of}
 use Rattle.iio_demux.specs.Table.{copied}
-use Rattle.iio_sensor.specs.declared.sensor.TheConstants.{MOST_BIASES}
+use Rattle.iio_sensor.specs.declared.sensor.TheConstants.{MAX_BIASES}
 use Rattle.iio_desc.specs.Description.{Description}
-use Rattle.iio_desc.specs.declared.description.DeviceDesc.{DeviceDesc}
+use Rattle.iio_desc.specs.Description.{DeviceRecord}
 use Rattle.iio_script.specs.declared.seat.Demux.{Demux}
 use Rattle.iio_script.specs.declared.seat.Seat.{Seat}
 use Rattle.iio_script.specs.declared.station.Station.TheInside.{Inside as StationInside}
@@ -24,10 +24,10 @@ pub record Demuxes (shape : ShapeRecord) (mine : ℕ) (d : Demux) : Type 0 where
   pub active : active_of shape mine ≡ Some d.active.bits
   pub below : d.active.bits < 2 ^ count_of shape
   pub room : length d.union.items ≡ scan_size shape d.active.bits
-  pub whole : d.table.whole ≡ scan_size shape d.active.bits
-  pub size : d.table.size ≡ scan_size shape mine
+  pub whole : d.table.active_size ≡ scan_size shape d.active.bits
+  pub size : d.table.buffer_size ≡ scan_size shape mine
   pub scans : (values : List ℤ) (t : ℤ) → length values ≡ width_of shape
-      → copied d.table.entries (scan_of shape d.active.bits values t) d.table.size ≡ scan_of shape mine values t
+      → copied d.table.entries (scan_of shape d.active.bits values t) d.table.buffer_size ≡ scan_of shape mine values t
 
 -- the sensor is asked under the member's own mask, or under another from which the member's scan is copied
 abbrev pub IsAsked : ShapeRecord → ℕ → Option Demux → Type 0
@@ -50,7 +50,7 @@ FitsIn shape (Some s) = Fits shape s
 
 abbrev pub station_of : StationInside → StationRecord
 station_of s = record {
-  device = record { name = s.name; trigger = s.trigger; shape = s.shape; rows = s.sensor.rows };
+  device = record { name = s.name; trigger = s.trigger; shape = s.shape; rows = s.sensor.rows; driver = s.driver; attrs = s.attrs.items };
   seat = option_map seat_of s.seat;
 }
 
@@ -62,13 +62,13 @@ HasTrigger (Some k) (Some s) = Unit {0}
 
 -- no bias was set, and the member fits
 pub record IsSoundStation (s : StationInside) : Type 0 where
-  pub unbiased : s.sensor.biases ≡ replicate MOST_BIASES (pos 0)
+  pub unbiased : s.sensor.biases ≡ replicate MAX_BIASES (pos 0)
   pub seat : FitsIn s.shape s.seat
   pub trigger : HasTrigger s.trigger s.seat
 
 -- ---- the whole
 
-abbrev pub devices_at : Option StationRecord → List DeviceDesc
+abbrev pub devices_at : Option StationRecord → List DeviceRecord
 devices_at None = []
 devices_at (Some s) = s.device ∷ []
 

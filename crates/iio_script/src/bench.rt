@@ -2,19 +2,20 @@
 
 ghost use Rattle.std.specs.Prelude.{◌≡◌, ℕ, ◌-◌, ◌^◌, ◌<◌, ◌++◌, None, Ok, OnOk, IfOk, length, map};
 ghost use Rattle.iio_desc.specs.Description.{Description, trigger_name};
-ghost use Rattle.iio_desc.specs.WellFormed.{IsWellFormed};
-ghost use Rattle.iiod_grammar.specs.Built.{said_by};
+ghost use Rattle.iio_single.specs.Served.{IsServed};
+ghost use Rattle.iio_single.specs.Stream.{item_of};
 ghost use Rattle.iiod_grammar.specs.Command.{ReadBuf};
-ghost use Rattle.iio_history.specs.Registry.{open_answer};
-ghost use Rattle.iio_desc.specs.Text.{lines_of};
+ghost use Rattle.iio_single.specs.Registry.{open_answer};
+ghost use Rattle.iio_text.specs.Lines.{lines_of};
 ghost use Rattle.iio_script.specs.Bench.{devices_of, answer_by, seat_after, answers_by, seat_after_items, seat_after_fire, fired_lines, answered, seat_opened, offers_of, IsOwn};
 
 use crate::reply::{push_number, push_refusal};
 use crate::station::{Station, push_poll};
 use iio_attr::Name;
 use iio_base::Mem;
-use iio_desc::{Desc, next_line};
-use iio_text::Errno;
+use iio_desc::Desc;
+use iio_single::served;
+use iio_text::{Errno, next_line};
 use iiod_grammar::{Command, Refused, read_line};
 use std::alloc::Global;
 use std::marker::Model;
@@ -49,7 +50,7 @@ fn trigger_at(desc: &Desc, trigger: u32) -> &Name
 impl Bench {
     /// The bench of a description, on which nobody has a device open.
     pub fn new(mut desc: Desc) -> Bench
-        requires { IsWellFormed desc }
+        requires { IsServed desc }
         ensures { result ≡ record { desc = desc; seat = None } }
     {
         let station = match desc.devices.pop() {
@@ -122,20 +123,27 @@ impl Bench {
         out: &mut Vec<u8>,
     ) -> Result<(), Mem>
         requires { IsOwn who.now self.old.seat }
-        ensures answer { OnOk result (out.new.items ≡ out.old.items ++ answer_by self.old.desc self.old.seat who.now (said_by line.now)) }
+        ensures answer { OnOk result (out.new.items ≡ out.old.items ++ answer_by self.old.desc self.old.seat who.now (item_of line.now)) }
         ensures own { OnOk result (IsOwn who.now self.new.seat) }
-        ensures state { OnOk result (self.new ≡ record self.old { seat = seat_after self.old.desc self.old.seat who.now (said_by line.now) }) }
+        ensures state { OnOk result (self.new ≡ record self.old { seat = seat_after self.old.desc self.old.seat who.now (item_of line.now) }) }
     {
-        match read_line(line) {
+        match served(read_line(line)) {
             Err(Refused::Empty) => Ok(()),
-            Err(_) => push_refusal(out, Errno::EINVAL),
             Ok(Command::ReadBuf { dev, bytes }) => self.read_buf(alloc, who, dev, bytes, out),
-            Ok(Command::Open { dev, samples, mask }) => {
+            Ok(
+                Command::Open {
+                    dev,
+                    samples,
+                    mask,
+                    ..
+                },
+            ) => {
                 match self.open(alloc, who, dev, samples, mask)? {
                     Ok(()) => push_number(out, 0),
                     Err(errno) => push_refusal(out, errno),
                 }
             }
+            _ => push_refusal(out, Errno::EINVAL),
         }
     }
 
@@ -149,9 +157,9 @@ impl Bench {
     ) -> Result<(), Mem>
         requires { IsOwn who.now self.old.seat }
         ensures answers { OnOk result (out.new.items ≡ out.old.items
-            ++ answers_by self.old.desc self.old.seat who.now (map said_by (lines_of bytes.now))) }
+            ++ answers_by self.old.desc self.old.seat who.now (map item_of (lines_of bytes.now))) }
         ensures state { OnOk result (self.new ≡ record self.old {
-          seat = seat_after_items self.old.desc self.old.seat who.now (map said_by (lines_of bytes.now));
+          seat = seat_after_items self.old.desc self.old.seat who.now (map item_of (lines_of bytes.now));
         }) }
     {
         let mut rest = bytes;

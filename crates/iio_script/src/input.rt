@@ -1,9 +1,9 @@
 //! The part of an input that is looked at.
 
 ghost use Rattle.std.specs.Prelude.{◌≡◌, ◌+◌, ◌≤◌, length};
-ghost use Rattle.iio_script.specs.Input.{ended_part, input_limit, is_overlong, looked_part, told_part};
+ghost use Rattle.iio_history.specs.Input.{ended_part, input_limit, is_overlong, looked_part, told_part};
 
-use iio_desc::fits_line;
+use iio_text::fits_line;
 
 /// The most bytes of an input that are looked at.
 pub const INPUT_LIMIT: usize = 67_108_864;

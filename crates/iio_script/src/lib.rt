@@ -15,7 +15,7 @@ mod step;
 
 pub use ends::{push_end, push_refused, write_out};
 pub use iio_base::Mem;
-pub use iio_desc::LineFault as StepFault;
+pub use iio_text::LineFault as StepFault;
 pub use input::INPUT_LIMIT;
 pub use opening::{Opening, open};
 pub use reply::push_digits;

@@ -1,16 +1,16 @@
 //! The steps of a script, performed at the bench.
 
 ghost use Rattle.std.specs.Prelude.{◌≡◌, ◌++◌, Some, OnOk, map};
-ghost use Rattle.iiod_grammar.specs.Built.{said_by};
-ghost use Rattle.iio_history.specs.Transcript.{feed_line};
-ghost use Rattle.iio_desc.specs.Text.{lines_of};
+ghost use Rattle.iio_single.specs.Stream.{item_of};
+ghost use Rattle.iio_single.specs.Transcript.{feed_line};
+ghost use Rattle.iio_text.specs.Lines.{lines_of};
 ghost use Rattle.iio_script.specs.Bench.{answers_by, seat_after_items, IsOwn};
 ghost use Rattle.iio_script.specs.Play.{accepts, step_lines, with_seat, after_step, IsReady};
 
 use crate::bench::Bench;
 use iio_attr::Name;
 use iio_base::Mem;
-use iio_history::Step;
+use iio_single::Step;
 use iio_text::escape_to;
 use std::alloc::Global;
 
@@ -56,9 +56,9 @@ impl Player {
     ) -> Result<(), Mem>
         requires { IsOwn who.now self.old.bench.seat }
         ensures lines { OnOk result (out.new.items ≡ out.old.items
-            ++ feed_line who.now (answers_by self.old.bench.desc self.old.bench.seat who.now (map said_by (lines_of bytes.now)))) }
+            ++ feed_line who.now (answers_by self.old.bench.desc self.old.bench.seat who.now (map item_of (lines_of bytes.now)))) }
         ensures state { OnOk result (self.new ≡ with_seat self.old (Some who.now)
-            (seat_after_items self.old.bench.desc self.old.bench.seat who.now (map said_by (lines_of bytes.now)))) }
+            (seat_after_items self.old.bench.desc self.old.bench.seat who.now (map item_of (lines_of bytes.now)))) }
     {
         let mut answers = Vec::new(alloc);
         self.bench.heard_lines(alloc, who, bytes, &mut answers)?;

@@ -1,19 +1,20 @@
 //! The answers of a connection's commands, appended to what was answered before.
 
-ghost use Rattle.std.specs.Prelude.{◌≡◌, ◌+◌, ◌^◌, ◌<◌, ◌≤◌, ◌++◌, OnOk};
+ghost use Rattle.std.specs.Prelude.{◌≡◌, ◌+◌, ◌^◌, ◌<◌, ◌≤◌, ◌++◌, OnOk, OnErr};
 ghost use Rattle.std.specs.Fmt.{decimal};
 ghost use Rattle.iio_mask.specs.Text.{mask_text};
 ghost use Rattle.iio_text.specs.Errno.{errno_number};
-ghost use Rattle.iio_history.specs.Reply.{number_answer, refusal_answer, mask_line, block_answer};
+ghost use Rattle.iio_single.specs.Reply.{number_answer, refusal_answer, mask_line, block_answer};
 
 use iio_base::Mem;
 use iio_mask::Mask;
 use iio_text::Errno;
 use itoa::Buffer;
 
-/// The digits of a number.
+/// The digits of a number. Where memory runs out, nothing is appended.
 pub fn push_digits(out: &mut Vec<u8>, number: usize) -> Result<(), Mem>
-    ensures { OnOk result (out.new.items ≡ out.old.items ++ decimal number) }
+    ensures digits { OnOk result (out.new.items ≡ out.old.items ++ decimal number) }
+    ensures kept { OnErr result (out.new.items ≡ out.old.items) }
 {
     let mut buffer = Buffer::new();
     out.extend_from_slice(buffer.format(number).as_bytes())?;

@@ -1,11 +1,11 @@
 //! Playing an input: its description, and then its steps.
 
-ghost use Rattle.std.specs.Prelude.{◌≡◌, ◌+◌, ◌^◌, ◌≤◌, ◌<◌, [], None, IfOk, IfSome, IfNone, length};
-ghost use Rattle.iio_base.specs.Faults.{Rose};
-ghost use Rattle.iio_desc.specs.Text.{lines_of};
-ghost use Rattle.iio_desc.specs.WellFormed.{IsWellFormed};
-ghost use Rattle.iio_script.specs.Ends.{Finishes, Writes};
-ghost use Rattle.iio_script.specs.Input.{input_limit};
+ghost use Rattle.std.specs.Prelude.{◌≡◌, ◌+◌, ◌^◌, ◌≤◌, ◌<◌, [], None, IfOk, IfSome, length};
+ghost use Rattle.iio_io.specs.Bytes.{TakesAtMost};
+ghost use Rattle.iio_text.specs.Lines.{lines_of};
+ghost use Rattle.iio_single.specs.Served.{IsServed};
+ghost use Rattle.iio_script.specs.Ends.{HasStatus, Finishes, ShowsFaults, Writes};
+ghost use Rattle.iio_history.specs.Input.{input_limit};
 ghost use Rattle.iio_script.specs.Outcome.{step_why, play_lines, outcome_of};
 
 use crate::bench::Bench;
@@ -16,9 +16,9 @@ use crate::player::Player;
 use crate::status::Status;
 use crate::step::read_step;
 use iio_base::Mem;
-use iio_desc::{Desc, LineFault, next_line};
+use iio_desc::Desc;
 use iio_io::{ReadEnd, Sink, Source, read_whole};
-use iio_text::Why;
+use iio_text::{LineFault, Why, next_line};
 use std::alloc::Global;
 
 // The word that the refusal of a step is printed with: so far one for all checks but that of the line's length.
@@ -40,7 +40,7 @@ fn play_steps(
     overlong: bool,
     out: &mut Vec<u8>,
 ) -> Result<Status, Mem>
-    requires sound { IsWellFormed player.old.bench.desc }
+    requires sound { IsServed player.old.bench.desc }
     requires free { player.old.bench.seat ≡ None }
     requires fresh { player.old.who ≡ None }
     requires few { first + length text.now < 2 ^ 32 }
@@ -54,14 +54,14 @@ fn play_steps(
         next += 1;
         let said = match read_step(alloc, player.bench.desc(), line) {
             Ok(said) => said,
-            Err(LineFault::Why(why)) => return push_refused(out, number, step_why(why)),
+            Err(LineFault::Why(why)) => return push_refused(alloc, out, number, step_why(why)),
             Err(LineFault::Mem) => return Err(Mem),
         };
         let Some(step) = said else {
             continue;
         };
         if !player.accepts(&step) {
-            return push_refused(out, number, step_why(Why::Limit));
+            return push_refused(alloc, out, number, step_why(Why::Limit));
         }
         player.perform(alloc, &step, out)?;
     }
@@ -77,7 +77,7 @@ fn play_described(
     overlong: bool,
     out: &mut Vec<u8>,
 ) -> Result<Status, Mem>
-    requires sound { IsWellFormed desc }
+    requires sound { IsServed desc }
     requires few { first + length text.now < 2 ^ 32 }
     ensures { IfOk result (λ status. Finishes (play_lines overlong desc [] first (lines_of text.now)) status out.old.items out.new.items) }
 {
@@ -100,7 +100,7 @@ fn play_text(alloc: Global, text: &[u8], out: &mut Vec<u8>) -> Result<Status, Me
             first,
             script,
         } => play_described(alloc, desc, script, first, overlong, out),
-        Opening::Refused { line, why } => push_refused(out, line, why),
+        Opening::Refused { line, why } => push_refused(alloc, out, line, why),
         Opening::Cut => push_end(out, true),
     }
 }
@@ -110,11 +110,10 @@ fn play_text(alloc: Global, text: &[u8], out: &mut Vec<u8>) -> Result<Status, Me
 pub fn play<S: Source, K: Sink>(alloc: Global, input: &mut S, output: &mut K) -> Status
     ensures transcript { IfSome (S.left input.old) (λ left. IfSome (K.written output.old) (λ written.
         Writes (outcome_of left) written result (K.written output.new))) }
-    ensures read_fault { result ≡ Status.ReadFault → Rose (S.faults input.old) (S.faults input.new) }
-    ensures write_fault { result ≡ Status.WriteFault → Rose (K.faults output.old) (K.faults output.new) }
+    ensures status { IfSome (S.left input.old) (λ left. HasStatus (outcome_of left) result) }
     ensures words { result ≡ Status.Usage → ⊥ }
-    ensures counted { (S.faults input.old ≤ S.faults input.new) × (K.faults output.old ≤ K.faults output.new) }
-    ensures silent { (IfNone (S.left input.old) (S.left input.new ≡ None)) × (IfNone (K.written output.old) (K.written output.new ≡ None)) }
+    ensures taken { IfSome (S.left input.old) (λ left. TakesAtMost left (input_limit + 1) (S.left input.new)) }
+    ensures faults { ShowsFaults S.left S.faults K.written K.faults result input.old input.new output.old output.new }
 {
     let text = match read_whole(alloc, input, INPUT_LIMIT) {
         Ok(text) => text,

@@ -1,17 +1,17 @@
 //! The one member of the device.
 
 ghost use Rattle.std.specs.Prelude.{◌≡◌, ℕ, ◌+◌, ◌*◌, ◌/◌, ◌^◌, ◌<◌, ◌≤◌, ◌-◌, ◌++◌, [], true, IfOk, OnOk, is_err, length, take, drop, replicate, pos, Some};
-ghost use Rattle.iio_mask.specs.Places.{is_within};
+ghost use Rattle.iio_mask.specs.Mask.{is_within};
 ghost use Rattle.iio_layout.specs.Active.{active_of};
 ghost use Rattle.iio_layout.specs.Layout.{scan_size};
 ghost use Rattle.iio_layout.specs.Scan.{scan_of};
 ghost use Rattle.iio_layout.specs.Shape.{count_of};
 ghost use Rattle.iio_demux.specs.Table.{copied};
-ghost use Rattle.iio_sensor.specs.declared.sensor.TheConstants.{MOST_BIASES};
+ghost use Rattle.iio_sensor.specs.declared.sensor.TheConstants.{MAX_BIASES};
 ghost use Rattle.iio_sensor.specs.Driver.{ask_fails, next_count, values_of};
 ghost use Rattle.iio_sensor.specs.Recorded.{driver_of};
-ghost use Rattle.iio_history.specs.Capture.{values_at};
-ghost use Rattle.iio_history.specs.Reply.{joined_scans};
+ghost use Rattle.iio_single.specs.Capture.{values_at};
+ghost use Rattle.iio_single.specs.Reply.{joined_scans};
 ghost use Rattle.iio_script.specs.Bench.{offered_to, seat_answer, seat_read};
 ghost use Rattle.iio_script.specs.View.{seat_of, IsAsked, Fits};
 
@@ -77,10 +77,10 @@ impl Demux {
     ) -> Result<(), Fault>
         requires below { self.old.active.bits < 2 ^ count_of shape.now }
         requires room { length self.old.union.items ≡ scan_size shape.now self.old.active.bits }
-        requires whole { self.old.table.whole ≡ scan_size shape.now self.old.active.bits }
-        requires size { length scan.old ≡ self.old.table.size }
+        requires whole { self.old.table.active_size ≡ scan_size shape.now self.old.active.bits }
+        requires size { length scan.old ≡ self.old.table.buffer_size }
         ensures scan { OnOk result (scan.new ≡ copied self.old.table.entries
-            (scan_of shape.now self.old.active.bits (values_of (driver_of sensor.old) shape.now moment) moment) self.old.table.size) }
+            (scan_of shape.now self.old.active.bits (values_of (driver_of sensor.old) shape.now moment) moment) self.old.table.buffer_size) }
         ensures fault { is_err result ≡ ask_fails (driver_of sensor.old) }
         ensures sensor { sensor.new ≡ record sensor.old { asked = next_count sensor.old.asked; last = Some (moment, self.old.active.bits) } }
         ensures kept { (self.new.active ≡ self.old.active) × (self.new.table ≡ self.old.table) × (length self.new.union.items ≡ length self.old.union.items) }
@@ -104,7 +104,7 @@ fn lay_out(
     requires below { mask.bits < 2 ^ count_of shape.now }
     requires size { length scan.old ≡ scan_size shape.now mask.bits }
     requires asked { IsAsked shape.now mask.bits demux.old }
-    requires unbiased { sensor.old.biases ≡ replicate MOST_BIASES (pos 0) }
+    requires unbiased { sensor.old.biases ≡ replicate MAX_BIASES (pos 0) }
     ensures ok { is_err result ≡ ask_fails (driver_of sensor.old) }
     ensures scan { OnOk result (scan.new ≡ scan_of shape.now mask.bits (values_at shape.now sensor.old.rows moment) moment) }
     ensures demux { IsAsked shape.now mask.bits demux.new }
@@ -182,7 +182,7 @@ impl Seat {
     /// under the active mask.
     pub fn capture(&mut self, sensor: &mut Recorded, shape: &Shape, moment: i64)
         requires fits { Fits shape.now self.old }
-        requires unbiased { sensor.old.biases ≡ replicate MOST_BIASES (pos 0) }
+        requires unbiased { sensor.old.biases ≡ replicate MAX_BIASES (pos 0) }
         requires offers { self.old.queue.taken + self.old.queue.lost < 2 ^ 64 - 1 }
         ensures seat { seat_of self.new ≡ record (seat_of self.old) {
           queue = offered_to (scan_of shape.now self.old.mask.bits (values_at shape.now sensor.old.rows moment) moment) self.old.queue;

@@ -8,15 +8,15 @@ ghost use Rattle.iio_layout.specs.Rows.{IsRecording};
 ghost use Rattle.iio_layout.specs.Shape.{count_of};
 ghost use Rattle.iio_desc.specs.Description.{Description};
 ghost use Rattle.iiod_grammar.specs.Command.{ReadBuf};
-ghost use Rattle.iio_history.specs.Registry.{open_answer, mask_in, is_excess};
-ghost use Rattle.iio_history.specs.Transcript.{poll_text, handle_text};
+ghost use Rattle.iio_single.specs.Registry.{open_answer, mask_in, is_excess};
+ghost use Rattle.iio_single.specs.Transcript.{poll_text, handle_text};
 ghost use Rattle.iio_script.specs.Bench.{path_of, devices_of, answer_by, seat_after, seat_after_capture, captured_lines, admitted, joined_by, answered, seat_opened, offers_of, IsOwn, IsOnTrigger};
 
 use crate::reply::{push_number, push_refusal};
 use crate::seat::Seat;
 use iio_attr::Name;
 use iio_base::Mem;
-use iio_desc::DeviceDesc;
+use iio_desc::{AttrDesc, DeviceDesc};
 use iio_layout::{Shape, active, scan_size};
 use iio_mask::Mask;
 use iio_sensor::Recorded;
@@ -28,10 +28,10 @@ use std::marker::Model;
 const BUFFERS_COUNT: u64 = 4;
 
 /// The most scans of a member's queue.
-const MOST_SCANS: u64 = 65_536;
+const MAX_SCANS: u64 = 65_536;
 
 /// The most bytes of a member's queue.
-const MOST_BYTES: u64 = 4_194_304;
+const MAX_BYTES: u64 = 4_194_304;
 
 /// A device with its sensor, and the member that has it open.
 #[derive(Drop)]
@@ -39,6 +39,8 @@ pub struct Station {
     name: Name,
     trigger: Option<u32>,
     shape: Shape,
+    driver: Option<u32>,
+    attrs: Vec<AttrDesc>,
     sensor: Recorded,
     seat: Option<Seat>,
 }
@@ -98,7 +100,7 @@ fn exceeds(capacity: u64, size: u32) -> bool
     requires { capacity < 2 ^ 40 }
     ensures { result ≡ is_excess capacity size }
 {
-    capacity == 0 || capacity > MOST_SCANS || capacity * u64::from(size) > MOST_BYTES
+    capacity == 0 || capacity > MAX_SCANS || capacity * u64::from(size) > MAX_BYTES
 }
 
 /// `poll TRIGGER accepted N`
@@ -134,11 +136,15 @@ impl Station {
             trigger,
             shape,
             rows,
+            driver,
+            attrs,
         } = device;
         Station {
             name,
             trigger,
             shape,
+            driver,
+            attrs,
             sensor: Recorded::new(rows),
             seat: None,
         }

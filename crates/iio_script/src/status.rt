@@ -1,6 +1,7 @@
 //! How a run of the program ends.
 
 ghost use Rattle.std.specs.Prelude.{◌≡◌};
+ghost use Rattle.iio_script.specs.Status.{code_of};
 
 use iio_text::Why;
 
@@ -21,4 +22,21 @@ pub enum Status {
     Memory,
     /// The input has more bytes than are looked at, and no line that is looked at fails.
     TooLong,
+}
+
+impl Status {
+    /// The number that a process ends with.
+    pub fn code(&self) -> u8
+        ensures { result ≡ code_of self.now }
+    {
+        match self {
+            Status::Done => 0,
+            Status::Refused { .. } => 1,
+            Status::Usage => 2,
+            Status::ReadFault => 3,
+            Status::WriteFault => 4,
+            Status::Memory => 5,
+            Status::TooLong => 6,
+        }
+    }
 }

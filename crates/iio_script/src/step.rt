@@ -6,19 +6,21 @@ ghost use Rattle.std.specs.Str.{bytes_eq};
 ghost use Rattle.iio_text.specs.Words.{words_of, is_space};
 ghost use Rattle.iio_attr.specs.Name.{is_name};
 ghost use Rattle.iio_desc.specs.Description.{Description};
-ghost use Rattle.iio_desc.specs.Fault.{Explains};
+ghost use Rattle.iio_text.specs.LineFault.{Tells};
 ghost use Rattle.iio_script.specs.Play.{IsRight};
-ghost use Rattle.iio_script.specs.Step.{is_step_word, are_lines, from_quote, has_quote_first, feed_step, fire_step, step_of_words, step_of_line, step_of};
+ghost use Rattle.iio_script.specs.Step.{is_step_word, are_lines, from_quote, has_quote_first, feed_step, fire_step, step_of_words, step_of};
 
 use iio_attr::Name;
-use iio_desc::{Desc, LineFault, fits_line, is_comment, is_printable_text, two_words};
-use iio_history::{Quoted, Step};
-use iio_text::words::{Blanks, next_word};
-use iio_text::{Unescape, Why, between_quotes, read_int, unescape};
+use iio_desc::Desc;
+use iio_single::{Quoted, Step};
+use iio_text::{
+    Blanks, LineFault, Unescape, Why, between_quotes, first_word, next_word, read_int, two_words,
+    unescape,
+};
 use std::alloc::Global;
 
 /// The most bytes of a connection's line before its LF.
-const MOST_LINE_BYTES: usize = 1024;
+const MAX_LINE_BYTES: usize = 1024;
 
 // Whether a word is one of the words of steps, which are no names of connections.
 fn is_step_word(word: &[u8]) -> bool
@@ -41,7 +43,7 @@ fn are_lines(bytes: &[u8]) -> bool
     for byte in bytes {
         if *byte == b'\n' {
             len = 0;
-        } else if *byte == b'\r' || len >= MOST_LINE_BYTES {
+        } else if *byte == b'\r' || len >= MAX_LINE_BYTES {
             return false;
         } else {
             len += 1;
@@ -75,7 +77,7 @@ fn has_quote_first(words: &[u8]) -> bool
 fn read_feed(alloc: Global, line: &[u8], who: &[u8], words: &[u8]) -> Result<Step, LineFault>
     requires { is_name who.now ≡ true }
     ensures ok { IfOk result (λ step. feed_step line.now who.now (words_of is_space words.now) ≡ Ok step) }
-    ensures err { IfErr result (λ e. Explains e (feed_step line.now who.now (words_of is_space words.now))) }
+    ensures err { IfErr result (λ e. Tells e (feed_step line.now who.now (words_of is_space words.now))) }
     ensures right { IfOk result (λ step. (desc : Description) → IsRight desc step) }
 {
     if !has_quote_first(words) {
@@ -96,7 +98,6 @@ fn read_feed(alloc: Global, line: &[u8], who: &[u8], words: &[u8]) -> Result<Ste
 
 // `fire TRIGGER T`
 fn read_fire(desc: &Desc, words: &[u8]) -> Result<Step, Why>
-    requires { length desc.now.triggers ≤ 16 }
     ensures value { result ≡ fire_step desc.now (words_of is_space words.now) }
     ensures right { IfOk result (IsRight desc.now) }
 {
@@ -106,7 +107,7 @@ fn read_fire(desc: &Desc, words: &[u8]) -> Result<Step, Why>
     Ok(Step::Fire(trigger, moment))
 }
 
-// A line by its first word, and by the words behind it.
+// A line by its first word, and by the words after it.
 fn read_words(
     alloc: Global,
     desc: &Desc,
@@ -114,9 +115,8 @@ fn read_words(
     word: &[u8],
     words: &[u8],
 ) -> Result<Step, LineFault>
-    requires { length desc.now.triggers ≤ 16 }
     ensures ok { IfOk result (λ step. step_of_words desc.now line.now word.now (words_of is_space words.now) ≡ Ok step) }
-    ensures err { IfErr result (λ e. Explains e (step_of_words desc.now line.now word.now (words_of is_space words.now))) }
+    ensures err { IfErr result (λ e. Tells e (step_of_words desc.now line.now word.now (words_of is_space words.now))) }
     ensures right { IfOk result (IsRight desc.now) }
 {
     if word == b"fire".as_slice() {
@@ -128,35 +128,15 @@ fn read_words(
     read_feed(alloc, line, word, words)
 }
 
-// A line that is no comment and isn't too long.
-fn read_line(alloc: Global, desc: &Desc, line: &[u8]) -> Result<Option<Step>, LineFault>
-    requires { length desc.now.triggers ≤ 16 }
-    ensures ok { IfOk result (λ step. step_of_line desc.now line.now (words_of is_space line.now) ≡ Ok step) }
-    ensures err { IfErr result (λ e. Explains e (step_of_line desc.now line.now (words_of is_space line.now))) }
-    ensures right { IfOk result (λ step. IfSome step (IsRight desc.now)) }
-{
-    let Some((word, words)) = next_word(line, Blanks::Spaces) else {
-        return Ok(None);
-    };
-    if !is_printable_text(line) {
-        return Err(LineFault::Why(Why::Text));
-    }
-    Ok(Some(read_words(alloc, desc, line, word, words)?))
-}
-
 /// The step that a line of a script says, without its LF. `None` comes exactly for a line without a word and for a
 /// comment, whose first byte is `#`, where it isn't too long. An `Err` tells the first check that fails.
 pub fn read_step(alloc: Global, desc: &Desc, line: &[u8]) -> Result<Option<Step>, LineFault>
-    requires { length desc.now.triggers ≤ 16 }
     ensures ok { IfOk result (λ step. step_of desc.now line.now ≡ Ok step) }
-    ensures err { IfErr result (λ e. Explains e (step_of desc.now line.now)) }
+    ensures err { IfErr result (λ e. Tells e (step_of desc.now line.now)) }
     ensures right { IfOk result (λ step. IfSome step (IsRight desc.now)) }
 {
-    if !fits_line(line) {
-        return Err(LineFault::Why(Why::Long));
+    match first_word(line)? {
+        None => Ok(None),
+        Some((word, words)) => Ok(Some(read_words(alloc, desc, line, word, words)?)),
     }
-    if is_comment(line) {
-        return Ok(None);
-    }
-    read_line(alloc, desc, line)
 }

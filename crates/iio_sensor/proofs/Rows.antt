@@ -14,7 +14,7 @@ use Rattle.iio_sensor.specs.Recorded.{row_before}
 pub count_to_point : (p : ℤ → Bool) (xs : List ℤ) (i : ℕ) → i ≤ length xs → IsPartitionPoint (λ x. p x ≡ true) (λ x. p x ≡ false) xs i → count_by p xs ≡ i
 count_to_point p xs i h point =
     let whole : i + (length xs - i) ≡ length xs = omega arith in
-    ap (count_by p) (sym (take_all (i + (length xs - i)) xs (omega arith))) ∙ behind (length xs - i) (omega arith)
+    ap (count_by p) (sym (take_all (i + (length xs - i)) xs (omega arith))) ∙ after (length xs - i) (omega arith)
   where
     before : (n : ℕ) → n ≤ i → count_by p (take n xs) ≡ n
     before zero e = refl
@@ -23,12 +23,12 @@ count_to_point p xs i h point =
         ap (λ m. count_by p (take m xs)) one ∙ count_by_more_yes p xs n (pos 0) (omega arith) (point.0 n (pos 0) (omega arith) (omega arith))
         ∙ ap (λ m. m + 1) (before n (omega arith)) ∙ sym one
 
-    behind : (n : ℕ) → i + n ≤ length xs → count_by p (take (i + n) xs) ≡ i
-    behind zero e = ap (λ m. count_by p (take m xs)) (let z : i + zero ≡ i = omega arith in z) ∙ before i (omega arith)
-    behind (suc n) e =
+    after : (n : ℕ) → i + n ≤ length xs → count_by p (take (i + n) xs) ≡ i
+    after zero e = ap (λ m. count_by p (take m xs)) (let z : i + zero ≡ i = omega arith in z) ∙ before i (omega arith)
+    after (suc n) e =
         let one : i + suc n ≡ i + n + 1 = omega arith in
         ap (λ m. count_by p (take m xs)) one ∙ count_by_more_no p xs (i + n) (pos 0) (omega arith) (point.1 (i + n) (pos 0) (omega arith) (omega arith))
-        ∙ behind n (omega arith)
+        ∙ after n (omega arith)
 
 -- the moments that have come stand before the others
 pub moments_parted : (moments : List ℤ) (t : ℤ) → Rises moments → IsPartitionedBy (λ m. int_le m t) moments

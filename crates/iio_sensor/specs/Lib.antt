@@ -1,4 +1,6 @@
 pub mod Driver
 pub mod Recorded
+pub mod Ramp
+pub mod Failing
 pub mod View
 pub mod Laws

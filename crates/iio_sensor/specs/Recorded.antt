@@ -1,10 +1,10 @@
 -- Recorded values as a driver.
-use Rattle.std.specs.Prelude.{◌≡◌, ℕ, zero, suc, ◌+◌, ◌*◌, ◌<◌, List, [], length, take, drop, count_by, slice_index_or, ℤ, pos, ◌<ℤ◌, int_le, Option}
+use Rattle.std.specs.Prelude.{ℕ, zero, suc, ◌+◌, ◌*◌, List, [], take, drop, count_by, slice_index_or, ℤ, pos, int_le, Option}
 use Rattle.iio_scan_type.specs.Format.{Format}
 use Rattle.iio_layout.specs.Shape.{RowsRecord, formats_of}
 use Rattle.iio_layout.specs.Layout.{format_at}
 use Rattle.iio_layout.specs.Scan.{first_value}
-use Rattle.iio_sensor.specs.Driver.{Driver, with_bias}
+use Rattle.iio_sensor.specs.Driver.{Driver, bias_in, with_bias}
 
 -- how many moments have come
 abbrev pub come_by : List ℤ → ℤ → ℕ
@@ -25,7 +25,7 @@ number_in row formats c k = slice_index_or row (first_value formats c + k) (pos 
 
 -- the value for element k of channel c
 abbrev pub value_in : List ℤ → List ℤ → List Format → ℕ → ℕ → ℤ
-value_in row biases formats c k = with_bias (format_at formats c) (number_in row formats c k) (slice_index_or biases c (pos 0))
+value_in row biases formats c k = with_bias (format_at formats c) (number_in row formats c k) (bias_in biases c)
 
 -- what a recording has been told and asked
 pub record RecordedRecord : Type 0 where
@@ -38,7 +38,7 @@ pub record RecordedRecord : Type 0 where
 abbrev pub driver_of : RecordedRecord → Driver
 driver_of r = record {
   sample = λ shape c k t. number_in (row_at r.rows t) (formats_of shape) c k;
-  biases = r.biases;
+  bias = bias_in r.biases;
   asked = r.asked;
   last = r.last;
   fails = [];

@@ -1,10 +1,20 @@
--- How a recording is seen.
-use Rattle.iio_sensor.specs.declared.recorded.Recorded.TheInside.{Inside}
+-- How drivers are seen.
 use Rattle.iio_layout.specs.Rows.{IsRecording}
+use Rattle.iio_sensor.specs.declared.failing.Failing.TheInside as failing
+use Rattle.iio_sensor.specs.declared.ramp.Ramp.TheInside as ramp
+use Rattle.iio_sensor.specs.declared.recorded.Recorded.TheInside as recorded
+use Rattle.iio_sensor.specs.Failing.{FailingRecord}
+use Rattle.iio_sensor.specs.Ramp.{RampRecord}
 use Rattle.iio_sensor.specs.Recorded.{RecordedRecord}
 
-abbrev pub record_of : Inside → RecordedRecord
-record_of a = record { rows = a.rows; biases = a.biases; asked = a.asked; last = a.last }
+abbrev pub recorded_of : recorded.Inside → RecordedRecord
+recorded_of a = record { rows = a.rows; biases = a.asks.biases; asked = a.asks.asked; last = a.asks.last }
 
-abbrev pub IsSound : Inside → Type 0
+abbrev pub IsSound : recorded.Inside → Type 0
 IsSound a = IsRecording a.rows
+
+abbrev pub ramp_of : ramp.Inside → RampRecord
+ramp_of a = record { biases = a.asks.biases; asked = a.asks.asked; last = a.asks.last }
+
+abbrev pub failing_of : failing.Inside → FailingRecord
+failing_of a = record { ramp = a.ramp; fails = a.fails.items; faults = a.faults }

@@ -1,10 +1,15 @@
 //! Drivers: what a device's sensor samples, and the answers to its asks.
 #![tactic(auto)]
 
+mod asks;
+mod failing;
+mod ramp;
 mod recorded;
 mod sensor;
 #[cfg(test)]
 mod tests;
 
+pub use failing::Failing;
+pub use ramp::Ramp;
 pub use recorded::Recorded;
-pub use sensor::{Fault, MOST_BIASES, Sensor};
+pub use sensor::{Fault, MAX_BIASES, Sensor};

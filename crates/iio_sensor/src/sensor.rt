@@ -4,15 +4,15 @@ ghost use Rattle.std.specs.Prelude.{◌≡◌, ℕ, ◌^◌, ◌<◌, length, If
 ghost use Rattle.iio_layout.specs.Layout.{scan_size};
 ghost use Rattle.iio_layout.specs.Scan.{scan_of};
 ghost use Rattle.iio_layout.specs.Shape.{count_of};
-ghost use Rattle.iio_sensor.specs.Driver.{Driver, after_ask, after_bias, after_capture, ask_fails, bias_at, value_of, values_of};
+ghost use Rattle.iio_sensor.specs.Driver.{Driver, after_ask, after_bias, after_capture, ask_fails, value_of, values_of};
 
-use iio_layout::Shape;
+use iio_layout::{MAX_CHANNELS, Shape};
 use iio_mask::Mask;
 use std::error::Error;
 use std::fmt;
 
-/// The most channels that have a bias.
-pub const MOST_BIASES: usize = 64;
+/// How many biases a driver keeps: one for each channel that a device can have.
+pub const MAX_BIASES: usize = MAX_CHANNELS;
 
 /// An ask that failed.
 #[derive(Clone, Copy, Debug, PartialEq, Eq)]
@@ -26,8 +26,9 @@ impl fmt::Display for Fault {
 
 impl Error for Fault {}
 
-/// A driver. What it samples, which of its asks fail and what it has been told is its `driver`, for contracts alone:
-/// no call changes what it samples and which asks fail, no ask changes a bias, and each ask is counted.
+/// A driver. What it samples, which of its asks fail, and what it has been told and asked is its `driver`, for contracts
+/// alone: no call changes what it samples and which asks fail, no ask changes a bias, each ask is counted, and each ask
+/// that fails is counted besides.
 pub trait Sensor: Drop {
     ghost driver: { Self → Driver };
 
@@ -49,11 +50,11 @@ pub trait Sensor: Drop {
 
     /// What is added to the samples of channel `c`.
     fn bias_of(&self, c: u32) -> i64
-        requires { c < MOST_BIASES }
-        ensures { result ≡ bias_at (driver self.now) c };
+        requires { c < MAX_BIASES }
+        ensures { result ≡ (driver self.now).bias c };
 
     /// Sets what is added to the samples of channel `c`, and changes nothing else.
     fn set_bias(&mut self, c: u32, v: i64)
-        requires { c < MOST_BIASES }
+        requires { c < MAX_BIASES }
         ensures { driver self.new ≡ after_bias (driver self.old) c v };
 }

@@ -2,7 +2,7 @@ ghost use Rattle.std.specs.Prelude.{◌≡◌, ◌^◌, ◌<◌, length, is_err,
 ghost use Rattle.iio_layout.specs.Layout.{scan_size};
 ghost use Rattle.iio_layout.specs.Scan.{scan_of};
 ghost use Rattle.iio_layout.specs.Shape.{count_of};
-ghost use Rattle.iio_sensor.specs.Driver.{Driver, after_ask, after_bias, after_capture, ask_fails, bias_at, value_of, values_of};
+ghost use Rattle.iio_sensor.specs.Driver.{Driver, after_ask, after_bias, after_capture, ask_fails, value_of, values_of};
 ghost use Rattle.iio_layout.specs.Rows.{IsRecording};
 ghost use Rattle.iio_sensor.specs.Recorded.{driver_of};
 ghost use Rattle.iio_sensor.specs.declared.tests.Plug.TheVariants.{Given, Own};
@@ -166,4 +166,83 @@ fn a_driver_is_own_or_given(rt: HostRuntime) -> Result<(), Mem> {
         assert_eq!(rt; driver.raw(&shape, 1, 20), Ok(77));
     }
     Ok(())
+}
+
+/// Of a ramp: the number of element 0 of each channel of `two_channels`, at a moment.
+const RAMP: [(i64, i64, i64); 7] = [
+    (0, 0, 127),
+    (7, 7, 127),
+    (999, 999, 127),
+    (1000, 0, 127),
+    (-1, 999, 127),
+    (i64::MIN, 192, 127),
+    (i64::MAX, 807, 127),
+];
+
+#[test]
+fn a_ramp_counts(rt: HostRuntime) -> Result<(), Mem> {
+    let shape = two_channels(&rt, rt.alloc())?;
+    let mut driver = Plug::Given(Box::new(rt.alloc(), Ramp::new())?);
+    for (t, first, second) in RAMP {
+        assert_eq!(rt; driver.raw(&shape, 0, t), Ok(first), "at {t}");
+        assert_eq!(rt; driver.raw(&shape, 1, t), Ok(second), "at {t}");
+    }
+    driver.set_bias(1, -1005);
+    assert_eq!(rt; driver.bias_of(1), -1005);
+    // 7 and 2 are 1000 more and 1005 less; the value of voltage0 is shifted by 4.
+    assert_eq!(rt; scan_at(&rt, &mut driver, &shape, 7), [0x70, 0, 2, 3]);
+    Ok(())
+}
+
+#[test]
+fn listed_asks_fail(rt: HostRuntime) -> Result<(), Mem> {
+    let shape = two_channels(&rt, rt.alloc())?;
+    let fails = Vec::from_slice(rt.alloc(), &[2, 4])?;
+    let mut driver = Plug::Given(Box::new(rt.alloc(), Failing::new(fails))?);
+    let both = Mask { bits: 3 };
+    let mut out = [0; 4];
+    assert!(rt; scan_size(&shape, both) == 4);
+    for (t, answer) in [(1, Ok(())), (2, Err(Fault)), (3, Ok(()))] {
+        assert_eq!(rt; driver.capture(&shape, t, both, &mut out), answer, "at {t}");
+    }
+    assert_eq!(rt; out, [0x30, 0, 0x7f, 0x7f]);
+    assert_eq!(rt; driver.raw(&shape, 0, 4), Err(Fault));
+    assert_eq!(rt; driver.raw(&shape, 0, 5), Ok(5));
+    Ok(())
+}
+
+/// One channel of 64, the last, has the number 90.
+#[test]
+fn one_channel_of_64(rt: HostRuntime) -> Result<(), Mem> {
+    let mut channels = Vec::new(rt.alloc());
+    for number in 0..64 {
+        channels.push(Channel {
+            kind: Kind::Voltage,
+            suffix: Suffix::Number(number),
+            direction: Direction::Input,
+            ty: read_type(b"le:s64/64>>0").expect(&rt, "a type"),
+        })?;
+    }
+    let shape = Shape::new(channels, None, Vec::new(rt.alloc())).expect(&rt, "a shape");
+    let mut driver = Recorded::new(last_of_64(rt.alloc())?);
+    let last = Mask { bits: 1 << 63 };
+    let mut out = [0xff; 8];
+    assert!(rt; shape.count() == 64);
+    assert!(rt; scan_size(&shape, last) == 8);
+    assert_eq!(rt; driver.capture(&shape, 1, last, &mut out), Ok(()));
+    assert_eq!(rt; out, [90, 0, 0, 0, 0, 0, 0, 0]);
+    Ok(())
+}
+
+/// One row of 63 zeros and 90.
+fn last_of_64(alloc: Global) -> Result<Rows, Mem>
+    ensures { IfOk result IsRecording }
+{
+    let mut values = [0; 64];
+    values[63] = 90;
+    Ok(Rows {
+        moments: Vec::from_slice(alloc, &[0])?,
+        values: Vec::from_slice(alloc, &values)?,
+        width: 64,
+    })
 }

@@ -1,6 +1,8 @@
 -- Lemmas on escaped texts.
-use Rattle.std.proofs.Common.{◌≡◌, ℕ, zero, suc, ◌+◌, ◌-◌, ◌*◌, ◌/◌, ◌%◌, ◌<◌, ◌≤◌, Bool, true, false, eqb, List, [], ◌∷◌, ◌++◌, length, get_or, drop, Some, Result, Ok, Err, refl, arith, ap, inl, inr, ◌∙◌, sym, subst, add-zero, add-one, append_assoc, length-append, Fits, w8}
+use borrow.Rule.Slice.PartMut.{mid_of}
+use Rattle.std.proofs.Common.{◌≡◌, ℕ, zero, suc, ◌+◌, ◌-◌, ◌*◌, ◌/◌, ◌%◌, ◌<◌, ◌≤◌, Bool, true, false, eqb, List, [], ◌∷◌, ◌++◌, length, get_or, take, drop, Some, Result, Ok, Err, refl, arith, ap, inl, inr, ◌∙◌, sym, subst, add-zero, add-one, append_assoc, length-append, Fits, w8}
 use Rattle.std.specs.Char.{digit_char}
+use Rattle.std.specs.List.{prefix_len}
 use Rattle.std.proofs.Math.Seq.{take-append_seam, drop-append_seam}
 use Rattle.std.proofs.lemmas.List.{drop-drop}
 use Rattle.std.proofs.lemmas.Bool.Decides.{nat_tests, eqb_tells}
@@ -106,3 +108,46 @@ between_quotes-quoted xs =
 -- a quoted text means the bytes that were quoted
 pub quoted_of-quoted : (bs : List ℕ) → ((k : ℕ) → Fits w8 (get_or bs k 0)) → quoted_of (quoted bs) ≡ Some bs
 quoted_of-quoted bs h = rw (between_quotes-quoted (escaped bs)) (rw (unescaped_from-escaped 0 bs h) refl)
+
+before-nil : (r : Result (List ℕ) ℕ) → before [] r ≡ r
+before-nil (Ok more) = refl
+before-nil (Err place) = refl
+
+-- a byte that stands for itself is one piece
+piece_of-plain : (b : ℕ) (rest : List ℕ) → is_plain b ≡ true → piece_of (b ∷ rest) ≡ Some (b, 0)
+piece_of-plain b rest p = grind (arith, nat_tests, p)
+
+-- what a text means from a place on: its first n bytes, and what stands after them
+abbrev Means : ℕ → List ℕ → ℕ → Type 0
+Means place s n = unescaped_from place 0 s ≡ before (take n s) (unescaped_from (place + n) 0 (drop n s))
+
+run_by : (place b : ℕ) (rest : List ℕ) → Means (place + 1) rest (prefix_len is_plain rest) → (v : Bool) → is_plain b ≡ v → Means place (b ∷ rest) (prefix_len is_plain (b ∷ rest))
+run_by place b rest more true p =
+    let n = prefix_len is_plain rest in
+    let one : 1 + n ≡ suc n = omega arith in
+    let len : prefix_len is_plain (b ∷ rest) ≡ suc n = rw p one in
+    let e : place + 1 + n ≡ place + suc n = omega arith in
+    let whole : Means place (b ∷ rest) (suc n) =
+    ap (λ o. piece_then place o (λ m. unescaped_from (place + 1) m rest)) (piece_of-plain b rest p)
+    ∙ ap (before (b ∷ [])) more
+    ∙ before-before (b ∷ []) (take n rest) _
+    ∙ ap (λ q. before (b ∷ take n rest) (unescaped_from q 0 (drop n rest))) e in
+    subst (Means place (b ∷ rest)) (sym len) whole
+run_by place b rest more false p =
+    let len : prefix_len is_plain (b ∷ rest) ≡ 0 = rw p refl in
+    let whole : Means place (b ∷ rest) 0 = rw add-zero (sym (before-nil (unescaped_from place 0 (b ∷ rest)))) in
+    subst (Means place (b ∷ rest)) (sym len) whole
+
+-- the bytes at a text's begin that stand for themselves, and what the text after them means
+plain_run : (place : ℕ) (s : List ℕ) → Means place s (prefix_len is_plain s)
+plain_run place [] = refl
+plain_run place (b ∷ rest) = run_by place b rest (plain_run (place + 1) rest) (is_plain b) refl
+
+-- one turn of the reading loop that takes the bytes that stand for themselves
+pub run_more : (text out : List ℕ) (place n k : ℕ) → unescaped text ≡ before out (unescaped_from place 0 (drop place text)) → n ≡ prefix_len is_plain (drop place text) → k ≡ n → unescaped text ≡ before (out ++ mid_of place k text) (unescaped_from (place + n) 0 (drop (place + n) text))
+run_more text out place n k so_far e same =
+    let after = drop place text in
+    let len = prefix_len is_plain after in
+    rw (same, e) (so_far ∙ ap (before out) (plain_run place after)
+    ∙ before-before out (take len after) _
+    ∙ ap (λ s. before (out ++ take len after) (unescaped_from (place + len) 0 s)) (drop-drop len place text))

@@ -1,4 +1,7 @@
+mod LineLemmas
+pub mod CountLemmas
 pub mod EscapeLemmas
 pub mod FixedLemmas
 pub mod NumberLemmas
+pub mod PrintedLemmas
 pub mod WordLemmas

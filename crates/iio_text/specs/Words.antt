@@ -1,6 +1,6 @@
 -- The words of a line: the longest runs of bytes that are no blanks. Descriptions and scripts know one
 -- blank, the space (this project's own); command lines know spaces and tabs (libiio 0.25's iiod).
-use Rattle.std.specs.Prelude.{◌≡◌, ℕ, ◌<◌, Bool, true, false, not, ◌==◌, ◌||◌, if◌then◌else◌, List, [], ◌∷◌, ◌++◌, length, take_while}
+use Rattle.std.specs.Prelude.{◌≡◌, ℕ, ◌<◌, Bool, true, false, not, ◌==◌, ◌||◌, if◌then◌else◌, List, [], ◌∷◌, ◌++◌, length, take_while, Option, Some, None, option_map}
 use Rattle.std.specs.List.{list_any}
 use Rattle.iio_text.specs.declared.words.Blanks.{Blanks}
 use Rattle.iio_text.specs.declared.words.Blanks.TheVariants.{Spaces, SpacesAndTabs}
@@ -41,3 +41,22 @@ pub record IsFirstWord (blank : ℕ → Bool) (text word rest : List ℕ) : Type
   pub some : 0 < length word
   pub no_blank : list_any blank word ≡ false
   pub ended : begins_word blank rest ≡ false
+
+-- one word, two words, three words, and no more
+abbrev pub one_of : List (List ℕ) → Option (List ℕ)
+one_of [] = None
+one_of (word ∷ []) = Some word
+one_of (word ∷ other ∷ words) = None
+
+abbrev pub two_of : List (List ℕ) → Option (List ℕ × List ℕ)
+two_of [] = None
+two_of (word ∷ words) = option_map (λ second. (word, second)) (one_of words)
+
+abbrev pub three_of : List (List ℕ) → Option (List ℕ × List ℕ × List ℕ)
+three_of [] = None
+three_of (word ∷ words) = option_map (λ others. (word, others.0, others.1)) (two_of words)
+
+-- a text from its first word on
+abbrev pub from_word : List ℕ → List ℕ
+from_word [] = []
+from_word (b ∷ bs) = if is_space b then from_word bs else b ∷ bs

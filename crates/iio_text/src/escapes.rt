@@ -1,12 +1,50 @@
 //! Escaped texts: any bytes, written in printable ones.
 
-ghost use Rattle.std.specs.Prelude.{◌≡◌, ◌<◌, ℕ, ◌++◌, length, take, Some, Ok, IfSome, IfOk, IfErr, OnOk, OnErr, option_copied};
-ghost use Rattle.std.specs.Char.{digit_char};
+ghost use Rattle.std.specs.Prelude.{◌≡◌, ◌*◌, ◌<◌, ◌≤◌, ℕ, ◌++◌, length, take, Some, Ok, IfSome, IfOk, IfErr, OnOk, OnErr, option_copied};
+ghost use Rattle.std.specs.List.{prefix_len};
 ghost use Rattle.iio_text.specs.Escape.{is_plain, escaped_byte, escaped, hex_value, pair_of, piece_of, unescaped, Explains, between_quotes, quoted, quoted_of};
 
 use crate::faults::Unescape;
 use iio_base::Mem;
-use std::alloc::{AllocError, Global};
+use std::alloc::Global;
+
+// Each byte as it is printed, filled up to four bytes with spaces.
+const PRINTED: [u8; 1024] = *b"\
+    \\x00\\x01\\x02\\x03\\x04\\x05\\x06\\x07\
+    \\x08\\x09\\n  \\x0b\\x0c\\x0d\\x0e\\x0f\
+    \\x10\\x11\\x12\\x13\\x14\\x15\\x16\\x17\
+    \\x18\\x19\\x1a\\x1b\\x1c\\x1d\\x1e\\x1f\
+    \x20   !   \\\"  #   $   %   &   '   \
+    (   )   *   +   ,   -   .   /   \
+    0   1   2   3   4   5   6   7   \
+    8   9   :   ;   <   =   >   ?   \
+    @   A   B   C   D   E   F   G   \
+    H   I   J   K   L   M   N   O   \
+    P   Q   R   S   T   U   V   W   \
+    X   Y   Z   [   \\\\  ]   ^   _   \
+    `   a   b   c   d   e   f   g   \
+    h   i   j   k   l   m   n   o   \
+    p   q   r   s   t   u   v   w   \
+    x   y   z   {   |   }   ~   \\x7f\
+    \\x80\\x81\\x82\\x83\\x84\\x85\\x86\\x87\
+    \\x88\\x89\\x8a\\x8b\\x8c\\x8d\\x8e\\x8f\
+    \\x90\\x91\\x92\\x93\\x94\\x95\\x96\\x97\
+    \\x98\\x99\\x9a\\x9b\\x9c\\x9d\\x9e\\x9f\
+    \\xa0\\xa1\\xa2\\xa3\\xa4\\xa5\\xa6\\xa7\
+    \\xa8\\xa9\\xaa\\xab\\xac\\xad\\xae\\xaf\
+    \\xb0\\xb1\\xb2\\xb3\\xb4\\xb5\\xb6\\xb7\
+    \\xb8\\xb9\\xba\\xbb\\xbc\\xbd\\xbe\\xbf\
+    \\xc0\\xc1\\xc2\\xc3\\xc4\\xc5\\xc6\\xc7\
+    \\xc8\\xc9\\xca\\xcb\\xcc\\xcd\\xce\\xcf\
+    \\xd0\\xd1\\xd2\\xd3\\xd4\\xd5\\xd6\\xd7\
+    \\xd8\\xd9\\xda\\xdb\\xdc\\xdd\\xde\\xdf\
+    \\xe0\\xe1\\xe2\\xe3\\xe4\\xe5\\xe6\\xe7\
+    \\xe8\\xe9\\xea\\xeb\\xec\\xed\\xee\\xef\
+    \\xf0\\xf1\\xf2\\xf3\\xf4\\xf5\\xf6\\xf7\
+    \\xf8\\xf9\\xfa\\xfb\\xfc\\xfd\\xfe\\xff";
+
+// How many bytes are printed at a time.
+const CHUNK: usize = 64;
 
 fn is_plain(byte: u8) -> bool
     ensures { result ≡ is_plain byte }
@@ -14,29 +52,30 @@ fn is_plain(byte: u8) -> bool
     matches!(byte, b' '..=b'~') && byte != b'"' && byte != b'\\'
 }
 
-// The hexadecimal digit of a number, in lower case.
-fn hex_digit(number: u8) -> u8
-    requires { number < 16 }
-    ensures { result ≡ digit_char number }
+// Writes a byte as it is printed to the begin of a room, and answers how many bytes that takes. Four are written.
+#[inline]
+fn put_escaped(byte: u8, room: &mut [u8]) -> usize
+    requires { 4 ≤ length room.old }
+    ensures within { result ≤ 4 }
+    ensures text { take result room.new ≡ escaped_byte byte }
 {
-    if number < 10 {
-        b'0' + number
-    } else {
-        b'a' + (number - 10)
-    }
+    let start = 4 * byte as usize;
+    let printed = &PRINTED[start..start + 4];
+    room[..4].copy_from_slice(printed);
+    1 + usize::from(printed[1] != b' ') + 2 * usize::from(printed[3] != b' ')
 }
 
-// Puts a byte at the end, as it is printed.
-fn push_escaped(out: &mut Vec<u8>, byte: u8) -> Result<(), AllocError>
-    ensures ok { OnOk result (out.new.items ≡ out.old.items ++ escaped_byte byte) }
-    ensures err { OnErr result (out.new.items ≡ out.old.items) }
+// Writes bytes as they are printed to the begin of a room, and answers how many bytes that takes.
+fn put_all_escaped(bytes: &[u8], room: &mut [u8]) -> usize
+    requires { 4 * length bytes.now ≤ length room.old }
+    ensures within { result ≤ 4 * length bytes.now }
+    ensures text { take result room.new ≡ escaped bytes.now }
 {
-    match byte {
-        b'\n' => out.extend_from_slice(b"\\n"),
-        b'"' | b'\\' => out.extend_from_slice(&[b'\\', byte]),
-        b' '..=b'~' => out.extend_from_slice(&[byte]),
-        _ => out.extend_from_slice(&[b'\\', b'x', hex_digit(byte / 16), hex_digit(byte % 16)]),
+    let mut len = 0;
+    for byte in bytes {
+        len += put_escaped(*byte, &mut room[len..]);
     }
+    len
 }
 
 /// Puts bytes at the end of a vector, as they are printed. After an `Err` the vector has gained the
@@ -45,8 +84,13 @@ pub fn escape_to(out: &mut Vec<u8>, bytes: &[u8]) -> Result<(), Mem>
     ensures ok { OnOk result (out.new.items ≡ out.old.items ++ escaped bytes.now) }
     ensures err { OnErr result ((k : ℕ) × (out.new.items ≡ out.old.items ++ escaped (take k bytes.now))) }
 {
-    for byte in bytes {
-        push_escaped(out, *byte)?;
+    let mut room = [0; 4 * CHUNK];
+    let mut place = 0;
+    while place < bytes.len() {
+        let end = bytes.len().min(place + CHUNK);
+        let len = put_all_escaped(&bytes[place..end], &mut room);
+        out.extend_from_slice(&room[..len])?;
+        place = end;
     }
     Ok(())
 }
@@ -104,6 +148,19 @@ fn piece(text: &[u8]) -> Option<(u8, usize)>
     }
 }
 
+// How many bytes stand for themselves at the begin of a text.
+fn plain_len(text: &[u8]) -> usize
+    ensures within { result ≤ length text.now }
+    ensures value { result ≡ prefix_len is_plain text.now }
+{
+    for (i, byte) in text.iter().enumerate() {
+        if !is_plain(*byte) {
+            return i;
+        }
+    }
+    text.len()
+}
+
 /// The bytes that an escaped text means. `\n`, `\"` and `\\` stand for 0x0a, `"` and `\`; `\x` with two
 /// hexadecimal digits of either case for any byte; bytes from 0x20 to 0x7e other than `"` and `\` for
 /// themselves. No other byte and no other escape is allowed.
@@ -116,6 +173,14 @@ pub fn unescape(alloc: Global, text: &[u8]) -> Result<Vec<u8>, Unescape>
     };
     let mut place = 0;
     'pieces: while place < text.len() {
+        let plain = plain_len(&text[place..]);
+        if plain > 0 {
+            if out.extend_from_slice(&text[place..place + plain]).is_err() {
+                return Err(Unescape::Mem);
+            }
+            place += plain;
+            continue;
+        }
         let Some((byte, more)) = piece(&text[place..]) else {
             return Err(Unescape::BadEscape(place));
         };

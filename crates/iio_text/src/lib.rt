@@ -1,23 +1,28 @@
-//! The texts that every other crate reads or prints: error numbers, words of refusals, words of a
-//! line, numbers, and escaped bytes.
+//! The texts that every other crate reads or prints: lines and their words, error numbers, words of
+//! refusals, numbers, and escaped bytes.
 #![tactic(auto)]
 
 mod decimals;
 mod errors;
 mod escapes;
 mod faults;
+mod lines;
 mod numbers;
 mod refusals;
 mod values;
-pub mod words;
+mod words;
 
 pub use crate::decimals::{print_fixed, read_fixed};
 pub use crate::errors::Errno;
 pub use crate::escapes::{between_quotes, escape, escape_to, unescape};
-pub use crate::faults::Unescape;
+pub use crate::faults::{LineFault, Unescape};
+pub use crate::lines::{MAX_LINE_BYTES, first_word, fits_line, next_line};
 pub use crate::numbers::{read_int, read_number};
-pub use crate::refusals::Why;
+pub use crate::refusals::{Why, ensure};
 pub use crate::values::{Fixed, Form};
+pub use crate::words::{
+    Blanks, count_words, from_word, next_word, one_word, three_words, two_words,
+};
 pub use iio_base::Mem;
 
 #[cfg(test)]

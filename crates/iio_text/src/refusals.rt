@@ -1,6 +1,7 @@
 //! The words that say why an input is refused.
 
 ghost use Rattle.std.specs.Prelude.{◌≡◌};
+ghost use Rattle.iio_base.specs.Refusals.{ensure};
 ghost use Rattle.iio_text.specs.Why.{why_text};
 
 /// Why a line of an input is refused.
@@ -67,4 +68,11 @@ impl Why {
             Why::Bystander => "bystander",
         }
     }
+}
+
+/// Goes on where the condition holds, and is refused else.
+pub fn ensure(holds: bool, why: Why) -> Result<(), Why>
+    ensures { result ≡ ensure holds why }
+{
+    if holds { Ok(()) } else { Err(why) }
 }

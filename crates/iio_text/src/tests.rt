@@ -1,5 +1,4 @@
 use super::*;
-use crate::words::{Blanks, next_word};
 use std::test::Fail;
 
 #[test]
@@ -158,4 +157,79 @@ fn words_and_numbers_of_refusals(rt: HostRuntime) {
     assert_eq!(rt; Why::Bystander.text(), "bystander");
     assert_eq!(rt; Errno::EINVAL.number(), 22);
     assert_eq!(rt; Errno::E2BIG.number(), 7);
+}
+
+#[test]
+fn lines_of_texts(rt: HostRuntime) {
+    let mut rest: &[u8] = b"a\n\n# b\r\nc";
+    for want in [b"a".as_slice(), b"", b"# b\r", b"c"] {
+        let (line, after) = next_line(rest).expect(&rt, "a line");
+        assert!(rt; line == want, "{want:?}");
+        rest = after;
+    }
+    assert!(rt; next_line(rest).is_none() && next_line(b"").is_none());
+    let (line, after) = next_line(b"\n").expect(&rt, "a line");
+    assert!(rt; line.is_empty() && after.is_empty());
+    assert!(rt; fits_line(b"#"));
+}
+
+/// A line, and its first word with the line after it, or why it is refused.
+const FIRST_WORDS: &[(&str, Result<Option<(&str, &str)>, Why>)] = &[
+    ("", Ok(None)),
+    ("  ", Ok(None)),
+    ("#\t", Ok(None)),
+    (" # x", Ok(Some(("#", " x")))),
+    ("row", Ok(Some(("row", "")))),
+    ("  row  1 ~", Ok(Some(("row", "  1 ~")))),
+    ("row 1\r", Err(Why::Text)),
+    ("\t", Err(Why::Text)),
+    ("a \x7f", Err(Why::Text)),
+    ("\u{80}", Err(Why::Text)),
+];
+
+#[test]
+fn first_words(rt: HostRuntime) {
+    for (line, want) in FIRST_WORDS.iter() {
+        match (first_word(line.as_bytes()), want) {
+            (Ok(Some((word, rest))), Ok(Some((first, after)))) => {
+                assert!(rt;
+                    word == first.as_bytes() && rest == after.as_bytes(),
+                    "{line:?}"
+                );
+            }
+            (Ok(None), Ok(None)) => {}
+            (Err(why), Err(wanted)) => assert_eq!(rt; why, *wanted, "{line:?}"),
+            _ => panic!(rt; "{line:?}"),
+        }
+    }
+}
+
+#[test]
+fn counted_words(rt: HostRuntime) {
+    for (text, want) in [
+        (" a  bc ", 2),
+        ("", 0),
+        ("a", 1),
+        ("a b c", 3),
+        ("a b c d", 4),
+    ] {
+        let text = text.as_bytes();
+        assert_eq!(rt; count_words(text), want, "{text:?}");
+        assert_eq!(rt; one_word(text).is_some(), want == 1, "{text:?}");
+        assert_eq!(rt; two_words(text).is_some(), want == 2, "{text:?}");
+        assert_eq!(rt; three_words(text).is_some(), want == 3, "{text:?}");
+    }
+    assert!(rt; two_words(b" a  bc ") == Some((b"a".as_slice(), b"bc".as_slice())));
+    assert!(rt; from_word(b"  a b ") == b"a b ".as_slice());
+}
+
+#[test]
+fn faults_of_lines(rt: HostRuntime) -> Result<(), Fail> {
+    assert_eq!(rt; ensure(true, Why::Name), Ok(()));
+    assert_eq!(rt; ensure(false, Why::Name), Err(Why::Name));
+    assert_eq!(rt; LineFault::from(Why::Name), LineFault::Why(Why::Name));
+    assert_eq!(rt; LineFault::from(Mem), LineFault::Mem);
+    let printed = format!(in rt.alloc(); "{}", LineFault::Why(Why::BadType))?;
+    assert_eq!(rt; printed.as_str(), "refused: type");
+    Ok(())
 }

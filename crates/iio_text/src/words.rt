@@ -1,8 +1,8 @@
 //! The words of a line.
 
-ghost use Rattle.std.specs.Prelude.{◌≡◌, ◌≤◌, ◌↔◌, IsNone, IfSome, [], length};
+ghost use Rattle.std.specs.Prelude.{◌≡◌, ◌≤◌, ◌↔◌, ◌&&◌, not, IsNone, IfSome, [], length, option_map};
 ghost use Rattle.std.specs.List.{prefix_len, position_or_len};
-ghost use Rattle.iio_text.specs.Words.{blank_test, words_of, IsFirstWord};
+ghost use Rattle.iio_text.specs.Words.{blank_test, is_space, words_of, IsFirstWord, one_of, two_of, three_of, from_word};
 
 /// What parts the words of a line.
 #[derive(Clone, Copy, Debug, PartialEq, Eq)]
@@ -60,4 +60,64 @@ pub fn next_word(text: &[u8], blanks: Blanks) -> Option<(&[u8], &[u8])>
         return None;
     }
     Some(begun.split_at(word_len(begun, blanks)))
+}
+
+/// The word of a text that has one word, parted by spaces. None exactly where it has another number of words.
+pub fn one_word(text: &[u8]) -> Option<&[u8]>
+    ensures { option_map (λ w. w.now) result ≡ one_of (words_of is_space text.now) }
+{
+    let (word, rest) = next_word(text, Blanks::Spaces)?;
+    if next_word(rest, Blanks::Spaces).is_some() {
+        return None;
+    }
+    Some(word)
+}
+
+/// The words of a text that has two. None exactly where it has another number of words.
+pub fn two_words(text: &[u8]) -> Option<(&[u8], &[u8])>
+    ensures { option_map (λ w. (w.0.now, w.1.now)) result ≡ two_of (words_of is_space text.now) }
+{
+    let (first, rest) = next_word(text, Blanks::Spaces)?;
+    let second = one_word(rest)?;
+    Some((first, second))
+}
+
+/// The words of a text that has three. None exactly where it has another number of words.
+pub fn three_words(text: &[u8]) -> Option<(&[u8], &[u8], &[u8])>
+    ensures { option_map (λ w. (w.0.now, w.1.now, w.2.now)) result ≡ three_of (words_of is_space text.now) }
+{
+    let (first, rest) = next_word(text, Blanks::Spaces)?;
+    let (second, third) = two_words(rest)?;
+    Some((first, second, third))
+}
+
+// Whether a word begins at a byte, after a space or after another byte.
+fn begins_word(after_space: bool, byte: u8) -> bool
+    ensures { result ≡ (after_space && not (is_space byte)) }
+{
+    after_space && byte != b' '
+}
+
+/// How many words a text has, parted by spaces.
+pub fn count_words(text: &[u8]) -> usize
+    ensures { result ≡ length (words_of is_space text.now) }
+{
+    let mut count = 0;
+    let mut after_space = true;
+    for byte in text {
+        count += usize::from(begins_word(after_space, *byte));
+        after_space = *byte == b' ';
+    }
+    count
+}
+
+/// A text from its first word on: without the spaces that it begins with.
+pub fn from_word(text: &[u8]) -> &[u8]
+    ensures { result.now ≡ from_word text.now }
+{
+    let mut rest = text;
+    while let [b' ', more @ ..] = rest {
+        rest = more;
+    }
+    rest
 }

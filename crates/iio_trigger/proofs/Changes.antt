@@ -4,8 +4,8 @@ use Rattle.std.specs.List.{Contains, insert, remove, refill}
 use Rattle.std.proofs.Math.ListN.{set}
 use Rattle.std.proofs.lemmas.Bool.{eq-eqb, ne_eqb}
 use Rattle.std.proofs.lemmas.List.{get_or_default, set-get_or, length-set, take_all, drop_all}
-use Rattle.iio_trigger.specs.Order.{InOrder, rank, IsOther, AllOther, StandsAt, WouldStandAt, place_dev, entry_dev}
-use Rattle.iio_trigger.specs.Trigger.{Handed, holds_place, with_place, without_place, is_waiting, due_of, with_in_hand, without_entry}
+use Rattle.iio_trigger.specs.Rank.{rank, IsOther, AllOther, StandsAt, WouldStandAt}
+use Rattle.iio_trigger.specs.Trigger.{InOrder, place_dev, entry_dev, Handed, holds_place, with_place, without_place, is_waiting, due_of, with_in_hand, without_entry}
 use Rattle.iio_trigger.specs.declared.rows.Place.{Place}
 use Rattle.iio_trigger.specs.declared.rows.Entry.{Entry}
 use Rattle.iio_trigger.proofs.Ranks.{InOrder-with_place, InOrder-set, map-others, filter-others, any-others, find-others, any-at, map-at, filter-at, find-at, with_place-at, with_place-new, IsOther-get_or, at_rank}

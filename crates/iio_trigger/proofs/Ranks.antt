@@ -5,8 +5,8 @@ use Rattle.std.proofs.Math.ListN.{set}
 use Rattle.std.proofs.lemmas.List.{get_or_default}
 use Rattle.std.proofs.lemmas.List.Sums.{prefix_len-le-length}
 use Rattle.std.proofs.lemmas.Bool.{cases_lt, lt-ltb, le-ltb, eq-eqb, ne_eqb}
-use Rattle.iio_trigger.specs.Order.{InOrder, rank, IsOther, AllOther, StandsAt, WouldStandAt, place_dev, entry_dev}
-use Rattle.iio_trigger.specs.Trigger.{with_place, entries_at}
+use Rattle.iio_trigger.specs.Rank.{rank, IsOther, AllOther, StandsAt, WouldStandAt}
+use Rattle.iio_trigger.specs.Trigger.{InOrder, place_dev, entry_dev, with_place, entries_at}
 use Rattle.iio_trigger.specs.declared.rows.Place.{Place}
 
 module _ {X : Type 0} (dev_of : X → ℕ) where

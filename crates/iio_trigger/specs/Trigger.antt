@@ -3,7 +3,6 @@
 use Rattle.std.specs.Prelude.{◌≡◌, ℕ, ◌+◌, ◌-◌, ◌^◌, ◌<◌, ◌≤◌, ℤ, Bool, true, false, not, ◌&&◌, ◌==◌, nat_lt, if◌then◌else◌, List, [], ◌∷◌, map, filter, length, min, Option}
 use Rattle.std.specs.List.{list_any, find}
 use Rattle.std.specs.Option.{option_map}
-use Rattle.iio_trigger.specs.Order.{InOrder, place_dev, entry_dev}
 use Rattle.iio_trigger.specs.declared.rows.Place.{Place}
 use Rattle.iio_trigger.specs.declared.rows.Entry.{Entry}
 use Rattle.iio_trigger.specs.declared.Polled.{Polled}
@@ -16,6 +15,18 @@ pub record State : Type 0 where
   pub attached : List Place
   pub outstanding : List Entry
   pub missed : ℕ
+
+-- the device of a place, and of an entry
+abbrev pub place_dev : Place → ℕ
+place_dev p = p.dev
+
+abbrev pub entry_dev : Entry → ℕ
+entry_dev e = e.dev
+
+-- each row is of a device from `low` on that comes after those of the rows before it
+abbrev pub InOrder : {X : Type 0} → (X → ℕ) → ℕ → List X → Type 0
+InOrder dev_of low [] = Unit {0}
+InOrder dev_of low (x ∷ xs) = (low ≤ dev_of x) × InOrder dev_of (dev_of x + 1) xs
 
 -- what holds of every trigger: at most eight places, no more devices than places, and each device once among the places
 -- and once among the entries

@@ -1,20 +1,19 @@
 //! A trigger: its places, the entries that its polls made, and the polls that it missed.
 //!
-//! A device takes a place, under the number of its attachment. A poll makes one entry for each device
-//! that holds a place, and is missed while an entry is outstanding. An entry stays outstanding until
-//! it is done, also when its device has left its place. After the triggers of driver-api/iio; the
-//! places and the count of missed polls are this project's own.
+//! A device takes a place, under the number of its attachment. A poll makes one entry for each device that holds a place,
+//! and is missed while an entry is outstanding. An entry stays outstanding until it is done, also when its device has
+//! left its place (kernel, driver-api/iio, "Triggers"). Places and the count of missed polls are this project's own.
 #![tactic(auto)]
 
 ghost use Rattle.std.specs.Prelude.{◌≡◌, ◌≤◌, ◌<◌, ◌↔◌, [], false, true, length, IsTrue, IsErr, OnOk, OnErr, Contains};
 ghost use Rattle.std.specs.Bool.{OnTrue, OnFalse};
 
 mod places;
-pub mod rows;
+mod rows;
 
+use crate::places::{add_entries, find_entry, find_place};
+use crate::rows::{Entry, Place};
 use arrayvec::ArrayVec;
-use places::{add_entries, find_entry, find_place};
-use rows::{Entry, Place};
 use std::error::Error;
 use std::fmt;
 use std::marker::Model;
@@ -34,9 +33,9 @@ impl Error for NoPlace {}
 /// What became of a poll.
 #[derive(Clone, Copy, Debug, PartialEq, Eq, Hash)]
 pub enum Polled {
-    /// It made so many entries.
+    /// It made this number of entries.
     Accepted(u32),
-    /// An entry was outstanding. So many polls were missed until now, this one among them.
+    /// An entry was outstanding. This is the number of polls that were missed until now, with this one.
     Missed(u64),
 }
 
@@ -88,8 +87,7 @@ pub struct Trigger {
 
 impl Model for Trigger {
     ghost use Rattle.std.specs.Prelude.{◌≤◌, length};
-    ghost use Rattle.iio_trigger.specs.Trigger.{State};
-    ghost use Rattle.iio_trigger.specs.Order.{InOrder, place_dev, entry_dev};
+    ghost use Rattle.iio_trigger.specs.Trigger.{State, InOrder, place_dev, entry_dev};
 
     ghost Value = { State };
 
@@ -100,8 +98,7 @@ impl Model for Trigger {
 
 impl Trigger {
     ghost use Rattle.iio_trigger.specs.Trigger.{IsSound, holds_place, with_place, without_place, due_of, with_in_hand, without_entry, Polls};
-
-    /// A trigger of so many places. None is taken, no entry is outstanding, no poll was missed.
+    /// A trigger with this number of places. None is taken, no entry is outstanding, no poll was missed.
     pub fn new(places: u8) -> Trigger
         requires some { 1 ≤ places }
         requires most { places ≤ 8 }
@@ -120,8 +117,7 @@ impl Trigger {
         }
     }
 
-    /// Gives the device a place under the number of its attachment. A place that it has already gets
-    /// the new number.
+    /// Gives the device a place under the number of its attachment. A place that it has already gets the new number.
     pub fn attach(&mut self, dev: u32, attachment: u64) -> Result<(), NoPlace>
         ensures refused { IsErr result
             ↔ ((holds_place dev self.old.attached ≡ false) × (length self.old.attached ≡ self.old.places)) }
@@ -159,7 +155,7 @@ impl Trigger {
         self.attached.iter().any(|place| place.dev == dev)
     }
 
-    /// Takes the device's place, and says whether it held one. Its entry stays outstanding.
+    /// Frees the device's place, and says whether it held one. Its entry stays outstanding.
     pub fn detach(&mut self, dev: u32) -> bool
         ensures held { result ≡ holds_place dev self.old.attached }
         ensures after { self.new ≡ record self.old {

@@ -1,9 +1,10 @@
-// Where a device stands among rows that are in the order of devices.
-ghost use Rattle.std.specs.Prelude.{◌≡◌, ◌≤◌, [], length, MatchOption, MatchResult};
-ghost use Rattle.iio_trigger.specs.Trigger.{entries_at};
-ghost use Rattle.iio_trigger.specs.Order.{AllOther, InOrder, StandsAt, WouldStandAt, entry_dev, place_dev, rank};
+//! Where a device stands among rows that are in the order of devices.
 
-use super::rows::{Entry, Place};
+ghost use Rattle.std.specs.Prelude.{◌≡◌, ◌≤◌, [], length, MatchOption, MatchResult};
+ghost use Rattle.iio_trigger.specs.Trigger.{entries_at, InOrder, entry_dev, place_dev};
+ghost use Rattle.iio_trigger.specs.Rank.{AllOther, StandsAt, WouldStandAt, rank};
+
+use crate::rows::{Entry, Place};
 use arrayvec::ArrayVec;
 
 // Where the device's place stands, or else where it would stand.

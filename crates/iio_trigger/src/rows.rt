@@ -1,4 +1,4 @@
-// What a trigger keeps of each device.
+//! What a trigger keeps of each device.
 
 /// A device's place, under the number of its attachment.
 #[derive(Clone, Copy, Debug, Default, PartialEq, Eq, Hash)]

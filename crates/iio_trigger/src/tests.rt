@@ -1,5 +1,6 @@
-// Places, polls and entries in hand. Expected values by hand.
-use super::{NoPlace, Polled, Trigger};
+//! Places, polls and entries in hand. Expected values by hand.
+
+use crate::{NoPlace, Polled, Trigger};
 
 // Makes the whole way of an entry: it must be due and in hand.
 fn handle(trigger: &mut Trigger, dev: u32) -> Option<(u64, i64)> {

@@ -1,39 +1,25 @@
--- What a command line says (libiio 0.25's iiod, its text protocol). All forms are here, also those that
--- the server doesn't answer yet: `Built` has the table of those that it does.
-use Rattle.std.specs.Prelude.{ℕ, Bool, true, false, List, [], ◌∷◌, ◌==◌, ◌||◌, reverse, codes, Option, Some, None, Result, Ok, Err, if◌then◌else◌}
+-- What a command line says. (libiio 0.25's iiod, its text protocol. SET's BUFFERS_COUNT is its too; EVOPEN, EVREAD and
+-- EVCLOSE, the numbers and the CRs before an LF are this project's own.)
+use Rattle.std.specs.Prelude.{ℕ, ⊤, Bool, true, false, List, [], ◌∷◌, ◌==◌, reverse, codes, Option, Some, None, unwrap_or, Result, Ok, Err, if◌then◌else◌}
+use Rattle.std.specs.Option.{ok_or}
 use Rattle.std.specs.Str.{bytes_eq}
+use Rattle.iio_base.specs.Refusals.{◌>>=◌, ensure}
 use Rattle.iio_text.specs.Words.{words_of, is_blank}
 use Rattle.iio_text.specs.Numbers.{number_of}
-use Rattle.iiod_grammar.specs.declared.Refused.{Refused}
-use Rattle.iiod_grammar.specs.declared.Refused.TheVariants.{Empty, Unknown, Shape, Number}
+use Rattle.iiod_grammar.specs.declared.command.Refused.{Refused}
+use Rattle.iiod_grammar.specs.declared.command.Refused.TheVariants.{Empty, Unknown, Shape, Number}
 
--- the command words
-pub data Verb : Type 0 where
-  HelpVerb : Verb
-  ExitVerb : Verb
-  VersionVerb : Verb
-  PrintVerb : Verb
-  TimeoutVerb : Verb
-  OpenVerb : Verb
-  CloseVerb : Verb
-  ReadVerb : Verb
-  WriteVerb : Verb
-  ReadBufVerb : Verb
-  WriteBufVerb : Verb
-  GetTrigVerb : Verb
-  SetTrigVerb : Verb
-  SetVerb : Verb
-  EvOpenVerb : Verb
-  EvReadVerb : Verb
-  EvCloseVerb : Verb
-
--- where an attribute is sought
+-- where an attribute stands
 pub data Place : Type 0 where
   AtDevice : Place
   AtBuffer : Place
   AtDebug : Place
   AtInput : (channel : List ℕ) → Place
   AtOutput : (channel : List ℕ) → Place
+
+-- a place, and the attribute's name where one is given
+abbrev pub Target : Type 0
+Target = Place × Option (List ℕ)
 
 -- a command with its words and numbers
 pub data Command : Type 0 where
@@ -45,11 +31,12 @@ pub data Command : Type 0 where
   Open : (device : List ℕ) (samples : ℕ) (mask : List ℕ) (cyclic : Bool) → Command
   Close : (device : List ℕ) → Command
   Read : (device : List ℕ) (place : Place) (attribute : Option (List ℕ)) → Command
-  -- no place where the words between the device and the count have no form of READ
-  Write : (device : List ℕ) (place : Option Place) (attribute : Option (List ℕ)) (count : ℕ) → Command
+  -- no target where the words between the device and the count are arranged in no form of READ
+  Write : (device : List ℕ) (target : Option Target) (count : ℕ) → Command
   ReadBuf : (device : List ℕ) (bytes : ℕ) → Command
   WriteBuf : (device : List ℕ) (bytes : ℕ) → Command
   GetTrig : (device : List ℕ) → Command
+  -- no trigger takes the device's off
   SetTrig : (device : List ℕ) (trigger : Option (List ℕ)) → Command
   SetBuffers : (device : List ℕ) (count : ℕ) → Command
   EvOpen : (device : List ℕ) → Command
@@ -61,107 +48,184 @@ abbrev pub entry_of : {A : Type 0} → List (List ℕ × A) → List ℕ → Opt
 entry_of [] word = None
 entry_of (e ∷ es) word = if bytes_eq word e.0 then Some e.1 else entry_of es word
 
--- the command words, in upper case alone
-abbrev pub verbs : List (List ℕ × Verb)
-verbs =
-    (codes "HELP", HelpVerb) ∷ (codes "EXIT", ExitVerb) ∷ (codes "VERSION", VersionVerb) ∷ (codes "PRINT", PrintVerb)
-    ∷ (codes "TIMEOUT", TimeoutVerb) ∷ (codes "OPEN", OpenVerb) ∷ (codes "CLOSE", CloseVerb)
-    ∷ (codes "READ", ReadVerb) ∷ (codes "WRITE", WriteVerb) ∷ (codes "READBUF", ReadBufVerb)
-    ∷ (codes "WRITEBUF", WriteBufVerb) ∷ (codes "GETTRIG", GetTrigVerb) ∷ (codes "SETTRIG", SetTrigVerb)
-    ∷ (codes "SET", SetVerb) ∷ (codes "EVOPEN", EvOpenVerb) ∷ (codes "EVREAD", EvReadVerb)
-    ∷ (codes "EVCLOSE", EvCloseVerb) ∷ []
+-- the number that a word stands for
+abbrev pub number : List ℕ → Result ℕ Refused
+number word = ok_or (number_of word) Number
 
-abbrev pub verb_of : List ℕ → Option Verb
-verb_of word = entry_of verbs word
+-- ---- targets
 
--- what is said with a number that a word stands for
-abbrev pub with_number : List ℕ → (ℕ → Command) → Result Command Refused
-with_number word say = elim (number_of word) [ None ↦ Err Number | Some n ↦ Ok (say n) ]
+-- an attribute's name at a place, or none
+abbrev pub at_place : Place → List (List ℕ) → Option Target
+at_place place [] = Some (place, None)
+at_place place (attribute ∷ []) = Some (place, Some attribute)
+at_place place (attribute ∷ more ∷ words) = None
 
--- what is said where a word is the one that has to stand there
-abbrev pub with_word : List ℕ → List ℕ → Result Command Refused → Result Command Refused
-with_word word wanted said = if bytes_eq word wanted then said else Err Shape
+-- a channel, and an attribute's name or none
+abbrev pub at_channel : (List ℕ → Place) → List (List ℕ) → Option Target
+at_channel place [] = None
+at_channel place (channel ∷ words) = at_place (place channel) words
 
--- the words for a place that stand before an attribute's name
-abbrev pub place_of : List (List ℕ) → Option (Place × Option (List ℕ))
-place_of [] = Some (AtDevice, None)
-place_of (a ∷ []) =
-    if bytes_eq a (codes "BUFFER") then Some (AtBuffer, None)
-    else (if bytes_eq a (codes "DEBUG") then Some (AtDebug, None)
-    else (if bytes_eq a (codes "INPUT") || bytes_eq a (codes "OUTPUT") then None else Some (AtDevice, Some a)))
-place_of (a ∷ b ∷ []) =
-    if bytes_eq a (codes "BUFFER") then Some (AtBuffer, Some b)
-    else (if bytes_eq a (codes "DEBUG") then Some (AtDebug, Some b)
-    else (if bytes_eq a (codes "INPUT") then Some (AtInput b, None)
-    else (if bytes_eq a (codes "OUTPUT") then Some (AtOutput b, None) else None)))
-place_of (a ∷ b ∷ c ∷ []) =
-    if bytes_eq a (codes "INPUT") then Some (AtInput b, Some c)
-    else (if bytes_eq a (codes "OUTPUT") then Some (AtOutput b, Some c) else None)
-place_of (a ∷ b ∷ c ∷ d ∷ more) = None
+-- an attribute's name and nothing more
+abbrev pub at_device : List ℕ → List (List ℕ) → Option Target
+at_device attribute [] = Some (AtDevice, Some attribute)
+at_device attribute (more ∷ words) = None
 
--- WRITE: the last word is the count, and those between it and the device name a place and an attribute
-abbrev pub write_of : List ℕ → List (List ℕ) → List ℕ → Result Command Refused
-write_of device between count =
-    with_number count (λ n. elim (place_of between) [ None ↦ Write device None None n | Some p ↦ Write device (Some p.0) p.1 n ])
+-- the words for a place, none of which is an attribute's name, and what stands after each
+abbrev pub places : List (List ℕ × (List (List ℕ) → Option Target))
+places =
+    (codes "BUFFER", at_place AtBuffer)
+    ∷ (codes "DEBUG", at_place AtDebug)
+    ∷ (codes "INPUT", at_channel AtInput)
+    ∷ (codes "OUTPUT", at_channel AtOutput)
+    ∷ []
 
--- the words before the last one, and the last one
-abbrev pub split_last : List ℕ → List (List ℕ) → List (List ℕ) × List ℕ
-split_last word [] = ([], word)
-split_last word (next ∷ words) = let rest = split_last next words in (word ∷ rest.0, rest.1)
+-- what the words after a device name
+abbrev pub target_of : List (List ℕ) → Option Target
+target_of [] = Some (AtDevice, None)
+target_of (word ∷ words) = unwrap_or (entry_of places word) (at_device word) words
 
--- the forms, command word by command word (libiio 0.25's iiod; EVOPEN, EVREAD and EVCLOSE are this project's own)
-abbrev pub form_of : Verb → List (List ℕ) → Result Command Refused
-form_of HelpVerb [] = Ok Help
-form_of HelpVerb (w ∷ ws) = Err Shape
-form_of ExitVerb [] = Ok Exit
-form_of ExitVerb (w ∷ ws) = Err Shape
-form_of VersionVerb [] = Ok Version
-form_of VersionVerb (w ∷ ws) = Err Shape
-form_of PrintVerb [] = Ok Print
-form_of PrintVerb (w ∷ ws) = Err Shape
-form_of TimeoutVerb (n ∷ []) = with_number n (λ ms. Timeout ms)
-form_of TimeoutVerb ws = Err Shape
-form_of OpenVerb (device ∷ samples ∷ mask ∷ []) = with_number samples (λ n. Open device n mask false)
-form_of OpenVerb (device ∷ samples ∷ mask ∷ cyclic ∷ []) = with_word cyclic (codes "CYCLIC") (with_number samples (λ n. Open device n mask true))
-form_of OpenVerb ws = Err Shape
-form_of CloseVerb (device ∷ []) = Ok (Close device)
-form_of CloseVerb ws = Err Shape
-form_of ReadVerb [] = Err Shape
-form_of ReadVerb (device ∷ words) = elim (place_of words) [ None ↦ Err Shape | Some p ↦ Ok (Read device p.0 p.1) ]
-form_of WriteVerb (device ∷ word ∷ words) = let split = split_last word words in write_of device split.0 split.1
-form_of WriteVerb ws = Err Shape
-form_of ReadBufVerb (device ∷ bytes ∷ []) = with_number bytes (λ n. ReadBuf device n)
-form_of ReadBufVerb ws = Err Shape
-form_of WriteBufVerb (device ∷ bytes ∷ []) = with_number bytes (λ n. WriteBuf device n)
-form_of WriteBufVerb ws = Err Shape
-form_of GetTrigVerb (device ∷ []) = Ok (GetTrig device)
-form_of GetTrigVerb ws = Err Shape
-form_of SetTrigVerb (device ∷ []) = Ok (SetTrig device None)
-form_of SetTrigVerb (device ∷ trigger ∷ []) = Ok (SetTrig device (Some trigger))
-form_of SetTrigVerb ws = Err Shape
-form_of SetVerb (device ∷ what ∷ count ∷ []) = with_word what (codes "BUFFERS_COUNT") (with_number count (λ n. SetBuffers device n))
-form_of SetVerb ws = Err Shape
-form_of EvOpenVerb (device ∷ []) = Ok (EvOpen device)
-form_of EvOpenVerb ws = Err Shape
-form_of EvReadVerb (device ∷ []) = Ok (EvRead device)
-form_of EvReadVerb ws = Err Shape
-form_of EvCloseVerb (device ∷ []) = Ok (EvClose device)
-form_of EvCloseVerb ws = Err Shape
+-- ---- forms: what the words after a command's first one say
 
--- a list of words as a command
+-- no word
+abbrev pub no_words : List (List ℕ) → Result ⊤ Refused
+no_words [] = Ok tt
+no_words (word ∷ words) = Err Shape
+
+-- one word alone
+abbrev pub one_word : List (List ℕ) → Result (List ℕ) Refused
+one_word (word ∷ []) = Ok word
+one_word words = Err Shape
+
+-- two words alone
+abbrev pub two_words : List (List ℕ) → Result (List ℕ × List ℕ) Refused
+two_words (first ∷ second ∷ []) = Ok (first, second)
+two_words words = Err Shape
+
+-- a command of its first word alone
+abbrev pub bare_form : Command → List (List ℕ) → Result Command Refused
+bare_form command words = do
+  none ← no_words words
+  Ok command
+
+abbrev pub timeout_form : List (List ℕ) → Result Command Refused
+timeout_form words = do
+  milliseconds ← one_word words
+  n ← number milliseconds
+  Ok (Timeout n)
+
+-- a device alone
+abbrev pub device_form : (List ℕ → Command) → List (List ℕ) → Result Command Refused
+device_form command words = do
+  device ← one_word words
+  Ok (command device)
+
+-- a word and a number
+abbrev pub counted_word : List (List ℕ) → Result (List ℕ × ℕ) Refused
+counted_word words = do
+  pair ← two_words words
+  n ← number pair.1
+  Ok (pair.0, n)
+
+-- a device and a number of bytes
+abbrev pub bytes_form : (List ℕ → ℕ → Command) → List (List ℕ) → Result Command Refused
+bytes_form command words = do
+  counted ← counted_word words
+  Ok (command counted.0 counted.1)
+
+-- whether CYCLIC stands at the end, where else nothing may stand
+abbrev pub cyclic_of : List (List ℕ) → Result Bool Refused
+cyclic_of [] = Ok false
+cyclic_of (word ∷ []) = if bytes_eq word (codes "CYCLIC") then Ok true else Err Shape
+cyclic_of (word ∷ more ∷ words) = Err Shape
+
+abbrev pub open_form : List (List ℕ) → Result Command Refused
+open_form (device ∷ samples ∷ mask ∷ words) = do
+  cyclic ← cyclic_of words
+  n ← number samples
+  Ok (Open device n mask cyclic)
+open_form words = Err Shape
+
+abbrev pub read_form : List (List ℕ) → Result Command Refused
+read_form [] = Err Shape
+read_form (device ∷ words) = do
+  target ← ok_or (target_of words) Shape
+  Ok (Read device target.0 target.1)
+
+-- the last of these words, of which `word` is the first, and those before it
+abbrev pub last_of : List ℕ → List (List ℕ) → List ℕ
+last_of word [] = word
+last_of word (next ∷ words) = last_of next words
+
+abbrev pub all_but_last : List ℕ → List (List ℕ) → List (List ℕ)
+all_but_last word [] = []
+all_but_last word (next ∷ words) = word ∷ all_but_last next words
+
+-- what the words before the last one name, or nothing, and the last one
+abbrev pub counted_target : List (List ℕ) → Result (Option Target × List ℕ) Refused
+counted_target [] = Err Shape
+counted_target (word ∷ words) = Ok (target_of (all_but_last word words), last_of word words)
+
+abbrev pub write_form : List (List ℕ) → Result Command Refused
+write_form [] = Err Shape
+write_form (device ∷ words) = do
+  counted ← counted_target words
+  count ← number counted.1
+  Ok (Write device counted.0 count)
+
+abbrev pub trigger_form : List (List ℕ) → Result Command Refused
+trigger_form (device ∷ []) = Ok (SetTrig device None)
+trigger_form (device ∷ trigger ∷ []) = Ok (SetTrig device (Some trigger))
+trigger_form words = Err Shape
+
+abbrev pub set_form : List (List ℕ) → Result Command Refused
+set_form [] = Err Shape
+set_form (device ∷ words) = do
+  pair ← two_words words
+  is_count ← ensure (bytes_eq pair.0 (codes "BUFFERS_COUNT")) Shape
+  n ← number pair.1
+  Ok (SetBuffers device n)
+
+-- ---- lines
+
+-- the commands: the first word, in upper case alone, and the form of those after it
+abbrev pub commands : List (List ℕ × (List (List ℕ) → Result Command Refused))
+commands =
+    (codes "HELP", bare_form Help)
+    ∷ (codes "EXIT", bare_form Exit)
+    ∷ (codes "VERSION", bare_form Version)
+    ∷ (codes "PRINT", bare_form Print)
+    ∷ (codes "TIMEOUT", timeout_form)
+    ∷ (codes "OPEN", open_form)
+    ∷ (codes "CLOSE", device_form Close)
+    ∷ (codes "READ", read_form)
+    ∷ (codes "WRITE", write_form)
+    ∷ (codes "READBUF", bytes_form ReadBuf)
+    ∷ (codes "WRITEBUF", bytes_form WriteBuf)
+    ∷ (codes "GETTRIG", device_form GetTrig)
+    ∷ (codes "SETTRIG", trigger_form)
+    ∷ (codes "SET", set_form)
+    ∷ (codes "EVOPEN", device_form EvOpen)
+    ∷ (codes "EVREAD", device_form EvRead)
+    ∷ (codes "EVCLOSE", device_form EvClose)
+    ∷ []
+
+-- what the words of a line say
 abbrev pub command_of_words : List (List ℕ) → Result Command Refused
 command_of_words [] = Err Empty
-command_of_words (word ∷ words) = elim (verb_of word) [ None ↦ Err Unknown | Some verb ↦ form_of verb words ]
+command_of_words (word ∷ words) = do
+  form ← ok_or (entry_of commands word) Unknown
+  form words
 
--- a line without the CRs at its end (this project's own)
+-- the bytes without the CRs that they begin with
 abbrev pub drop_returns : List ℕ → List ℕ
 drop_returns [] = []
 drop_returns (b ∷ bs) = if b == 13 then drop_returns bs else b ∷ bs
 
+-- a line without the CRs right before its LF
 abbrev pub without_returns : List ℕ → List ℕ
 without_returns line = reverse (drop_returns (reverse line))
 
--- what a line says, or why it is no command: it has no word, its first word is no command word, its words fit
--- no form, or a word that stands for a number is none, in this order
+-- what a line says, without its LF, or why it is no command: it has no word, its first word is no command, its words
+-- fit no form, or a word that stands for a number is none, in this order
 abbrev pub command_of : List ℕ → Result Command Refused
 command_of line = command_of_words (words_of is_blank (without_returns line))

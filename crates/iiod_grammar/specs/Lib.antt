@@ -1,4 +1,7 @@
 pub mod Command
-pub mod Built
+pub mod Lines
+pub mod Parts
+pub mod Scans
 pub mod Stream
-pub mod Spoken
+pub mod Taking
+pub mod View

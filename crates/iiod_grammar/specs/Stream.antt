@@ -1,20 +1,93 @@
--- The items of what a connection sends: each line that ended, in order. (libiio 0.25's iiod.) A line that is
--- not yet ended is no item.
-use Rattle.std.specs.Prelude.{ℕ, List, [], ◌∷◌, ◌==◌, Result, if◌then◌else◌, map}
-use Rattle.iiod_grammar.specs.declared.Refused.{Refused}
-use Rattle.iiod_grammar.specs.Command.{Command}
-use Rattle.iiod_grammar.specs.Built.{said_by}
+-- The items of what a connection sends: what each line says, a WRITE together with its payload, and at most one end.
+-- What isn't whole yet is no item. (libiio 0.25's iiod; the limits are this project's own.)
+use Rattle.std.specs.Prelude.{◌≡◌, ℕ, ◌==◌, nat_lt, List, [], ◌∷◌, ◌++◌, length, Option, Some, None, Result, Ok, if◌then◌else◌}
+use Rattle.iio_text.specs.declared.errors.Errno.{Errno}
+use Rattle.iio_text.specs.declared.errors.Errno.TheVariants.{E2BIG, EFBIG}
+use Rattle.iiod_grammar.specs.declared.command.Refused.{Refused}
+use Rattle.iiod_grammar.specs.declared.lines.TheConstants.{MAX_LINE, MAX_PAYLOAD}
+use Rattle.iiod_grammar.specs.Command.{Target, Command, Exit, Write, command_of}
 
--- a byte that stands before the first of these lines
-abbrev pub onto_line : ℕ → List (List ℕ) → List (List ℕ)
-onto_line b [] = []
-onto_line b (line ∷ lines) = (b ∷ line) ∷ lines
+pub data Item : Type 0 where
+  -- what a line says, where it is neither EXIT nor a WRITE
+  Said : (line : Result Command Refused) → Item
+  -- a WRITE and its payload
+  Written : (device : List ℕ) (target : Option Target) (payload : List ℕ) → Item
+  -- the connection ends: by EXIT, or by a broken limit, which is answered by an error
+  End : (error : Option Errno) → Item
 
--- the lines that LF ends
-abbrev pub ended_lines : List ℕ → List (List ℕ)
-ended_lines [] = []
-ended_lines (b ∷ bs) = if b == 10 then [] ∷ ended_lines bs else onto_line b (ended_lines bs)
+-- where a stream stands after its bytes so far
+pub data Scanner : Type 0 where
+  -- in a line, of which these bytes came
+  InLine : (begun : List ℕ) → Scanner
+  -- in the payload of a WRITE, of which these of `count` bytes came
+  InPayload : (device : List ℕ) (target : Option Target) (count : ℕ) (begun : List ℕ) → Scanner
+  -- at its end: further bytes mean nothing
+  AtEnd : Scanner
 
--- what each line of a stream says to this server
-abbrev pub items_of : List ℕ → List (Result Command Refused)
-items_of stream = map said_by (ended_lines stream)
+-- the items that are whole now, and where the stream stands then
+pub record Scanned : Type 0 where
+  pub items : List Item
+  pub next : Scanner
+
+abbrev pub no_item : Scanner → Scanned
+no_item next = record { items = []; next = next }
+
+-- an item, and then a new line
+abbrev pub one_item : Item → Scanned
+one_item item = record { items = item ∷ []; next = InLine [] }
+
+abbrev pub ended_by : Option Errno → Scanned
+ended_by error = record { items = End error ∷ []; next = AtEnd }
+
+-- a payload of `count` bytes of which these came
+abbrev pub payload_after : List ℕ → Option Target → ℕ → List ℕ → Scanned
+payload_after device target count begun = if length begun == count then one_item (Written device target begun) else no_item (InPayload device target count begun)
+
+-- what a line makes
+abbrev pub after_said : Result Command Refused → Scanned
+after_said (Ok Exit) = ended_by None
+after_said (Ok (Write device target count)) = if nat_lt MAX_PAYLOAD count then ended_by (Some EFBIG) else payload_after device target count []
+after_said said = one_item (Said said)
+
+abbrev pub after_line : List ℕ → Scanned
+after_line line = after_said (command_of line)
+
+-- one byte more
+abbrev pub after_byte : Scanner → ℕ → Scanned
+after_byte (InLine begun) b =
+    if b == 10 then after_line begun
+    else (if nat_lt (length begun) MAX_LINE then no_item (InLine (begun ++ b ∷ [])) else ended_by (Some E2BIG))
+after_byte (InPayload device target count begun) b = payload_after device target count (begun ++ b ∷ [])
+after_byte AtEnd b = no_item AtEnd
+
+-- further bytes
+abbrev pub after_bytes : Scanner → List ℕ → Scanned
+after_bytes s [] = no_item s
+after_bytes s (b ∷ bs) =
+    let one = after_byte s b in
+    let more = after_bytes one.next bs in
+    record { items = one.items ++ more.items; next = more.next }
+
+-- the items that further bytes make whole
+abbrev pub items_from : Scanner → List ℕ → List Item
+items_from s bytes = (after_bytes s bytes).items
+
+-- where the stream stands after further bytes
+abbrev pub scanner_after : Scanner → List ℕ → Scanner
+scanner_after s bytes = (after_bytes s bytes).next
+
+-- the items of a whole stream
+abbrev pub items_of : List ℕ → List Item
+items_of stream = items_from (InLine []) stream
+
+-- where a whole stream stands
+abbrev pub scanner_of : List ℕ → Scanner
+scanner_of stream = scanner_after (InLine []) stream
+
+-- where a stream may be cut: its items are those of the bytes before, and then those of the bytes after, from where the
+-- first ones ended
+abbrev pub ItemsCutAnywhere : Type 0
+ItemsCutAnywhere = (s : Scanner) (before after : List ℕ) → items_from s (before ++ after) ≡ items_from s before ++ items_from (scanner_after s before) after
+
+abbrev pub ScannerCutAnywhere : Type 0
+ScannerCutAnywhere = (s : Scanner) (before after : List ℕ) → scanner_after s (before ++ after) ≡ scanner_after (scanner_after s before) after

@@ -3,7 +3,7 @@ use Rattle.std.proofs.Common.{◌≡◌, ℕ, ◌+◌, ◌-◌, ◌≤◌, true,
 use Rattle.std.proofs.Math.Seq.{take-add}
 use Rattle.std.proofs.lemmas.List.{drop-drop, length-append, length-drop, length-take-le, take_all, take-append-le}
 use Rattle.iio_io.specs.Bytes.{Takes, TakesAtMost}
-use Rattle.iio_script.specs.Input.{input_limit}
+use Rattle.iio_history.specs.Input.{input_limit}
 use Rattle.iiod_main.specs.Blocks.{block, has_end, IsLooked, ReadsBlock, ReadsDescription, TakesBlocks}
 use Rattle.iiod_main.proofs.LookedLaws.{near_block}
 

@@ -5,7 +5,7 @@ use Rattle.std.proofs.lemmas.Bool.{false≢true}
 use Rattle.std.proofs.lemmas.List.{length-take-le}
 use Rattle.std.proofs.lemmas.List.Folds.{list_any-append}
 use Rattle.std.specs.List.{list_any}
-use Rattle.iio_desc.specs.Text.{is_line_end, onto_line, lines_of}
+use Rattle.iio_text.specs.Lines.{is_line_end, onto_line, lines_of}
 
 -- how many LFs a text has
 abbrev pub end_count : List ℕ → ℕ

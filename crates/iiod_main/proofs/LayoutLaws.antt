@@ -7,13 +7,14 @@ use Rattle.std.proofs.lemmas.List.{take-append-drop, length-take}
 use Rattle.std.specs.List.{list_any}
 use Rattle.iio_text.specs.declared.refusals.Why.{Why}
 use Rattle.iio_desc.specs.Description.{Description}
-use Rattle.iio_desc.specs.Draft.{Draft, blank_draft}
-use Rattle.iio_desc.specs.Line.{after_line, is_end, ended_by}
-use Rattle.iio_desc.specs.Text.{lines_of}
+use Rattle.iio_desc.specs.PartialDesc.{PartialDesc, new_desc}
+use Rattle.iio_desc.specs.Lines.{is_end, desc_at_end}
+use Rattle.iio_single.specs.Served.{served_line}
+use Rattle.iio_text.specs.Lines.{lines_of}
 use Rattle.iio_script.specs.declared.status.Status.{Status}
 use Rattle.iio_script.specs.declared.status.Status.TheVariants.{Memory}
 use Rattle.iio_script.specs.Ends.{Finishes, Writes}
-use Rattle.iio_script.specs.Input.{input_limit, told_part}
+use Rattle.iio_history.specs.Input.{input_limit, told_part}
 use Rattle.iio_script.specs.Opening.{Opening, Refused, opened, opening_from}
 use Rattle.iio_script.specs.Outcome.{Outcome}
 use Rattle.iiod_main.specs.Blocks.{has_end, ReadsDescription}
@@ -23,14 +24,14 @@ use Rattle.iiod_main.proofs.ToldLaws.{told_front, has_end-lines}
 
 -- ---- lines behind one that ends the description say nothing
 
-pub same_front : (one other : Bool) (device mask : List ℕ) (draft : Draft) (n : ℕ) (front a b : List (List ℕ)) → list_any is_end front ≡ true
+pub same_front : (one other : Bool) (device mask : List ℕ) (draft : PartialDesc) (n : ℕ) (front a b : List (List ℕ)) → list_any is_end front ≡ true
     → laid device mask (opening_from one draft n (front ++ a)) ≡ laid device mask (opening_from other draft n (front ++ b))
 same_front one other device mask draft n [] a b h = absurd (false≢true h)
 same_front one other device mask draft n (line ∷ lines) a b h =
     by_end (is_end line) h (λ more rest. same_front one other device mask more (n + 1) lines a b rest)
   where
-    by_line : (read : Result Draft Why)
-        → ((more : Draft) → laid device mask (opening_from one more (n + 1) (lines ++ a)) ≡ laid device mask (opening_from other more (n + 1) (lines ++ b)))
+    by_line : (read : Result PartialDesc Why)
+        → ((more : PartialDesc) → laid device mask (opening_from one more (n + 1) (lines ++ a)) ≡ laid device mask (opening_from other more (n + 1) (lines ++ b)))
         → laid device mask (elim read as (λ _. Opening) [ Err why ↦ Refused n why | Ok more ↦ opening_from one more (n + 1) (lines ++ a) ])
         ≡ laid device mask (elim read as (λ _. Opening) [ Err why ↦ Refused n why | Ok more ↦ opening_from other more (n + 1) (lines ++ b) ])
     by_line (Err why) next = refl
@@ -42,14 +43,14 @@ same_front one other device mask draft n (line ∷ lines) a b h =
     by_read (Ok desc) = refl
 
     by_end : (t : Bool) → (t || list_any is_end lines) ≡ true
-        → ((more : Draft) → list_any is_end lines ≡ true
+        → ((more : PartialDesc) → list_any is_end lines ≡ true
         → laid device mask (opening_from one more (n + 1) (lines ++ a)) ≡ laid device mask (opening_from other more (n + 1) (lines ++ b)))
-        → laid device mask (cond t (opened n (n + 1) (lines ++ a) (ended_by draft line))
-        (elim (after_line draft line) as (λ _. Opening) [ Err why ↦ Refused n why | Ok more ↦ opening_from one more (n + 1) (lines ++ a) ]))
-        ≡ laid device mask (cond t (opened n (n + 1) (lines ++ b) (ended_by draft line))
-        (elim (after_line draft line) as (λ _. Opening) [ Err why ↦ Refused n why | Ok more ↦ opening_from other more (n + 1) (lines ++ b) ]))
-    by_end true h next = by_read (ended_by draft line)
-    by_end false h next = by_line (after_line draft line) (λ more. next more h)
+        → laid device mask (cond t (opened n (n + 1) (lines ++ a) (desc_at_end draft line))
+        (elim (served_line draft line) as (λ _. Opening) [ Err why ↦ Refused n why | Ok more ↦ opening_from one more (n + 1) (lines ++ a) ]))
+        ≡ laid device mask (cond t (opened n (n + 1) (lines ++ b) (desc_at_end draft line))
+        (elim (served_line draft line) as (λ _. Opening) [ Err why ↦ Refused n why | Ok more ↦ opening_from other more (n + 1) (lines ++ b) ]))
+    by_end true h next = by_read (desc_at_end draft line)
+    by_end false h next = by_line (served_line draft line) (λ more. next more h)
 
 -- ---- an input of which a front part is read
 
@@ -58,7 +59,7 @@ lines_within limit input = lines_of (cond (nat_lt limit (length input)) (told_pa
 
 layout_within : ℕ → List ℕ → List ℕ → List ℕ → Outcome
 unfolding lines_within
-layout_within limit input device mask = laid device mask (opening_from (nat_lt limit (length input)) blank_draft 1 (lines_within limit input))
+layout_within limit input device mask = laid device mask (opening_from (nat_lt limit (length input)) (new_desc 0) 1 (lines_within limit input))
 
 -- the lines that are looked at begin with those that LF ends in a front part
 within_front : (limit : ℕ) (text more : List ℕ) → length text ≤ limit
@@ -85,9 +86,9 @@ layout_front limit text more device mask few ends =
     let own = within_front limit text [] few in
     let all = within_front limit text more few in
     let lines : lines_within limit text ≡ ended_lines text ++ own.0 = ap (lines_within limit) (sym (append-nil text)) ∙ own.1 in
-    ap (λ ls. laid device mask (opening_from (nat_lt limit (length text)) blank_draft 1 ls)) lines
-    ∙ same_front (nat_lt limit (length text)) (nat_lt limit (length (text ++ more))) device mask blank_draft 1 (ended_lines text) own.0 all.0 (sym (has_end-lines text) ∙ ends)
-    ∙ ap (λ ls. laid device mask (opening_from (nat_lt limit (length (text ++ more))) blank_draft 1 ls)) (sym all.1)
+    ap (λ ls. laid device mask (opening_from (nat_lt limit (length text)) (new_desc 0) 1 ls)) lines
+    ∙ same_front (nat_lt limit (length text)) (nat_lt limit (length (text ++ more))) device mask (new_desc 0) 1 (ended_lines text) own.0 all.0 (sym (has_end-lines text) ∙ ends)
+    ∙ ap (λ ls. laid device mask (opening_from (nat_lt limit (length (text ++ more))) (new_desc 0) 1 ls)) (sym all.1)
 
 front_read : (text more device mask : List ℕ) → length text ≤ input_limit → has_end text ≡ true → layout_of text device mask ≡ layout_of (text ++ more) device mask
 unfolding layout_within lines_within

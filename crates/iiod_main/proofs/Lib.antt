@@ -1,4 +1,5 @@
 pub mod BlockLaws
+pub mod EndLaws
 pub mod FrontLaws
 pub mod LayoutLaws
 pub mod LookedLaws

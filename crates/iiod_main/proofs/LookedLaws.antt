@@ -3,10 +3,9 @@ use Rattle.std.proofs.Common.{◌≡◌, ℕ, ◌+◌, ◌-◌, ◌<◌, ◌≤�
 use Rattle.std.proofs.Math.Seq.{take-length}
 use Rattle.std.proofs.lemmas.Bool.{false≢true, cases_lt}
 use Rattle.std.proofs.lemmas.List.Folds.{list_any-append}
-use Rattle.std.specs.List.{list_any}
 use Rattle.std.proofs.lemmas.List.{take_more, drop_all, take-append-drop, drop-append-le, drop-take, length-take, length-take-le}
-use Rattle.iio_desc.specs.Text.{is_line_end}
-use Rattle.iio_desc.specs.Line.{is_end}
+use Rattle.iio_text.specs.Lines.{is_line_end}
+use Rattle.iio_desc.specs.Lines.{is_end}
 use Rattle.iiod_main.specs.Blocks.{has_end, block, IsLooked}
 use Rattle.iiod_main.proofs.ToldLaws.{has_end-take, has_end-ended, has_end-open}
 

@@ -3,9 +3,10 @@ use Rattle.std.proofs.Common.{◌≡◌, ℕ, suc, ◌≤◌, Bool, true, false,
 use Rattle.std.specs.Prelude.{reverse}
 use Rattle.std.proofs.lemmas.List.{length-append, take_all, reverse-append, reverse-reverse}
 use Rattle.std.specs.List.{list_any}
-use Rattle.iio_desc.specs.Line.{is_end, fits_line}
-use Rattle.iio_desc.specs.Text.{is_line_end, onto_line, lines_of}
-use Rattle.iio_script.specs.Input.{from_line_end, ended_part, cut_line, told_part}
+use Rattle.iio_desc.specs.Lines.{is_end}
+use Rattle.iio_text.specs.Lines.{fits_line}
+use Rattle.iio_text.specs.Lines.{is_line_end, onto_line, lines_of}
+use Rattle.iio_history.specs.Input.{from_line_end, ended_part, cut_line, told_part}
 use Rattle.iiod_main.specs.Blocks.{has_end}
 use Rattle.iiod_main.proofs.FrontLaws.{end_count, ended_lines, lines_of-front, ended_lines-front, end_count-append, length-ended_lines, any-take, any-ended, any-open, open_count}
 

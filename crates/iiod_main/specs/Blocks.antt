@@ -1,9 +1,9 @@
 -- What is read of an input for its description. (This project's own.)
 use Rattle.std.specs.Prelude.{◌≡◌, ◌⊎◌, ℕ, ◌+◌, ◌<◌, ◌≤◌, Bool, true, false, List, [], ◌++◌, length, take, drop, Option, Some}
 use Rattle.std.specs.List.{list_any}
-use Rattle.iio_desc.specs.Line.{is_end}
-use Rattle.iio_desc.specs.Text.{is_line_end, lines_of}
-use Rattle.iio_script.specs.Input.{ended_part, input_limit}
+use Rattle.iio_desc.specs.Lines.{is_end}
+use Rattle.iio_text.specs.Lines.{is_line_end, lines_of}
+use Rattle.iio_history.specs.Input.{ended_part, input_limit}
 
 -- the most bytes that one read asks for
 abbrev pub block : ℕ

@@ -3,7 +3,7 @@ use Rattle.std.specs.Prelude.{ℕ, true, List, Option, Some, None, option_and_th
 use Rattle.iio_text.specs.declared.refusals.Why.TheVariants.{Device, Mask}
 use Rattle.iio_mask.specs.Text.{mask_of}
 use Rattle.iio_layout.specs.Shape.{ShapeRecord, count_of}
-use Rattle.iio_desc.specs.declared.description.DeviceDesc.{DeviceDesc}
+use Rattle.iio_desc.specs.Description.{DeviceRecord}
 use Rattle.iio_desc.specs.Description.{Description, find_device}
 use Rattle.iio_script.specs.declared.status.Status.TheVariants.{Done}
 use Rattle.iio_script.specs.Opening.{Opening, Described, Refused, Cut, opening_of}
@@ -11,7 +11,7 @@ use Rattle.iio_script.specs.Outcome.{Outcome, refused, ended}
 use Rattle.iiod_main.specs.Placing.{layout_text}
 
 -- the first device of that name
-abbrev pub device_named : Description → List ℕ → Option DeviceDesc
+abbrev pub device_named : Description → List ℕ → Option DeviceRecord
 device_named desc name = option_and_then (λ k. slice_get desc.devices k) (find_device desc name)
 
 -- the layout under the mask that a text says

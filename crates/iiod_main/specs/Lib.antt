@@ -1,6 +1,5 @@
 pub mod Blocks
 pub mod Complete
-pub mod Exit
 pub mod Layout
 pub mod Placing
 pub mod Usage

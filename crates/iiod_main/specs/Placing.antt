@@ -3,7 +3,7 @@
 use Rattle.std.specs.Prelude.{ℕ, List, [], ◌∷◌, ◌++◌, codes, Some, None, slice_get}
 use Rattle.std.specs.Fmt.{decimal}
 use Rattle.std.specs.List.{filter, flat_map, range_with_len}
-use Rattle.iio_mask.specs.Places.{has}
+use Rattle.iio_mask.specs.Mask.{has}
 use Rattle.iio_scan_type.specs.Text.{type_text}
 use Rattle.iio_layout.specs.Id.{id_text}
 use Rattle.iio_layout.specs.Shape.{ShapeRecord, formats_of, count_of}

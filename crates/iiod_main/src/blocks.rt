@@ -3,7 +3,7 @@
 ghost use Rattle.std.specs.Prelude.{◌≡◌, ℕ, ◌+◌, ◌<◌, ◌≤◌, true, IsNone, IfSome, IfNone, IfOk, Err, None, length, take, vec_len};
 ghost use Rattle.iio_base.specs.Faults.{Rose};
 ghost use Rattle.iio_io.specs.Bytes.{TakesAtMost};
-ghost use Rattle.iio_script.specs.Input.{input_limit};
+ghost use Rattle.iio_history.specs.Input.{input_limit};
 ghost use Rattle.iiod_main.specs.Blocks.{ReadsBlock, ReadsDescription, TakesBlocks, has_end, IsLooked};
 
 use iio_desc::is_end;
@@ -43,6 +43,8 @@ fn read_block<S: Source>(source: &mut S, room: usize, bytes: &mut Vec<u8>) -> Re
     ensures silent { IfNone (S.left source.old) (S.left source.new ≡ None) }
     ensures counted { S.faults source.old ≤ S.faults source.new }
     ensures failed { result ≡ Err ReadEnd.Failed → Rose (S.faults source.old) (S.faults source.new) }
+    ensures memory { result ≡ Err ReadEnd.Mem → S.faults source.new ≡ S.faults source.old }
+    ensures steady { IfOk result (λ _. S.faults source.new ≡ S.faults source.old) }
 {
     let mut block = [0u8; BLOCK];
     let count = source.read(&mut block[..room])?;
@@ -59,6 +61,8 @@ pub fn read_description<S: Source>(alloc: Global, source: &mut S) -> Result<Vec<
     ensures silent { IfNone (S.left source.old) (S.left source.new ≡ None) }
     ensures counted { S.faults source.old ≤ S.faults source.new }
     ensures failed { result ≡ Err ReadEnd.Failed → Rose (S.faults source.old) (S.faults source.new) }
+    ensures memory { result ≡ Err ReadEnd.Mem → S.faults source.new ≡ S.faults source.old }
+    ensures steady { IfOk result (λ _. S.faults source.new ≡ S.faults source.old) }
 {
     let mut bytes = Vec::new(alloc);
     let mut line = 0;

@@ -1,8 +1,10 @@
 //! What the program does for its words.
 
-ghost use Rattle.std.specs.Prelude.{◌≡◌, ℕ, ◌≤◌, ◌↔◌, List, None, IsNone, IsTrue, IfSome, IfNone};
+ghost use Rattle.std.specs.Prelude.{◌≡◌, ℕ, ◌+◌, ◌≤◌, ◌↔◌, List, None, IsNone, IsTrue, IfSome, IfNone};
 ghost use Rattle.iio_base.specs.Faults.{Rose};
-ghost use Rattle.iio_script.specs.Ends.{Writes};
+ghost use Rattle.iio_io.specs.Bytes.{TakesAtMost};
+ghost use Rattle.iio_script.specs.Ends.{HasStatus, ShowsFaults, Writes};
+ghost use Rattle.iio_history.specs.Input.{input_limit};
 ghost use Rattle.iio_script.specs.Outcome.{outcome_of};
 ghost use Rattle.iiod_main.specs.Blocks.{TakesBlocks};
 ghost use Rattle.iiod_main.specs.Complete.{Completes};
@@ -53,7 +55,7 @@ fn print_usage<K: Sink>(output: &mut K) -> Status
     }
 }
 
-/// Does what the words behind the program's name say. `play` plays the input that the source has left. `layout DEVICE
+/// Does what the words after the program's name say. `play` plays the input that the source has left. `layout DEVICE
 /// MASK` reads the description of that input alone, and prints where the channels of the mask stand in a scan of the
 /// device; an unknown device and a wrong mask are refused at line 0. Other words, and none, print the line that names
 /// the commands, and leave the input alone.
@@ -69,10 +71,14 @@ pub fn run<S: Source, K: Sink>(
     ensures complete { IsPlay words.now → S.faults input.old ≡ S.faults input.new → K.faults output.old ≡ K.faults output.new →
         IfSome (S.left input.old) (λ left. IfSome (K.written output.old) (λ written. Completes (outcome_of left) written result (K.written output.new))) }
 
+    ensures status { IsPlay words.now → IfSome (S.left input.old) (λ left. HasStatus (outcome_of left) result) }
+    ensures taken { IsPlay words.now → IfSome (S.left input.old) (λ left. TakesAtMost left (input_limit + 1) (S.left input.new)) }
+
     ensures layout { (device mask : List ℕ) → IsLayout words.now device mask → IfSome (S.left input.old) (λ left. IfSome (K.written output.old) (λ written.
         Writes (layout_of left device mask) written result (K.written output.new))) }
     ensures layout_complete { (device mask : List ℕ) → IsLayout words.now device mask → S.faults input.old ≡ S.faults input.new → K.faults output.old ≡ K.faults output.new →
         IfSome (S.left input.old) (λ left. IfSome (K.written output.old) (λ written. Completes (layout_of left device mask) written result (K.written output.new))) }
+    ensures layout_status { (device mask : List ℕ) → IsLayout words.now device mask → IfSome (S.left input.old) (λ left. HasStatus (layout_of left device mask) result) }
     ensures layout_taken { (device mask : List ℕ) → IsLayout words.now device mask → IfSome (S.left input.old) (λ left. TakesBlocks left (S.left input.new)) }
     ensures layout_words { (device mask : List ℕ) → IsLayout words.now device mask → result ≡ Status.Usage → ⊥ }
 
@@ -80,10 +86,7 @@ pub fn run<S: Source, K: Sink>(
     ensures usage_line { IsOther words.now → IfSome (K.written output.old) (λ written.
         PrintsUsage written result (K.written output.new)) }
     ensures unread { IsOther words.now → input.new ≡ input.old }
-    ensures read_fault { result ≡ Status.ReadFault → Rose (S.faults input.old) (S.faults input.new) }
-    ensures write_fault { result ≡ Status.WriteFault → Rose (K.faults output.old) (K.faults output.new) }
-    ensures counted { (S.faults input.old ≤ S.faults input.new) × (K.faults output.old ≤ K.faults output.new) }
-    ensures silent { (IfNone (S.left input.old) (S.left input.new ≡ None)) × (IfNone (K.written output.old) (K.written output.new ≡ None)) }
+    ensures faults { ShowsFaults S.left S.faults K.written K.faults result input.old input.new output.old output.new }
     ensures words { IsPlay words.now → result ≡ Status.Usage → ⊥ }
 {
     if is_play(words) {

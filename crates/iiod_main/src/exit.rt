@@ -1,21 +1,15 @@
-//! The statuses that the process ends with.
+//! The status that the process ends with.
 
 ghost use Rattle.std.specs.Prelude.{◌≡◌};
-ghost use Rattle.iiod_main.specs.Exit.{code_of};
+ghost use Rattle.std.specs.Process.{exit_status};
+ghost use Rattle.iio_script.specs.Status.{code_of};
 
 use iio_script::Status;
+use std::process::ExitCode;
 
-/// The number that the process ends with.
-pub fn code(status: Status) -> u8
-    ensures { result ≡ code_of status }
+/// The exit code of a run that ended so.
+pub fn exit_code(status: Status) -> ExitCode
+    ensures { exit_status result ≡ code_of status }
 {
-    match status {
-        Status::Done => 0,
-        Status::Refused { .. } => 1,
-        Status::Usage => 2,
-        Status::ReadFault => 3,
-        Status::WriteFault => 4,
-        Status::Memory => 5,
-        Status::TooLong => 6,
-    }
+    ExitCode::from(status.code())
 }

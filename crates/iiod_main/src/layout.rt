@@ -1,9 +1,8 @@
 //! The layout of a device of a description.
 
-ghost use Rattle.std.specs.Prelude.{◌≡◌, ◌+◌, ◌≤◌, None, IfOk, IfSome, IfNone, List, ℕ, length, take};
-ghost use Rattle.iio_base.specs.Faults.{Rose};
-ghost use Rattle.iio_script.specs.Ends.{Finishes, Writes};
-ghost use Rattle.iio_script.specs.Input.{input_limit};
+ghost use Rattle.std.specs.Prelude.{◌≡◌, ◌+◌, ◌≤◌, IfOk, IfSome, List, ℕ, length, take};
+ghost use Rattle.iio_script.specs.Ends.{HasStatus, Finishes, ShowsFaults, Writes};
+ghost use Rattle.iio_history.specs.Input.{input_limit};
 ghost use Rattle.iio_script.specs.Told.{told, IsSoundOpening};
 ghost use Rattle.iiod_main.specs.Blocks.{TakesBlocks};
 ghost use Rattle.iiod_main.specs.Layout.{laid, laid_out, layout_of};
@@ -28,7 +27,7 @@ fn lay_out(
     ensures { IfOk result (λ status. Finishes (laid_out desc.now device.now mask.now) status out.old.items out.new.items) }
 {
     let Some(number) = desc.find_device(device) else {
-        return push_refused(out, 0, Why::Device);
+        return push_refused(alloc, out, 0, Why::Device);
     };
     lay_under(alloc, &desc.devices[number as usize].shape, mask, out)
 }
@@ -46,7 +45,7 @@ fn lay_opening(
 {
     match opening {
         Opening::Described { desc, .. } => lay_out(alloc, &desc, device, mask, out),
-        Opening::Refused { line, why } => push_refused(out, line, why),
+        Opening::Refused { line, why } => push_refused(alloc, out, line, why),
         Opening::Cut => push_end(out, true),
     }
 }
@@ -69,7 +68,7 @@ fn lay_text(
 }
 
 /// Reads a description from a source, and writes to a sink where each channel of the mask stands in a scan of the
-/// device, and the scan's size. What stands behind the line that ends the description isn't looked at.
+/// device, and the scan's size. What stands after the line that ends the description isn't looked at.
 pub fn layout<S: Source, K: Sink>(
     alloc: Global,
     device: &[u8],
@@ -80,11 +79,9 @@ pub fn layout<S: Source, K: Sink>(
     ensures lines { IfSome (S.left input.old) (λ left. IfSome (K.written output.old) (λ written.
         Writes (layout_of left device.now mask.now) written result (K.written output.new))) }
     ensures taken { IfSome (S.left input.old) (λ left. TakesBlocks left (S.left input.new)) }
-    ensures read_fault { result ≡ Status.ReadFault → Rose (S.faults input.old) (S.faults input.new) }
-    ensures write_fault { result ≡ Status.WriteFault → Rose (K.faults output.old) (K.faults output.new) }
+    ensures status { IfSome (S.left input.old) (λ left. HasStatus (layout_of left device.now mask.now) result) }
     ensures words { result ≡ Status.Usage → ⊥ }
-    ensures counted { (S.faults input.old ≤ S.faults input.new) × (K.faults output.old ≤ K.faults output.new) }
-    ensures silent { (IfNone (S.left input.old) (S.left input.new ≡ None)) × (IfNone (K.written output.old) (K.written output.new ≡ None)) }
+    ensures faults { ShowsFaults S.left S.faults K.written K.faults result input.old input.new output.old output.new }
 {
     let text = match read_description(alloc, input) {
         Ok(text) => text,

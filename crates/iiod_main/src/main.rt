@@ -12,14 +12,14 @@ mod rows;
 mod tests;
 
 use command::run;
-use exit::code;
+use exit::exit_code;
 use iio_io::{StdSink, StdSource};
 use iio_script::{Mem, Status};
 use std::env;
 use std::io::ErrorKind;
 use std::process::ExitCode;
 
-// The words behind the program's name. Words that aren't UTF-8 are no command, as no words are.
+// The words after the program's name. Words that aren't UTF-8 are no command, as no words are.
 fn words_of(rt: &HostRuntime) -> Result<Vec<String>, Mem> {
     let alloc = rt.alloc();
     match env::args(rt) {
@@ -40,5 +40,5 @@ fn main(rt: HostRuntime) -> ExitCode {
         Ok(words) => run(rt.alloc(), words.as_slice(), &mut input, &mut output),
         Err(Mem) => Status::Memory,
     };
-    ExitCode::from(code(status))
+    exit_code(status)
 }

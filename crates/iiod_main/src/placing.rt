@@ -2,7 +2,7 @@
 
 ghost use Rattle.std.specs.Prelude.{◌≡◌, ◌^◌, ◌<◌, ◌≤◌, ◌++◌, true, OnOk, IfOk};
 ghost use Rattle.std.specs.List.{flat_map};
-ghost use Rattle.iio_mask.specs.Places.{has};
+ghost use Rattle.iio_mask.specs.Mask.{has};
 ghost use Rattle.iio_layout.specs.Shape.{count_of};
 ghost use Rattle.iio_script.specs.Ends.{Finishes};
 ghost use Rattle.iiod_main.specs.Layout.{laid_under};
@@ -95,7 +95,7 @@ pub fn lay_under(
     ensures { IfOk result (λ status. Finishes (laid_under shape.now mask.now) status out.old.items out.new.items) }
 {
     let Some(mask) = Mask::read(mask, shape.count()) else {
-        return push_refused(out, 0, Why::Mask);
+        return push_refused(alloc, out, 0, Why::Mask);
     };
     push_layout(alloc, out, shape, mask)?;
     Ok(Status::Done)

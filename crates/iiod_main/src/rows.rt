@@ -1,7 +1,6 @@
 // Whole inputs through the program, and what each prints. Expected texts by hand.
 
 use crate::command::run;
-use crate::exit::code;
 use iio_io::{MemSink, MemSource};
 use std::alloc::Global;
 use std::process::Abort;
@@ -115,7 +114,7 @@ fn check_play(
     words.push(String::from_str(alloc, "play")?)?;
     let mut input = MemSource::new(text, 1000, Vec::new(alloc));
     let mut output = MemSink::new(alloc, 10_000, Vec::new(alloc))?;
-    let ended = code(run(alloc, words.as_slice(), &mut input, &mut output));
+    let ended = run(alloc, words.as_slice(), &mut input, &mut output).code();
     assert_eq!(rt; output.written(), printed);
     assert_eq!(rt; ended, status);
     Ok(())
@@ -208,7 +207,7 @@ const REFUSED: &[(&str, &str, &str)] = &[
     (HEAD, "channel voltage1 le:u12/16>>8\n", "refused 4 type\n"),
     (
         HEAD,
-        "channel voltage1 le:s32/32X4>>0\n",
+        "channel voltage1 le:s32/32X8>>0\n",
         "refused 4 type\n",
     ),
     (

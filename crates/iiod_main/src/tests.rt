@@ -2,7 +2,6 @@
 ghost use Rattle.std.specs.Prelude.{◌≤◌};
 
 use crate::command::run;
-use crate::exit::code;
 use iio_io::{MemSink, MemSource, read_whole};
 use iio_script::Status;
 use std::alloc::Global;
@@ -124,7 +123,7 @@ fn failing_writes_end_the_run(rt: HostRuntime) -> Result<(), Fail> {
             &mut source(alloc, FIRST_PATH, 1000, &[])?,
             &mut output,
         )?;
-        assert_eq!(rt; code(ended), status, "room {room}");
+        assert_eq!(rt; ended.code(), status, "room {room}");
         assert_eq!(rt;
             output.written(),
             &FIRST_PATH_PRINTED[..taken],
@@ -188,7 +187,7 @@ fn long_commands_are_refused(rt: HostRuntime) -> Result<(), Fail> {
         text.extend_from_slice(b"\\n\"\n")?;
         let mut input = MemSource::new(text, 1000, Vec::new(alloc));
         let mut output = sink(alloc, 1000, &[])?;
-        assert_eq!(rt; code(played(alloc, &mut input, &mut output)?), status);
+        assert_eq!(rt; played(alloc, &mut input, &mut output)?.code(), status);
         assert_eq!(rt; output.written(), printed);
     }
     Ok(())
@@ -232,7 +231,7 @@ fn other_words_name_the_commands(rt: HostRuntime) -> Result<(), Fail> {
     }
     let mut output = sink(alloc, 1000, &[])?;
     let mut input = source(alloc, FIRST_PATH, 1000, &[])?;
-    assert_eq!(rt; code(run(alloc, &[], &mut input, &mut output)), 2);
+    assert_eq!(rt; run(alloc, &[], &mut input, &mut output).code(), 2);
     assert_eq!(rt; output.written(), USAGE);
     Ok(())
 }
@@ -364,7 +363,7 @@ fn layouts_are_refused(rt: HostRuntime) -> Result<(), Fail> {
         let mut output = sink(alloc, 1000, &[])?;
         let ended = laid(alloc, device, mask, &mut input, &mut output)?;
         assert_eq!(rt; output.written(), *printed);
-        assert_eq!(rt; code(ended), *status);
+        assert_eq!(rt; ended.code(), *status);
     }
     Ok(())
 }
@@ -407,7 +406,7 @@ fn failing_writes_end_the_layout(rt: HostRuntime) -> Result<(), Fail> {
         let mut input = source(alloc, ADC0, 1000, &[])?;
         let mut output = sink(alloc, room, &[failing])?;
         let ended = laid(alloc, "adc0", "00000001", &mut input, &mut output)?;
-        assert_eq!(rt; code(ended), status, "room {room}");
+        assert_eq!(rt; ended.code(), status, "room {room}");
         assert_eq!(rt; output.written(), &printed[..taken], "room {room}");
     }
     Ok(())

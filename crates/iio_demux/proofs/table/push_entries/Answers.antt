@@ -2,7 +2,8 @@ use Rattle.std.proofs.Common.{◌≡◌, sym, ap, ◌∙◌, arith}
 use Rattle.iio_scan_type.specs.Format.{size_of}
 use Rattle.iio_layout.specs.Layout.{size_at}
 use Rattle.iio_layout.specs.Shape.{formats_of}
-use Rattle.iio_demux.proofs.EntryLemmas.{end_more, end_same, entries_same, outside, place_is, pushed_entry}
+use Rattle.iio_demux.specs.Table.{channel_entries, merged}
+use Rattle.iio_demux.proofs.EntryLemmas.{end_more, end_same, entries_same, outside, pushed_entry}
 use Rattle.iio_demux.proofs.table.push_entries.Goals as goal
 use Rattle.iio_demux.proofs.table.push_entries.Goals.{then-contains, else-contains}
 
@@ -10,25 +11,25 @@ pub loop-c-preserved-then-not-contains : goal.loop-c-preserved-then-not-contains
 loop-c-preserved-then-not-contains c =
     let shape = c.args.shape.now in
     let active = c.args.active.bits in
-    let mine = c.args.mine.bits in
+    let buffer = c.args.buffer.bits in
     let n = c.loop-c.c in
     let other = sym c.contains.ensures ∙ c.if-not-contains.true in
-    let none = outside active mine n c.requires.within other in
+    let none = outside active buffer n c.requires.within other in
     record {
-      union_end = end_same shape active n c.loop-c.union_end other c.loop-c.invariant.union_end;
-      union_few = omega arith;
-      own_end = end_same shape mine n c.loop-c.own_end none c.loop-c.invariant.own_end;
-      own_few = omega arith;
-      entries = c.loop-c.invariant.entries ∙ entries_same shape active mine n none;
+      active_end = end_same shape active n c.loop-c.active_end other c.loop-c.invariant.active_end;
+      active_few = omega arith;
+      buffer_end = end_same shape buffer n c.loop-c.buffer_end none c.loop-c.invariant.buffer_end;
+      buffer_few = omega arith;
+      entries = c.loop-c.invariant.entries ∙ ap merged (entries_same shape active buffer n none);
       few = omega arith;
-      room = c.loop-c.invariant.room;
+      capacity = c.loop-c.invariant.capacity;
     }
 
 pub loop-c-preserved : goal.loop-c-preserved
 loop-c-preserved c =
     let shape = c.args.shape.now in
     let active = c.args.active.bits in
-    let mine = c.args.mine.bits in
+    let buffer = c.args.buffer.bits in
     let n = c.loop-c.c in
     let so_far = c.loop-c.invariant in
     let length = c.size-length.result in
@@ -36,33 +37,32 @@ loop-c-preserved c =
     let selected = sym c.contains.ensures ∙ c.if-not-contains.false in
     let from = c.next_multiple_of-from.ensures.value in
     let most = c.size-length.ensures.few in
-    let union_end = end_more shape active n c.loop-c.union_end c.next_multiple_of-from.result length selected so_far.union_end size from in
+    let active_end = end_more shape active n c.loop-c.active_end c.next_multiple_of-from.result length selected so_far.active_end size from in
     elim c.if-contains.branch [
       | then-contains w ↦
           let own = sym c.contains-in-loop-c.ensures ∙ w.if-contains.true in
           let to = w.next_multiple_of-to.ensures.value in
           record {
-            union_end = union_end;
-            union_few = omega (arith, most);
-            own_end = w.own_end-is ∙ end_more shape mine n c.loop-c.own_end w.next_multiple_of-to.result length own so_far.own_end size to;
-            own_few = omega (arith, most);
+            active_end = active_end;
+            active_few = omega (arith, most);
+            buffer_end = w.buffer_end-is ∙ end_more shape buffer n c.loop-c.buffer_end w.next_multiple_of-to.result length own so_far.buffer_end size to;
+            buffer_few = omega (arith, most);
             entries =
-                ap (λ entries. entries.items) w.entries-is
-                ∙ pushed_entry shape active mine n c.next_multiple_of-from.result w.next_multiple_of-to.result length c.loop-c.entries.items w.push_reserved.new.self.items own
-                (place_is shape active n c.loop-c.union_end c.next_multiple_of-from.result length so_far.union_end size from)
-                (place_is shape mine n c.loop-c.own_end w.next_multiple_of-to.result length so_far.own_end size to) size so_far.entries w.push_reserved.ensures.items;
-            few = rw w.entries-is (omega arith);
-            room = rw (w.entries-is, w.push_reserved.ensures.capacity) so_far.room;
+                ap (λ entries. entries.items) w.entries-is ∙ w.push_merged.ensures.items (channel_entries shape active buffer n) so_far.entries
+                ∙ ap merged (pushed_entry shape active buffer n c.loop-c.active_end c.loop-c.buffer_end c.next_multiple_of-from.result w.next_multiple_of-to.result length own
+                so_far.active_end so_far.buffer_end size from to);
+            few = rw w.entries-is (omega (arith, w.push_merged.ensures.few, so_far.few));
+            capacity = rw w.entries-is (w.push_merged.ensures.capacity ∙ so_far.capacity);
           }
       | else-contains w ↦
           let none = sym c.contains-in-loop-c.ensures ∙ w.if-contains.false in
           record {
-            union_end = union_end;
-            union_few = omega (arith, most);
-            own_end = w.own_end-is ∙ end_same shape mine n c.loop-c.own_end none so_far.own_end;
-            own_few = omega arith;
-            entries = ap (λ entries. entries.items) w.entries-is ∙ so_far.entries ∙ entries_same shape active mine n none;
+            active_end = active_end;
+            active_few = omega (arith, most);
+            buffer_end = w.buffer_end-is ∙ end_same shape buffer n c.loop-c.buffer_end none so_far.buffer_end;
+            buffer_few = omega arith;
+            entries = ap (λ entries. entries.items) w.entries-is ∙ so_far.entries ∙ ap merged (entries_same shape active buffer n none);
             few = rw w.entries-is (omega arith);
-            room = rw w.entries-is so_far.room;
+            capacity = rw w.entries-is so_far.capacity;
           }
     ]

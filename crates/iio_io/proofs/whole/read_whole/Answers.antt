@@ -1,4 +1,4 @@
-use Rattle.std.proofs.Common.{ℕ, drop, ap, arith}
+use Rattle.std.proofs.Common.{ℕ, drop, ap, arith, ◌∙◌}
 use Rattle.std.proofs.lemmas.List.{length-take}
 use Rattle.iio_io.proofs.Told.{ReadSoFar-more, TakesUpTo-full, TakesUpTo-end, silent_more}
 use Rattle.iio_io.proofs.whole.read_whole.Goals as goal
@@ -15,6 +15,7 @@ loop-piece-preserved g c =
           old.told new.fits new.next grown.items grown.len;
       silent = silent_more _ _ _ old.silent new.silent;
       counted = omega (arith, old.counted, new.counted);
+      steady = new.steady ∙ old.steady;
     }
 
 pub returns-clause-whole : goal.returns-clause-whole

@@ -8,6 +8,7 @@ invariant-loop-piece g l = record {
   told : ReadSoFar (g.S.Source.left l.fn.source) l.bytes.items (vec_len l.bytes) (g.S.Source.left l.source);
   silent : IfNone (g.S.Source.left l.fn.source) (g.S.Source.left l.source ≡ None);
   counted : g.S.Source.faults l.fn.source ≤ g.S.Source.faults l.source;
+  steady : g.S.Source.faults l.source ≡ g.S.Source.faults l.fn.source;
 }
 
 abbrev pub decreases-loop-piece : goal.decreases-loop-piece

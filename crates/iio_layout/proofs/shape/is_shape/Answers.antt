@@ -10,7 +10,7 @@ pub returns : goal.returns
 returns c =
     let inputs = length c.args.channels.now in
     let count = count_is (record { channels = c.args.channels.now; stamp = c.args.stamp; listed = map (λ m. m.bits) c.args.listed.now }) in
-    let most = c.most_channels.ensures in (
+    let most = c.max_channels.ensures in (
       λ each. record {
         some = grind (arith, nat_tests);
         few = omega arith;

@@ -1,5 +1,5 @@
 use Rattle.std.proofs.Common.{◌≡◌, ◌≤◌, length, take}
-use Rattle.iio_script.specs.Input.{ended_part}
+use Rattle.iio_history.specs.Input.{ended_part}
 use Rattle.iio_script.proofs.input.ended_part.Given as goal
 
 abbrev pub invariant-loop-len : goal.invariant-loop-len

@@ -1,7 +1,7 @@
 use Rattle.std.proofs.Common.{◌≤◌, length, sym, arith}
 use Rattle.std.proofs.lemmas.Bool.Decides.{nat_tests}
 use Rattle.std.proofs.lemmas.List.{length-take-le}
-use Rattle.iio_script.specs.Input.{input_limit}
+use Rattle.iio_history.specs.Input.{input_limit}
 use Rattle.iio_script.proofs.input.looked_part.Goals as goal
 
 pub slice_bounds-told_part-end : goal.slice_bounds-told_part-end

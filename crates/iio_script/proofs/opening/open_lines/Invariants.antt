@@ -1,12 +1,15 @@
 use Rattle.std.proofs.Common.{◌≡◌, ◌+◌, ◌≤◌, length}
-use Rattle.iio_desc.specs.Draft.{blank_draft}
-use Rattle.iio_desc.specs.Text.{lines_of}
+use Rattle.iio_text.specs.Lines.{lines_of}
+use Rattle.iio_desc.specs.PartialDesc.{new_desc}
+use Rattle.iio_single.specs.Served.{IsReading}
 use Rattle.iio_script.specs.Opening.{opening_from}
+use Rattle.iio_script.proofs.OpeningLaws.{opening_at}
 use Rattle.iio_script.proofs.opening.open_lines.Given as goal
 
 abbrev pub invariant-loop-line : goal.invariant-loop-line
 invariant-loop-line l = record {
-  opening : opening_from l.overlong l.reader l.number (lines_of l.rest) ≡ opening_from l.overlong blank_draft 1 (lines_of l.text);
+  reading : IsReading l.reader l.number;
+  opening : opening_at l.overlong l.reader (lines_of l.rest) ≡ opening_from l.overlong (new_desc 0) 1 (lines_of l.text);
   few : l.number + length l.rest ≤ 1 + length l.text;
 }
 

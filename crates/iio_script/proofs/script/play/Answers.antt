@@ -1,6 +1,6 @@
 use Rattle.std.proofs.Common.{◌≡◌, ℕ, List, [], IfSome, subst, sym}
 use Rattle.iio_script.specs.declared.status.Status.{Status}
-use Rattle.iio_script.specs.Ends.{Finishes, Writes}
+use Rattle.iio_script.specs.Ends.{Finishes, HasStatus, Writes}
 use Rattle.iio_script.specs.Outcome.{outcome_of}
 use Rattle.iio_script.proofs.OutcomeLaws.{of_left, wrote_none}
 use Rattle.iio_script.proofs.script.play.Goals as goal
@@ -14,6 +14,15 @@ finished_by read text status first before out after same none whole f =
 
 pub returns-in_default-clause-transcript : goal.returns-in_default-clause-transcript
 returns-in_default-clause-transcript g c = wrote_none _ _
+
+-- the status is that of the outcome, where the source tells it
+pub returns-clause-status : goal.returns-clause-status
+returns-clause-status g c =
+    of_left (λ outcome. HasStatus outcome c.write_out.result) (g.S.Source.left c.args.input.now) (g.S.Source.left c.read_whole.new.source) c.in-Ok.text.items c.as_slice-2.result.now
+    c.in-Ok-play_text.status c.in-Ok.ensures.whole
+    (finished_by c.as_slice.result.now c.in-Ok.text.items c.in-Ok-play_text.status c.new-out.result.items [] c.play_text.new.out.items c.as_slice-2.result.now
+    c.as_slice.ensures.value c.new-out.ensures.items c.as_slice-2.ensures.value c.in-Ok-play_text.ensures)
+    c.write_out.ensures.status
 
 pub returns-clause-transcript : goal.returns-clause-transcript
 returns-clause-transcript g c =

@@ -1,10 +1,10 @@
 use Rattle.std.proofs.Common.{◌≡◌, ◌<◌, ◌^◌, true, false, Option, Some, None, IfSome, Ok, sym, ap, ◌∙◌, subst, arith}
 use Rattle.std.proofs.lemmas.Result.{IfOk-weaker}
 use Rattle.iio_text.specs.declared.refusals.Why.{Why}
-use Rattle.iio_desc.specs.declared.lines.LineFault.{LineFault}
-use Rattle.iio_desc.specs.Fault.{Explains}
-use Rattle.iio_desc.specs.Text.{lines_of}
-use Rattle.iio_history.specs.declared.step.Step.{Step}
+use Rattle.iio_text.specs.declared.faults.LineFault.{LineFault}
+use Rattle.iio_text.specs.LineFault.{Tells}
+use Rattle.iio_text.specs.Lines.{lines_of}
+use Rattle.iio_single.specs.declared.step.Step.{Step}
 use Rattle.iio_script.specs.Outcome.{refused, step_why}
 use Rattle.iio_script.specs.Step.{step_of}
 use Rattle.iio_script.specs.Ends.{Finishes}
@@ -17,9 +17,9 @@ returns-in-Err-Why c =
     IfOk-weaker c.push_refused.result _ _
     (λ status f. ends_refused c.desc.result.now c.args.player.now.bench.desc c.loop-line.player c.loop-line.out.items _ _ _ c.loop-line.next _ _ c.in-Some.line.now (lines_of c.in-Some.more.now) c.in-Err-Why.why status _
     c.loop-line.invariant.0 c.in-Some.ensures.found c.desc.ensures
-    (subst (λ (e : LineFault). Explains e (step_of c.desc.result.now c.in-Some.line.now)) c.in-Err-Why.field-0-is c.in-Err-Why.ensures.err)
+    (subst (λ (e : LineFault). Tells e (step_of c.desc.result.now c.in-Some.line.now)) c.in-Err-Why.field-0-is c.in-Err-Why.ensures.err)
     (subst (λ (why : Why). Finishes (refused c.loop-line.next why) status c.loop-line.out.items c.push_refused.new.out.items) (c.step_why.ensures ∙ ap step_why c.in-Err-Why.why-is) f))
-    c.push_refused.ensures
+    c.push_refused.ensures.ends
 
 pub loop-line-preserved-in_default-said : goal.loop-line-preserved-in_default-said
 loop-line-preserved-in_default-said c =
@@ -39,7 +39,7 @@ returns-then-not-accepts c =
     (λ status f. ends_named c.desc.result.now c.args.player.now.bench.desc c.loop-line.player c.loop-line.out.items _ _ _ c.loop-line.next _ _ c.in-Some.line.now (lines_of c.in-Some.more.now) c.in-Some-said.step status _
     c.loop-line.invariant.0 c.in-Some.ensures.found c.desc.ensures said other
     (subst (λ (why : Why). Finishes (refused c.loop-line.next why) status c.loop-line.out.items c.push_refused-then-not-accepts.new.out.items) c.step_why-then-not-accepts.ensures f))
-    c.push_refused-then-not-accepts.ensures
+    c.push_refused-then-not-accepts.ensures.ends
 
 pub perform-requires : goal.perform-requires
 perform-requires c =

@@ -1,5 +1,5 @@
 use Rattle.std.proofs.Common.{◌+◌, ◌≤◌, [], length}
-use Rattle.iio_desc.specs.Text.{lines_of}
+use Rattle.iio_text.specs.Lines.{lines_of}
 use Rattle.iio_script.specs.Outcome.{play_lines}
 use Rattle.iio_script.proofs.PlayLaws.{Goes}
 use Rattle.iio_script.proofs.script.play_steps.Given as goal

@@ -1,6 +1,6 @@
 use Rattle.std.proofs.Common.{sym, ap, ◌∙◌}
 use Rattle.std.proofs.lemmas.Result.{IfOk-weaker}
-use Rattle.iio_desc.specs.Text.{lines_of}
+use Rattle.iio_text.specs.Lines.{lines_of}
 use Rattle.iio_script.specs.Opening.{Described, Refused, Cut}
 use Rattle.iio_script.specs.Told.{told}
 use Rattle.iio_script.proofs.OutcomeLaws.{finished_head}
@@ -18,11 +18,11 @@ returns-in-Refused c =
     IfOk-weaker c.push_refused.result _ _
     (λ status f. finished_head (Refused c.in-Refused.line c.in-Refused.why) c.args.text.now c.is_overlong-overlong.result status _ _
     (sym (ap told c.in-Refused.is) ∙ c.in_ok-desc.ensures.opening) c.is_overlong-overlong.ensures f)
-    c.push_refused.ensures
+    c.push_refused.ensures.ends
 
 pub returns-in-Cut : goal.returns-in-Cut
 returns-in-Cut c =
     IfOk-weaker c.push_end.result _ _
     (λ status f. finished_head Cut c.args.text.now c.is_overlong-overlong.result status _ _
     (sym (ap told c.in-Cut.is) ∙ c.in_ok-desc.ensures.opening) c.is_overlong-overlong.ensures f)
-    c.push_end.ensures
+    c.push_end.ensures.ends

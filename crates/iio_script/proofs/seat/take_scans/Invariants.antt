@@ -1,5 +1,5 @@
 use Rattle.std.proofs.Common.{◌≡◌, ◌++◌, length, take, drop}
-use Rattle.iio_history.specs.Reply.{joined_scans}
+use Rattle.iio_single.specs.Reply.{joined_scans}
 use Rattle.iio_script.proofs.seat.take_scans.Given as goal
 
 abbrev pub invariant-loop-left : goal.invariant-loop-left

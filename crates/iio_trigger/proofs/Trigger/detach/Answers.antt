@@ -1,6 +1,6 @@
 use Rattle.std.proofs.Common.{sym, arith}
 use Rattle.std.proofs.lemmas.List.Edits.{length-remove}
-use Rattle.iio_trigger.specs.Order.{place_dev}
+use Rattle.iio_trigger.specs.Trigger.{place_dev}
 use Rattle.iio_trigger.proofs.Ranks.{InOrder-remove}
 use Rattle.iio_trigger.proofs.Changes.{without_place-remove, holds_place-none, without_place-none}
 use Rattle.iio_trigger.proofs.Trigger.detach.Goals as goal

@@ -1,6 +1,6 @@
 use Rattle.std.proofs.Common.{true, false, pos, refl}
 use Rattle.std.proofs.lemmas.Bool.{false≢true}
-use Rattle.iio_trigger.specs.Order.{entry_dev}
+use Rattle.iio_trigger.specs.Trigger.{entry_dev}
 use Rattle.iio_trigger.specs.declared.rows.Entry.{Entry}
 use Rattle.iio_trigger.proofs.Ranks.{InOrder-remove}
 use Rattle.iio_trigger.proofs.Changes.{Contains-none, Contains-at, without_entry-remove}

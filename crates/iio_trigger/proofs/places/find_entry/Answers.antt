@@ -1,5 +1,5 @@
 use Rattle.std.proofs.Common.{pos, false, arith}
-use Rattle.iio_trigger.specs.Order.{entry_dev}
+use Rattle.iio_trigger.specs.Trigger.{entry_dev}
 use Rattle.iio_trigger.proofs.Ranks.{stands, would_stand}
 use Rattle.iio_trigger.proofs.places.find_entry.Goals as goal
 use Rattle.iio_trigger.proofs.places.find_entry.Goals.{else-at-entries-via-then-at-entries+else-entries-at, else-at-entries-via-else-at-entries}

@@ -1,5 +1,5 @@
 use Rattle.std.proofs.Common.{arith}
-use Rattle.iio_trigger.specs.Order.{place_dev}
+use Rattle.iio_trigger.specs.Trigger.{place_dev}
 use Rattle.iio_trigger.proofs.Ranks.{stands, would_stand}
 use Rattle.iio_trigger.proofs.places.find_place.Goals as goal
 use Rattle.iio_trigger.proofs.places.find_place.Goals.{else-at-places-via-then-at-places+else-places-at, else-at-places-via-else-at-places}

@@ -1,7 +1,7 @@
 use Rattle.std.proofs.Common.{◌≡◌, false, get_or, sym, ◌∙◌, ap, arith, eq-eqb}
 use Rattle.std.proofs.lemmas.Bool.Decides.{nat_tests}
-use Rattle.iio_desc.specs.Line.{is_end}
-use Rattle.iio_desc.specs.Text.{is_line_end}
+use Rattle.iio_desc.specs.Lines.{is_end}
+use Rattle.iio_text.specs.Lines.{is_line_end}
 use Rattle.iiod_main.proofs.LookedLaws.{looked_more, looked_line, line_between, end_found}
 use Rattle.iiod_main.proofs.blocks.line_behind.Goals as goal
 use Rattle.iiod_main.proofs.blocks.line_behind.Goals.{then-text-at-eq10+else-is_end, else-text-at-eq10}

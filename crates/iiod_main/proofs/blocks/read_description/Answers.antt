@@ -1,5 +1,5 @@
 use Rattle.std.proofs.Common.{◌≡◌, ◌+◌, ◌-◌, ◌≤◌, true, ℕ, List, length, take, vec_len, refl, subst, sym, ap, ◌∙◌, arith}
-use Rattle.iio_script.specs.Input.{input_limit}
+use Rattle.iio_history.specs.Input.{input_limit}
 use Rattle.iiod_main.specs.Blocks.{block, has_end, IsLooked}
 use Rattle.iiod_main.proofs.BlockLaws.{read_more, read_found, read_end, taken_more, taken_all, silent_more}
 use Rattle.iiod_main.proofs.LookedLaws.{looked_grown}
@@ -63,6 +63,7 @@ loop-bytes-preserved g c =
       looked = subst (λ (text : List ℕ). IsLooked text c.in-Some.next (length text)) c.deref.ensures.value c.in-Some.ensures.next;
       silent = silent_more _ _ _ old.silent new.silent;
       counted = omega (arith, old.counted, new.counted);
+      steady = new.steady ∙ old.steady;
     }
 
 pub returns-clause-taken : goal.returns-clause-taken

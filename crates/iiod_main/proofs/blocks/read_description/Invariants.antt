@@ -1,5 +1,5 @@
 use Rattle.std.proofs.Common.{◌≡◌, ◌+◌, ◌-◌, ◌≤◌, length, None, IfNone, vec_len}
-use Rattle.iio_script.specs.Input.{input_limit}
+use Rattle.iio_history.specs.Input.{input_limit}
 use Rattle.iiod_main.specs.Blocks.{IsLooked}
 use Rattle.iiod_main.proofs.BlockLaws.{ReadSoFar}
 use Rattle.iiod_main.proofs.blocks.read_description.Given as goal
@@ -11,6 +11,7 @@ invariant-loop-bytes g l = record {
   looked : IsLooked l.bytes.items l.line (length l.bytes.items);
   silent : IfNone (g.S.Source.left l.fn.source) (g.S.Source.left l.source ≡ None);
   counted : g.S.Source.faults l.fn.source ≤ g.S.Source.faults l.source;
+  steady : g.S.Source.faults l.source ≡ g.S.Source.faults l.fn.source;
 }
 
 abbrev pub decreases-loop-bytes : goal.decreases-loop-bytes

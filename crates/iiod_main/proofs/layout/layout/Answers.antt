@@ -1,7 +1,7 @@
 use Rattle.std.proofs.Common.{◌≡◌, ◌+◌, ℕ, List, [], take, IfSome, subst, sym, arith}
 use Rattle.iio_script.specs.declared.status.Status.{Status}
-use Rattle.iio_script.specs.Ends.{Finishes, Writes}
-use Rattle.iio_script.specs.Input.{input_limit}
+use Rattle.iio_script.specs.Ends.{Finishes, HasStatus, Writes}
+use Rattle.iio_history.specs.Input.{input_limit}
 use Rattle.iiod_main.specs.Layout.{layout_of}
 use Rattle.iiod_main.proofs.LayoutLaws.{of_left, wrote_none}
 use Rattle.iiod_main.proofs.layout.layout.Goals as goal
@@ -14,6 +14,35 @@ finished_by input device mask status first before out after none whole f =
 
 pub returns-in_default-clause-lines : goal.returns-in_default-clause-lines
 returns-in_default-clause-lines g c = wrote_none _ _ _ _
+
+pub returns-clause-status : goal.returns-clause-status
+returns-clause-status g c =
+    let status : Status = c.in-Ok-lay_text.status in
+    let text : List ℕ = c.in-Ok.text.items in
+    let device : List ℕ = c.args.device.now in
+    let mask : List ℕ = c.args.mask.now in
+    let out : List ℕ = c.as_slice-2.result.now in
+    let same : c.as_slice.result.now ≡ text = c.as_slice.ensures.value in
+    let empty = c.new-out.ensures.items in
+    let whole = c.as_slice-2.ensures.value in
+    of_left (λ outcome. HasStatus outcome c.write_out.result) (g.S.Source.left c.args.input.now) text device mask out status c.in-Ok.ensures.read
+    (omega (arith, c.in-Ok.ensures.within))
+    (subst (λ (t : List ℕ). Finishes (layout_of t device mask) status [] out) same
+    (finished_by c.as_slice.result.now device mask status _ _ _ _ empty whole c.in-Ok-lay_text.ensures.lines))
+    (λ input front. finished_by input device mask status _ _ _ _ empty whole (c.in-Ok-lay_text.ensures.front input (subst (λ (t : List ℕ). t ≡ take (input_limit + 1) input) (sym same) front)))
+    c.write_out.ensures.status
+
+pub returns-clause-faults : goal.returns-clause-faults
+returns-clause-faults g c =
+    let read = c.in-Ok.ensures in
+    let wrote = c.write_out.ensures in
+    record {
+      read_fault = λ fault. absurd (wrote.read_fault fault);
+      write_fault = wrote.write_fault;
+      memory = λ fault. absurd (wrote.memory fault);
+      counted = (read.counted, wrote.counted);
+      silent = (read.silent, wrote.silent);
+    }
 
 pub returns-clause-lines : goal.returns-clause-lines
 returns-clause-lines g c =

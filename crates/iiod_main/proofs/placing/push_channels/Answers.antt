@@ -1,5 +1,5 @@
 use Rattle.std.proofs.Common.{sym, ◌∙◌}
-use Rattle.iio_mask.specs.Places.{has}
+use Rattle.iio_mask.specs.Mask.{has}
 use Rattle.iiod_main.specs.Placing.{channel_line}
 use Rattle.iiod_main.proofs.PlacingLaws.{said_selected, said_other}
 use Rattle.iiod_main.proofs.placing.push_channels.Goals as goal

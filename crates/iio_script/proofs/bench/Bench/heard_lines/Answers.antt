@@ -1,6 +1,6 @@
 use Rattle.std.proofs.Common.{◌≡◌, List, ℕ, Option, ◌∷◌, ◌++◌, map, ap, sym, ◌∙◌, append_assoc}
-use Rattle.iiod_grammar.specs.Built.{said_by}
-use Rattle.iio_desc.specs.Text.{lines_of}
+use Rattle.iio_single.specs.Stream.{item_of}
+use Rattle.iio_text.specs.Lines.{lines_of}
 use Rattle.iio_script.specs.Bench.{BenchRecord, SeatRecord, answer_by, seat_after, answers_by, seat_after_items}
 use Rattle.iio_script.proofs.bench.Bench.heard_lines.Goals as goal
 
@@ -13,17 +13,17 @@ loop-line-preserved c =
     let out : List ℕ = c.loop-line.out.items in
     let line : List ℕ = c.in-Some.line.now in
     let more : List (List ℕ) = lines_of c.in-Some.more.now in
-    let seat : Option SeatRecord = seat_after old.desc old.seat who (said_by line) in
+    let seat : Option SeatRecord = seat_after old.desc old.seat who (item_of line) in
     let lines : lines_of c.loop-line.rest.now ≡ line ∷ more = c.in-Some.ensures.found in
     let state : new ≡ record old { seat = seat } = c.in_ok-heard.ensures.state in
     record {
-      told = ap (λ (b : BenchRecord). c.heard.new.out.items ++ answers_by b.desc b.seat who (map said_by more)) state
-          ∙ ap (λ (items : List ℕ). items ++ answers_by old.desc seat who (map said_by more)) c.in_ok-heard.ensures.answer
-          ∙ append_assoc out (answer_by old.desc old.seat who (said_by line)) (answers_by old.desc seat who (map said_by more))
-          ∙ sym (ap (λ (ls : List (List ℕ)). out ++ answers_by old.desc old.seat who (map said_by ls)) lines)
+      told = ap (λ (b : BenchRecord). c.heard.new.out.items ++ answers_by b.desc b.seat who (map item_of more)) state
+          ∙ ap (λ (items : List ℕ). items ++ answers_by old.desc seat who (map item_of more)) c.in_ok-heard.ensures.answer
+          ∙ append_assoc out (answer_by old.desc old.seat who (item_of line)) (answers_by old.desc seat who (map item_of more))
+          ∙ sym (ap (λ (ls : List (List ℕ)). out ++ answers_by old.desc old.seat who (map item_of ls)) lines)
           ∙ c.loop-line.invariant.told;
-      rest = ap (λ (b : BenchRecord). seat_after_items b.desc b.seat who (map said_by more)) state
-          ∙ sym (ap (λ (ls : List (List ℕ)). seat_after_items old.desc old.seat who (map said_by ls)) lines)
+      rest = ap (λ (b : BenchRecord). seat_after_items b.desc b.seat who (map item_of more)) state
+          ∙ sym (ap (λ (ls : List (List ℕ)). seat_after_items old.desc old.seat who (map item_of ls)) lines)
           ∙ c.loop-line.invariant.rest;
       same = state
           ∙ ap (λ (b : BenchRecord). record b { seat = seat }) c.loop-line.invariant.same

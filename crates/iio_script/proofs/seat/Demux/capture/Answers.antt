@@ -7,4 +7,4 @@ pub returns-clause-scan : goal.returns-clause-scan
 returns-clause-scan c =
     let fits : SFits w64 c.args.moment = c.ranges.moment in
     let asked = simp to_z-of_z at c.in_ok-capture.ensures.scan in
-    c.apply.ensures ∙ ap (λ (union : List ℕ). copied c.args.self.now.table.entries union c.args.self.now.table.size) asked
+    c.apply.ensures ∙ ap (λ (union : List ℕ). copied c.args.self.now.table.entries union c.args.self.now.table.buffer_size) asked

@@ -5,7 +5,7 @@ use Rattle.std.proofs.lemmas.Result.{IfOk-weaker}
 use Rattle.iio_desc.specs.Description.{Description}
 use Rattle.iio_layout.specs.Layout.{scan_size}
 use Rattle.iio_text.specs.declared.errors.Errno.{Errno}
-use Rattle.iio_history.specs.Registry.{Member, is_excess, mask_asked, open_answer}
+use Rattle.iio_single.specs.Registry.{Member, is_excess, mask_asked, open_answer}
 use Rattle.iio_script.specs.Bench.{StationRecord, path_of, devices_of, IsOnTrigger, admitted, joined_by, answered, seat_opened}
 use Rattle.iio_script.proofs.OpenLemmas.{joined, open_by_joining, answered_joined, opened_joined}
 use Rattle.iio_script.proofs.station.Station.open.Goals as goal

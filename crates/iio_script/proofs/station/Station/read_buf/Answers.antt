@@ -1,7 +1,7 @@
 use Rattle.std.proofs.Common.{◌≡◌, ℕ, List, ◌++◌, true, Option, Some, option_map, ap, sym, ◌∙◌}
 use Rattle.std.specs.Str.{bytes_eq}
 use Rattle.std.proofs.lemmas.Result.{on_ok_weaker}
-use Rattle.iio_desc.specs.declared.description.DeviceDesc.{DeviceDesc}
+use Rattle.iio_desc.specs.Description.{DeviceRecord}
 use Rattle.iio_script.specs.Bench.{SeatRecord, StationRecord, seat_answer, seat_read}
 use Rattle.iio_script.specs.View.{seat_of, station_of}
 use Rattle.iio_script.proofs.ReadLemmas.{read_by, taken_by}
@@ -21,7 +21,7 @@ returns-clause-answer c =
     let old : StationRecord = c.args.self.now in
     let seat : SeatRecord = seat_of c.in-Some.seat in
     on_ok_weaker c.read.result
-    (λ is base. is ∙ ap (λ (d : DeviceDesc). c.args.out.now.items ++ seat_answer d.shape c.args.asked seat) (device_is c)
+    (λ is base. is ∙ ap (λ (d : DeviceRecord). c.args.out.now.items ++ seat_answer d.shape c.args.asked seat) (device_is c)
     ∙ ap (λ (text : List ℕ). c.args.out.now.items ++ text) (sym (read_by base old.device old.seat seat c.args.who.now c.args.dev.now c.args.asked (member_is c) c.requires (named c))))
     c.read.ensures.answer
 
@@ -29,9 +29,9 @@ pub returns-clause-state : goal.returns-clause-state
 returns-clause-state c =
     let old : StationRecord = c.args.self.now in
     let seat : SeatRecord = seat_of c.in-Some.seat in
-    let with_seat : DeviceDesc → Option SeatRecord → StationRecord = λ (d : DeviceDesc) (o : Option SeatRecord). record { device = d; seat = o } in
+    let with_seat : DeviceRecord → Option SeatRecord → StationRecord = λ (d : DeviceRecord) (o : Option SeatRecord). record { device = d; seat = o } in
     on_ok_weaker c.read.result
     (λ taken base. ap (λ (s : SeatRecord). with_seat (station_of c.self.inside).device (Some s)) taken
-    ∙ ap (λ (d : DeviceDesc). with_seat d (Some (seat_read d.shape c.args.asked seat))) (device_is c)
+    ∙ ap (λ (d : DeviceRecord). with_seat d (Some (seat_read d.shape c.args.asked seat))) (device_is c)
     ∙ ap (with_seat old.device) (sym (taken_by base old.device old.seat seat c.args.who.now c.args.dev.now c.args.asked (member_is c) c.requires (named c))))
     c.read.ensures.taken

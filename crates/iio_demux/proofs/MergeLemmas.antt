@@ -1,0 +1,191 @@
+-- Merged entries: one entry more at the end, where they lie, and what they make of a scan.
+use Rattle.std.proofs.Common.{◌≡◌, ℕ, zero, suc, ◌+◌, ◌-◌, ◌≤◌, true, false, cond, List, [], ◌∷◌, ◌++◌, length, get_or, set, map, refl, sym, ap, subst, ◌∙◌, inl, inr, arith}
+use Rattle.std.specs.List.{range_with_len}
+use Rattle.std.proofs.lemmas.Bool.{cases_Bool}
+use Rattle.std.proofs.lemmas.Bool.Decides.{nat_tests}
+use Rattle.std.proofs.lemmas.List.{get_or_default}
+use Rattle.iio_demux.specs.declared.table.Entry.{Entry}
+use Rattle.iio_demux.specs.Table.{AreInOrder, AreMerged, byte_at, continues, copied, covers, joined, merged, merged_before, source_of}
+
+-- ---- where an entry continues another
+
+pub continues_tells : (entry next : Entry) → continues entry next ≡ true → (entry.from + entry.length ≡ next.from) × (entry.to + entry.length ≡ next.to)
+continues_tells entry next goes_on = grind (arith, nat_tests)
+
+-- an entry continues two that are one where it continues the second
+continues_joined : (entry next last : Entry) → continues entry next ≡ true → continues (joined entry next) last ≡ continues next last
+continues_joined entry next last goes_on = let at = continues_tells entry next goes_on in grind (arith, nat_tests, at)
+
+-- an entry is continued by two that are one where the first continues it
+continues_first : (entry next last : Entry) → continues entry (joined next last) ≡ continues entry next
+continues_first entry next last = refl
+
+joined_joined : (a b c : Entry) → joined (joined a b) c ≡ joined a (joined b c)
+joined_joined a b c = let sum : a.length + b.length + c.length ≡ a.length + (b.length + c.length) = omega arith in
+    ap (λ n. record { from = a.from; to = a.to; length = n }) sum
+
+-- ---- one entry more
+
+-- entries with one more at the end, as one with the last where it continues that
+abbrev pub with_last : List Entry → Entry → List Entry
+with_last [] entry = entry ∷ []
+with_last (last ∷ []) entry = cond (continues last entry) (joined last entry ∷ []) (last ∷ entry ∷ [])
+with_last (first ∷ next ∷ later) entry = first ∷ with_last (next ∷ later) entry
+
+one_before_last : (entry one last : Entry) → merged_before entry (with_last (one ∷ []) last) ≡ with_last (merged_before entry (one ∷ [])) last
+one_before_last entry one last =
+    elim (cases_Bool (continues entry one)) [
+      | inl goes_on ↦
+          let first : merged_before entry (one ∷ []) ≡ joined entry one ∷ [] = rw goes_on refl in
+          elim (cases_Bool (continues one last)) [
+            | inl more ↦
+                let all : merged_before entry (joined one last ∷ []) ≡ joined entry (joined one last) ∷ [] = rw goes_on refl in
+                let both : with_last (joined entry one ∷ []) last ≡ joined (joined entry one) last ∷ [] = rw (continues_joined entry one last goes_on ∙ more) refl in
+                let second : with_last (one ∷ []) last ≡ joined one last ∷ [] = rw more refl in
+                ap (merged_before entry) second ∙ all ∙ ap (λ j. j ∷ []) (sym (joined_joined entry one last)) ∙ sym both ∙ ap (λ es. with_last es last) (sym first)
+            | inr none ↦
+                let all : merged_before entry (one ∷ last ∷ []) ≡ joined entry one ∷ last ∷ [] = rw goes_on refl in
+                let both : with_last (joined entry one ∷ []) last ≡ joined entry one ∷ last ∷ [] = rw (continues_joined entry one last goes_on ∙ none) refl in
+                let second : with_last (one ∷ []) last ≡ one ∷ last ∷ [] = rw none refl in
+                ap (merged_before entry) second ∙ all ∙ sym both ∙ ap (λ es. with_last es last) (sym first)
+          ]
+      | inr parted ↦
+          let first : merged_before entry (one ∷ []) ≡ entry ∷ one ∷ [] = rw parted refl in
+          elim (cases_Bool (continues one last)) [
+            | inl more ↦
+                let all : merged_before entry (joined one last ∷ []) ≡ entry ∷ joined one last ∷ [] = rw parted refl in
+                let second : with_last (one ∷ []) last ≡ joined one last ∷ [] = rw more refl in
+                ap (merged_before entry) second ∙ all ∙ ap (λ es. entry ∷ es) (sym second) ∙ ap (λ es. with_last es last) (sym first)
+            | inr none ↦
+                let all : merged_before entry (one ∷ last ∷ []) ≡ entry ∷ one ∷ last ∷ [] = rw parted refl in
+                let second : with_last (one ∷ []) last ≡ one ∷ last ∷ [] = rw none refl in
+                ap (merged_before entry) second ∙ all ∙ ap (λ es. entry ∷ es) (sym second) ∙ ap (λ es. with_last es last) (sym first)
+          ]
+    ]
+
+before_last : (entry : Entry) (others : List Entry) (last : Entry) → merged_before entry (with_last others last) ≡ with_last (merged_before entry others) last
+before_last entry [] last = refl
+before_last entry (one ∷ []) last = one_before_last entry one last
+before_last entry (one ∷ next ∷ later) last =
+    elim (cases_Bool (continues entry one)) [ inl goes_on ↦ rw goes_on refl | inr parted ↦ rw parted refl ]
+
+pub merged-push : (entries : List Entry) (last : Entry) → merged (entries ++ last ∷ []) ≡ with_last (merged entries) last
+merged-push [] last = refl
+merged-push (entry ∷ others) last = ap (merged_before entry) (merged-push others last) ∙ before_last entry (merged others) last
+
+-- by the last entry's place
+pub with_last-joined : (entries : List Entry) (n : ℕ) (d entry : Entry) → n + 1 ≡ length entries → continues (get_or entries n d) entry ≡ true
+    → with_last entries entry ≡ set entries n (joined (get_or entries n d) entry)
+with_last-joined [] n d entry many goes_on = absurd (omega arith)
+with_last-joined (e ∷ []) zero d entry many goes_on = rw goes_on refl
+with_last-joined (e ∷ []) (suc n) d entry many goes_on = absurd (omega arith)
+with_last-joined (e ∷ next ∷ es) zero d entry many goes_on = absurd (omega arith)
+with_last-joined (e ∷ next ∷ es) (suc n) d entry many goes_on = ap (λ l. e ∷ l) (with_last-joined (next ∷ es) n d entry (omega arith) goes_on)
+
+pub with_last-pushed : (entries : List Entry) (n : ℕ) (d entry : Entry) → n + 1 ≡ length entries → continues (get_or entries n d) entry ≡ false
+    → with_last entries entry ≡ entries ++ entry ∷ []
+with_last-pushed [] n d entry many parted = absurd (omega arith)
+with_last-pushed (e ∷ []) zero d entry many parted = rw parted refl
+with_last-pushed (e ∷ []) (suc n) d entry many parted = absurd (omega arith)
+with_last-pushed (e ∷ next ∷ es) zero d entry many parted = absurd (omega arith)
+with_last-pushed (e ∷ next ∷ es) (suc n) d entry many parted = ap (λ l. e ∷ l) (with_last-pushed (next ∷ es) n d entry (omega arith) parted)
+
+-- an entry that is put after merged ones: as one with the last, after it, and alone
+pub pushed_joined : (before items : List Entry) (n : ℕ) (last found entry : Entry) → items ≡ merged before → n + 1 ≡ length items
+    → last ≡ get_or items n last → found ≡ get_or items n found → continues last entry ≡ true
+    → set items n (record { from = found.from; to = found.to; length = found.length + entry.length }) ≡ merged (before ++ entry ∷ [])
+pushed_joined before items n last found entry is_merged many is_last is_found goes_on =
+    let same : found ≡ last = is_found ∙ get_or_default items n found last (omega arith) ∙ sym is_last in
+    let there : continues (get_or items n last) entry ≡ true = rw (← is_last) goes_on in
+    sym (merged-push before entry ∙ ap (λ es. with_last es entry) (sym is_merged) ∙ with_last-joined items n last entry many there
+    ∙ ap (λ e. set items n (joined e entry)) (sym is_last ∙ sym same))
+
+pub pushed_apart : (before items : List Entry) (n : ℕ) (last entry : Entry) → items ≡ merged before → n + 1 ≡ length items → last ≡ get_or items n last
+    → continues last entry ≡ false → items ++ entry ∷ [] ≡ merged (before ++ entry ∷ [])
+pushed_apart before items n last entry is_merged many is_last parted =
+    let there : continues (get_or items n last) entry ≡ false = rw (← is_last) parted in
+    sym (merged-push before entry ∙ ap (λ es. with_last es entry) (sym is_merged) ∙ with_last-pushed items n last entry many there)
+
+pub pushed_alone : (before items : List Entry) (entry : Entry) → items ≡ merged before → length items ≤ 0 → items ++ entry ∷ [] ≡ merged (before ++ entry ∷ [])
+pushed_alone before [] entry is_merged none = sym (merged-push before entry ∙ ap (λ es. with_last es entry) (sym is_merged))
+pushed_alone before (e ∷ es) entry is_merged none = absurd (omega arith)
+
+-- ---- no two neighbours are contiguous on both sides
+
+merged_stays : (entry : Entry) (others : List Entry) → AreMerged others → AreMerged (merged_before entry others)
+merged_stays entry [] others = tt
+merged_stays entry (one ∷ []) others = elim (cases_Bool (continues entry one)) [ inl goes_on ↦ rw goes_on tt | inr parted ↦ rw parted (parted, tt) ]
+merged_stays entry (one ∷ next ∷ later) others =
+    elim (cases_Bool (continues entry one)) [
+      | inl goes_on ↦ rw goes_on (continues_joined entry one next goes_on ∙ others.0, others.1)
+      | inr parted ↦ rw parted (parted, others)
+    ]
+
+pub merged_apart : (entries : List Entry) → AreMerged (merged entries)
+merged_apart [] = tt
+merged_apart (entry ∷ others) = merged_stays entry (merged others) (merged_apart others)
+
+-- ---- where merged entries lie
+
+order_stays : (active_size buffer_size low : ℕ) (entry : Entry) (others : List Entry) → AreInOrder active_size buffer_size low (entry ∷ others)
+    → AreInOrder active_size buffer_size low (merged_before entry others)
+order_stays active_size buffer_size low entry [] order = order
+order_stays active_size buffer_size low entry (one ∷ others) order =
+    elim (cases_Bool (continues entry one)) [
+      | inl goes_on ↦
+          let at = continues_tells entry one goes_on in
+          let end : one.to + one.length ≡ entry.to + (entry.length + one.length) = omega (arith, at) in
+          let Rest : ℕ → Type 0 = λ n. AreInOrder active_size buffer_size n others in
+          rw goes_on (order.0, omega (arith, at, order.2.1), subst Rest end order.2.2)
+      | inr parted ↦ rw parted order
+    ]
+
+pub merged_in_order : (active_size buffer_size low : ℕ) (entries : List Entry) → AreInOrder active_size buffer_size low entries
+    → AreInOrder active_size buffer_size low (merged entries)
+merged_in_order active_size buffer_size low [] order = order
+merged_in_order active_size buffer_size low (entry ∷ others) order =
+    order_stays active_size buffer_size low entry (merged others)
+    (order.0, order.1, merged_in_order active_size buffer_size (entry.to + entry.length) others order.2)
+
+-- ---- what merged entries make of a scan
+
+-- a byte by the first entry
+pub byte_at-cons : (entry : Entry) (entries : List Entry) (scan : List ℕ) (j : ℕ)
+    → byte_at (entry ∷ entries) scan j ≡ cond (covers entry j) (source_of entry scan j) (byte_at entries scan j)
+byte_at-cons entry entries scan j = elim (cases_Bool (covers entry j)) [ inl own ↦ rw own refl | inr other ↦ rw other refl ]
+
+-- two entries that are one have the bytes of both
+joined_byte : (entry next : Entry) (later : List Entry) (scan : List ℕ) (j : ℕ) → continues entry next ≡ true
+    → byte_at (joined entry next ∷ later) scan j ≡ byte_at (entry ∷ next ∷ later) scan j
+joined_byte entry next later scan j goes_on =
+    let at = continues_tells entry next goes_on in
+    elim (cases_Bool (covers entry j)) [
+      | inl own ↦
+          let both : covers (joined entry next) j ≡ true = grind (arith, nat_tests, at) in
+          rw (both, own) refl
+      | inr other ↦
+          elim (cases_Bool (covers next j)) [
+            | inl own ↦
+                let both : covers (joined entry next) j ≡ true = grind (arith, nat_tests, at) in
+                let source : entry.from + (j - entry.to) ≡ next.from + (j - next.to) = grind (arith, nat_tests, at) in
+                rw (both, other, own) (ap (λ i. get_or scan i 0) source)
+            | inr none ↦
+                let neither : covers (joined entry next) j ≡ false = grind (arith, nat_tests, at) in
+                rw (neither, other, none) refl
+          ]
+    ]
+
+before_byte : (entry : Entry) (others : List Entry) (scan : List ℕ) (j : ℕ) → byte_at (merged_before entry others) scan j ≡ byte_at (entry ∷ others) scan j
+before_byte entry [] scan j = refl
+before_byte entry (next ∷ later) scan j =
+    elim (cases_Bool (continues entry next)) [ inl goes_on ↦ rw goes_on (joined_byte entry next later scan j goes_on) | inr parted ↦ rw parted refl ]
+
+byte_at-merged : (entries : List Entry) (scan : List ℕ) (j : ℕ) → byte_at (merged entries) scan j ≡ byte_at entries scan j
+byte_at-merged [] scan j = refl
+byte_at-merged (entry ∷ others) scan j =
+    before_byte entry (merged others) scan j ∙ byte_at-cons entry (merged others) scan j
+    ∙ ap (cond (covers entry j) (source_of entry scan j)) (byte_at-merged others scan j) ∙ sym (byte_at-cons entry others scan j)
+
+-- merged entries make the same scan
+pub copied-merged : (entries : List Entry) (scan : List ℕ) (size : ℕ) → copied (merged entries) scan size ≡ copied entries scan size
+copied-merged entries scan size = λ i. map (λ j. byte_at-merged entries scan j i) (range_with_len 0 size)

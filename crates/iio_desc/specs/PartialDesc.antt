@@ -1,0 +1,49 @@
+-- A description as its lines so far say.
+use Rattle.std.specs.Prelude.{ℕ, ◌||◌, Bool, true, false, List, [], ◌∷◌, ◌++◌, length, sum_by, Option, Some, None}
+use Rattle.std.specs.List.{list_any}
+use Rattle.std.specs.Option.{option_map_or}
+use Rattle.std.specs.Str.{bytes_eq}
+use Rattle.iio_desc.specs.declared.description.TriggerDesc.{TriggerDesc}
+use Rattle.iio_desc.specs.Description.{DeviceRecord}
+use Rattle.iio_desc.specs.PartialDevice.{PartialDevice, device_of, has_channels}
+
+-- how many drivers are handed in, the context, the triggers so far, the devices that have no further line, and the
+-- device whose lines are being read
+pub record PartialDesc : Type 0 where
+  pub drivers : ℕ
+  pub context : Option (List ℕ)
+  pub triggers : List TriggerDesc
+  pub devices : List DeviceRecord
+  pub current : Option PartialDevice
+
+-- before the first line
+abbrev pub new_desc : ℕ → PartialDesc
+new_desc drivers = record { drivers = drivers; context = None; triggers = []; devices = []; current = None }
+
+abbrev pub devices_of : Option PartialDevice → List DeviceRecord
+devices_of None = []
+devices_of (Some device) = device_of device ∷ []
+
+-- the devices, the one whose lines are being read among them
+abbrev pub all_devices : PartialDesc → List DeviceRecord
+all_devices desc = desc.devices ++ devices_of desc.current
+
+-- how many devices there are so far
+abbrev pub device_count : PartialDesc → ℕ
+device_count desc = length (all_devices desc)
+
+-- how many rows the devices have that have no further line
+abbrev pub earlier_rows : PartialDesc → ℕ
+earlier_rows desc = sum_by (λ device. length device.rows.moments) desc.devices
+
+abbrev pub is_current_named : Option PartialDevice → List ℕ → Bool
+is_current_named current name = option_map_or (λ device. bytes_eq device.name name) current false
+
+-- triggers and devices share one set of names
+abbrev pub is_taken : PartialDesc → List ℕ → Bool
+is_taken desc name =
+    list_any (λ t. bytes_eq t.name name) desc.triggers || list_any (λ d. bytes_eq d.name name) desc.devices || is_current_named desc.current name
+
+-- whether the device whose lines are being read, if any, has a channel
+abbrev pub is_current_whole : Option PartialDevice → Bool
+is_current_whole current = option_map_or has_channels current true

@@ -1,0 +1,378 @@
+//! The lines of a description, by what they say.
+
+ghost use Rattle.std.specs.Prelude.{◌≡◌, ◌+◌, ◌<◌, ◌≤◌, length, Some, Ok, IfSome, IfOk, IfErr, OnOk, OnErr, true};
+ghost use Rattle.std.specs.List.{list_any};
+ghost use Rattle.std.specs.Option.{ok_or};
+ghost use Rattle.std.specs.Str.{bytes_eq};
+ghost use Rattle.iio_text.specs.Escape.{quoted_of};
+ghost use Rattle.iio_text.specs.LineFault.{Tells, Gives, Becomes};
+ghost use Rattle.iio_text.specs.Words.{words_of, is_space, from_word};
+ghost use Rattle.iio_desc.specs.declared.limits.TheConstants.{MAX_ROWS};
+ghost use Rattle.iio_desc.specs.Description.{trigger_number};
+ghost use Rattle.iio_desc.specs.DeviceLines.{unless_dash, channel_line, stamp_line, masks_line, row_line, driver_line, attr_line};
+ghost use Rattle.iio_desc.specs.Lines.{after_line, context_line, desc_at_end, desc_of, device_line, keyword_line, part_line, places_of, trigger_line};
+ghost use Rattle.iio_desc.specs.PartialDesc.{all_devices, device_count, earlier_rows, is_current_named, is_current_whole, is_taken, new_desc};
+ghost use Rattle.iio_desc.specs.PartialDevice.{new_device};
+ghost use Rattle.iio_desc.specs.WellFormed.{IsWellFormed};
+
+use crate::description::{Desc, DeviceDesc, TriggerDesc, trigger_number};
+use crate::device_builder::DeviceBuilder;
+use crate::keywords::Keyword;
+use crate::limits::{MAX_DEVICES, MAX_PLACES, MAX_TRIGGERS};
+use iio_attr::Name;
+use iio_text::{
+    LineFault, Unescape, Why, between_quotes, count_words, ensure, first_word, from_word, read_int,
+    two_words, unescape,
+};
+use std::alloc::{AllocError, Global};
+use std::marker::Model;
+use std::mem;
+
+/// What the lines of a description say so far.
+#[derive(Drop)]
+pub(crate) struct DescBuilder {
+    alloc: Global,
+    // How many drivers are handed in.
+    drivers: u32,
+    context: Option<Vec<u8>>,
+    triggers: Vec<TriggerDesc>,
+    devices: Vec<DeviceDesc>,
+    // How many rows those devices have.
+    earlier: usize,
+    current: Option<DeviceBuilder>,
+}
+
+impl Model for DescBuilder {
+    ghost use Rattle.iio_desc.specs.PartialDesc.{PartialDesc};
+
+    ghost Value = { PartialDesc };
+
+    ghost use Rattle.iio_desc.specs.View.{partial_desc, IsSound};
+
+    ghost view = { partial_desc };
+
+    ghost invariant = { IsSound };
+}
+
+fn is_trigger_named(trigger: &TriggerDesc, name: &[u8]) -> bool
+    ensures { result ≡ bytes_eq trigger.now.name name.now }
+{
+    trigger.name.bytes() == name
+}
+
+fn has_trigger(triggers: &[TriggerDesc], name: &[u8]) -> bool
+    ensures { result ≡ list_any (λ t. bytes_eq t.name name.now) triggers.now }
+{
+    triggers.iter().any(|t| is_trigger_named(t, name))
+}
+
+fn is_device_named(device: &DeviceDesc, name: &[u8]) -> bool
+    ensures { result ≡ bytes_eq device.now.name name.now }
+{
+    device.name.bytes() == name
+}
+
+fn has_device(devices: &[DeviceDesc], name: &[u8]) -> bool
+    ensures { result ≡ list_any (λ d. bytes_eq d.name name.now) devices.now }
+{
+    devices.iter().any(|d| is_device_named(d, name))
+}
+
+fn is_current_named(current: &Option<DeviceBuilder>, name: &[u8]) -> bool
+    ensures { result ≡ is_current_named current.now name.now }
+{
+    match current {
+        None => false,
+        Some(device) => device.is_named(name),
+    }
+}
+
+// Whether the device whose lines are being read, if any, has a channel.
+fn is_current_whole(current: &Option<DeviceBuilder>) -> bool
+    ensures { result ≡ is_current_whole current.now }
+{
+    match current {
+        None => true,
+        Some(device) => device.has_channels(),
+    }
+}
+
+// How many devices a trigger can serve.
+fn read_places(word: &[u8]) -> Option<u8>
+    ensures value { result ≡ places_of word.now }
+    ensures within { IfSome result (λ places. (0 < places) × (places ≤ MAX_PLACES)) }
+{
+    match read_int(word) {
+        Some(places @ 1..=0xff) if places as u8 <= MAX_PLACES => Some(places as u8),
+        _ => None,
+    }
+}
+
+// The number of the trigger that a word names; `-` is none.
+fn read_trigger(triggers: &[TriggerDesc], word: &[u8]) -> Option<Option<u32>>
+    requires { length triggers.now ≤ MAX_TRIGGERS }
+    ensures value { result ≡ unless_dash (trigger_number triggers.now) word.now }
+    ensures within { IfSome result (λ trigger. IfSome trigger (λ number. number < length triggers.now)) }
+{
+    if word == b"-".as_slice() {
+        return Some(None);
+    }
+    match trigger_number(triggers, word) {
+        None => None,
+        Some(number) => Some(Some(number as u32)),
+    }
+}
+
+// The bytes that a quoted text means.
+fn read_quoted(alloc: Global, text: &[u8]) -> Result<Vec<u8>, LineFault>
+    ensures ok { IfOk result (λ bytes. quoted_of text.now ≡ Some bytes.items) }
+    ensures err { IfErr result (λ e. Tells e (ok_or (quoted_of text.now) Why.Text)) }
+{
+    let inner = between_quotes(text).ok_or(Why::Text)?;
+    match unescape(alloc, inner) {
+        Ok(bytes) => Ok(bytes),
+        Err(Unescape::BadEscape(_)) => Err(LineFault::Why(Why::Text)),
+        Err(Unescape::Mem) => Err(LineFault::Mem),
+    }
+}
+
+impl DescBuilder {
+    /// Before the first line, with so many handed-in drivers.
+    pub(crate) fn new(alloc: Global, drivers: u32) -> DescBuilder
+        ensures { result ≡ new_desc drivers }
+    {
+        DescBuilder {
+            alloc,
+            drivers,
+            context: None,
+            triggers: Vec::new(alloc),
+            devices: Vec::new(alloc),
+            earlier: 0,
+            current: None,
+        }
+    }
+
+    // Whether a trigger or a device has the name.
+    fn is_taken(&self, name: &[u8]) -> bool
+        ensures { result ≡ is_taken self.now name.now }
+    {
+        has_trigger(self.triggers.as_slice(), name)
+            || has_device(self.devices.as_slice(), name)
+            || is_current_named(&self.current, name)
+    }
+
+    // How many rows the devices before have; with those of the device whose lines are being read they are no more
+    // than there may be.
+    fn earlier_rows(&self) -> usize
+        ensures value { result ≡ earlier_rows self.now }
+        ensures room { IfSome self.now.current (λ device. earlier_rows self.now + length device.moments ≤ MAX_ROWS) }
+    {
+        self.earlier
+    }
+
+    /// How many triggers there are so far.
+    pub(crate) fn trigger_count(&self) -> usize
+        ensures { result ≡ length self.now.triggers }
+    {
+        self.triggers.len()
+    }
+
+    // How many devices there are so far.
+    pub(crate) fn device_count(&self) -> usize
+        ensures { result ≡ device_count self.now }
+    {
+        self.devices.len() + usize::from(self.current.is_some())
+    }
+
+    // `context "TEXT"`
+    fn context_line(&mut self, words: &[u8]) -> Result<(), LineFault>
+        ensures line { Becomes result self.old self.new (context_line self.old (words_of is_space words.now) (from_word words.now)) }
+        ensures drivers { self.new.drivers ≡ self.old.drivers }
+    {
+        ensure(self.context.is_none(), Why::Order)?;
+        ensure(count_words(words) > 0, Why::Count)?;
+        let context = read_quoted(self.alloc, from_word(words))?;
+        self.context = Some(context);
+        Ok(())
+    }
+
+    // `trigger NAME PLACES`
+    fn trigger_line(&mut self, words: &[u8]) -> Result<(), LineFault>
+        ensures line { Becomes result self.old self.new (trigger_line self.old (words_of is_space words.now)) }
+        ensures drivers { self.new.drivers ≡ self.old.drivers }
+    {
+        let (name, places) = two_words(words).ok_or(Why::Count)?;
+        let name = Name::new(name).ok_or(Why::Name)?;
+        ensure(!self.is_taken(name.bytes()), Why::Taken)?;
+        let places = read_places(places).ok_or(Why::Number)?;
+        ensure(self.triggers.len() < MAX_TRIGGERS, Why::Limit)?;
+        self.triggers.push(TriggerDesc { name, places })?;
+        Ok(())
+    }
+
+    // The next device, where there may be one more.
+    fn begin_device(&mut self, name: Name, trigger: Option<u32>) -> Result<(), AllocError>
+        requires whole { is_current_whole self.old.current ≡ true }
+        requires attached { IfSome trigger (λ number. number < length self.old.triggers) }
+        requires few { device_count self.old < MAX_DEVICES }
+        ensures ok { OnOk result (self.new ≡ record self.old { devices = all_devices self.old; current = Some (new_device name trigger) }) }
+        ensures kept { OnErr result (self.new ≡ self.old) }
+    {
+        self.devices.reserve(1)?;
+        let next = DeviceBuilder::new(self.alloc, name, trigger);
+        let before = mem::replace(&mut self.current, Some(next));
+        if let Some(device) = before {
+            self.earlier += device.row_count();
+            self.devices.push_reserved(device.into_device());
+        }
+        Ok(())
+    }
+
+    // `device NAME TRIGGER`
+    fn device_line(&mut self, words: &[u8]) -> Result<(), LineFault>
+        ensures line { Becomes result self.old self.new (device_line self.old (words_of is_space words.now)) }
+        ensures drivers { self.new.drivers ≡ self.old.drivers }
+    {
+        ensure(is_current_whole(&self.current), Why::Order)?;
+        let (name, trigger) = two_words(words).ok_or(Why::Count)?;
+        let name = Name::new(name).ok_or(Why::Name)?;
+        ensure(!self.is_taken(name.bytes()), Why::Taken)?;
+        let trigger = read_trigger(self.triggers.as_slice(), trigger).ok_or(Why::Trigger)?;
+        ensure(self.device_count() < MAX_DEVICES, Why::Limit)?;
+        self.begin_device(name, trigger)?;
+        Ok(())
+    }
+
+    // `channel ID TYPE`, of the device whose lines are being read
+    fn channel_line(&mut self, words: &[u8]) -> Result<(), LineFault>
+        ensures line { Becomes result self.old self.new (part_line self.old (λ device. channel_line device (words_of is_space words.now))) }
+        ensures drivers { self.new.drivers ≡ self.old.drivers }
+    {
+        match &mut self.current {
+            None => Err(LineFault::Why(Why::Order)),
+            Some(device) => device.channel_line(words),
+        }
+    }
+
+    // `timestamp`, of that device
+    fn stamp_line(&mut self, words: &[u8]) -> Result<(), LineFault>
+        ensures line { Becomes result self.old self.new (part_line self.old (λ device. stamp_line device (words_of is_space words.now))) }
+        ensures drivers { self.new.drivers ≡ self.old.drivers }
+    {
+        match &mut self.current {
+            None => Err(LineFault::Why(Why::Order)),
+            Some(device) => device.stamp_line(words),
+        }
+    }
+
+    // `masks H ..`, of that device
+    fn masks_line(&mut self, words: &[u8]) -> Result<(), LineFault>
+        ensures line { Becomes result self.old self.new (part_line self.old (λ device. masks_line device (words_of is_space words.now))) }
+        ensures drivers { self.new.drivers ≡ self.old.drivers }
+    {
+        match &mut self.current {
+            None => Err(LineFault::Why(Why::Order)),
+            Some(device) => device.masks_line(self.alloc, words),
+        }
+    }
+
+    // `row T v ..`, of that device
+    fn row_line(&mut self, words: &[u8]) -> Result<(), LineFault>
+        ensures line { Becomes result self.old self.new (part_line self.old (λ device. row_line (earlier_rows self.old) device (words_of is_space words.now))) }
+        ensures drivers { self.new.drivers ≡ self.old.drivers }
+    {
+        let earlier = self.earlier_rows();
+        match &mut self.current {
+            None => Err(LineFault::Why(Why::Order)),
+            Some(device) => device.row_line(earlier, words),
+        }
+    }
+
+    // `driver K`, of that device
+    fn driver_line(&mut self, words: &[u8]) -> Result<(), LineFault>
+        ensures line { Becomes result self.old self.new (part_line self.old (λ device. driver_line self.old.drivers self.old.devices device (words_of is_space words.now))) }
+        ensures drivers { self.new.drivers ≡ self.old.drivers }
+    {
+        match &mut self.current {
+            None => Err(LineFault::Why(Why::Order)),
+            Some(device) => device.driver_line(self.drivers, self.devices.as_slice(), words),
+        }
+    }
+
+    // `attr CHANNEL NAME VALUE`, of that device
+    fn attr_line(&mut self, words: &[u8]) -> Result<(), LineFault>
+        ensures line { Becomes result self.old self.new (part_line self.old (λ device. attr_line device (words_of is_space words.now))) }
+        ensures drivers { self.new.drivers ≡ self.old.drivers }
+    {
+        match &mut self.current {
+            None => Err(LineFault::Why(Why::Order)),
+            Some(device) => device.attr_line(words),
+        }
+    }
+
+    // A line by its first word, and by the text after that.
+    fn keyword_line(&mut self, keyword: Keyword, words: &[u8]) -> Result<(), LineFault>
+        ensures line { Becomes result self.old self.new (keyword_line self.old keyword (words_of is_space words.now) (from_word words.now)) }
+        ensures drivers { self.new.drivers ≡ self.old.drivers }
+    {
+        match keyword {
+            Keyword::Row => self.row_line(words),
+            Keyword::Channel => self.channel_line(words),
+            Keyword::Timestamp => self.stamp_line(words),
+            Keyword::Masks => self.masks_line(words),
+            Keyword::Attr => self.attr_line(words),
+            Keyword::Driver => self.driver_line(words),
+            Keyword::Device => self.device_line(words),
+            Keyword::Trigger => self.trigger_line(words),
+            Keyword::Context => self.context_line(words),
+        }
+    }
+
+    /// One line more, without its LF. A fault changes nothing.
+    pub(crate) fn line(&mut self, line: &[u8]) -> Result<(), LineFault>
+        ensures line { Becomes result self.old self.new (after_line self.old line.now) }
+        ensures drivers { self.new.drivers ≡ self.old.drivers }
+    {
+        let Some((word, words)) = first_word(line)? else {
+            return Ok(());
+        };
+        let keyword = Keyword::of(word).ok_or(Why::Word)?;
+        self.keyword_line(keyword, words)
+    }
+
+    /// The description, where there is no further line.
+    pub(crate) fn finish(self) -> Result<Desc, LineFault>
+        ensures desc { Gives result (desc_of self) }
+        ensures sound { IfOk result (IsWellFormed self.drivers) }
+    {
+        let DescBuilder {
+            alloc,
+            drivers: _,
+            context,
+            triggers,
+            mut devices,
+            earlier: _,
+            current,
+        } = self;
+        ensure(is_current_whole(&current), Why::Order)?;
+        if let Some(device) = current {
+            devices.push(device.into_device())?;
+        }
+        Ok(Desc {
+            context: context.unwrap_or(Vec::new(alloc)),
+            triggers,
+            devices,
+        })
+    }
+
+    /// The same at a line that ends it, without its LF.
+    pub(crate) fn end(self, line: &[u8]) -> Result<Desc, LineFault>
+        ensures desc { Gives result (desc_at_end self line.now) }
+        ensures sound { IfOk result (IsWellFormed self.drivers) }
+    {
+        first_word(line)?;
+        let desc = self.finish()?;
+        ensure(count_words(line) <= 1, Why::Count)?;
+        Ok(desc)
+    }
+}

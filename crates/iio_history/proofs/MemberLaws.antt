@@ -1,0 +1,139 @@
+-- What an act at a device makes of its members: what the history tells of them after it is what the machine makes of them.
+use Rattle.std.proofs.Common.{◌≡◌, ℕ, ◌/◌, Bool, true, false, List, [], ◌∷◌, ◌++◌, map, length, cond, refl, sym, ap, ◌∙◌}
+use Rattle.iio_layout.specs.Shape.{ShapeRecord}
+use Rattle.iio_layout.specs.Layout.{scan_size}
+use Rattle.iio_history.specs.Who.{Who, same, is_among}
+use Rattle.iio_history.specs.Registry.{Member, Capture, is_member, without_members}
+use Rattle.iio_history.specs.Act.{Act, Joining, Remasking, Leaving, Ending, Reading, Capturing}
+use Rattle.iio_history.specs.Fold.{with_mask, members_after}
+use Rattle.iio_history.specs.Log.{Logged, Taken, logged}
+use Rattle.iio_history.specs.Queue.{new_queue, private_queue}
+use Rattle.iio_history.specs.Membership.{numbered, more_discarded, discarded_by}
+use Rattle.iio_history.specs.Told.{Seat, member_of_seat}
+use Rattle.iio_history.specs.Machine.{offered_seat, read_seat, remasked_seat, without_seats, seats_after}
+use Rattle.iio_history.proofs.WhoLaws.{same_self, either}
+
+-- what the history tells of each membership of a device: its log, by the size of its scans, its number, and how many scans
+-- were discarded
+pub record Book : Type 0 where
+  pub log : Who → ℕ → List Logged
+  pub number : Who → ℕ
+  pub discarded : Who → ℕ
+
+abbrev pub seat_with : ShapeRecord → List Logged → ℕ → ℕ → Member → Seat
+seat_with shape log number discarded m = record { member = m; number = number; queue = private_queue shape m log; discarded = discarded }
+
+-- a member with what the book tells of it
+abbrev pub seat_by : ShapeRecord → Book → Member → Seat
+seat_by shape book m = seat_with shape (book.log m.who (scan_size shape m.mask)) (book.number m.who) (book.discarded m.who) m
+
+-- the book after an act
+abbrev pub book_after : Act → ℕ → ℕ → Book → Book
+book_after act joinings waiting book = record {
+  log = λ who size. logged act who size (book.log who size);
+  number = λ who. numbered act who joinings (book.number who);
+  discarded = λ who. discarded_by act who waiting (book.discarded who);
+}
+
+-- of these members only this one has its name
+abbrev pub AreIt : Member → List Member → Type 0
+AreIt m [] = Unit {0}
+AreIt m (x ∷ xs) = (same m.who x.who ≡ true → x ≡ m) × AreIt m xs
+
+-- a member that joins wasn't one before; one whose mask changes is the one of its name, and so many scans wait for it
+abbrev pub IsSound : ShapeRecord → Book → ℕ → Act → List Member → Type 0
+IsSound shape book waiting (Joining m) ms = is_member m.who ms ≡ false
+IsSound shape book waiting (Remasking m mask) ms = AreIt m ms × (waiting ≡ length (seat_by shape book m).queue.scans)
+IsSound shape book waiting act ms = Unit {0}
+
+-- ---- each kind of act
+
+captured : (shape : ShapeRecord) (c : Capture) (joinings waiting : ℕ) (book : Book) (ms : List Member)
+    → map (seat_by shape (book_after (Capturing c) joinings waiting book)) ms ≡ map (offered_seat shape c) (map (seat_by shape book) ms)
+captured shape c joinings waiting book [] = refl
+captured shape c joinings waiting book (m ∷ ms) = ap (λ (xs : List Seat). offered_seat shape c (seat_by shape book m) ∷ xs) (captured shape c joinings waiting book ms)
+
+left_one : (shape : ShapeRecord) (book : Book) (b : Bool) (m : Member) (rest : List Member) (seats : List Seat) → map (seat_by shape book) rest ≡ seats
+    → map (seat_by shape book) (cond b rest (m ∷ rest)) ≡ cond b seats (seat_by shape book m ∷ seats)
+left_one shape book true m rest seats is = is
+left_one shape book false m rest seats is = ap (λ (xs : List Seat). seat_by shape book m ∷ xs) is
+
+left : (shape : ShapeRecord) (book : Book) (gone : List Who) (ms : List Member)
+    → map (seat_by shape book) (without_members gone ms) ≡ without_seats gone (map (seat_by shape book) ms)
+left shape book gone [] = refl
+left shape book gone (m ∷ ms) = left_one shape book (is_among m.who gone) m (without_members gone ms) (without_seats gone (map (seat_by shape book) ms)) (left shape book gone ms)
+
+read_one : (shape : ShapeRecord) (joinings waiting : ℕ) (book : Book) (who : Who) (bytes : ℕ) (m : Member)
+    → seat_by shape (book_after (Reading who bytes) joinings waiting book) m ≡ read_seat shape who bytes (seat_by shape book m)
+read_one shape joinings waiting book who bytes m = by_who (same who m.who)
+  where
+    log : List Logged
+    log = book.log m.who (scan_size shape m.mask)
+
+    seat : List Logged → Seat
+    seat entries = seat_with shape entries (book.number m.who) (book.discarded m.who) m
+
+    by_who : (b : Bool) → seat_with shape (cond b (Taken (bytes / scan_size shape m.mask) ∷ log) log) (book.number m.who) (book.discarded m.who) m
+        ≡ cond b (seat_with shape (Taken (bytes / scan_size shape m.mask) ∷ log) (book.number m.who) (book.discarded m.who) m) (seat_with shape log (book.number m.who) (book.discarded m.who) m)
+    by_who true = refl
+    by_who false = refl
+
+read : (shape : ShapeRecord) (joinings waiting : ℕ) (book : Book) (who : Who) (bytes : ℕ) (ms : List Member)
+    → map (seat_by shape (book_after (Reading who bytes) joinings waiting book)) ms ≡ map (read_seat shape who bytes) (map (seat_by shape book) ms)
+read shape joinings waiting book who bytes [] = refl
+read shape joinings waiting book who bytes (m ∷ ms) =
+    ap (λ (x : Seat). x ∷ map (seat_by shape (book_after (Reading who bytes) joinings waiting book)) ms) (read_one shape joinings waiting book who bytes m)
+    ∙ ap (λ (xs : List Seat). read_seat shape who bytes (seat_by shape book m) ∷ xs) (read shape joinings waiting book who bytes ms)
+
+remasked_one : (shape : ShapeRecord) (joinings waiting : ℕ) (book : Book) (n : Member) (mask : ℕ) (m : Member)
+    → (same n.who m.who ≡ true → m ≡ n) → waiting ≡ length (seat_by shape book n).queue.scans
+    → seat_by shape (book_after (Remasking n mask) joinings waiting book) (with_mask n.who mask m) ≡ remasked_seat n.who mask (seat_by shape book m)
+remasked_one shape joinings waiting book n mask m it wait = by_who (same n.who m.who) refl
+  where
+    by_who : (b : Bool) → same n.who m.who ≡ b → seat_by shape (book_after (Remasking n mask) joinings waiting book) (cond b (record m { mask = mask }) m)
+        ≡ cond b
+        (record (seat_by shape book m) { member = record m { mask = mask }; queue = new_queue; discarded = more_discarded (book.discarded m.who) (length (seat_by shape book m).queue.scans) })
+        (seat_by shape book m)
+    by_who true is =
+        ap (λ (b : Bool). seat_with shape (cond b [] (book.log m.who (scan_size shape mask))) (book.number m.who) (cond b (more_discarded (book.discarded m.who) waiting) (book.discarded m.who)) (record m { mask = mask })) is
+        ∙ ap (λ (n : ℕ). seat_with shape [] (book.number m.who) (more_discarded (book.discarded m.who) n) (record m { mask = mask }))
+        (wait ∙ ap (λ (x : Member). length (seat_by shape book x).queue.scans) (sym (it is)))
+    by_who false is = ap (λ (b : Bool). seat_with shape (cond b [] (book.log m.who (scan_size shape m.mask))) (book.number m.who) (cond b (more_discarded (book.discarded m.who) waiting) (book.discarded m.who)) m) is
+
+remasked : (shape : ShapeRecord) (joinings waiting : ℕ) (book : Book) (n : Member) (mask : ℕ) (ms : List Member) → AreIt n ms → waiting ≡ length (seat_by shape book n).queue.scans
+    → map (seat_by shape (book_after (Remasking n mask) joinings waiting book)) (map (with_mask n.who mask) ms) ≡ map (remasked_seat n.who mask) (map (seat_by shape book) ms)
+remasked shape joinings waiting book n mask [] it wait = refl
+remasked shape joinings waiting book n mask (m ∷ ms) it wait =
+    ap (λ (x : Seat). x ∷ map (seat_by shape (book_after (Remasking n mask) joinings waiting book)) (map (with_mask n.who mask) ms)) (remasked_one shape joinings waiting book n mask m it.0 wait)
+    ∙ ap (λ (xs : List Seat). remasked_seat n.who mask (seat_by shape book m) ∷ xs) (remasked shape joinings waiting book n mask ms it.1 wait)
+
+-- the one that joins, and those before it, which keep what is told of them
+abbrev joined_seat : ShapeRecord → ℕ → ℕ → Book → Member → Bool → Member → Seat
+joined_seat shape joinings waiting book n b m =
+    seat_with shape (cond b [] (book.log m.who (scan_size shape m.mask))) (cond b joinings (book.number m.who)) (cond b 0 (book.discarded m.who)) m
+
+joined : (shape : ShapeRecord) (joinings waiting : ℕ) (book : Book) (n : Member) (ms : List Member) → is_member n.who ms ≡ false
+    → map (seat_by shape (book_after (Joining n) joinings waiting book)) (ms ++ n ∷ [])
+    ≡ map (seat_by shape book) ms ++ record { member = n; number = joinings; queue = new_queue; discarded = 0 } ∷ []
+joined shape joinings waiting book n [] new = ap (λ (b : Bool). joined_seat shape joinings waiting book n b n ∷ []) (same_self n.who)
+joined shape joinings waiting book n (m ∷ ms) new =
+    let apart = either (same n.who m.who) (is_member n.who ms) new in
+    ap (λ (b : Bool). joined_seat shape joinings waiting book n b m ∷ map (seat_by shape (book_after (Joining n) joinings waiting book)) (ms ++ n ∷ [])) apart.0
+    ∙ ap (λ (xs : List Seat). seat_by shape book m ∷ xs) (joined shape joinings waiting book n ms apart.1)
+
+-- ---- all of them
+
+pub seats_are : (shape : ShapeRecord) (act : Act) (joinings waiting : ℕ) (book : Book) (ms : List Member) → IsSound shape book waiting act ms
+    → map (seat_by shape (book_after act joinings waiting book)) (members_after act ms) ≡ seats_after shape joinings act (map (seat_by shape book) ms)
+seats_are shape (Joining n) joinings waiting book ms sound = joined shape joinings waiting book n ms sound
+seats_are shape (Remasking n mask) joinings waiting book ms sound = remasked shape joinings waiting book n mask ms sound.0 sound.1
+seats_are shape (Leaving gone) joinings waiting book ms sound = left shape book gone ms
+seats_are shape (Ending gone) joinings waiting book ms sound = left shape book gone ms
+seats_are shape (Reading who bytes) joinings waiting book ms sound = read shape joinings waiting book who bytes ms
+seats_are shape (Capturing c) joinings waiting book ms sound = captured shape c joinings waiting book ms
+seats_are shape act joinings waiting book ms sound = refl
+
+-- the members of the seats are the members
+pub members_are : (shape : ShapeRecord) (book : Book) (ms : List Member) → map member_of_seat (map (seat_by shape book) ms) ≡ ms
+members_are shape book [] = refl
+members_are shape book (m ∷ ms) = ap (λ (xs : List Member). m ∷ xs) (members_are shape book ms)

@@ -1,0 +1,137 @@
+-- Worked inputs: what the definitions say that each prints. Each is a description, a script and the printed text.
+use Rattle.std.proofs.Common.{◌≡◌, ℕ, pos, List, [], ◌∷◌, ◌++◌, refl, codes, None}
+use Rattle.std.specs.Fmt.{digits}
+use Rattle.iio_sensor.specs.Driver.{Driver}
+use Rattle.iio_sensor.specs.Ramp.{number_at}
+use Rattle.iio_history.specs.Outcome.{outcome_of}
+
+-- a ramp of which these asks fail
+abbrev ramp : List ℕ → Driver
+ramp fails = record { sample = λ shape c k t. number_at c k t; bias = λ c. pos 0; asked = 0; last = None; fails = fails; faults = 0 }
+
+-- what an input prints: a description and a script. Drivers 0 and 1 have no failing ask, driver 2 fails its second one
+abbrev prints : List ℕ → List ℕ
+prints input = (outcome_of (ramp [] ∷ ramp [] ∷ ramp (2 ∷ []) ∷ []) input).printed
+
+abbrev plays : List ℕ → List ℕ → List ℕ
+plays description script = prints (description ++ codes "%%\n" ++ script)
+
+abbrev adc : List ℕ
+adc = codes "trigger t0 2\ndevice adc0 t0\nchannel voltage0 le:u12/16>>4\nchannel voltage1 le:u12/16>>4\nchannel accel_x be:s16/16>>0\ntimestamp\nrow 0 1 2 -3\n"
+
+leave_narrows_union : plays adc (codes "A \"OPEN adc0 1 00000005\\n\"\nB \"OPEN adc0 1 00000003\\n\"\nfire t0 1000\nB \"CLOSE adc0\\n\"\nfire t0 2000\nA \"READBUF adc0 8\\n\"\n")
+    ≡ codes "A \"0\\n\"\nB \"0\\n\"\npoll t0 accepted 1\nhandle t0 adc0 captured\nB \"0\\n\"\npoll t0 accepted 1\nhandle t0 adc0 captured\nA \"8\\n00000005\\n\\x10\\x00\\xff\\xfd\\x10\\x00\\xff\\xfd\"\n"
+unfolding digits
+leave_narrows_union = refl
+
+timestamp_moves_with_mask : plays (codes "trigger t0 2\ndevice d t0\nchannel voltage0 le:u16/16>>0\nchannel voltage1 le:u16/16>>0\nchannel voltage2 le:u16/16>>0\nchannel voltage3 le:u16/16>>0\nchannel voltage4 le:u16/16>>0\ntimestamp\nrow 0 1 2 3 4 5\n") (codes "A \"OPEN d 1 00000021\\n\"\nB \"OPEN d 1 0000003f\\n\"\nfire t0 258\nA \"READBUF d 16\\n\"\nB \"READBUF d 24\\n\"\n")
+    ≡ codes "A \"0\\n\"\nB \"0\\n\"\npoll t0 accepted 1\nhandle t0 d captured\nA \"16\\n00000021\\n\\x01\\x00\\x00\\x00\\x00\\x00\\x00\\x00\\x02\\x01\\x00\\x00\\x00\\x00\\x00\\x00\"\nB \"24\\n0000003f\\n\\x01\\x00\\x02\\x00\\x03\\x00\\x04\\x00\\x05\\x00\\x00\\x00\\x00\\x00\\x00\\x00\\x02\\x01\\x00\\x00\\x00\\x00\\x00\\x00\"\n"
+unfolding digits
+timestamp_moves_with_mask = refl
+
+listed_masks : plays (codes "trigger t0 2\ndevice adc0 t0\nchannel voltage0 le:u12/16>>4\nchannel voltage1 le:u12/16>>4\nchannel accel_x be:s16/16>>0\ntimestamp\nmasks 00000003 00000007\nrow 0 1 2 -3\n") (codes "A \"OPEN adc0 1 00000004\\n\"\nfire t0 1000\nA \"READBUF adc0 2\\n\"\n")
+    ≡ codes "A \"0\\n\"\npoll t0 accepted 1\nhandle t0 adc0 captured\nA \"2\\n00000004\\n\\xff\\xfd\"\n"
+unfolding digits
+listed_masks = refl
+
+no_listed_mask : plays (codes "trigger t0 2\ndevice adc0 t0\nchannel voltage0 le:u12/16>>4\nchannel voltage1 le:u12/16>>4\nchannel accel_x be:s16/16>>0\ntimestamp\nmasks 00000003\nrow 0 1 2 -3\n") (codes "B \"OPEN adc0 1 00000001\\n\"\nA \"OPEN adc0 1 00000004\\n\"\nfire t0 1000\nB \"READBUF adc0 2\\n\"\n")
+    ≡ codes "B \"0\\n\"\nA \"-22\\n\"\npoll t0 accepted 1\nhandle t0 adc0 captured\nB \"2\\n00000001\\n\\x10\\x00\"\n"
+unfolding digits
+no_listed_mask = refl
+
+overrun_and_refill : plays (codes "trigger t0 2\ndevice y t0\nchannel voltage0 le:u8/8>>0\nrow 1 65\nrow 2 66\nrow 3 67\nrow 4 68\n") (codes "A \"SET y BUFFERS_COUNT 1\\nOPEN y 1 00000001\\n\"\nfire t0 1\nfire t0 2\nfire t0 3\nA \"READBUF y 1\\n\"\nA \"READ y BUFFER overruns\\n\"\nfire t0 4\nA \"READBUF y 2\\n\"\nA \"READBUF y 1\\n\"\n")
+    ≡ codes "A \"0\\n0\\n\"\npoll t0 accepted 1\nhandle t0 y captured\npoll t0 accepted 1\nhandle t0 y captured\npoll t0 accepted 1\nhandle t0 y captured\nA \"1\\n00000001\\nA\"\nA \"1\\n2\\n\"\npoll t0 accepted 1\nhandle t0 y captured\nA \"1\\n00000001\\nD0\\n\"\nA \"-11\\n\"\n"
+unfolding digits
+overrun_and_refill = refl
+
+read_buffer_attributes : plays (codes "trigger t0 2\ndevice y t0\nchannel voltage0 le:u8/8>>0\nrow 1 65\nrow 2 66\nrow 3 67\nrow 4 68\n") (codes "A \"OPEN y 1 00000001\\n\"\nfire t0 1\nfire t0 2\nfire t0 3\nfire t0 4\nfire t0 5\nA \"READ y BUFFER overruns\\nREAD y BUFFER data_available\\nREAD y BUFFER length\\n\"\n")
+    ≡ codes "A \"0\\n\"\npoll t0 accepted 1\nhandle t0 y captured\npoll t0 accepted 1\nhandle t0 y captured\npoll t0 accepted 1\nhandle t0 y captured\npoll t0 accepted 1\nhandle t0 y captured\npoll t0 accepted 1\nhandle t0 y captured\nA \"1\\n1\\n1\\n4\\n1\\n4\\n\"\n"
+unfolding digits
+read_buffer_attributes = refl
+
+poll_while_outstanding : plays adc (codes "A \"OPEN adc0 1 00000009\\n\"\npoll t0 1000\npoll t0 2000\nhandle t0 adc0\nhandle t0 adc0\nA \"READBUF adc0 16\\nREAD adc0 BUFFER overruns\\n\"\n")
+    ≡ codes "A \"0\\n\"\npoll t0 accepted 1\npoll t0 missed 1\nhandle t0 adc0 captured\nhandle t0 adc0 none\nA \"16\\n00000009\\n\\x10\\x00\\x00\\x00\\x00\\x00\\x00\\x00\\xe8\\x03\\x00\\x00\\x00\\x00\\x00\\x001\\n0\\n\"\n"
+unfolding digits
+poll_while_outstanding = refl
+
+reopened_on_another_trigger : plays (codes "trigger t0 2\ntrigger t1 2\ndevice adc0 t0\nchannel voltage0 le:u12/16>>4\nchannel voltage1 le:u12/16>>4\nchannel accel_x be:s16/16>>0\ntimestamp\nrow 0 1 2 -3\n") (codes "A \"OPEN adc0 1 00000009\\n\"\npoll t0 1000\nA \"CLOSE adc0\\nSETTRIG adc0 t1\\nOPEN adc0 1 00000009\\n\"\npoll t0 1500\nhandle t0 adc0\npoll t0 2000\npoll t1 2500\nhandle t1 adc0\nA \"READBUF adc0 32\\n\"\n")
+    ≡ codes "A \"0\\n\"\npoll t0 accepted 1\nA \"0\\n0\\n0\\n\"\npoll t0 missed 1\nhandle t0 adc0 idle\npoll t0 accepted 0\npoll t1 accepted 1\nhandle t1 adc0 captured\nA \"16\\n00000009\\n\\x10\\x00\\x00\\x00\\x00\\x00\\x00\\x00\\xc4\\x09\\x00\\x00\\x00\\x00\\x00\\x000\\n\"\n"
+unfolding digits
+reopened_on_another_trigger = refl
+
+no_free_place : plays (codes "trigger t0 2\ndevice a1 t0\nchannel voltage0 le:u8/8>>0\ndevice a2 t0\nchannel voltage0 le:u8/8>>0\ndevice a3 t0\nchannel voltage0 le:u8/8>>0\ndevice a4 -\nchannel voltage0 le:u8/8>>0\n") (codes "A \"OPEN a1 1 00000001\\nOPEN a2 1 00000001\\nOPEN a3 1 00000001\\nOPEN a4 1 00000001\\nSETTRIG a1\\nGETTRIG a1\\nGETTRIG a4\\n\"\n")
+    ≡ codes "A \"0\\n0\\n-28\\n-22\\n-16\\n2\\nt0\\n0\\n\"\n"
+unfolding digits
+no_free_place = refl
+
+-- cut in the middle of a line, and between CR and LF; nothing is looked at after EXIT
+usual_session_in_any_pieces : plays (codes "context \"<context/>\"\ntrigger t0 2\ndevice adc0 t0\nchannel voltage0 le:u12/16>>4\nchannel voltage1 le:u12/16>>4\nchannel accel_x be:s16/16>>0\ntimestamp\nrow 0 1 2 -3\n") (codes "A \"VERSION\\x0d\\nZPRINT\\x0d\\nPR\"\nA \"INT\\x0d\\nTIMEOUT 2500\\x0d\"\nA \"\\nOPEN adc0 256 00000005\\x0d\\n\"\nfire t0 1000\nfire t0 2000\nA \"READBUF adc0 1024\\x0d\\nCLOSE adc0\\x0d\\nEXIT\\x0d\\nVERSION\\n\"\nA \"VERSION\\n\"\nfire t0 3000\n")
+    ≡ codes "A \"0.25.iiosim0\\n-22\\n\"\nA \"10\\n<context/>\\n\"\nA \"0\\n0\\n\"\npoll t0 accepted 1\nhandle t0 adc0 captured\npoll t0 accepted 1\nhandle t0 adc0 captured\nA \"8\\n00000005\\n\\x10\\x00\\xff\\xfd\\x10\\x00\\xff\\xfd0\\n0\\n\"\nA closed\nA closed\npoll t0 accepted 0\n"
+unfolding digits
+usual_session_in_any_pieces = refl
+
+attributes_and_bias : plays adc (codes "A \"WRITE adc0 INPUT accel_x calibbias 6\\n-327\"\nA \"68\"\nA \"READ adc0 INPUT accel_x raw\\n\"\nA \"WRITE adc0 INPUT voltage0 scale 9\\n-0.000250\"\nA \"READ adc0 INPUT voltage0 scale\\n\"\nA \"OPEN adc0 1 00000001\\nREAD adc0 INPUT accel_x raw\\nWRITE adc0 INPUT voltage0 scale 1\\n-WRITE adc0 INPUT voltage0 scale 10\\n2147483648WRITE adc0 INPUT voltage0 raw 1\\n1WRITE adc0 INPUT accel_x calibbias 7\\n-32768\\x00\"\n")
+    ≡ codes "A \"\"\nA \"6\\n\"\nA \"6\\n-32768\\n\"\nA \"9\\n\"\nA \"9\\n-0.000250\\n\"\nA \"0\\n-16\\n-22\\n-34\\n-13\\n7\\n\"\n"
+unfolding digits
+attributes_and_bias = refl
+
+broken_limits : plays adc (codes "A \"WRITE adc0 INPUT accel_x calibbias 65537\\nVERSION\\n\"\nA \"VERSION\\n\"\n")
+    ≡ codes "A \"-27\\n\"\nA closed\nA closed\n"
+unfolding digits
+broken_limits = refl
+
+shared_failing_driver : plays (codes "trigger t0 2\ndevice w t0\nchannel voltage0 le:u16/16>>0\ndriver 2\n") (codes "A \"OPEN w 1 00000001\\n\"\nB \"OPEN w 1 00000001\\n\"\nfire t0 1\nfire t0 2\nfire t0 3\nA \"READBUF w 8\\n\"\nB \"READBUF w 8\\n\"\n")
+    ≡ codes "A \"0\\n\"\nB \"0\\n\"\npoll t0 accepted 1\nhandle t0 w captured\npoll t0 accepted 1\nhandle t0 w fault\npoll t0 accepted 1\nhandle t0 w captured\nA \"4\\n00000001\\n\\x01\\x00\\x03\\x000\\n\"\nB \"4\\n00000001\\n\\x01\\x00\\x03\\x000\\n\"\n"
+unfolding digits
+shared_failing_driver = refl
+
+threshold_events : plays (codes "trigger t0 2\ndevice e t0\nchannel voltage0 le:u8/8>>0\nchannel voltage1 le:u8/8>>0\nrow 1 0 100\nrow 2 0 0\nrow 3 0 100\n") (codes "A \"EVOPEN e\\nWRITE e INPUT voltage1 thresh_rising_value 2\\n50WRITE e INPUT voltage1 thresh_rising_en 1\\n1\"\nB \"EVOPEN e\\nEVREAD e\\n\"\nsense e 1\nsense e 2\nsense e 3\nA \"EVREAD e\\nEVREAD e\\nEVREAD e\\nEVCLOSE e\\nEVREAD e\\n\"\n")
+    ≡ codes "A \"0\\n2\\n1\\n\"\nB \"-16\\n-9\\n\"\ne sensed 1\ne sensed 0\ne sensed 1\nA \"16\\n\\x01\\x00\\x00\\x00\\x00\\x00\\x01\\x00\\x01\\x00\\x00\\x00\\x00\\x00\\x00\\x0016\\n\\x01\\x00\\x00\\x00\\x00\\x00\\x01\\x00\\x03\\x00\\x00\\x00\\x00\\x00\\x00\\x00-11\\n0\\n-9\\n\"\n"
+unfolding digits
+threshold_events = refl
+
+sensed_without_holder : plays (codes "trigger t0 2\ndevice e t0\nchannel voltage0 le:u8/8>>0\nchannel voltage1 le:u8/8>>0\nrow 1 0 100\nrow 2 0 0\nrow 3 0 100\n") (codes "A \"WRITE e INPUT voltage1 thresh_rising_value 2\\n50WRITE e INPUT voltage1 thresh_rising_en 1\\n1\"\nsense e 1\nA \"EVOPEN e\\nEVREAD e\\n\"\n")
+    ≡ codes "A \"2\\n1\\n\"\ne sensed 1\nA \"0\\n-11\\n\"\n"
+unfolding digits
+sensed_without_holder = refl
+
+-- the bias keeps the value below the threshold
+lines_of_attributes : plays (codes "trigger t0 2\ndevice e t0\nchannel voltage0 le:u8/8>>0\nchannel voltage1 le:u8/8>>0\nrow 1 0 100\nattr voltage1 thresh_rising_value 50\nattr voltage1 thresh_rising_en 1\nattr voltage1 calibbias -60\n") (codes "sense e 1\nA \"READ e INPUT voltage1 calibbias\\nREAD e INPUT voltage1 thresh_rising_en\\nREAD e name\\n\"\n")
+    ≡ codes "e sensed 0\nA \"3\\n-60\\n1\\n1\\n1\\ne\\n\"\n"
+unfolding digits
+lines_of_attributes = refl
+
+unplugged_device : plays adc (codes "A \"OPEN adc0 1 00000005\\n\"\nfire t0 1000\nunplug adc0\nfire t0 2000\nA \"READBUF adc0 4\\nREADBUF adc0 4\\nREAD adc0 BUFFER overruns\\nSET adc0 BUFFERS_COUNT 2\\n\"\nB \"OPEN adc0 1 00000001\\nREAD adc0 BUFFER length\\nCLOSE adc0\\n\"\nA \"CLOSE adc0\\n\"\nunplug adc0\nsense adc0 1\n")
+    ≡ codes "A \"0\\n\"\npoll t0 accepted 1\nhandle t0 adc0 captured\nadc0 unplugged\npoll t0 accepted 1\nhandle t0 adc0 idle\nA \"4\\n00000005\\n\\x10\\x00\\xff\\xfd-19\\n1\\n0\\n-19\\n\"\nB \"-19\\n-19\\n-9\\n\"\nA \"0\\n\"\nadc0 gone\nadc0 gone\n"
+unfolding digits
+unplugged_device = refl
+
+-- where two checks fail, the refusal is the first one's
+refusals_of_open_in_order : plays (codes "trigger t0 1\ndevice d t0\nchannel voltage0 le:u8/8>>0\ndevice e t0\nchannel voltage0 le:u8/8>>0\nchannel voltage1 le:u8/8>>0\nmasks 00000001\n") (codes "A \"OPEN d 1 00000001\\nOPEN d 0 00000001\\nOPEN e 1 00000002\\nOPEN e 1 00000001\\nOPEN e 1 000 CYCLIC\\n\"\nunplug e\nA \"OPEN e 1 00000001 CYCLIC\\n\"\n")
+    ≡ codes "A \"0\\n-22\\n-22\\n-28\\n-38\\n\"\ne unplugged\nA \"-19\\n\"\n"
+unfolding digits
+refusals_of_open_in_order = refl
+
+-- a connection that is lost has ended; the last line is no step
+lost_connections : plays adc (codes "# a comment, and a line without a word\n\nA \"OPEN adc0 1 00000001\\n\"\ndrop A\ndrop A\ndrop fire\nA \"OPEN\"\nfire t0 7\nclock 5\nfeed t0\n")
+    ≡ codes "A \"0\\n\"\nA dropped\nA closed\nfire closed\nA closed\npoll t0 accepted 0\nclock 5\nrefused 18 count\n"
+unfolding digits
+lost_connections = refl
+
+-- ---- heads
+
+no_input : prints [] ≡ []
+no_input = refl
+
+refused_in_the_head : prints (codes "trigger t0 2\ndevice adc0 t0\nchannel voltage0 le:u12/16>>8\n%%\n") ≡ codes "refused 3 type\n"
+unfolding digits
+refused_in_the_head = refl
+
+head_without_end : prints (codes "trigger t0 2\ndevice adc0 t0\n") ≡ codes "refused 3 order\n"
+unfolding digits
+head_without_end = refl
+
+-- the line of the script that has no LF is a line; its text has no closing quote
+refused_in_the_script : prints (adc ++ codes "%%\nA \"VERSION") ≡ codes "refused 9 text\n"
+unfolding digits
+refused_in_the_script = refl

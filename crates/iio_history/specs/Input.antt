@@ -1,0 +1,37 @@
+-- The part of an input that is looked at, and its lines. (This project's own.)
+use Rattle.std.specs.Prelude.{ℕ, nat_lt, Bool, List, [], ◌∷◌, length, take, drop, reverse, if◌then◌else◌}
+use Rattle.iio_text.specs.Lines.{fits_line, is_line_end, lines_of}
+
+-- the most bytes of an input that are looked at
+abbrev pub input_limit : ℕ
+input_limit = 67108864
+
+-- whether an input has more bytes than are looked at
+abbrev pub is_overlong : List ℕ → Bool
+is_overlong input = nat_lt input_limit (length input)
+
+-- a text from its first LF on
+abbrev pub from_line_end : List ℕ → List ℕ
+from_line_end [] = []
+from_line_end (b ∷ bs) = if is_line_end b then b ∷ bs else from_line_end bs
+
+-- a text up to its last LF, and with it
+abbrev pub ended_part : List ℕ → List ℕ
+ended_part text = reverse (from_line_end (reverse text))
+
+-- the line that a text's end cuts: what stands after its last LF
+abbrev pub cut_line : List ℕ → List ℕ
+cut_line text = drop (length (ended_part text)) text
+
+-- of a text that goes on, the part whose lines can be told: the line that its end cuts is looked at only where it is too
+-- long already
+abbrev pub told_part : List ℕ → List ℕ
+told_part text = if fits_line (cut_line text) then ended_part text else text
+
+-- the part of an input that is looked at
+abbrev pub looked_part : List ℕ → List ℕ
+looked_part input = if is_overlong input then told_part (take input_limit input) else input
+
+-- and its lines
+abbrev pub looked_lines : List ℕ → List (List ℕ)
+looked_lines input = lines_of (looked_part input)

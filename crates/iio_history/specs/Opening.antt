@@ -1,0 +1,120 @@
+-- What decides an OPEN, a REMASK and a SETTRIG: the refusals in their order. (Which errno is the kernel's or libiio's, and
+-- which this project's own, is said in docs/FORMATS.md.)
+use Rattle.std.specs.Prelude.{ℕ, ◌*◌, ◌==◌, ◌||◌, ◌&&◌, not, nat_lt, Bool, false, List, [], ◌∷◌, ◌++◌, map, Option, Some, None, is_some, is_none, unwrap_or, Result, Ok}
+use Rattle.std.specs.Option.{ok_or}
+use Rattle.iio_base.specs.Refusals.{ensure, ◌>>=◌, first_refusal, unless_refused}
+use Rattle.iio_text.specs.declared.errors.Errno.{Errno}
+use Rattle.iio_text.specs.declared.errors.Errno.TheVariants.{EBADF, EBUSY, ENODEV, EINVAL, ENOSPC, ENOSYS, ENOENT}
+use Rattle.iio_mask.specs.Mask.{union_of, union_of_all}
+use Rattle.iio_mask.specs.Text.{mask_of}
+use Rattle.iio_layout.specs.Shape.{ShapeRecord, count_of}
+use Rattle.iio_layout.specs.Active.{active_of, has_data}
+use Rattle.iio_layout.specs.Layout.{scan_size}
+use Rattle.iio_desc.specs.Description.{find_trigger, place_count}
+use Rattle.iio_history.specs.Places.{is_empty}
+use Rattle.iio_history.specs.Who.{Who}
+use Rattle.iio_history.specs.Registry.{Setup, Member, Device, Outline, outline_of, outlines_of, Registry, is_member, member_of, without_members, mask_of_member, attached_count}
+
+-- ---- OPEN
+
+-- the most scans, and the most bytes, of a member's queue
+abbrev pub max_scans : ℕ
+max_scans = 65536
+
+abbrev pub max_bytes : ℕ
+max_bytes = 4194304
+
+abbrev pub is_excess : ℕ → ℕ → Bool
+is_excess capacity size = capacity == 0 || nat_lt max_scans capacity || nat_lt max_bytes (capacity * size)
+
+-- what an OPEN asks for, before others are looked at
+abbrev pub asked_refusals : Bool → Bool → Bool → Bool → Bool → Bool → List (Bool × Errno)
+asked_refusals is_gone is_cyclic is_no_mask is_without_data is_too_much is_open =
+    (is_gone, ENODEV)
+    ∷ (is_cyclic, ENOSYS)
+    ∷ (is_no_mask, EINVAL)
+    ∷ (is_without_data, EINVAL)
+    ∷ (is_too_much, EINVAL)
+    ∷ (is_open, EBUSY)
+    ∷ []
+
+-- a member more at a device
+abbrev pub join_refusals : Bool → Bool → Bool → List (Bool × Errno)
+join_refusals is_without_trigger is_without_union is_full =
+    (is_without_trigger, EINVAL)
+    ∷ (is_without_union, EINVAL)
+    ∷ (is_full, ENOSPC)
+    ∷ []
+
+-- whether no mask that the sensor can be asked under serves the members and that mask besides
+abbrev pub is_without_union : Outline → ℕ → Bool
+is_without_union o mask = is_none (active_of o.shape (union_of mask (union_of_all o.masks)))
+
+-- whether a trigger has no place for one device more
+abbrev pub has_no_place : Setup → List Outline → Option ℕ → Bool
+has_no_place s outlines None = false
+has_no_place s outlines (Some trigger) = not (nat_lt (attached_count trigger outlines) (place_count s.desc trigger))
+
+-- the refusals of an OPEN at a device, in their order; `is_open` is whether the connection has it open
+abbrev pub open_refusals : Setup → List Outline → Outline → Bool → Bool → Bool → ℕ → ℕ → List (Bool × Errno)
+open_refusals s outlines o is_open is_mask cyclic mask capacity =
+    asked_refusals (not o.site.plugged) cyclic (not is_mask) (not (has_data o.shape mask)) (is_excess capacity (scan_size o.shape mask)) is_open
+    ++ join_refusals (is_none o.site.trigger) (is_without_union o mask) (is_empty o.masks && has_no_place s outlines o.site.trigger)
+
+abbrev pub opened : Setup → List Outline → Outline → Bool → Bool → Bool → Member → Result Member Errno
+opened s outlines o is_open is_mask cyclic m =
+    unless_refused m (first_refusal (open_refusals s outlines o is_open is_mask cyclic m.mask m.capacity))
+
+-- the membership that is asked for: the capacity is samples times the buffers count
+abbrev pub member_asked : Device → Who → ℕ → ℕ → List ℕ → Member
+member_asked d who buffers samples text = record { who = who; mask = unwrap_or (mask_of text (count_of d.shape)) 0; capacity = samples * buffers }
+
+-- the answer to an OPEN of a device
+abbrev pub open_answer : Setup → Registry → Device → Who → ℕ → ℕ → List ℕ → Bool → Result Member Errno
+open_answer s r d who buffers samples text cyclic =
+    opened s (outlines_of r) (outline_of d) (is_member who d.members) (is_some (mask_of text (count_of d.shape))) cyclic (member_asked d who buffers samples text)
+
+-- ---- REMASK
+
+-- a member under a new mask, beside the masks of the others
+abbrev pub remask_refusals : ShapeRecord → List ℕ → Member → Bool → ℕ → List (Bool × Errno)
+remask_refusals shape others m is_mask mask =
+    (not is_mask, EINVAL)
+    ∷ (not (has_data shape mask), EINVAL)
+    ∷ (nat_lt max_bytes (m.capacity * scan_size shape mask), EINVAL)
+    ∷ (is_none (active_of shape (union_of mask (union_of_all others))), EINVAL)
+    ∷ []
+
+-- a mask is given to a member
+pub record Remask : Type 0 where
+  pub member : Member
+  pub mask : ℕ
+
+abbrev pub remasked : Device → List ℕ → Member → Result Remask Errno
+remasked d text m =
+    let mask = unwrap_or (mask_of text (count_of d.shape)) 0 in
+    unless_refused (record { member = m; mask = mask })
+    (first_refusal (remask_refusals d.shape (map mask_of_member (without_members (m.who ∷ []) d.members)) m (is_some (mask_of text (count_of d.shape))) mask))
+
+-- the answer to a REMASK of a device
+abbrev pub remask_answer : Device → Who → List ℕ → Result Remask Errno
+remask_answer d who text = do
+  plugged ← ensure d.site.plugged ENODEV
+  m ← ok_or (member_of who d.members) EBADF
+  remasked d text m
+
+-- ---- SETTRIG
+
+abbrev pub trigger_named : Setup → Option (List ℕ) → Result (Option ℕ) Errno
+trigger_named s None = Ok None
+trigger_named s (Some name) = do
+  t ← ok_or (find_trigger s.desc name) ENOENT
+  Ok (Some t)
+
+-- the answer to a SETTRIG of a device: its new trigger
+abbrev pub trigger_answer : Setup → Outline → Option (List ℕ) → Result (Option ℕ) Errno
+trigger_answer s o name = do
+  plugged ← ensure o.site.plugged ENODEV
+  trigger ← trigger_named s name
+  free ← ensure (is_empty o.masks) EBUSY
+  Ok trigger

@@ -1,0 +1,101 @@
+-- The scan as it is filled: channel by channel of the mask.
+use Rattle.std.proofs.Common.{◌≡◌, ℕ, zero, suc, ◌+◌, ◌-◌, ◌%◌, ◌^◌, ◌<◌, ◌≤◌, true, false, cond, List, [], ◌∷◌, ◌++◌, refl, sym, ap, ◌∙◌, inl, inr, arith, append-nil, bit_and}
+use Rattle.std.specs.Prelude.{filter}
+use Rattle.std.specs.List.{range_with_len}
+use Rattle.std.specs.Int.{IsPowerOfTwo, next_multiple_of, bit_at}
+use Rattle.std.proofs.lemmas.Bool.{cases_Bool, cases_lt, eqb-true}
+use Rattle.std.proofs.lemmas.List.Elements.{filter-append}
+use Rattle.std.proofs.lemmas.Nat.{and_mask}
+use Rattle.std.proofs.lemmas.Nat.Bits.{bit_at_above}
+use Rattle.iio_mask.specs.Mask.{channels_below, channels_of, has}
+use Rattle.iio_scan_type.specs.Format.{Format}
+use Rattle.iio_layout.specs.Layout.{end_below, size_at}
+use Rattle.iio_layout.specs.Scan.{field_at, front_below, padded}
+use Rattle.std.specs.Prelude.{ℤ}
+
+-- the remainder by a power of two
+pub and_size : (n size : ℕ) → IsPowerOfTwo size → bit_and n (size - 1) ≡ n % size
+and_size n size power = rw power.1 (and_mask n power.0)
+
+-- ---- the channels of a mask
+
+pub has-below : (mask n c : ℕ) → mask < 2 ^ n → has mask c ≡ true → c < n
+has-below mask n c small there =
+    elim (cases_lt c n) [
+      | inl below ↦ below
+      | inr above ↦
+          let none = bit_at_above mask n c small above in
+          let one = eqb-true (bit_at mask c) 1 there in
+          absurd (omega arith)
+    ]
+
+range_more : (a n : ℕ) → range_with_len a (suc n) ≡ range_with_len a n ++ (a + n) ∷ []
+range_more a zero = ap (λ (k : ℕ). k ∷ []) (omega arith)
+range_more a (suc n) =
+    let next : a + 1 + n ≡ a + suc n = omega arith in
+    ap (λ (xs : List ℕ). a ∷ xs) (range_more (a + 1) n ∙ ap (λ (k : ℕ). range_with_len (a + 1) n ++ k ∷ []) next)
+
+channels_more : (mask n : ℕ) → channels_below mask (suc n) ≡ channels_below mask n ++ cond (has mask n) (n ∷ []) []
+channels_more mask n =
+    let last : range_with_len 0 (suc n) ≡ range_with_len 0 n ++ n ∷ [] = range_more 0 n ∙ ap (λ (k : ℕ). range_with_len 0 n ++ k ∷ []) (omega arith) in
+    ap (filter (λ c. has mask c)) last ∙ filter-append (λ c. has mask c) (range_with_len 0 n) (n ∷ [])
+
+-- no channel stands above the mask's number
+channels_within : (mask n m : ℕ) → mask < 2 ^ n → n ≤ m → channels_below mask m ≡ channels_below mask n
+channels_within mask n zero small within = let same : n ≡ 0 = omega arith in rw same refl
+channels_within mask n (suc m) small within =
+    elim (cases_lt m n) [
+      | inl all ↦ let same : n ≡ suc m = omega arith in rw same refl
+      | inr more ↦
+          let none : has mask m ≡ false = rw (bit_at_above mask n m small more) refl in
+          channels_more mask m ∙ rw none (append-nil (channels_below mask m)) ∙ channels_within mask n m small more
+    ]
+
+pub channels_of-within : (mask n : ℕ) → mask < 2 ^ 64 → mask < 2 ^ n → channels_of mask ≡ channels_below mask n
+unfolding channels_of
+channels_of-within mask n fits small =
+    elim (cases_lt n 64) [
+      | inl few ↦ channels_within mask n 64 small (omega arith)
+      | inr many ↦ sym (channels_within mask 64 n fits many)
+    ]
+
+-- ---- where they end, and their bytes
+
+-- where these channels end, after those that end there
+abbrev pub end_over : List Format → ℕ → List ℕ → ℕ
+end_over formats end [] = end
+end_over formats end (c ∷ cs) = end_over formats (next_multiple_of end (size_at formats c) + size_at formats c) cs
+
+-- these channels, after what stands before them
+abbrev pub front_over : List Format → List ℤ → List ℕ → List ℕ → List ℕ
+front_over formats values front [] = front
+front_over formats values front (c ∷ cs) = front_over formats values (padded front (size_at formats c) ++ field_at formats values c) cs
+
+pub end_over-ge : (formats : List Format) (end : ℕ) (cs : List ℕ) → end ≤ end_over formats end cs
+end_over-ge formats end [] = omega arith
+end_over-ge formats end (c ∷ cs) =
+    let rest = end_over-ge formats (next_multiple_of end (size_at formats c) + size_at formats c) cs in
+    omega (arith, rest)
+
+end_over-append : (formats : List Format) (end : ℕ) (cs ds : List ℕ) → end_over formats end (cs ++ ds) ≡ end_over formats (end_over formats end cs) ds
+end_over-append formats end [] ds = refl
+end_over-append formats end (c ∷ cs) ds = end_over-append formats (next_multiple_of end (size_at formats c) + size_at formats c) cs ds
+
+front_over-append : (formats : List Format) (values : List ℤ) (front cs ds : List ℕ)
+    → front_over formats values front (cs ++ ds) ≡ front_over formats values (front_over formats values front cs) ds
+front_over-append formats values front [] ds = refl
+front_over-append formats values front (c ∷ cs) ds = front_over-append formats values (padded front (size_at formats c) ++ field_at formats values c) cs ds
+
+pub end_over-all : (formats : List Format) (mask n : ℕ) → end_over formats 0 (channels_below mask n) ≡ end_below formats mask n
+end_over-all formats mask zero = refl
+end_over-all formats mask (suc n) =
+    ap (end_over formats 0) (channels_more mask n) ∙ end_over-append formats 0 (channels_below mask n) (cond (has mask n) (n ∷ []) [])
+    ∙ ap (λ end. end_over formats end (cond (has mask n) (n ∷ []) [])) (end_over-all formats mask n)
+    ∙ elim (cases_Bool (has mask n)) [ inl there ↦ rw there refl | inr other ↦ rw other refl ]
+
+pub front_over-all : (formats : List Format) (values : List ℤ) (mask n : ℕ) → front_over formats values [] (channels_below mask n) ≡ front_below formats mask values n
+front_over-all formats values mask zero = refl
+front_over-all formats values mask (suc n) =
+    ap (front_over formats values []) (channels_more mask n) ∙ front_over-append formats values [] (channels_below mask n) (cond (has mask n) (n ∷ []) [])
+    ∙ ap (λ front. front_over formats values front (cond (has mask n) (n ∷ []) [])) (front_over-all formats values mask n)
+    ∙ elim (cases_Bool (has mask n)) [ inl there ↦ rw there refl | inr other ↦ rw other refl ]

@@ -1,0 +1,47 @@
+//! The mask that a sensor is asked under.
+
+ghost use Rattle.std.specs.Prelude.{◌≡◌, ◌≢◌, ℕ, ◌^◌, ◌<◌, ◌≤◌, true, length, option_map, IfSome, IsSome};
+ghost use Rattle.iio_mask.specs.Mask.{has, is_within};
+ghost use Rattle.iio_layout.specs.Active.{active_of, data_part, with_stamp};
+ghost use Rattle.iio_layout.specs.Shape.{count_of};
+
+use crate::Shape;
+use iio_mask::{Mask, pick};
+
+/// The mask that the sensor is asked under where its clients want these channels, the union of their masks: the first
+/// listed mask that contains the data channels among them, or these themselves where no masks are listed, and the
+/// timestamp where it is wanted (kernel, `iio_scan_mask_match`). `None` comes exactly where masks are listed and none
+/// of them contains the wanted data channels.
+pub fn active(shape: &Shape, wanted: Mask) -> Option<Mask>
+    ensures value { option_map (λ m. m.bits) result ≡ active_of shape.now wanted.bits }
+    ensures contains { IfSome result (λ m. is_within wanted.bits m.bits ≡ true) }
+    // Where there is one for these channels, there is one for fewer of them.
+    ensures fewer { IfSome result (λ _. (less : ℕ) → is_within less wanted.bits ≡ true → IsSome (active_of shape.now less)) }
+    ensures below { wanted.bits < 2 ^ count_of shape.now → IfSome result (λ m. m.bits < 2 ^ count_of shape.now) }
+{
+    let asked = pick(shape.listed(), data_part(shape, wanted))?;
+    Some(with_stamp(shape, wanted, asked))
+}
+
+// The mask without the timestamp's bit.
+fn data_part(shape: &Shape, mask: Mask) -> Mask
+    ensures value { result.bits ≡ data_part shape.now mask.bits }
+    ensures within { result.bits ≤ mask.bits }
+{
+    match shape.stamp() {
+        None => mask,
+        Some(_) => mask.without(shape.inputs()),
+    }
+}
+
+// The mask with the timestamp's bit besides, where the wanted one has it.
+fn with_stamp(shape: &Shape, wanted: Mask, mask: Mask) -> Mask
+    ensures value { result.bits ≡ with_stamp shape.now wanted.bits mask.bits }
+    ensures below { mask.bits < 2 ^ count_of shape.now → result.bits < 2 ^ count_of shape.now }
+{
+    let stamp = shape.inputs();
+    if shape.stamp().is_none() || !wanted.contains(stamp) {
+        return mask;
+    }
+    mask.union(Mask { bits: 1 << stamp })
+}

@@ -1,0 +1,131 @@
+//! The scan of a capture.
+
+ghost use Rattle.std.specs.Prelude.{◌≡◌, ℕ, ◌+◌, ◌^◌, ◌<◌, ◌≤◌, ◌++◌, true, length, slice_index, take};
+ghost use Rattle.std.specs.Int.{IsPowerOfTwo, next_multiple_of};
+ghost use Rattle.iio_mask.specs.Mask.{has};
+ghost use Rattle.iio_scan_type.specs.Bytes.{channel_bytes};
+ghost use Rattle.iio_scan_type.specs.Format.{size_of};
+ghost use Rattle.iio_layout.specs.Layout.{Covers, end_below, format_at, place_of, scan_size, size_at};
+ghost use Rattle.iio_layout.specs.Scan.{capture_values, elements_below, field_of, front_below, padded, scan_of, values_by};
+ghost use Rattle.iio_layout.specs.Shape.{count_of, formats_of, width_of};
+
+use crate::values::Listed;
+use crate::{Shape, Values};
+use iio_mask::Mask;
+use iio_scan_type::ScanType;
+
+/// Writes the scan under the mask of these values and this moment: each selected channel's bytes at its place, the
+/// timestamp's last, and zero bytes elsewhere, whatever was there before. `values` has the elements of all data
+/// channels in their order, also of those that aren't selected.
+pub fn fill(shape: &Shape, mask: Mask, values: &[i64], t: i64, out: &mut [u8])
+    requires below { mask.bits < 2 ^ count_of shape.now }
+    requires width { length values.now ≡ width_of shape.now }
+    requires size { length out.old ≡ scan_size shape.now mask.bits }
+    ensures scan { out.new ≡ scan_of shape.now mask.bits values.now t }
+
+    // Byte j of a selected channel stands at its place, and j bytes further.
+    ensures bytes { (c j : ℕ) → c < count_of shape.now → has mask.bits c ≡ true → j < size_at (formats_of shape.now) c
+        → slice_index out.new (place_of shape.now mask.bits c + j) ≡ slice_index (field_of shape.now values.now t c) j }
+
+    // A byte that lies in no selected channel is 0.
+    ensures padding { (j : ℕ) → ((c : ℕ) → ¬ Covers shape.now mask.bits c j) → slice_index out.new j ≡ 0 }
+{
+    fill_from(shape, mask, &Listed { shape, values }, t, out);
+}
+
+/// Writes the scan under the mask of these values and this moment, as `fill` does, from wherever the values stand. Only
+/// the selected channels' values are asked for, each once.
+#[inline]
+pub fn fill_from<V: Values>(shape: &Shape, mask: Mask, values: &V, t: i64, out: &mut [u8])
+    requires below { mask.bits < 2 ^ count_of shape.now }
+    requires inputs { length shape.now.channels ≤ V.inputs values.now }
+    requires size { length out.old ≡ scan_size shape.now mask.bits }
+    ensures { out.new ≡ scan_of shape.now mask.bits (values_by shape.now (V.value values.now)) t }
+{
+    let end = put_channels(shape, mask, values, t, out);
+    out[end..].fill(0);
+}
+
+// Writes the selected channels, and answers where they end.
+#[inline]
+fn put_channels<V: Values>(shape: &Shape, mask: Mask, values: &V, t: i64, out: &mut [u8]) -> usize
+    requires below { mask.bits < 2 ^ count_of shape.now }
+    requires inputs { length shape.now.channels ≤ V.inputs values.now }
+    requires size { length out.old ≡ scan_size shape.now mask.bits }
+    ensures end { result ≡ end_below (formats_of shape.now) mask.bits (count_of shape.now) }
+    ensures front { take result out.new ≡ front_below (formats_of shape.now) mask.bits
+        (capture_values (values_by shape.now (V.value values.now)) t) (count_of shape.now) }
+{
+    let mut end = 0;
+    let mut rest = mask;
+    while let Some(c) = rest.pop_first() {
+        end = put_channel(shape, c, values, t, end, out);
+    }
+    end
+}
+
+// Writes channel `c` after those that end at `end`, with zero bytes up to its place, and answers where it ends.
+#[inline]
+fn put_channel<V: Values>(
+    shape: &Shape,
+    c: u32,
+    values: &V,
+    t: i64,
+    end: usize,
+    out: &mut [u8],
+) -> usize
+    requires channel { c < count_of shape.now }
+    requires inputs { length shape.now.channels ≤ V.inputs values.now }
+    requires room { next_multiple_of end (size_at (formats_of shape.now) c) + size_at (formats_of shape.now) c ≤ length out.old }
+    ensures end { result ≡ next_multiple_of end (size_at (formats_of shape.now) c) + size_at (formats_of shape.now) c }
+    ensures bytes { take result out.new ≡ padded (take end out.old) (size_at (formats_of shape.now) c)
+        ++ field_of shape.now (values_by shape.now (V.value values.now)) t c }
+{
+    let ty = shape.scan_type(c);
+    let size = ty.size() as usize;
+    let place = aligned(end, size);
+    out[end..place].fill(0);
+    put_field(shape, ty, c, values, t, &mut out[place..place + size]);
+    place + size
+}
+
+// The least multiple of a power of two that isn't below a number (kernel, `ALIGN`).
+#[inline]
+fn aligned(end: usize, size: usize) -> usize
+    requires power { IsPowerOfTwo size }
+    requires fits { next_multiple_of end size < 2 ^ 64 }
+    ensures { result ≡ next_multiple_of end size }
+{
+    let mask = size - 1;
+    end + ((size - (end & mask)) & mask)
+}
+
+// Writes the bytes of channel `c`, which is of that type.
+#[inline]
+fn put_field<V: Values>(shape: &Shape, ty: ScanType, c: u32, values: &V, t: i64, out: &mut [u8])
+    requires channel { c < count_of shape.now }
+    requires inputs { length shape.now.channels ≤ V.inputs values.now }
+    requires ty { ty ≡ format_at (formats_of shape.now) c }
+    requires size { length out.old ≡ size_of ty }
+    ensures { out.new ≡ field_of shape.now (values_by shape.now (V.value values.now)) t c }
+{
+    if c < shape.inputs() {
+        put_values(ty, c, values, out);
+    } else {
+        ty.put(&[t], out);
+    }
+}
+
+// Writes the elements of data channel `c`.
+#[inline]
+fn put_values<V: Values>(ty: ScanType, c: u32, values: &V, out: &mut [u8])
+    requires channel { c < V.inputs values.now }
+    requires size { length out.old ≡ size_of ty }
+    ensures { out.new ≡ channel_bytes ty (elements_below (V.value values.now c) ty.repeat) }
+{
+    let size = ty.element_size() as usize;
+    for k in 0..u32::from(ty.repeat()) {
+        let start = k as usize * size;
+        ty.put_element(values.value(c, k), &mut out[start..start + size]);
+    }
+}

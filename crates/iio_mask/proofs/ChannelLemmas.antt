@@ -1,0 +1,86 @@
+-- The channels of a mask in their order, and what unions do to them.
+use Rattle.std.proofs.Common.{◌≡◌, ℕ, zero, suc, ◌+◌, ◌-◌, ◌*◌, ◌%◌, ◌^◌, ◌<◌, ◌≤◌, ◌&&◌, Bool, true, false, not, [], ◌∷◌, refl, ap, ◌∙◌, inl, inr, arith}
+use Rattle.std.specs.Prelude.{filter}
+use Rattle.std.specs.List.{range_with_len}
+use Rattle.std.specs.Int.{bit_at, trailing_zeros, w64}
+use Rattle.std.proofs.Math.Pow.{pow-lt}
+use Rattle.std.proofs.lemmas.Bool.{cases_lt, eq-eqb, ne_eqb}
+use Rattle.std.proofs.lemmas.Nat.Bits.{bit_at_above, bit_at-trailing_zeros}
+use Rattle.iio_mask.specs.Mask.{has, channels_of}
+use Rattle.iio_mask.proofs.PlaceLemmas.{has-minus}
+
+-- what passes one test passes the other, of the numbers after c
+filter_after : (p q : ℕ → Bool) (c a n : ℕ) → ((i : ℕ) → c < i → q i ≡ p i) → c < a → filter p (range_with_len a n) ≡ filter q (range_with_len a n)
+filter_after p q c a zero same after = refl
+filter_after p q c a (suc n) same after =
+    let rest = filter_after p q c (a + 1) n same (omega arith) in
+    rw (same a after, rest) refl
+
+-- the first number that passes a test, and the others
+filter_first : (p q : ℕ → Bool) (c a n : ℕ) → p c ≡ true → q c ≡ false → ((i : ℕ) → i < c → p i ≡ false) → ((i : ℕ) → i < c → q i ≡ false)
+    → ((i : ℕ) → c < i → q i ≡ p i) → a ≤ c → c < a + n → filter p (range_with_len a n) ≡ c ∷ filter q (range_with_len a n)
+filter_first p q c a zero one none before before' after from to = absurd (omega arith)
+filter_first p q c a (suc n) one none before before' after from to =
+    elim (cases_lt a c) [
+      | inl earlier ↦ rw (before a earlier, before' a earlier) (filter_first p q c (a + 1) n one none before before' after (omega arith) (omega arith))
+      | inr here ↦
+          let same : a ≡ c = omega arith in
+          rw (same, one, none) (ap (λ cs. c ∷ cs) (filter_after p q c (c + 1) n after (omega arith)))
+    ]
+
+-- ---- the first channel
+
+none_below : (n i : ℕ) → bit_at n i ≡ 0 → has n i ≡ false
+none_below n i none = rw none refl
+
+-- a mask that isn't empty: its first channel, and those of the mask without it
+pub channels_of-first : (bits : ℕ) → 0 < bits → bits < 2 ^ 64
+    → channels_of bits ≡ trailing_zeros w64 bits ∷ channels_of (bits - 2 ^ trailing_zeros w64 bits)
+unfolding channels_of
+channels_of-first bits some fits =
+    let lowest = bit_at-trailing_zeros w64 bits some fits in
+    let c : ℕ = trailing_zeros w64 bits in
+    let there = eq-eqb (bit_at bits c) 1 lowest.1 in
+    let less = λ (i : ℕ). has-minus bits c i there in
+    let itself = eq-eqb c c refl in
+    let below = λ (i : ℕ) (before : i < c). none_below bits i (lowest.2 i before) in
+    filter_first (has bits) (has (bits - 2 ^ c)) c 0 64 there
+    (less c ∙ rw itself (and_not_true (has bits c)))
+    below
+    (λ i before. less i ∙ rw (below i before) refl)
+    (λ i after. less i ∙ (let other = ne_eqb i c (λ e. omega arith) in rw other (and_not_false (has bits i))))
+    (omega arith) (omega (arith, lowest.0))
+  where
+    and_not_true : (b : Bool) → (b && not true) ≡ false
+    and_not_true true = refl
+    and_not_true false = refl
+
+    and_not_false : (b : Bool) → (b && not false) ≡ b
+    and_not_false true = refl
+    and_not_false false = refl
+
+-- the first channel is a bit of the mask
+pub first_within : (bits : ℕ) → 0 < bits → bits < 2 ^ 64 → (trailing_zeros w64 bits < 64) × (2 ^ trailing_zeros w64 bits ≤ bits)
+first_within bits some fits =
+    let lowest = bit_at-trailing_zeros w64 bits some fits in (
+      lowest.0,
+      elim (cases_lt bits (2 ^ trailing_zeros w64 bits)) [
+        | inl small ↦ let none = bit_at_above bits (trailing_zeros w64 bits) (trailing_zeros w64 bits) small (omega arith) in absurd (omega (arith, lowest.1, none))
+        | inr whole ↦ whole
+      ],
+    )
+
+pub first_has : (bits : ℕ) → 0 < bits → bits < 2 ^ 64 → has bits (trailing_zeros w64 bits) ≡ true
+first_has bits some fits = eq-eqb (bit_at bits (trailing_zeros w64 bits)) 1 (bit_at-trailing_zeros w64 bits some fits).1
+
+-- its bit as a word's shift makes it
+pub first_bit : (bits : ℕ) → 0 < bits → bits < 2 ^ 64 → 1 * 2 ^ trailing_zeros w64 bits % 2 ^ 64 ≡ 2 ^ trailing_zeros w64 bits
+first_bit bits some fits =
+    let low = first_within bits some fits in
+    let less : 2 ^ trailing_zeros w64 bits < 2 ^ 64 = pow-lt {i = trailing_zeros w64 bits} {j = 64} low.0 in
+    omega arith
+
+-- the empty mask has no channel
+pub channels_of-none : channels_of 0 ≡ []
+unfolding channels_of
+channels_of-none = refl

@@ -1,0 +1,10 @@
+pub mod Event
+pub mod Registry
+pub mod Outstanding
+pub mod Capture
+pub mod Log
+pub mod Queue
+pub mod Reply
+pub mod Served
+pub mod Stream
+pub mod Transcript

@@ -1,0 +1,77 @@
+//! The lines of a text, and the checks that come before all others.
+
+ghost use Rattle.std.specs.Prelude.{◌≡◌, ◌<◌, ◌↔◌, [], ◌∷◌, length, Ok, IsNone, IfSome, IfNone, IfOk, IfErr, Err};
+ghost use Rattle.std.specs.List.{list_all};
+ghost use Rattle.iio_text.specs.Words.{words_of, is_space, IsFirstWord};
+ghost use Rattle.iio_text.specs.Lines.{lines_of, is_printable, fits_line, is_comment, words_of_line};
+
+use crate::refusals::{Why, ensure};
+use crate::words::{Blanks, next_word};
+use memchr::memchr;
+
+/// The most bytes of a line, without its LF.
+pub const MAX_LINE_BYTES: usize = 1_048_576;
+
+/// Takes the first line, without its LF, off a text, and gives the text after it too. LF ends a line, and a last line
+/// without LF counts where it isn't empty. None comes exactly where there is no line.
+pub fn next_line(text: &[u8]) -> Option<(&[u8], &[u8])>
+    ensures none { IsNone result ↔ (lines_of text.now ≡ []) }
+    ensures found { IfSome result (λ l. lines_of text.now ≡ l.0.now ∷ lines_of l.1.now) }
+    ensures shorter { IfSome result (λ l. length l.1.now < length text.now) }
+{
+    match memchr(b'\n', text) {
+        Some(len) => Some((&text[..len], &text[len + 1..])),
+        None if text.is_empty() => None,
+        None => Some(text.split_at(text.len())),
+    }
+}
+
+/// Whether a line is short enough: it has at most [`MAX_LINE_BYTES`] bytes.
+pub fn fits_line(line: &[u8]) -> bool
+    ensures { result ≡ fits_line line.now }
+{
+    line.len() <= MAX_LINE_BYTES
+}
+
+// Whether a line is a comment: its first byte is `#`.
+fn is_comment(line: &[u8]) -> bool
+    ensures { result ≡ is_comment line.now }
+{
+    matches!(line, [b'#', ..])
+}
+
+fn is_printable(byte: u8) -> bool
+    ensures { result ≡ is_printable byte }
+{
+    matches!(byte, 0x20..=0x7e)
+}
+
+// Whether each byte of a line is printable ASCII. It looks at all of them, many at once.
+fn is_printable_text(line: &[u8]) -> bool
+    ensures { result ≡ list_all is_printable line.now }
+{
+    let mut printable = true;
+    for byte in line {
+        printable &= is_printable(*byte);
+    }
+    printable
+}
+
+/// Takes the first word off a line of a description or of a script, without its LF, and gives the line after it too.
+/// None comes for a line that means nothing: a comment, whose first byte is `#`, and a line without a word. It is
+/// `long` where the line has more than [`MAX_LINE_BYTES`] bytes, and then, where it means anything, `text` where a byte
+/// of it is outside 0x20 to 0x7e.
+pub fn first_word(line: &[u8]) -> Result<Option<(&[u8], &[u8])>, Why>
+    ensures refused { IfErr result (λ why. words_of_line line.now ≡ Err why) }
+    ensures blank { IfOk result (λ first. IfNone first (words_of_line line.now ≡ Ok [])) }
+    ensures words { IfOk result (λ first. IfSome first (λ w. words_of_line line.now ≡ Ok (w.0.now ∷ words_of is_space w.1.now))) }
+    ensures first { IfOk result (λ first. IfSome first (λ w. IsFirstWord is_space line.now w.0.now w.1.now)) }
+{
+    ensure(fits_line(line), Why::Long)?;
+    if is_comment(line) {
+        return Ok(None);
+    }
+    let first = next_word(line, Blanks::Spaces);
+    ensure(first.is_none() || is_printable_text(line), Why::Text)?;
+    Ok(first)
+}

@@ -1,0 +1,11 @@
+pub mod Alone
+pub mod SeatLaws
+pub mod SiteLaws
+pub mod ActLaws
+pub mod StepLaws
+pub mod OthersLaws
+pub mod QuietLaws
+pub mod TextLaws
+pub mod TwoWorldsLaws
+pub mod StartLaws
+mod Rows

@@ -1,0 +1,89 @@
+-- What another connection may do without a connection's notice: each event, with what stands before it, meets two rules.
+-- (This project's own.)
+use Rattle.std.specs.Prelude.{ℕ, suc, ◌==◌, ◌&&◌, ◌||◌, not, Bool, true, false, List, [], ◌∷◌, Some, None, slice_get, Ok, Err}
+use Rattle.std.specs.Str.{bytes_eq}
+use Rattle.iio_text.specs.declared.errors.Errno.TheVariants.{EFBIG}
+use Rattle.iiod_grammar.specs.Command.{Help, Exit, Version, Print, Timeout, Open, Close, Read, ReadBuf, GetTrig, SetBuffers}
+use Rattle.iio_desc.specs.Description.{find_device}
+use Rattle.iio_history.specs.Who.{Who, Conn, same}
+use Rattle.iiod_grammar.specs.Stream.{Item, Said, End}
+use Rattle.iio_history.specs.Event.{Event, Heard, Dropped, Remasked}
+use Rattle.iio_history.specs.Registry.{Setup, Member, Device, Registry, is_member, is_named}
+use Rattle.iio_history.specs.Fold.{registry_after}
+
+-- whether the connection is a member of device k
+abbrev pub has_open_at : Registry → List ℕ → ℕ → Bool
+has_open_at r a k = elim (slice_get r.devices k) [ None ↦ false | Some d ↦ is_member (Conn a) d.members ]
+
+-- and of the device of that name
+abbrev pub has_open : Setup → Registry → List ℕ → List ℕ → Bool
+has_open s r a device = elim (find_device s.desc device) [ None ↦ false | Some k ↦ has_open_at r a k ]
+
+-- what another connection may say beside `a`: a line that asks for nothing, EXIT, or an item that names a device of which `a`
+-- is a member
+abbrev pub is_modest : Setup → Registry → List ℕ → Item → Bool
+is_modest s r a (Said (Err refused)) = true
+is_modest s r a (Said (Ok Help)) = true
+is_modest s r a (Said (Ok Exit)) = true
+is_modest s r a (Said (Ok Version)) = true
+is_modest s r a (Said (Ok Print)) = true
+is_modest s r a (Said (Ok (Timeout milliseconds))) = true
+is_modest s r a (End None) = true
+is_modest s r a (End (Some EFBIG)) = false
+is_modest s r a (End (Some e)) = true
+is_modest s r a (Said (Ok (Open device samples text cyclic))) = has_open s r a device
+is_modest s r a (Said (Ok (Close device))) = has_open s r a device
+is_modest s r a (Said (Ok (ReadBuf device bytes))) = has_open s r a device
+is_modest s r a (Said (Ok (Read device place attribute))) = has_open s r a device
+is_modest s r a (Said (Ok (GetTrig device))) = has_open s r a device
+is_modest s r a (Said (Ok (SetBuffers device n))) = has_open s r a device
+is_modest s r a item = false
+
+-- the first rule
+abbrev pub others_are_modest : Setup → Registry → List ℕ → Event → Bool
+others_are_modest s r a (Heard name item) = bytes_eq name a || is_modest s r a item
+others_are_modest s r a (Remasked name device text) = bytes_eq name a || has_open_at r a device
+others_are_modest s r a e = true
+
+-- whether the event ends what `a` has of device k, or remasks it
+abbrev pub is_parting : Setup → List ℕ → Event → ℕ → Bool
+is_parting s a (Heard name (Said (Ok (Close device)))) k = bytes_eq name a && is_named s device k
+is_parting s a (Heard name (End refusal)) k = bytes_eq name a
+is_parting s a (Dropped name) k = bytes_eq name a
+is_parting s a (Remasked name device text) k = bytes_eq name a && device == k
+is_parting s a e k = false
+
+-- whether another connection is a member
+abbrev pub has_other : Who → List Member → Bool
+has_other who [] = false
+has_other who (m ∷ ms) = not (same who m.who) || has_other who ms
+
+-- the second rule at device k: a membership of `a` isn't parted from another's
+abbrev pub is_unparted : Setup → List ℕ → Event → ℕ → Device → Bool
+is_unparted s a e k d = not (is_parting s a e k && is_member (Conn a) d.members && has_other (Conn a) d.members)
+
+-- what holds at each place of a list; `k` is the first one's
+abbrev pub all_from : {A : Type 0} → (ℕ → A → Bool) → ℕ → List A → Bool
+all_from f k [] = true
+all_from f k (x ∷ xs) = f k x && all_from f (suc k) xs
+
+-- whether the event meets both rules
+abbrev pub is_bystander : Setup → Registry → List ℕ → Event → Bool
+is_bystander s r a e = others_are_modest s r a e && all_from (is_unparted s a e) 0 r.devices
+
+-- whether each event of a history does, with what stands before it
+abbrev pub only_bystanders : Setup → List ℕ → List Event → Bool
+only_bystanders s a [] = true
+only_bystanders s a (e ∷ h) = is_bystander s (registry_after s h) a e && only_bystanders s a h
+
+-- ---- by what was open when a feed began
+
+-- whether an item meets both rules by what was open then: for the second it is enough whether another was a member
+abbrev pub meets_by : Setup → Registry → List ℕ → List ℕ → Item → Bool
+meets_by s r a name item =
+    others_are_modest s r a (Heard name item)
+    && all_from (λ k d. not (is_parting s a (Heard name item) k && has_other (Conn a) d.members)) 0 r.devices
+
+abbrev pub all_meet_by : Setup → Registry → List ℕ → List ℕ → List Item → Bool
+all_meet_by s r a name [] = true
+all_meet_by s r a name (item ∷ items) = meets_by s r a name item && all_meet_by s r a name items

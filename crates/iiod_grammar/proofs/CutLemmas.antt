@@ -1,0 +1,54 @@
+-- The first piece of bytes that were begun and further ones.
+use Rattle.std.proofs.Common.{◌≡◌, ℕ, ◌+◌, ◌-◌, ◌<◌, ◌≤◌, ◌==◌, ◌&&◌, not, Bool, true, false, List, ◌++◌, length, take, Some, None, refl, sym, ap, ◌∙◌, arith, length-append}
+use Rattle.std.specs.List.{position_or_len}
+use Rattle.std.proofs.lemmas.Bool.{lt-ltb, le-ltb, le-leb, leb-true, eq-eqb}
+use Rattle.std.proofs.lemmas.List.Folds.{prefix_len-append}
+use Rattle.std.proofs.Math.Seq.{take-append-add}
+use Rattle.iiod_grammar.specs.Command.{without_returns}
+use Rattle.iiod_grammar.specs.Lines.{is_lf, cut, NotYet, WholeLine, WholePayload, Overlong, is_begun}
+
+both : (p q : Bool) → (p && q) ≡ true → (p ≡ true) × (q ≡ true)
+both true q h = (refl, h)
+both false q h = absurd cc
+
+pub payload_begun : (count : ℕ) (begun : List ℕ) → is_begun (Some count) begun ≡ true → length begun ≤ count
+payload_begun count begun h = leb-true (length begun) count (both _ _ h).0
+
+-- a payload that is whole with further bytes
+pub payload_whole : (count : ℕ) (begun bytes : List ℕ) → is_begun (Some count) begun ≡ true → count - length begun ≤ length bytes
+    → cut (Some count) (begun ++ bytes) ≡ WholePayload (begun ++ take (count - length begun) bytes)
+payload_whole count begun bytes h enough =
+    let within = payload_begun count begun h in
+    let size : count ≡ length begun + (count - length begun) = omega arith in
+    let whole = le-ltb (length (begun ++ bytes)) count (omega (arith, length-append begun bytes)) in
+    rw whole (ap WholePayload (ap (λ n. take n (begun ++ bytes)) size ∙ take-append-add begun bytes (count - length begun)))
+
+-- ---- lines
+
+-- where the first LF stands
+end_after : (begun bytes : List ℕ) → is_begun None begun ≡ true → position_or_len is_lf (begun ++ bytes) ≡ length begun + position_or_len is_lf bytes
+end_after begun bytes h =
+    let none : (position_or_len is_lf begun == length begun) ≡ true = (both _ _ h).0 in
+    prefix_len-append (λ b. not (is_lf b)) begun bytes ∙ rw none refl
+
+pub line_overlong : (begun bytes : List ℕ) → is_begun None begun ≡ true → 1024 < length begun + position_or_len is_lf bytes → cut None (begun ++ bytes) ≡ Overlong
+line_overlong begun bytes h over = rw (end_after begun bytes h, lt-ltb 1024 (length begun + position_or_len is_lf bytes) over) refl
+
+pub line_not_yet : (begun bytes : List ℕ) → is_begun None begun ≡ true → length begun + length bytes ≤ 1024 → position_or_len is_lf bytes ≡ length bytes
+    → (cut None (begun ++ bytes) ≡ NotYet) × (is_begun None (begun ++ bytes) ≡ true)
+line_not_yet begun bytes h few none =
+    let end : position_or_len is_lf (begun ++ bytes) ≡ length (begun ++ bytes) = end_after begun bytes h ∙ omega (arith, none, length-append begun bytes) in
+    let within : length (begun ++ bytes) ≤ 1024 = omega (arith, length-append begun bytes) in (
+      rw (end, le-ltb 1024 (length (begun ++ bytes)) within, le-ltb (length (begun ++ bytes)) (length (begun ++ bytes)) (omega arith)) refl,
+      rw (end, eq-eqb (length (begun ++ bytes)) (length (begun ++ bytes)) refl) (le-leb (length (begun ++ bytes)) 1024 within),
+    )
+
+pub line_whole : (begun bytes : List ℕ) (e : ℕ) → is_begun None begun ≡ true → e ≡ position_or_len is_lf bytes → length begun + e ≤ 1024 → e < length bytes
+    → cut None (begun ++ bytes) ≡ WholeLine (without_returns (begun ++ take e bytes)) (length begun + (e + 1))
+line_whole begun bytes e h is within some =
+    let end : position_or_len is_lf (begun ++ bytes) ≡ length begun + e = end_after begun bytes h ∙ ap (λ n. length begun + n) (sym is) in
+    let size : length begun + e + 1 ≡ length begun + (e + 1) = omega arith in
+    rw (end, le-ltb 1024 (length begun + e) within, lt-ltb (length begun + e) (length (begun ++ bytes)) (omega (arith, length-append begun bytes)), take-append-add begun bytes e, size) refl
+
+pub line_begun : (begun : List ℕ) → is_begun None begun ≡ true → length begun ≤ 1024
+line_begun begun h = leb-true (length begun) 1024 (both _ _ h).1

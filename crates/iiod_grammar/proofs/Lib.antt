@@ -1,0 +1,5 @@
+mod CutLemmas
+mod Rows
+mod ScanLemmas
+mod StreamLaws
+mod TargetLemmas

@@ -1,0 +1,198 @@
+//! The lines and payloads of a stream.
+
+ghost use Rattle.std.specs.Prelude.{◌≡◌, ◌+◌, ◌<◌, ◌≤◌, ◌++◌, true, [], Some, None, length, vec_capacity, IfOk};
+ghost use Rattle.std.specs.List.{position_or_len};
+ghost use Rattle.iiod_grammar.specs.Lines.{is_lf, is_begun, new_lines, feed_of};
+ghost use Rattle.iiod_grammar.specs.Scans.{Scans, EndsPiece};
+ghost use Rattle.iiod_grammar.specs.Taking.{Takes};
+ghost use Rattle.iiod_grammar.specs.declared.lines.Ready.{Ready};
+
+use crate::line::len_without_returns;
+use iio_base::Mem;
+use std::alloc::Global;
+use std::marker::Model;
+
+/// The most bytes of a line before its LF, CRs counted.
+pub const MAX_LINE: usize = 1024;
+
+/// The most bytes of a payload.
+pub const MAX_PAYLOAD: u32 = 65_536;
+
+/// What stands after the bytes that were fed.
+#[derive(Clone, Copy, Debug, PartialEq, Eq)]
+pub enum Ready {
+    /// No piece is whole yet; all bytes were taken.
+    More,
+    /// A line is whole.
+    Line,
+    /// The payload that was wanted is whole.
+    Payload,
+    /// More than 1,024 bytes without an LF stand at a line's place. This holds for good, and no byte is taken any more.
+    TooLong,
+}
+
+/// A stream that is taken apart into lines and payloads, in whatever parts its bytes come.
+#[derive(Debug, Drop)]
+pub struct Lines {
+    // The bytes of the piece that isn't whole, or the whole piece.
+    kept: Vec<u8>,
+    is_whole: bool,
+    wanted: Option<u32>,
+    overlong: bool,
+}
+
+impl Model for Lines {
+    ghost use Rattle.std.specs.Prelude.{◌≡◌, ◌≤◌, true, [], if◌then◌else◌, vec_capacity};
+    ghost use Rattle.iiod_grammar.specs.Lines.{LinesRecord, is_begun};
+
+    ghost Value = { LinesRecord };
+
+    ghost view = { λ x. record {
+      begun = if x.is_whole then [] else x.kept.items;
+      wanted = x.wanted;
+      piece = if x.is_whole then x.kept.items else [];
+      overlong = x.overlong;
+    } };
+
+    ghost invariant = { λ x. (65536 ≤ vec_capacity x.kept) × (is_begun x.wanted (if x.is_whole then [] else x.kept.items) ≡ true) };
+}
+
+impl Lines {
+    /// A stream of which nothing came yet; a line is first. The room for the longest piece is taken here, and no later call
+    /// takes memory.
+    pub fn new(alloc: Global) -> Result<Lines, Mem>
+        ensures { IfOk result (λ lines. lines ≡ new_lines) }
+    {
+        Ok(Lines {
+            kept: Vec::with_capacity(alloc, MAX_PAYLOAD as usize)?,
+            is_whole: false,
+            wanted: None,
+            overlong: false,
+        })
+    }
+
+    /// Takes bytes up to the end of one piece, and says how many it took and what is ready. The bytes of a piece that isn't
+    /// whole are kept, so it doesn't matter how the stream is cut. A payload of no bytes is ready at once.
+    pub fn feed(&mut self, bytes: &[u8]) -> (usize, Ready)
+        ensures taken { result.0 ≡ (feed_of self.old bytes.now).taken }
+        ensures ready { result.1 ≡ (feed_of self.old bytes.now).ready }
+        ensures state { self.new ≡ (feed_of self.old bytes.now).lines }
+
+        // What the bytes are to the items of the stream, and some of what follows from that.
+        ensures items { Scans self.old bytes.now result.0 result.1 self.new }
+        ensures piece { EndsPiece result.1 self.new }
+        ensures within { result.0 ≤ length bytes.now }
+        ensures some { result.1 ≡ Ready.Line → 0 < result.0 }
+    {
+        self.advance(bytes)
+    }
+
+    /// The piece that the last `feed` made whole: a payload, or a line without its LF and the CRs before it. Empty where it
+    /// made none.
+    pub fn piece(&self) -> &[u8]
+        ensures { result.now ≡ self.now.piece }
+    {
+        if self.is_whole { &self.kept } else { b"" }
+    }
+
+    /// Says that the next piece is a payload of `count` bytes. No bytes of that piece were fed yet.
+    pub fn want(&mut self, count: u32)
+        requires within { count ≤ MAX_PAYLOAD }
+        requires none_begun { self.old.begun ≡ [] }
+        ensures { self.new ≡ record self.old { wanted = Some count } }
+    {
+        self.wanted = Some(count);
+    }
+
+    fn advance(&mut self, bytes: &[u8]) -> (usize, Ready)
+        ensures taken { result.0 ≡ (feed_of self.old bytes.now).taken }
+        ensures ready { result.1 ≡ (feed_of self.old bytes.now).ready }
+        ensures state { self.new ≡ (feed_of self.old bytes.now).lines }
+        ensures begun { is_begun self.old.wanted self.old.begun ≡ true }
+        ensures within { result.0 ≤ length bytes.now }
+        ensures some { result.1 ≡ Ready.Line → 0 < result.0 }
+    {
+        if self.overlong {
+            return (0, Ready::TooLong);
+        }
+        if self.is_whole {
+            self.kept.clear();
+            self.is_whole = false;
+        }
+        let (taken, ready) = match self.wanted {
+            None => take_line(&mut self.kept, bytes),
+            Some(count) => take_payload(&mut self.kept, count, bytes),
+        };
+        match ready {
+            Ready::More => {}
+            Ready::Line | Ready::Payload => {
+                self.is_whole = true;
+                self.wanted = None;
+            }
+            Ready::TooLong => self.overlong = true,
+        }
+        (taken, ready)
+    }
+}
+
+// How many bytes stand before the first LF.
+fn line_end(bytes: &[u8]) -> usize
+    ensures within { result ≤ length bytes.now }
+    ensures value { result ≡ position_or_len is_lf bytes.now }
+{
+    for (i, byte) in bytes.iter().enumerate() {
+        if *byte == b'\n' {
+            return i;
+        }
+    }
+    bytes.len()
+}
+
+// Appends bytes in the room that is there for them.
+fn keep(kept: &mut Vec<u8>, bytes: &[u8])
+    requires { length kept.old.items + length bytes.now ≤ vec_capacity kept.old }
+    ensures items { kept.new.items ≡ kept.old.items ++ bytes.now }
+    ensures room { vec_capacity kept.old ≤ vec_capacity kept.new }
+{
+    let _ = kept.extend_from_slice(bytes);
+}
+
+// Takes bytes to those of a line.
+fn take_line(kept: &mut Vec<u8>, bytes: &[u8]) -> (usize, Ready)
+    requires begun { is_begun None kept.old.items ≡ true }
+    requires room { 65536 ≤ vec_capacity kept.old }
+    ensures takes { Takes None kept.old.items bytes.now result.0 result.1 kept.new.items }
+    ensures within { result.0 ≤ length bytes.now }
+    ensures some { result.1 ≡ Ready.Line → 0 < result.0 }
+    ensures room { 65536 ≤ vec_capacity kept.new }
+{
+    let end = line_end(bytes);
+    if kept.len() + end > MAX_LINE {
+        return (0, Ready::TooLong);
+    }
+    keep(kept, &bytes[..end]);
+    if end == bytes.len() {
+        return (end, Ready::More);
+    }
+    let len = len_without_returns(kept);
+    kept.truncate(len);
+    (end + 1, Ready::Line)
+}
+
+// Takes bytes to those of a payload of `count` bytes.
+fn take_payload(kept: &mut Vec<u8>, count: u32, bytes: &[u8]) -> (usize, Ready)
+    requires begun { is_begun (Some count) kept.old.items ≡ true }
+    requires room { 65536 ≤ vec_capacity kept.old }
+    ensures takes { Takes (Some count) kept.old.items bytes.now result.0 result.1 kept.new.items }
+    ensures within { result.0 ≤ length bytes.now }
+    ensures some { result.1 ≡ Ready.Line → 0 < result.0 }
+    ensures room { 65536 ≤ vec_capacity kept.new }
+{
+    let missing = count as usize - kept.len();
+    if bytes.len() < missing {
+        keep(kept, bytes);
+        return (bytes.len(), Ready::More);
+    }
+    keep(kept, &bytes[..missing]);
+    (missing, Ready::Payload)
+}

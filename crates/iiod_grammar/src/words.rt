@@ -1,0 +1,111 @@
+//! The words that stand for something in a command line.
+
+ghost use Rattle.std.specs.Prelude.{◌≡◌, drop, option_map};
+ghost use Rattle.std.specs.Str.{bytes_eq};
+ghost use Rattle.iiod_grammar.specs.Command.{entry_of, places, commands};
+ghost use Rattle.iiod_grammar.specs.Parts.{place_form, command_form};
+
+/// A word for a place, which is never an attribute's name.
+#[derive(Clone, Copy)]
+pub(crate) enum PlaceWord {
+    Buffer,
+    Debug,
+    Input,
+    Output,
+}
+
+/// The first word of a command.
+#[derive(Clone, Copy)]
+pub(crate) enum Verb {
+    Help,
+    Exit,
+    Version,
+    Print,
+    Timeout,
+    Open,
+    Close,
+    Read,
+    Write,
+    ReadBuf,
+    WriteBuf,
+    GetTrig,
+    SetTrig,
+    Set,
+    EvOpen,
+    EvRead,
+    EvClose,
+}
+
+pub(crate) fn is_word(word: &[u8], wanted: &[u8]) -> bool
+    ensures { result ≡ bytes_eq word.now wanted.now }
+{
+    word == wanted
+}
+
+pub(crate) fn place_word(word: &[u8]) -> Option<PlaceWord>
+    ensures { option_map place_form result ≡ entry_of places word.now }
+{
+    if is_word(word, b"BUFFER") {
+        Some(PlaceWord::Buffer)
+    } else if is_word(word, b"DEBUG") {
+        Some(PlaceWord::Debug)
+    } else if is_word(word, b"INPUT") {
+        Some(PlaceWord::Input)
+    } else if is_word(word, b"OUTPUT") {
+        Some(PlaceWord::Output)
+    } else {
+        None
+    }
+}
+
+/// The command of a first word, in upper case alone.
+pub(crate) fn verb_of(word: &[u8]) -> Option<Verb>
+    ensures { option_map command_form result ≡ entry_of commands word.now }
+{
+    if is_word(word, b"HELP") {
+        Some(Verb::Help)
+    } else if is_word(word, b"EXIT") {
+        Some(Verb::Exit)
+    } else if is_word(word, b"VERSION") {
+        Some(Verb::Version)
+    } else if is_word(word, b"PRINT") {
+        Some(Verb::Print)
+    } else if is_word(word, b"TIMEOUT") {
+        Some(Verb::Timeout)
+    } else if is_word(word, b"OPEN") {
+        Some(Verb::Open)
+    } else if is_word(word, b"CLOSE") {
+        Some(Verb::Close)
+    } else if is_word(word, b"READ") {
+        Some(Verb::Read)
+    } else if is_word(word, b"WRITE") {
+        Some(Verb::Write)
+    } else {
+        later_verb_of(word)
+    }
+}
+
+// The same, of the words that stand after WRITE in the table.
+fn later_verb_of(word: &[u8]) -> Option<Verb>
+    ensures { option_map command_form result ≡ entry_of (drop 9 commands) word.now }
+{
+    if is_word(word, b"READBUF") {
+        Some(Verb::ReadBuf)
+    } else if is_word(word, b"WRITEBUF") {
+        Some(Verb::WriteBuf)
+    } else if is_word(word, b"GETTRIG") {
+        Some(Verb::GetTrig)
+    } else if is_word(word, b"SETTRIG") {
+        Some(Verb::SetTrig)
+    } else if is_word(word, b"SET") {
+        Some(Verb::Set)
+    } else if is_word(word, b"EVOPEN") {
+        Some(Verb::EvOpen)
+    } else if is_word(word, b"EVREAD") {
+        Some(Verb::EvRead)
+    } else if is_word(word, b"EVCLOSE") {
+        Some(Verb::EvClose)
+    } else {
+        None
+    }
+}

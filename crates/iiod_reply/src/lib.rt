@@ -1,0 +1,104 @@
+//! The answers of libiio 0.25's iiod to a connection, as bytes.
+//!
+//! A number is a line of its own. A value is the number of its bytes, the bytes, and LF. A block of READBUF is the number
+//! of its bytes, the mask that they are under, the bytes, and a closing 0 where fewer came than were asked for.
+#![tactic(auto)]
+
+ghost use Rattle.std.specs.Prelude.{◌≡◌, ◌+◌, ◌^◌, ◌≤◌, ◌<◌, ◌++◌, length, vec_capacity};
+ghost use Rattle.iio_mask.specs.Text.{digit_count};
+ghost use Rattle.iiod_reply.specs.Reply.{Number, Value, text_of, block_text, closing_text, Appends, FitsInRoom};
+
+pub use iio_base::Mem;
+use iio_mask::Mask;
+use itoa::Buffer;
+
+/// Appends a number as a plain answer: its decimal digits, with a `-` before them where it is negative, and LF. A refusal
+/// is minus its `Errno`'s number. After `Mem`, `out` is unchanged.
+pub fn number(n: i64, out: &mut Vec<u8>) -> Result<(), Mem>
+    ensures text { Appends (text_of (Number n)) out.old.items result out.new.items }
+    ensures room { FitsInRoom (text_of (Number n)) out.old.items (vec_capacity out.old) result }
+{
+    let mut buffer = Buffer::new();
+    let digits = buffer.format(n).as_bytes();
+    out.reserve(digits.len() + 1)?;
+    append(digits, out);
+    append(b"\n", out);
+    Ok(())
+}
+
+/// Appends a value: the number of its bytes, LF, the bytes, LF. The number doesn't count the last LF. After `Mem`, `out` is
+/// unchanged.
+pub fn value(bytes: &[u8], out: &mut Vec<u8>) -> Result<(), Mem>
+    ensures text { Appends (text_of (Value bytes.now)) out.old.items result out.new.items }
+    ensures room { FitsInRoom (text_of (Value bytes.now)) out.old.items (vec_capacity out.old) result }
+{
+    let mut buffer = Buffer::new();
+    let count = buffer.format(bytes.len()).as_bytes();
+    out.reserve(count.len() + 1 + bytes.len() + 1)?;
+    append(count, out);
+    append(b"\n", out);
+    append(bytes, out);
+    append(b"\n", out);
+    Ok(())
+}
+
+/// Appends a block of READBUF: the number of the scans' bytes, LF, the mask's text for that many channels, LF, the bytes
+/// of the scans, and `0`, LF exactly where these are fewer than the bytes asked for.
+///
+/// After `Mem`, `out` is unchanged. Where `out` has the room for the block already, `Mem` doesn't come: a caller reserves
+/// it before the scans are taken, so that none is taken and then lost.
+pub fn block(
+    mask: Mask,
+    channels: u32,
+    scans: &[u8],
+    asked: u32,
+    out: &mut Vec<u8>,
+) -> Result<(), Mem>
+    requires some { 1 ≤ channels }
+    requires few { channels ≤ 64 }
+    requires below { mask.bits < 2 ^ channels }
+    requires taken { 1 ≤ length scans.now }
+    requires within { length scans.now ≤ asked }
+    ensures text { Appends (block_text channels mask.bits scans.now asked) out.old.items result out.new.items }
+    ensures room { FitsInRoom (block_text channels mask.bits scans.now asked) out.old.items (vec_capacity out.old) result }
+{
+    let mut buffer = Buffer::new();
+    let count = buffer.format(scans.len()).as_bytes();
+    let digits = mask.digits(channels);
+    let digits = &digits[..digit_count(channels)];
+    let closing = closing(scans.len(), asked);
+    out.reserve(count.len() + 1 + digits.len() + 1 + scans.len() + closing.len())?;
+    append(count, out);
+    append(b"\n", out);
+    append(digits, out);
+    append(b"\n", out);
+    append(scans, out);
+    append(closing, out);
+    Ok(())
+}
+
+// How many digits the text of a mask has.
+fn digit_count(channels: u32) -> usize
+    ensures { result ≡ digit_count channels }
+{
+    if channels <= 32 { 8 } else { 16 }
+}
+
+// The line that ends a block, if any.
+fn closing(came: usize, asked: u32) -> &'static [u8]
+    ensures { result.now ≡ closing_text came asked }
+{
+    if came < asked as usize { b"0\n" } else { b"" }
+}
+
+// Appends bytes in the room that is there for them.
+fn append(bytes: &[u8], out: &mut Vec<u8>)
+    requires { length out.old.items + length bytes.now ≤ vec_capacity out.old }
+    ensures items { out.new.items ≡ out.old.items ++ bytes.now }
+    ensures room { vec_capacity out.old ≤ vec_capacity out.new }
+{
+    let _ = out.extend_from_slice(bytes);
+}
+
+#[cfg(test)]
+mod tests;
