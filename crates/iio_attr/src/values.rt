@@ -8,7 +8,7 @@ use iio_text::Fixed;
 pub enum Value {
     /// A number that is stored or counted.
     Number(Fixed),
-    /// A sample: the answer of `raw` alone.
+    /// A whole number of 64 bits: a sample, a bias, a threshold, or a switch as 0 or 1.
     Int(i64),
     /// A device's name.
     Text(Name),

@@ -1,10 +1,10 @@
 -- Outstanding entries, by the newest event.
-use Rattle.std.proofs.Common.{◌≡◌, ℕ, zero, suc, Bool, true, false, ℤ, List, [], ◌∷◌, Option, Some, None, slice_get, option_map, cond, refl, sym, ap, ◌∙◌}
+use Rattle.std.proofs.Common.{◌≡◌, ℕ, zero, suc, ℤ, List, [], ◌∷◌, Option, Some, None, slice_get, option_map, cond, refl, sym, ap, ◌∙◌}
+use Rattle.iio_trigger.specs.Trigger.{poll_made}
 use Rattle.iio_history.specs.Event.{Event, Polled, Handled}
 use Rattle.iio_history.specs.Registry.{Setup, outlines_of, Trigger, Entry, entries_from, without_entry}
-use Rattle.iio_history.specs.Places.{at_place, is_empty}
+use Rattle.iio_device.specs.Site.{at_place, is_empty}
 use Rattle.iio_history.specs.Fold.{polled, handled, outstanding, registry_after}
-use Rattle.iio_sensor.specs.Driver.{next_count}
 
 got_at : {A : Type 0} (k : ℕ) (f : A → A) (xs : List A) → slice_get (at_place k f xs) k ≡ option_map f (slice_get xs k)
 got_at k f [] = refl
@@ -23,9 +23,10 @@ abbrev entries_by : Option Trigger → List Entry
 entries_by None = []
 entries_by (Some t) = t.entries
 
-polled_by : (b : Bool) (t : Trigger) (es : List Entry) → (cond b (record t { entries = es }) (record t { missed = next_count t.missed })).entries ≡ cond b es t.entries
-polled_by true t es = refl
-polled_by false t es = refl
+-- a poll is accepted exactly where nothing is outstanding
+made_is : (made es : List Entry) → poll_made made es ≡ cond (is_empty es) made es
+made_is made [] = refl
+made_is made (e ∷ es) = refl
 
 pub outstanding_is : (s : Setup) (h : List Event) (trigger : ℕ) (t : Trigger) → slice_get (registry_after s h).triggers trigger ≡ Some t
     → ((moment : ℤ) → outstanding s trigger (Polled trigger moment ∷ h) ≡ cond (is_empty (outstanding s trigger h)) (entries_from 0 trigger moment (outlines_of (registry_after s h))) (outstanding s trigger h))
@@ -36,7 +37,7 @@ outstanding_is s h trigger t is =
     let r = registry_after s h in
     let here : outstanding s trigger h ≡ t.entries = ap entries_by is in (
       λ (moment : ℤ). ap entries_by (got_at trigger (polled (outlines_of r) trigger moment) r.triggers ∙ ap (option_map (polled (outlines_of r) trigger moment)) is)
-          ∙ polled_by (is_empty t.entries) t (entries_from 0 trigger moment (outlines_of r))
+          ∙ made_is (entries_from 0 trigger moment (outlines_of r)) t.entries
           ∙ ap (λ (es : List Entry). cond (is_empty es) (entries_from 0 trigger moment (outlines_of r)) es) (sym here),
       λ (k : ℕ). ap entries_by (got_at trigger (handled k) r.triggers ∙ ap (option_map (handled k)) is) ∙ ap (without_entry k) (sym here),
       λ (other : ℕ) (moment : ℤ) (apart : other ≡ trigger → ⊥). ap entries_by (got_elsewhere other trigger (polled (outlines_of r) other moment) r.triggers apart),

@@ -1,7 +1,6 @@
 -- A description is read once: at the head of an input, and as a text of its own.
-use Rattle.std.proofs.Common.{◌≡◌, ℕ, suc, ◌+◌, false, List, [], ◌∷◌, length, Ok, Err, refl, sym, ap, ◌∙◌, arith}
+use Rattle.std.proofs.Common.{◌≡◌, ℕ, ◌+◌, false, List, [], ◌∷◌, length, Ok, Err, refl, sym, ap, ◌∙◌, arith}
 use Rattle.iio_text.specs.Lines.{lines_of}
-use Rattle.iio_desc.specs.Lines.{is_end}
 use Rattle.iio_desc.specs.declared.reader.DescFault.{DescFault}
 use Rattle.iio_desc.specs.DescReader.{Reader, new_reader, after_line, read_lines, read_of, finished}
 use Rattle.iio_history.specs.Law.{NoneEnds}

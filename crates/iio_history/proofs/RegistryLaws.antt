@@ -8,10 +8,11 @@ use Rattle.iio_mask.specs.Text.{mask_of}
 use Rattle.iio_layout.specs.Shape.{count_of}
 use Rattle.iiod_grammar.specs.Command.{Open, Close, Read, ReadBuf, SetTrig, EvOpen, EvRead, EvClose}
 use Rattle.iio_desc.specs.Description.{DeviceRecord}
+use Rattle.iio_device.specs.Site.{is_current}
 use Rattle.iio_history.specs.Who.{Who, Conn, same, is_among}
 use Rattle.iiod_grammar.specs.Stream.{Item, Said, Written}
 use Rattle.iio_history.specs.Event.{Event, Heard, Handled, Sensed, Unplugged, Remasked}
-use Rattle.iio_history.specs.Registry.{Setup, Member, Device, Outline, outline_of, outlines_of, Registry, Entry, entry_of, entries_at, buffers_of, is_member, is_named, member_of, without_members, is_current}
+use Rattle.iio_history.specs.Registry.{Setup, Member, Device, Outline, outline_of, outlines_of, Registry, Entry, entry_of, entries_at, buffers_of, is_member, is_named, member_of, without_members}
 use Rattle.iio_history.specs.Opening.{open_refusals, opened, member_asked, Remask, remasked, trigger_answer}
 use Rattle.iio_history.specs.Act.{Act, Nothing, Joining, Remasking, Leaving, Ending, Reading, Holding, Draining, Releasing, Sensing, Unplugging, Asking, Retriggering, only, accepted, found, write_found, asking, setting, handled_entry, handled_act, item_act, act_of}
 use Rattle.iio_history.specs.Fold.{with_mask, members_after, first_device, device_after, registry_after}
@@ -86,7 +87,7 @@ fits_remask d who text true (Some m) is =
 
 fits_entry : (o : Outline) (d : Device) (e : Option Entry) → Fits (handled_act o e) d
 fits_entry o d None = tt
-fits_entry o d (Some e) = by_test (is_current e o) (Rattle.iio_sensor.specs.Driver.ask_fails o.site.driver)
+fits_entry o d (Some e) = by_test (is_current e.attachment o.site.attachment o.masks o.site.plugged) (Rattle.iio_sensor.specs.Driver.ask_fails o.site.driver)
   where
     by_test : (a b : Bool) → Fits (cond (Rattle.std.specs.Prelude.not a) Nothing (cond b (Rattle.iio_history.specs.Act.Failing e.moment) (Rattle.iio_history.specs.Act.Capturing (record { moment = e.moment; values = Rattle.iio_sensor.specs.Driver.values_of o.site.driver o.shape e.moment })))) d
     by_test false b = tt

@@ -8,12 +8,12 @@ use Rattle.iio_attr.specs.declared.attributes.Attr.{Attr}
 use Rattle.iio_attr.specs.declared.attributes.Attr.TheVariants as attr
 use Rattle.iio_attr.specs.Attributes.{check_of}
 use Rattle.iio_sensor.specs.Driver.{values_of, ask_fails}
+use Rattle.iio_device.specs.Site.{is_current, is_empty}
 use Rattle.iiod_grammar.specs.Command.{Place, Open, Close, Read, ReadBuf, SetTrig, EvOpen, EvRead, EvClose}
-use Rattle.iio_history.specs.Places.{is_empty}
 use Rattle.iio_history.specs.Who.{Who, Conn}
 use Rattle.iiod_grammar.specs.Stream.{Item, Said, Written, End}
 use Rattle.iio_history.specs.Event.{Event, Heard, Dropped, Handled, Sensed, Unplugged, Remasked}
-use Rattle.iio_history.specs.Registry.{Setup, Member, Device, Outline, outline_of, Registry, Capture, Entry, is_member, is_named, buffers_of, entries_at, entry_of, is_current}
+use Rattle.iio_history.specs.Registry.{Setup, Member, Device, Outline, outline_of, Registry, Capture, Entry, is_member, is_named, buffers_of, entries_at, entry_of}
 use Rattle.iio_history.specs.Attributes.{Named, named_at, is_of_buffer}
 use Rattle.iio_history.specs.Opening.{open_answer, remask_answer, trigger_answer}
 
@@ -93,7 +93,7 @@ asking d target = only (is_raw target.attribute && is_empty d.members) Asking
 -- the handling of an entry
 abbrev pub handled_entry : Outline → Entry → Act
 handled_entry o e =
-    if not (is_current e o) then Nothing
+    if not (is_current e.attachment o.site.attachment o.masks o.site.plugged) then Nothing
     else if ask_fails o.site.driver then Failing e.moment
     else Capturing (record { moment = e.moment; values = values_of o.site.driver o.shape e.moment })
 

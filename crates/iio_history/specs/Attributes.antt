@@ -1,25 +1,21 @@
--- What READ and WRITE name at a device, and the values that stand there. (Kernel ABI, sysfs-bus-iio.)
-use Rattle.std.specs.Prelude.{ℕ, codes, if◌then◌else◌, Bool, true, false, List, Option, Some, None, Result, Ok, Err, slice_get, unwrap_or}
+-- What READ and WRITE name at a device, and the texts of the values that stand there. (Kernel ABI, sysfs-bus-iio.)
+use Rattle.std.specs.Prelude.{ℕ, Bool, true, false, List, Option, Some, None, Result, Ok, Err}
 use Rattle.std.specs.Fmt.{signed_decimal}
 use Rattle.std.specs.Option.{ok_or}
 use Rattle.iio_base.specs.Refusals.{◌>>=◌}
 use Rattle.iio_text.specs.declared.errors.Errno.{Errno}
 use Rattle.iio_text.specs.declared.errors.Errno.TheVariants.{ENOENT, ENOSYS}
-use Rattle.iio_text.specs.declared.values.Fixed.{Fixed}
-use Rattle.iio_text.specs.declared.values.Form.TheVariants.{Int}
-use Rattle.iio_text.specs.Fixed.{fixed_int, printed_fixed}
+use Rattle.iio_text.specs.Fixed.{printed_fixed}
 use Rattle.iio_attr.specs.declared.attributes.Attr.{Attr}
-use Rattle.iio_attr.specs.declared.attributes.Attr.TheVariants as attr
 use Rattle.iio_attr.specs.declared.attributes.Scope.TheVariants as scope
-use Rattle.iio_attr.specs.Attributes.{find_of, first_value, whole_value}
+use Rattle.iio_attr.specs.declared.values.Value.{Value}
+use Rattle.iio_attr.specs.declared.values.Value.TheVariants.{Number, Int, Text}
+use Rattle.iio_attr.specs.Attributes.{find_of}
 use Rattle.iio_layout.specs.Shape.{ShapeRecord, channel_of}
-use Rattle.iio_sensor.specs.Driver.{after_bias}
+use Rattle.iio_device.specs.Site.{Site}
+use Rattle.iio_device.specs.Stored.{attr_value}
 use Rattle.iiod_grammar.specs.Command.{Place, AtDevice, AtBuffer, AtInput}
-use Rattle.iio_history.specs.Places.{at_place}
-use Rattle.iio_event.specs.declared.event.Edge.TheVariants.{Rising, Falling}
-use Rattle.iio_event.specs.Monitor.{watch_at}
-use Rattle.iio_history.specs.Monitor.{monitor_written}
-use Rattle.iio_history.specs.Registry.{ChannelValues, Site}
+use Rattle.iio_history.specs.Who.{Who}
 
 -- ---- names
 
@@ -51,51 +47,12 @@ is_of_buffer place attribute = false
 
 -- ---- values
 
--- before any was written
-abbrev pub at_first : Attr → Fixed
-at_first a = unwrap_or (first_value a) (whole_value Int 0)
-
-abbrev pub first_values : ChannelValues
-first_values = record { scale = at_first attr.Scale; offset = at_first attr.Offset; calibscale = at_first attr.Calibscale }
-
-abbrev pub with_value : Attr → Fixed → ChannelValues → ChannelValues
-with_value attr.Scale v x = record x { scale = v }
-with_value attr.Offset v x = record x { offset = v }
-with_value attr.Calibscale v x = record x { calibscale = v }
-with_value a v x = x
-
--- what stands at a device once a value was written
-abbrev pub site_written : Option ℕ → Attr → Fixed → Site → Site
-site_written None attr.SamplingFrequency v site = record site { sampling_frequency = v }
-site_written (Some c) attr.Calibbias v site = record site { driver = after_bias site.driver c (fixed_int v) }
-site_written (Some c) a v site = record site {
-  values = at_place c (with_value a v) site.values;
-  monitor = monitor_written c a v site.monitor;
-}
-site_written None a v site = site
-
--- the text of a value that is only kept
-abbrev pub kept_value : Attr → ChannelValues → Fixed
-kept_value attr.Scale x = x.scale
-kept_value attr.Offset x = x.offset
-kept_value a x = x.calibscale
-
-abbrev pub values_at : Site → ℕ → ChannelValues
-values_at site c = unwrap_or (slice_get site.values c) first_values
-
-abbrev pub switch_text : Bool → List ℕ
-switch_text on = if on then codes "1" else codes "0"
-
-abbrev pub channel_text : Attr → ℕ → Site → List ℕ
-channel_text attr.Calibbias c site = signed_decimal (site.driver.bias c)
-channel_text attr.ThreshRisingValue c site = signed_decimal (watch_at c Rising site.monitor).threshold
-channel_text attr.ThreshFallingValue c site = signed_decimal (watch_at c Falling site.monitor).threshold
-channel_text attr.ThreshRisingEn c site = switch_text (watch_at c Rising site.monitor).enabled
-channel_text attr.ThreshFallingEn c site = switch_text (watch_at c Falling site.monitor).enabled
-channel_text a c site = printed_fixed (kept_value a (values_at site c))
+-- as READ answers it
+abbrev pub text_of_value : Value → List ℕ
+text_of_value (Number v) = printed_fixed v
+text_of_value (Int n) = signed_decimal n
+text_of_value (Text text) = text
 
 -- the text of an attribute of a device of that name, or of a channel of it; `raw` isn't kept
-abbrev pub value_text : List ℕ → Option ℕ → Attr → Site → List ℕ
-value_text name None attr.SamplingFrequency site = printed_fixed site.sampling_frequency
-value_text name None a site = name
-value_text name (Some c) a site = channel_text a c site
+abbrev pub value_text : List ℕ → Option ℕ → Attr → Site Who → List ℕ
+value_text name channel a site = text_of_value (attr_value name channel a site)

@@ -4,7 +4,7 @@ use Rattle.iio_text.specs.Lines.{lines_of}
 use Rattle.iio_layout.specs.Layout.{scan_size}
 use Rattle.iio_desc.specs.DescReader.{new_reader, read_of}
 use Rattle.iio_desc.specs.Lines.{is_end}
-use Rattle.iio_history.specs.Places.{is_empty}
+use Rattle.iio_device.specs.Site.{is_empty}
 use Rattle.iio_history.specs.Who.{Who, Conn, same}
 use Rattle.iiod_grammar.specs.Stream.{Item}
 use Rattle.iio_history.specs.Event.{Event, Heard, Dropped, Polled, Handled}

@@ -5,13 +5,16 @@ use Rattle.std.specs.Option.{ok_or}
 use Rattle.iio_base.specs.Refusals.{ensure, ◌>>=◌, first_refusal, unless_refused}
 use Rattle.iio_text.specs.declared.errors.Errno.{Errno}
 use Rattle.iio_text.specs.declared.errors.Errno.TheVariants.{EBADF, EBUSY, ENODEV, EINVAL, ENOSPC, ENOSYS, ENOENT}
-use Rattle.iio_mask.specs.Mask.{union_of, union_of_all}
 use Rattle.iio_mask.specs.Text.{mask_of}
 use Rattle.iio_layout.specs.Shape.{ShapeRecord, count_of}
-use Rattle.iio_layout.specs.Active.{active_of, has_data}
+use Rattle.iio_layout.specs.Active.{has_data}
 use Rattle.iio_layout.specs.Layout.{scan_size}
 use Rattle.iio_desc.specs.Description.{find_trigger, place_count}
-use Rattle.iio_history.specs.Places.{is_empty}
+use Rattle.iio_device.specs.declared.roster.JoinFault.{JoinFault}
+use Rattle.iio_device.specs.declared.roster.JoinFault.TheVariants as fault
+use Rattle.iio_device.specs.Active.{is_without_union}
+use Rattle.iio_device.specs.Joining.{member_faults}
+use Rattle.iio_device.specs.Site.{is_empty}
 use Rattle.iio_history.specs.Who.{Who}
 use Rattle.iio_history.specs.Registry.{Setup, Member, Device, Outline, outline_of, outlines_of, Registry, is_member, member_of, without_members, mask_of_member, attached_count}
 
@@ -38,17 +41,28 @@ asked_refusals is_gone is_cyclic is_no_mask is_without_data is_too_much is_open 
     ∷ (is_open, EBUSY)
     ∷ []
 
+-- what a fault of joining is answered with; want of memory has its own answer, which is no errno
+abbrev pub errno_of : JoinFault → Option Errno
+errno_of fault.Gone = Some ENODEV
+errno_of fault.BadMask = Some EINVAL
+errno_of fault.NoTrigger = Some EINVAL
+errno_of fault.NoUnion = Some EINVAL
+errno_of fault.NoPlace = Some ENOSPC
+errno_of fault.Mem = None
+
+-- one refusal more, where its fault has an errno
+abbrev pub with_errno : Bool → Option Errno → List (Bool × Errno) → List (Bool × Errno)
+with_errno applies None refusals = refusals
+with_errno applies (Some errno) refusals = (applies, errno) ∷ refusals
+
+-- the same refusals in the same order, by their errnos
+abbrev pub errnos_of : List (Bool × JoinFault) → List (Bool × Errno)
+errnos_of [] = []
+errnos_of (r ∷ rs) = with_errno r.0 (errno_of r.1) (errnos_of rs)
+
 -- a member more at a device
 abbrev pub join_refusals : Bool → Bool → Bool → List (Bool × Errno)
-join_refusals is_without_trigger is_without_union is_full =
-    (is_without_trigger, EINVAL)
-    ∷ (is_without_union, EINVAL)
-    ∷ (is_full, ENOSPC)
-    ∷ []
-
--- whether no mask that the sensor can be asked under serves the members and that mask besides
-abbrev pub is_without_union : Outline → ℕ → Bool
-is_without_union o mask = is_none (active_of o.shape (union_of mask (union_of_all o.masks)))
+join_refusals is_without_trigger is_without_union is_full = errnos_of (member_faults is_without_trigger is_without_union is_full)
 
 -- whether a trigger has no place for one device more
 abbrev pub has_no_place : Setup → List Outline → Option ℕ → Bool
@@ -59,7 +73,7 @@ has_no_place s outlines (Some trigger) = not (nat_lt (attached_count trigger out
 abbrev pub open_refusals : Setup → List Outline → Outline → Bool → Bool → Bool → ℕ → ℕ → List (Bool × Errno)
 open_refusals s outlines o is_open is_mask cyclic mask capacity =
     asked_refusals (not o.site.plugged) cyclic (not is_mask) (not (has_data o.shape mask)) (is_excess capacity (scan_size o.shape mask)) is_open
-    ++ join_refusals (is_none o.site.trigger) (is_without_union o mask) (is_empty o.masks && has_no_place s outlines o.site.trigger)
+    ++ join_refusals (is_none o.site.trigger) (is_without_union o.shape o.masks mask) (is_empty o.masks && has_no_place s outlines o.site.trigger)
 
 abbrev pub opened : Setup → List Outline → Outline → Bool → Bool → Bool → Member → Result Member Errno
 opened s outlines o is_open is_mask cyclic m =
@@ -82,7 +96,7 @@ remask_refusals shape others m is_mask mask =
     (not is_mask, EINVAL)
     ∷ (not (has_data shape mask), EINVAL)
     ∷ (nat_lt max_bytes (m.capacity * scan_size shape mask), EINVAL)
-    ∷ (is_none (active_of shape (union_of mask (union_of_all others))), EINVAL)
+    ∷ (is_without_union shape others mask, EINVAL)
     ∷ []
 
 -- a mask is given to a member

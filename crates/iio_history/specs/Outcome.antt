@@ -1,7 +1,6 @@
 -- What an input prints, and how it ends: its lines are a description and, after the line that ends it, a script. (This
 -- project's own.)
 use Rattle.std.specs.Prelude.{ℕ, ◌+◌, Bool, List, [], ◌∷◌, length, Result, Ok, Err, if◌then◌else◌}
-use Rattle.iio_text.specs.declared.refusals.Why.{Why}
 use Rattle.iio_sensor.specs.Driver.{Driver}
 use Rattle.iio_desc.specs.declared.reader.DescFault.{DescFault}
 use Rattle.iio_desc.specs.declared.reader.DescFault.TheVariants.{Line, Mem}

@@ -2,14 +2,10 @@
 -- data. There is no queue, no scan and no copy table in it.
 use Rattle.std.specs.Prelude.{ℕ, suc, ◌==◌, ◌||◌, ◌&&◌, not, Bool, false, List, [], ◌∷◌, map, slice_get, slice_index_or, Option, Some, None, if◌then◌else◌, ℤ}
 use Rattle.std.specs.Str.{bytes_eq}
-use Rattle.iio_text.specs.declared.values.Fixed.{Fixed}
-use Rattle.iio_mask.specs.Mask.{union_of_all}
 use Rattle.iio_layout.specs.Shape.{ShapeRecord}
-use Rattle.iio_layout.specs.Active.{active_of}
 use Rattle.iio_sensor.specs.Driver.{Driver}
 use Rattle.iio_desc.specs.Description.{Description, find_device}
-use Rattle.iio_event.specs.Monitor.{MonitorRecord}
-use Rattle.iio_history.specs.Places.{is_empty}
+use Rattle.iio_device.specs.Site.{Site, is_empty}
 use Rattle.iio_history.specs.Who.{Who, same, is_among}
 
 -- ---- plain data
@@ -25,33 +21,16 @@ pub record Member : Type 0 where
   pub mask : ℕ
   pub capacity : ℕ
 
--- the values of a channel's attributes that are only kept
-pub record ChannelValues : Type 0 where
-  pub scale : Fixed
-  pub offset : Fixed
-  pub calibscale : Fixed
-
--- what stands at a device, but for its shape and its members
-pub record Site : Type 0 where
-  pub plugged : Bool
-  pub trigger : Option ℕ
-  -- how often a first member has joined: the number of the present attachment
-  pub attachment : ℕ
-  pub driver : Driver
-  pub sampling_frequency : Fixed
-  pub values : List ChannelValues
-  pub monitor : MonitorRecord Who
-
 -- a device: its shape, which nothing changes, and its members in the order of their joining
 pub record Device : Type 0 where
   pub shape : ShapeRecord
-  pub site : Site
+  pub site : Site Who
   pub members : List Member
 
 -- what a device is to its trigger, to its sensor and to a new member: there are no names in it
 pub record Outline : Type 0 where
   pub shape : ShapeRecord
-  pub site : Site
+  pub site : Site Who
   pub masks : List ℕ
 
 -- a device that a trigger woke, the number of its attachment then, and the moment of the poll
@@ -105,10 +84,6 @@ member_of who (m ∷ ms) = if same who m.who then Some m else member_of who ms
 abbrev pub without_members : List Who → List Member → List Member
 without_members gone [] = []
 without_members gone (m ∷ ms) = if is_among m.who gone then without_members gone ms else m ∷ without_members gone ms
-
--- the mask that a device's sensor is asked under
-abbrev pub active_mask : Outline → Option ℕ
-active_mask o = active_of o.shape (union_of_all o.masks)
 
 abbrev pub is_at : Option ℕ → ℕ → Bool
 is_at None k = false
@@ -169,8 +144,3 @@ entries_from device trigger moment (o ∷ os) =
     if is_attached trigger o
     then record { device = device; attachment = o.site.attachment; moment = moment } ∷ entries_from (suc device) trigger moment os
     else entries_from (suc device) trigger moment os
-
--- whether the handling of an entry asks the sensor: the entry is of the present attachment, there is a member, and the
--- device is plugged
-abbrev pub is_current : Entry → Outline → Bool
-is_current e o = e.attachment == o.site.attachment && not (is_empty o.masks) && o.site.plugged

@@ -3,10 +3,12 @@ use Rattle.std.specs.Prelude.{ℕ, List, [], ◌∷◌, ◌++◌, map, if◌then
 use Rattle.std.specs.Str.{bytes_eq}
 use Rattle.iio_layout.specs.Shape.{ShapeRecord}
 use Rattle.iio_layout.specs.Layout.{scan_size}
+use Rattle.iio_device.specs.Site.{Site}
 use Rattle.iio_history.specs.Places.{map_from}
+use Rattle.iio_history.specs.Who.{Who}
 use Rattle.iiod_grammar.specs.Stream.{Scanner, InLine, scanner_after}
 use Rattle.iio_history.specs.Event.{Event, Arrived}
-use Rattle.iio_history.specs.Registry.{Setup, Member, Site, Device, Trigger, User, Registry}
+use Rattle.iio_history.specs.Registry.{Setup, Member, Device, Trigger, User, Registry}
 use Rattle.iio_history.specs.Fold.{registry_after}
 use Rattle.iio_history.specs.Log.{membership_log}
 use Rattle.iio_history.specs.Queue.{Queue, private_queue}
@@ -23,7 +25,7 @@ pub record Seat : Type 0 where
 pub record Station : Type 0 where
   pub shape : ShapeRecord
   pub joinings : ℕ
-  pub site : Site
+  pub site : Site Who
   pub seats : List Seat
 
 -- a connection, with what it sent that is not yet an item

@@ -5,12 +5,13 @@ use Rattle.iio_text.specs.Escape.{quoted}
 use Rattle.iio_sensor.specs.Driver.{next_count}
 use Rattle.iio_desc.specs.Description.{trigger_name, device_name}
 use Rattle.iiod_reply.specs.Reply.{line, text_of}
-use Rattle.iio_history.specs.Places.{is_empty}
+use Rattle.iio_device.specs.Sensing.{Sensed as Sensing, sensed}
+use Rattle.iio_device.specs.Site.{is_empty}
+use Rattle.iio_history.specs.Who.{Who}
 use Rattle.iiod_grammar.specs.Stream.{Scanner, InLine, items_from}
 use Rattle.iio_history.specs.Event.{Event, Arrived, Heard, Dropped, Polled, Handled, Clock, Sensed, Unplugged}
 use Rattle.iio_history.specs.Registry.{Setup, Entry, Trigger, entries_at, entry_of, entries_from, outline_of, outlines_of, has_ended, is_live}
 use Rattle.iio_history.specs.Act.{Act, Capturing, Failing, handled_act}
-use Rattle.iio_history.specs.Fold.{Sensed as Sensing, sensed}
 use Rattle.iio_history.specs.Told.{Line, Station, Told, device_of, registry_of, told}
 use Rattle.iio_history.specs.Reply.{reply}
 use Rattle.std.specs.Str.{bytes_eq}
@@ -83,7 +84,7 @@ abbrev pub handled_word : Option Station → Option Entry → List ℕ
 handled_word (Some st) (Some e) = act_word (handled_act (outline_of (device_of st)) (Some e))
 handled_word st e = codes "none"
 
-abbrev pub sensed_words : Sensing → List (List ℕ)
+abbrev pub sensed_words : Sensing Who → List (List ℕ)
 sensed_words x = if x.fault then codes "fault" ∷ [] else codes "sensed" ∷ decimal x.count ∷ []
 
 abbrev pub sense_words : Option Station → ℤ → List (List ℕ)

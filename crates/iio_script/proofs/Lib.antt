@@ -8,6 +8,7 @@ pub mod MaskLemmas
 pub mod OpenLemmas
 pub mod OpeningLaws
 pub mod ReadLemmas
+pub mod ShortLines
 pub mod StreamLaws
 pub mod PlayLaws
 pub mod OutcomeLaws

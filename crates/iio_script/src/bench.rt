@@ -92,14 +92,7 @@ impl Bench {
     }
 
     // READBUF: the device is unknown, it isn't open here, less than one scan is asked for, or what waits.
-    fn read_buf(
-        &mut self,
-        alloc: Global,
-        who: &Name,
-        dev: &[u8],
-        asked: u32,
-        out: &mut Vec<u8>,
-    ) -> Result<(), Mem>
+    fn read_buf(&mut self, who: &Name, dev: &[u8], asked: u32, out: &mut Vec<u8>) -> Result<(), Mem>
         requires { IsOwn who.now self.old.seat }
         ensures answer { OnOk result (out.new.items ≡ out.old.items
             ++ answer_by self.old.desc self.old.seat who.now (Ok (ReadBuf dev.now asked))) }
@@ -110,7 +103,7 @@ impl Bench {
     {
         match &mut self.station {
             None => push_refusal(out, Errno::ENODEV),
-            Some(station) => station.read_buf(alloc, who, dev, asked, out),
+            Some(station) => station.read_buf(who, dev, asked, out),
         }
     }
 
@@ -129,7 +122,7 @@ impl Bench {
     {
         match served(read_line(line)) {
             Err(Refused::Empty) => Ok(()),
-            Ok(Command::ReadBuf { dev, bytes }) => self.read_buf(alloc, who, dev, bytes, out),
+            Ok(Command::ReadBuf { dev, bytes }) => self.read_buf(who, dev, bytes, out),
             Ok(
                 Command::Open {
                     dev,

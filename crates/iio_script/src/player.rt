@@ -52,6 +52,7 @@ impl Player {
         alloc: Global,
         who: &Name,
         bytes: &[u8],
+        answers: &mut Vec<u8>,
         out: &mut Vec<u8>,
     ) -> Result<(), Mem>
         requires { IsOwn who.now self.old.bench.seat }
@@ -60,20 +61,26 @@ impl Player {
         ensures state { OnOk result (self.new ≡ with_seat self.old (Some who.now)
             (seat_after_items self.old.bench.desc self.old.bench.seat who.now (map item_of (lines_of bytes.now)))) }
     {
-        let mut answers = Vec::new(alloc);
-        self.bench.heard_lines(alloc, who, bytes, &mut answers)?;
+        answers.clear();
+        self.bench.heard_lines(alloc, who, bytes, answers)?;
         self.who = Some(who.copy());
         push_feed(out, who, answers.as_slice())
     }
 
-    /// One step, and the lines that it prints.
-    pub fn perform(&mut self, alloc: Global, step: &Step, out: &mut Vec<u8>) -> Result<(), Mem>
+    /// One step, and the lines that it prints. `answers` is room for the answers to a feed, whatever is in it.
+    pub fn perform(
+        &mut self,
+        alloc: Global,
+        step: &Step,
+        answers: &mut Vec<u8>,
+        out: &mut Vec<u8>,
+    ) -> Result<(), Mem>
         requires { IsReady self.old step.now }
         ensures lines { OnOk result (out.new.items ≡ out.old.items ++ step_lines self.old step.now) }
         ensures state { OnOk result (self.new ≡ after_step self.old step.now) }
     {
         match step {
-            Step::Feed(who, bytes) => self.feed(alloc, who, bytes.bytes(), out),
+            Step::Feed(who, bytes) => self.feed(alloc, who, bytes.bytes(), answers, out),
             Step::Fire(trigger, moment) => self.bench.fire(*trigger, *moment, out),
         }
     }

@@ -46,6 +46,7 @@ fn play_steps(
     requires few { first + length text.now < 2 ^ 32 }
     ensures { IfOk result (λ status. Finishes (play_lines overlong player.old.bench.desc [] first (lines_of text.now)) status out.old.items out.new.items) }
 {
+    let mut answers = Vec::new(alloc);
     let mut rest = text;
     let mut next = first;
     while let Some((line, more)) = next_line(rest) {
@@ -63,7 +64,7 @@ fn play_steps(
         if !player.accepts(&step) {
             return push_refused(alloc, out, number, step_why(Why::Limit));
         }
-        player.perform(alloc, &step, out)?;
+        player.perform(alloc, &step, &mut answers, out)?;
     }
     push_end(out, overlong)
 }

@@ -35,14 +35,15 @@ pub struct Demux {
     pub table: Table,
 }
 
-/// A member: the connection that opened the device, its mask, its queue, and room for a scan. Where the sensor is asked
-/// under another mask, the scan is copied from the one under that.
+/// A member: the connection that opened the device, its mask, its queue, room for a scan, and room for those that a
+/// READBUF takes. Where the sensor is asked under another mask, the scan is copied from the one under that.
 #[derive(Drop)]
 pub struct Seat {
     pub who: Name,
     pub mask: Mask,
     pub queue: Kfifo,
     pub scan: Vec<u8>,
+    pub taken: Vec<u8>,
     pub demux: Option<Demux>,
 }
 
@@ -174,6 +175,7 @@ impl Seat {
             mask,
             queue,
             scan,
+            taken: Vec::new(alloc),
             demux,
         })
     }
@@ -199,13 +201,7 @@ impl Seat {
 
     /// READBUF: as many whole scans as are asked for and wait, the oldest first. Where less than one is asked for, the
     /// queue stays.
-    pub fn read(
-        &mut self,
-        alloc: Global,
-        shape: &Shape,
-        asked: u32,
-        out: &mut Vec<u8>,
-    ) -> Result<(), Mem>
+    pub fn read(&mut self, shape: &Shape, asked: u32, out: &mut Vec<u8>) -> Result<(), Mem>
         requires { Fits shape.now self.old }
         ensures answer { OnOk result (out.new.items ≡ out.old.items ++ seat_answer shape.now asked (seat_of self.old)) }
         ensures fits { Fits shape.now self.new }
@@ -218,8 +214,13 @@ impl Seat {
         if self.queue.waiting() == 0 {
             return push_refusal(out, Errno::EAGAIN);
         }
-        let mut bytes = Vec::new(alloc);
-        take_scans(&mut self.queue, &mut self.scan, asked / size, &mut bytes)?;
-        push_block(out, shape.count(), self.mask, bytes.as_slice(), asked)
+        self.taken.clear();
+        take_scans(
+            &mut self.queue,
+            &mut self.scan,
+            asked / size,
+            &mut self.taken,
+        )?;
+        push_block(out, shape.count(), self.mask, &self.taken, asked)
     }
 }

@@ -223,7 +223,6 @@ impl Station {
     /// READBUF: the device is unknown, it isn't open here, less than one scan is asked for, or what waits.
     pub fn read_buf(
         &mut self,
-        alloc: Global,
         who: &Name,
         dev: &[u8],
         asked: u32,
@@ -244,7 +243,7 @@ impl Station {
         let Some(seat) = &mut self.seat else {
             return push_refusal(out, Errno::EBADF);
         };
-        seat.read(alloc, &self.shape, asked, out)
+        seat.read(&self.shape, asked, out)
     }
 
     /// The device's trigger fires at a moment: the lines of the poll, and of the device where it has a member.

@@ -35,10 +35,23 @@ fn is_step_word(word: &[u8]) -> bool
         || word == b"unplug".as_slice()
 }
 
+// Whether bytes are whole lines without a CR, where none of them can be too long.
+#[tactic(auto, using(crate::proofs::ShortLines::are_short_lines))]
+fn are_short_lines(bytes: &[u8]) -> bool
+    requires { length bytes.now ≤ 1024 }
+    ensures { result ≡ are_lines 0 bytes.now }
+{
+    let last = bytes.last().copied().unwrap_or(b'\n');
+    last == b'\n' && !bytes.contains(&b'\r')
+}
+
 // Whether bytes are whole lines that a connection may send.
 fn are_lines(bytes: &[u8]) -> bool
     ensures { result ≡ are_lines 0 bytes.now }
 {
+    if bytes.len() <= MAX_LINE_BYTES {
+        return are_short_lines(bytes);
+    }
     let mut len = 0;
     for byte in bytes {
         if *byte == b'\n' {

@@ -1,29 +1,30 @@
 -- Lemmas on how bytes are printed from a table, into a room.
 use borrow.Rule.Slice.PartMut.{put_mid, mid_of, post_of}
-use mir.Val.{bool_byte}
-use Rattle.std.proofs.Common.{◌≡◌, ℕ, ◌+◌, ◌-◌, ◌*◌, ◌<◌, ◌≤◌, ◌++◌, Bool, true, not, eqb, leb, List, [], length, take, drop, get_or, refl, ap, sym, ◌∙◌, arith}
+use lib.Lanes.{chunk, put_chunk}
+use Rattle.std.proofs.Common.{◌≡◌, ℕ, ◌+◌, ◌-◌, ◌*◌, ◌<◌, ◌≤◌, ◌++◌, Bool, true, eqb, leb, List, [], length, take, drop, get_or, refl, ap, sym, ◌∙◌, arith}
 use Rattle.std.specs.Str.{bytes_eq}
 use Rattle.std.proofs.Math.Seq.{take-add, take-append-add}
 use Rattle.std.proofs.lemmas.Bool.{agree_below, agree_below_at, leb-true}
 use Rattle.std.proofs.lemmas.Grind.{flat_map-append}
-use Rattle.std.proofs.lemmas.List.{take-append-le, length-take-le, take_more, flat_map_more}
+use Rattle.std.proofs.lemmas.Simd.{put_chunk_is}
+use Rattle.std.proofs.lemmas.List.{length-take, take-take, take-append-le, length-take-le, take_more, flat_map_more}
 use Rattle.std.proofs.lemmas.Slice.Eq.{bytes_eq-Decides}
-use Rattle.iio_text.specs.Escape.{escaped, escaped_byte}
-use Rattle.iio_text.specs.declared.escapes.TheConstants.{PRINTED}
+use Rattle.iio_text.specs.Escape.{escaped, escaped_byte, is_plain}
+use Rattle.iio_text.specs.declared.escapes.TheConstants.{PRINTED, PRINTED_LENS}
 
--- how many of four bytes are printed
-abbrev pub printed_len : List ℕ → ℕ
-printed_len bytes = 1 + bool_byte (not (eqb (get_or bytes 1 0) 32)) + 2 * bool_byte (not (eqb (get_or bytes 3 0) 32))
+-- how many bytes a byte is printed as
+abbrev pub printed_len : ℕ → ℕ
+printed_len b = get_or PRINTED_LENS b 0
 
 -- the four bytes that the table has of a byte
 abbrev pub entry : ℕ → List ℕ
 entry b = take 4 (drop (4 * b) PRINTED)
 
 abbrev is_right : ℕ → Bool
-is_right b = bytes_eq (take (printed_len (entry b)) (entry b)) (escaped_byte b)
+is_right b = bytes_eq (take (printed_len b) (entry b)) (escaped_byte b)
 
 abbrev is_within : ℕ → Bool
-is_within b = leb (printed_len (entry b)) (length (entry b))
+is_within b = leb (printed_len b) (length (entry b))
 
 all_right : agree_below is_right (λ b. true) 256 ≡ true
 all_right = refl
@@ -31,17 +32,39 @@ all_right = refl
 all_within : agree_below is_within (λ b. true) 256 ≡ true
 all_within = refl
 
--- the first of these bytes are the byte as it is printed, whatever stands after them
-pub printed : (b : ℕ) (after : List ℕ) → b < 256 → take (printed_len (entry b)) (entry b ++ after) ≡ escaped_byte b
+-- no byte is printed as more than four
+all_short : agree_below (λ b. leb (printed_len b) 4) (λ b. true) 256 ≡ true
+all_short = refl
+
+pub printed_len-le : (b : ℕ) → b < 256 → printed_len b ≤ 4
+printed_len-le b h = leb-true (printed_len b) 4 (agree_below_at (λ c. leb (printed_len c) 4) (λ c. true) 256 b all_short h)
+
+all_plain : agree_below (λ b. eqb (printed_len b) 1) is_plain 256 ≡ true
+all_plain = refl
+
+-- the bytes that are printed as one stand for themselves
+pub one_is_plain : (b : ℕ) → b < 256 → eqb (get_or PRINTED_LENS b 0) 1 ≡ is_plain b
+one_is_plain b h = agree_below_at (λ c. eqb (printed_len c) 1) is_plain 256 b all_plain h
+
+-- the first of the table's bytes are the byte as it is printed, whatever stands after them
+printed : (b : ℕ) (after : List ℕ) → b < 256 → take (printed_len b) (entry b ++ after) ≡ escaped_byte b
 printed b after h =
     let within = agree_below_at is_within (λ c. true) 256 b all_within h in
-    let fits = leb-true (printed_len (entry b)) (length (entry b)) within in
-    take-append-le (printed_len (entry b)) (entry b) after fits
+    let fits = leb-true (printed_len b) (length (entry b)) within in
+    take-append-le (printed_len b) (entry b) after fits
     ∙ (bytes_eq-Decides _ _).0 (agree_below_at is_right (λ c. true) 256 b all_right h)
 
--- the same of the part of the table between two places
-pub printed_between : (b k : ℕ) (after : List ℕ) → b < 256 → k ≡ 4 → take (printed_len (mid_of (4 * b) k PRINTED)) (mid_of (4 * b) k PRINTED ++ after) ≡ escaped_byte b
-printed_between b k after h e = rw e (printed b after h)
+-- four bytes of a table, stored at the begin of a room
+stored : (i k : ℕ) (table room : List ℕ) → 4 ≤ k → 4 ≤ length room
+    → put_chunk 0 room (chunk 0 4 (mid_of i k table)) ≡ take 4 (drop i table) ++ drop (length (take 4 (drop i table))) room
+stored i k table room more fits =
+    let short : 0 + length (take 4 (drop i table)) ≤ length room = omega (arith, length-take 4 (drop i table)) in
+    ap (put_chunk 0 room) (take-take 4 k (drop i table) more) ∙ put_chunk_is 0 room (take 4 (drop i table)) short
+
+-- the byte as it is printed stands at the begin of the room then
+pub printed_stored : (b k : ℕ) (room : List ℕ) → b < 256 → 4 ≤ length room → 4 ≤ k
+    → take (printed_len b) (put_chunk 0 room (chunk 0 4 (mid_of (4 * b) k PRINTED))) ≡ escaped_byte b
+printed_stored b k room h fits more = ap (take (printed_len b)) (stored (4 * b) k PRINTED room more fits) ∙ printed b _ h
 
 -- what stands in a room up to a place, and a part that is written there
 pub take_into : (a k n : ℕ) (xs ys : List ℕ) → a ≤ length xs → n ≤ length ys → take (a + n) (put_mid a k xs ys) ≡ take a xs ++ take n ys

@@ -7,6 +7,7 @@ ghost use Rattle.iio_text.specs.Escape.{is_plain, escaped_byte, escaped, hex_val
 use crate::faults::Unescape;
 use iio_base::Mem;
 use std::alloc::Global;
+use std::simd::Simd;
 
 // Each byte as it is printed, filled up to four bytes with spaces.
 const PRINTED: [u8; 1024] = *b"\
@@ -43,13 +44,28 @@ const PRINTED: [u8; 1024] = *b"\
     \\xf0\\xf1\\xf2\\xf3\\xf4\\xf5\\xf6\\xf7\
     \\xf8\\xf9\\xfa\\xfb\\xfc\\xfd\\xfe\\xff";
 
+// How many bytes each byte is printed as.
+const PRINTED_LENS: [u8; 256] = [
+    4, 4, 4, 4, 4, 4, 4, 4, 4, 4, 2, 4, 4, 4, 4, 4, 4, 4, 4, 4, 4, 4, 4, 4, 4, 4, 4, 4, 4, 4, 4, 4,
+    1, 1, 2, 1, 1, 1, 1, 1, 1, 1, 1, 1, 1, 1, 1, 1, 1, 1, 1, 1, 1, 1, 1, 1, 1, 1, 1, 1, 1, 1, 1, 1,
+    1, 1, 1, 1, 1, 1, 1, 1, 1, 1, 1, 1, 1, 1, 1, 1, 1, 1, 1, 1, 1, 1, 1, 1, 1, 1, 1, 1, 2, 1, 1, 1,
+    1, 1, 1, 1, 1, 1, 1, 1, 1, 1, 1, 1, 1, 1, 1, 1, 1, 1, 1, 1, 1, 1, 1, 1, 1, 1, 1, 1, 1, 1, 1, 4,
+    4, 4, 4, 4, 4, 4, 4, 4, 4, 4, 4, 4, 4, 4, 4, 4, 4, 4, 4, 4, 4, 4, 4, 4, 4, 4, 4, 4, 4, 4, 4, 4,
+    4, 4, 4, 4, 4, 4, 4, 4, 4, 4, 4, 4, 4, 4, 4, 4, 4, 4, 4, 4, 4, 4, 4, 4, 4, 4, 4, 4, 4, 4, 4, 4,
+    4, 4, 4, 4, 4, 4, 4, 4, 4, 4, 4, 4, 4, 4, 4, 4, 4, 4, 4, 4, 4, 4, 4, 4, 4, 4, 4, 4, 4, 4, 4, 4,
+    4, 4, 4, 4, 4, 4, 4, 4, 4, 4, 4, 4, 4, 4, 4, 4, 4, 4, 4, 4, 4, 4, 4, 4, 4, 4, 4, 4, 4, 4, 4, 4,
+];
+
 // How many bytes are printed at a time.
 const CHUNK: usize = 64;
 
+// Whether a byte is printed as itself.
+#[inline]
+#[tactic(auto, using(crate::proofs::PrintedLemmas::one_is_plain))]
 fn is_plain(byte: u8) -> bool
     ensures { result ≡ is_plain byte }
 {
-    matches!(byte, b' '..=b'~') && byte != b'"' && byte != b'\\'
+    PRINTED_LENS[byte as usize] == 1
 }
 
 // Writes a byte as it is printed to the begin of a room, and answers how many bytes that takes. Four are written.
@@ -59,10 +75,9 @@ fn put_escaped(byte: u8, room: &mut [u8]) -> usize
     ensures within { result ≤ 4 }
     ensures text { take result room.new ≡ escaped_byte byte }
 {
-    let start = 4 * byte as usize;
-    let printed = &PRINTED[start..start + 4];
-    room[..4].copy_from_slice(printed);
-    1 + usize::from(printed[1] != b' ') + 2 * usize::from(printed[3] != b' ')
+    let at = byte as usize;
+    Simd::<u8, 4>::from_slice(&PRINTED[4 * at..]).copy_to_slice(room);
+    usize::from(PRINTED_LENS[at])
 }
 
 // Writes bytes as they are printed to the begin of a room, and answers how many bytes that takes.

@@ -78,10 +78,22 @@ with_in_hand dev entries = map (λ (e : Entry). if e.dev == dev then record e { 
 abbrev pub without_entry : ℕ → List Entry → List Entry
 without_entry dev entries = filter (λ (e : Entry). not (e.dev == dev)) entries
 
+-- what is outstanding once a poll came: what the poll made, where nothing was outstanding; else what was
+abbrev pub poll_made : {E : Type 0} → (made outstanding : List E) → List E
+poll_made made [] = made
+poll_made made (e ∷ es) = e ∷ es
+
+-- how many polls were missed once one came: one more where something was outstanding, and the count stays at its end
+abbrev pub missed_after : {E : Type 0} → (outstanding : List E) → ℕ → ℕ
+missed_after [] missed = missed
+missed_after (e ∷ es) missed = min (missed + 1) (2 ^ 64 - 1)
+
+-- the trigger once a poll came
+abbrev pub after_poll : ℤ → State → State
+after_poll t s = record s { outstanding = poll_made (entries_at t s.attached) s.outstanding; missed = missed_after s.outstanding s.missed }
+
 -- a poll at `t`. It is accepted where no entry is outstanding, and makes one for each device that holds a place; else it
 -- is missed and counted
 abbrev pub Polls : State → ℤ → Polled → State → Type 0
-Polls old t (Accepted made) new = (old.outstanding ≡ []) × (made ≡ length old.attached)
-    × (new ≡ record { places = old.places; attached = old.attached; outstanding = entries_at t old.attached; missed = old.missed })
-Polls old t (Missed missed) new = (0 < length old.outstanding) × (missed ≡ min (old.missed + 1) (2 ^ 64 - 1))
-    × (new ≡ record { places = old.places; attached = old.attached; outstanding = old.outstanding; missed = missed })
+Polls old t (Accepted made) new = (old.outstanding ≡ []) × (made ≡ length old.attached) × (new ≡ after_poll t old)
+Polls old t (Missed missed) new = (0 < length old.outstanding) × (missed ≡ missed_after old.outstanding old.missed) × (new ≡ after_poll t old)

@@ -6,15 +6,15 @@ use Rattle.iio_base.specs.Refusals.{ensure, ◌>>=◌, first_refusal, unless_ref
 use Rattle.iio_text.specs.declared.errors.Errno.{Errno}
 use Rattle.iio_text.specs.declared.errors.Errno.TheVariants.{EBUSY, EBADF, ENODEV}
 use Rattle.iio_attr.specs.Attributes.{check_of}
-use Rattle.iio_mask.specs.Mask.{union_of, union_of_all}
 use Rattle.iio_mask.specs.Text.{mask_of}
 use Rattle.iio_layout.specs.Shape.{ShapeRecord, count_of}
-use Rattle.iio_layout.specs.Active.{active_of, has_data}
+use Rattle.iio_layout.specs.Active.{has_data}
 use Rattle.iio_layout.specs.Layout.{scan_size}
 use Rattle.iio_sensor.specs.Driver.{ask_fails, values_of}
 use Rattle.iio_desc.specs.Description.{place_count}
 use Rattle.iiod_grammar.specs.Command.{Place, Open, Close, Read, ReadBuf, SetTrig, EvOpen, EvRead, EvClose}
-use Rattle.iio_history.specs.Places.{is_empty}
+use Rattle.iio_device.specs.Active.{is_without_union}
+use Rattle.iio_device.specs.Site.{is_empty}
 use Rattle.iio_history.specs.Who.{Who, Conn}
 use Rattle.iiod_grammar.specs.Stream.{Item, Said, Written, End}
 use Rattle.iio_history.specs.Event.{Event, Arrived, Heard, Dropped, Polled, Handled, Sensed, Clock, Unplugged, Remasked}
@@ -63,7 +63,7 @@ entries_same w device trigger moment (d ∷ ds) even =
 abbrev refused_by : ShapeRecord → Bool → Bool → Bool → Bool → Bool → ℕ → ℕ → List ℕ → Bool → Option Errno
 refused_by shape plugged untriggered is_open is_mask cyclic mask capacity masks full = first_refusal
     (asked_refusals (not plugged) cyclic (not is_mask) (not (has_data shape mask)) (is_excess capacity (scan_size shape mask)) is_open
-    ++ join_refusals untriggered (is_none (active_of shape (union_of mask (union_of_all masks)))) full)
+    ++ join_refusals untriggered (is_without_union shape masks mask) full)
 
 refused_same : (shape : ShapeRecord) (plugged untriggered is_open is_mask cyclic : Bool) (mask capacity : ℕ) (masks masks' : List ℕ) (full full' : Bool) → (is_open ≡ false → masks ≡ masks') → full ≡ full'
     → refused_by shape plugged untriggered is_open is_mask cyclic mask capacity masks full ≡ refused_by shape plugged untriggered is_open is_mask cyclic mask capacity masks' full'

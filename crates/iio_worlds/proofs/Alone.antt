@@ -3,9 +3,9 @@
 use Rattle.std.proofs.Common.{◌≡◌, ℕ, zero, suc, Bool, true, false, not, ◌||◌, List, [], ◌∷◌, ◌++◌, map, Some, None, option_map, slice_get, cond, refl, sym, ap, ◌∙◌}
 use Rattle.std.proofs.lemmas.Bool.{true≢false}
 use Rattle.std.specs.Str.{bytes_eq}
-use Rattle.iio_history.specs.Places.{is_empty}
+use Rattle.iio_device.specs.Site.{Site, is_empty}
 use Rattle.iio_history.specs.Who.{Who, Conn, same}
-use Rattle.iio_history.specs.Registry.{Member, Site, Device, User, Registry, is_member, member_of, without_members, user_named}
+use Rattle.iio_history.specs.Registry.{Member, Device, User, Registry, is_member, member_of, without_members, user_named}
 use Rattle.iio_history.specs.Told.{Seat, Station, Line, Told, member_of_seat, device_of, user_of, registry_of}
 use Rattle.iio_history.specs.Transcript.{line_named}
 use Rattle.iio_history.specs.Reply.{seat_of}
@@ -15,7 +15,7 @@ use Rattle.iio_worlds.specs.Bystanders.{has_other}
 abbrev pub plain_seat : Seat → Seat
 plain_seat x = record x { number = 0 }
 
-abbrev pub plain_site : Site → Site
+abbrev pub plain_site : Site Who → Site Who
 plain_site site = record site { driver = record site.driver { last = None } }
 
 abbrev pub own_seats : Who → List Seat → List Seat

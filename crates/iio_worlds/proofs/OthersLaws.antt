@@ -9,7 +9,8 @@ use Rattle.iio_text.specs.declared.errors.Errno.{Errno}
 use Rattle.iio_text.specs.declared.errors.Errno.TheVariants.{EBADF, ENODEV}
 use Rattle.iiod_grammar.specs.Command.{Open, Close, Read, ReadBuf, SetTrig, SetBuffers, EvOpen, EvRead, EvClose}
 use Rattle.iio_desc.specs.Description.{find_device}
-use Rattle.iio_history.specs.Places.{map_from, is_empty}
+use Rattle.iio_device.specs.Site.{is_empty}
+use Rattle.iio_history.specs.Places.{map_from}
 use Rattle.iio_history.specs.Who.{Who, Conn, same, is_among}
 use Rattle.iiod_grammar.specs.Stream.{Item, Said, Written, End, scanner_after}
 use Rattle.iio_history.specs.Event.{Event, Arrived, Heard, Dropped, Remasked}

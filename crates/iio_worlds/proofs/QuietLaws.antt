@@ -13,17 +13,17 @@ use Rattle.iio_layout.specs.Shape.{ShapeRecord}
 use Rattle.iio_sensor.specs.Driver.{value_of, ask_fails, after_ask}
 use Rattle.iio_desc.specs.Description.{DeviceRecord}
 use Rattle.iiod_grammar.specs.Command.{Open, Close, Read, ReadBuf, SetTrig, EvOpen, EvRead, EvClose}
-use Rattle.iio_history.specs.Places.{is_empty}
+use Rattle.iio_device.specs.Sensing.{Sensed as Sensing_, channel_sensed, channels_sensed, begun, is_watched}
+use Rattle.iio_device.specs.Site.{Site, attached, is_current, is_empty, site_written, new_site}
 use Rattle.iio_history.specs.Who.{Who, Conn, same, is_among}
 use Rattle.iiod_grammar.specs.Stream.{Item, Said, Written, End}
 use Rattle.iio_history.specs.Event.{Event, Heard}
 use Rattle.iio_event.specs.Monitor.{MonitorRecord, channel_at, fired_events, after_value, is_holder}
-use Rattle.iio_history.specs.Monitor.{held_among, is_watched}
-use Rattle.iio_history.specs.Registry.{Setup, Member, Site, Device, Outline, outline_of, Registry, Entry, entry_of, entries_at, buffers_of, is_member, is_named, is_current, without_members, mask_of_member}
-use Rattle.iio_history.specs.Attributes.{site_written}
+use Rattle.iio_history.specs.Monitor.{held_among}
+use Rattle.iio_history.specs.Registry.{Setup, Member, Device, Outline, outline_of, Registry, Entry, entry_of, entries_at, buffers_of, is_member, is_named, without_members, mask_of_member}
 use Rattle.iio_history.specs.Opening.{member_asked, remask_answer, trigger_answer}
 use Rattle.iio_history.specs.Act.{Act, Nothing, Joining, Remasking, Leaving, Ending, Reading, Capturing, Failing, Asking, Retriggering, Setting, Sensing, Holding, Draining, Releasing, Unplugging, only, accepted, asking, found, write_found, setting, is_raw, handled_act, item_act, act_of}
-use Rattle.iio_history.specs.Fold.{with_mask, members_after, Sensed as Sensing_, channel_sensed, channels_sensed, site_after, device_by, device_after, new_site, first_device, registry_after, registry_next}
+use Rattle.iio_history.specs.Fold.{with_mask, members_after, site_after, device_by, device_after, first_driver, first_device, registry_after, registry_next}
 use Rattle.iio_history.proofs.PlaceLemmas.{get_map_from}
 use Rattle.iio_history.proofs.WhoLaws.{same_self, either}
 use Rattle.iio_worlds.specs.Bystanders.{is_parting, has_other, is_unparted, others_are_modest, all_from, is_bystander}
@@ -147,7 +147,7 @@ own_join w m (Some e) ms is = tt
 
 own_handled : (w : Who) (o : Outline) (e : Option Entry) (ms : List Member) → OwnAct w (handled_act o e) ms
 own_handled w o None ms = tt
-own_handled w o (Some e) ms = by_test (not (is_current e o)) (ask_fails o.site.driver)
+own_handled w o (Some e) ms = by_test (not (is_current e.attachment o.site.attachment o.masks o.site.plugged)) (ask_fails o.site.driver)
   where
     by_test : (a b : Bool) → OwnAct w (cond a Nothing (cond b (Failing e.moment) (Capturing (record { moment = e.moment; values = Rattle.iio_sensor.specs.Driver.values_of o.site.driver o.shape e.moment })))) ms
     by_test true b = tt
@@ -219,23 +219,23 @@ free_either : (w : Who) (b : Bool) (x y : MonitorRecord Who) → IsFree w x.hold
 free_either w true x y first second = first
 free_either w false x y first second = second
 
-sensed_either : (w : Who) (b : Bool) (x y : Sensing_) → IsFree w x.monitor.holder → IsFree w y.monitor.holder → IsFree w (cond b x y).monitor.holder
+sensed_either : (w : Who) (b : Bool) (x y : Sensing_ Who) → IsFree w x.monitor.holder → IsFree w y.monitor.holder → IsFree w (cond b x y).monitor.holder
 sensed_either w true x y first second = first
 sensed_either w false x y first second = second
 
-free_channel : (w : Who) (shape : ShapeRecord) (t : ℤ) (c : ℕ) (x : Sensing_) → IsFree w x.monitor.holder → IsFree w (channel_sensed shape t c x).monitor.holder
+free_channel : (w : Who) (shape : ShapeRecord) (t : ℤ) (c : ℕ) (x : Sensing_ Who) → IsFree w x.monitor.holder → IsFree w (channel_sensed shape t c x).monitor.holder
 free_channel w shape t c x free =
     let v = value_of x.driver shape t c 0 in
-    let failed : Sensing_ = record x { driver = after_ask x.driver; fault = true } in
-    let done : Sensing_ = record { driver = after_ask x.driver; monitor = after_value c v t x.monitor; count = x.count + length (fired_events v t (channel_at c x.monitor)); fault = false } in
+    let failed : Sensing_ Who = record x { driver = after_ask x.driver; fault = true } in
+    let done : Sensing_ Who = record { driver = after_ask x.driver; monitor = after_value c v t x.monitor; count = x.count + length (fired_events v t (channel_at c x.monitor)); fault = false } in
     sensed_either w x.fault x _ free
     (sensed_either w (not (is_watched (channel_at c x.monitor))) x _ free (sensed_either w (ask_fails x.driver) failed done free free))
 
-free_channels : (w : Who) (shape : ShapeRecord) (t : ℤ) (n : ℕ) (x : Sensing_) → IsFree w x.monitor.holder → IsFree w (channels_sensed shape t n x).monitor.holder
+free_channels : (w : Who) (shape : ShapeRecord) (t : ℤ) (n : ℕ) (x : Sensing_ Who) → IsFree w x.monitor.holder → IsFree w (channels_sensed shape t n x).monitor.holder
 free_channels w shape t zero x free = free
 free_channels w shape t (suc n) x free = free_channel w shape t n (channels_sensed shape t n x) (free_channels w shape t n x free)
 
-free_written : (w : Who) (c : Option ℕ) (a : Attr) (v : Fixed) (site : Site) → IsFree w site.monitor.holder → IsFree w (site_written c a v site).monitor.holder
+free_written : (w : Who) (c : Option ℕ) (a : Attr) (v : Fixed) (site : Site Who) → IsFree w site.monitor.holder → IsFree w (site_written c a v site).monitor.holder
 free_written w None attr.SamplingFrequency v site free = free
 free_written w None a v site free = free
 free_written w (Some c) attr.Calibbias v site free = free
@@ -245,18 +245,18 @@ free_written w (Some c) attr.ThreshRisingEn v site free = free
 free_written w (Some c) attr.ThreshFallingEn v site free = free
 free_written w (Some c) a v site free = free
 
-free_attached : (w : Who) (b : Bool) (x y : Site) → IsFree w x.monitor.holder → IsFree w y.monitor.holder → IsFree w (cond b x y).monitor.holder
-free_attached w true x y first second = first
-free_attached w false x y first second = second
+free_attached : (w : Who) (b : Bool) (site : Site Who) → IsFree w site.monitor.holder → IsFree w (attached b site).monitor.holder
+free_attached w true site free = free
+free_attached w false site free = free
 
 free_own : (w : Who) (act : Act) (o : Outline) (ms : List Member) → OwnAct w act ms → IsFree w o.site.monitor.holder → IsFree w (site_after act o).monitor.holder
-free_own w (Joining m) o ms fit free = free_attached w (is_empty o.masks) (record o.site { attachment = o.site.attachment + 1 }) o.site free free
+free_own w (Joining m) o ms fit free = free_attached w (is_empty o.masks) o.site free
 free_own w (Ending gone) o ms fit free = free_either w (held_among gone o.site.monitor.holder) (record o.site.monitor { holder = None; events = [] }) o.site.monitor tt free
 free_own w (Releasing who) o ms fit free = free_either w (is_holder same who o.site.monitor) (record o.site.monitor { holder = None; events = [] }) o.site.monitor tt free
 free_own w (Holding who) o ms fit free = free_either w (is_some o.site.monitor.holder) o.site.monitor (record o.site.monitor { holder = Some who; events = [] }) free fit
 free_own w (Draining who) o ms fit free = free_either w (is_holder same who o.site.monitor) (record o.site.monitor { events = Rattle.std.specs.Prelude.drop 1 o.site.monitor.events }) o.site.monitor free free
 free_own w (Setting target value) o ms fit free = free_written w target.channel target.attribute value o.site free
-free_own w (Sensing moment) o ms fit free = free_channels w o.shape moment (length o.shape.channels) (record { driver = o.site.driver; monitor = o.site.monitor; count = 0; fault = false }) free
+free_own w (Sensing moment) o ms fit free = free_channels w o.shape moment (length o.shape.channels) (begun o.site.driver o.site.monitor) free
 free_own w (Capturing c) o ms fit free = free
 free_own w (Failing moment) o ms fit free = free
 free_own w Asking o ms fit free = free
@@ -317,7 +317,7 @@ pub quiet_foreign : (s : Setup) (a : List ℕ) (r : Registry) (e : Event) → Is
 quiet_foreign s a r e is rule quiet = (
   after (λ d. Even (Conn a) d.members) s r e (λ k d here. even_foreign (Conn a) (act_of s r e k d) d (bystanding s a r e k d is rule here (quiet.1 k d here)) (quiet.0 k d here)),
   after (λ d. IsFree (Conn a) d.site.monitor.holder) s r e
-      (λ k d here. subst (λ (x : Site). IsFree (Conn a) x.monitor.holder) (sym (site_kept (Conn a) (act_of s r e k d) (outline_of d) (bystanding s a r e k d is rule here (quiet.1 k d here)))) (quiet.1 k d here)),
+      (λ k d here. subst (λ (x : Site Who). IsFree (Conn a) x.monitor.holder) (sym (site_kept (Conn a) (act_of s r e k d) (outline_of d) (bystanding s a r e k d is rule here (quiet.1 k d here)))) (quiet.1 k d here)),
 )
 
 pub alone_after : (s : Setup) (a : List ℕ) (r : Registry) (e : Event) → IsOwn a e → AreAlone a r → AreAlone a (registry_next s r e)
@@ -339,7 +339,7 @@ pub quiet_first : (s : Setup) (a : List ℕ) → IsQuiet a (registry_after s [])
 quiet_first s a = (
   at_first (λ d. Even (Conn a) d.members) s s.desc.devices (λ x. refl),
   at_first (λ d. IsFree (Conn a) d.site.monitor.holder) s s.desc.devices
-      (λ x. subst (λ (holder : Option Who). IsFree (Conn a) holder) (sym (holder_with_attrs x.attrs (new_site s x))) tt),
+      (λ x. subst (λ (holder : Option Who). IsFree (Conn a) holder) (sym (holder_with_attrs x.attrs (new_site x.shape x.trigger (first_driver s x)))) tt),
 )
 
 pub alone_first : (s : Setup) (a : List ℕ) → AreAlone a (registry_after s [])

@@ -3,7 +3,7 @@
 use Rattle.std.proofs.Common.{◌≡◌, ℕ, ◌/◌, Bool, true, false, List, [], ◌∷◌, ◌++◌, map, length, cond, refl, sym, ap, ◌∙◌}
 use Rattle.iio_layout.specs.Shape.{ShapeRecord}
 use Rattle.iio_layout.specs.Layout.{scan_size}
-use Rattle.iio_history.specs.Places.{is_empty}
+use Rattle.iio_device.specs.Site.{is_empty}
 use Rattle.iio_history.specs.Who.{Who, same, is_among}
 use Rattle.iio_history.specs.Registry.{Outline}
 use Rattle.iio_history.specs.Monitor.{held_among}

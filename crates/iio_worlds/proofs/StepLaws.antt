@@ -2,14 +2,15 @@
 -- alone.
 use Rattle.std.proofs.Common.{◌≡◌, ℕ, ℤ, suc, ◌+◌, ◌&&◌, Bool, true, false, List, [], ◌∷◌, ◌++◌, map, Option, Some, None, option_map, slice_get, slice_set, is_some, Ok, cond, refl, sym, ap, ◌∙◌, subst, arith}
 use Rattle.std.specs.Str.{bytes_eq}
-use Rattle.iio_sensor.specs.Driver.{next_count}
+use Rattle.iio_trigger.specs.Trigger.{poll_made, missed_after}
 use Rattle.iiod_grammar.specs.Command.{SetBuffers}
 use Rattle.iio_desc.specs.Description.{find_device}
-use Rattle.iio_history.specs.Places.{map_from, at_place, is_empty}
+use Rattle.iio_device.specs.Site.{at_place}
+use Rattle.iio_history.specs.Places.{map_from}
 use Rattle.iio_history.specs.Who.{Conn}
 use Rattle.iiod_grammar.specs.Stream.{Said}
 use Rattle.iio_history.specs.Event.{Event, Heard, Polled}
-use Rattle.iio_history.specs.Registry.{Setup, Device, Entry, Trigger, User, Registry, Site, outline_of, outlines_of, user_named}
+use Rattle.iio_history.specs.Registry.{Setup, Device, Entry, Trigger, User, Registry, outline_of, outlines_of, user_named}
 use Rattle.iio_history.specs.Act.{act_of}
 use Rattle.iio_history.specs.Fold.{is_plugged, is_buffers_count, with_count, new_user, newcomers, triggers_after, polled, clock_after, site_after}
 use Rattle.iio_history.specs.Told.{Station, Line, Told, device_of, registry_of}
@@ -100,7 +101,7 @@ lines_alike s a r e ls is =
 polled_same : (os os' : List Rattle.iio_history.specs.Registry.Outline) (trigger : ℕ) (moment : ℤ) (ts : List Trigger) → Rattle.iio_history.specs.Registry.entries_from 0 trigger moment os ≡ Rattle.iio_history.specs.Registry.entries_from 0 trigger moment os'
     → at_place trigger (polled os trigger moment) ts ≡ at_place trigger (polled os' trigger moment) ts
 polled_same os os' trigger moment ts h =
-    ap (λ es. at_place trigger (λ (t : Trigger). cond (is_empty t.entries) (record t { entries = es }) (record t { missed = next_count t.missed })) ts) h
+    ap (λ es. at_place trigger (λ (t : Trigger). record { entries = poll_made es t.entries; missed = missed_after t.entries t.missed }) ts) h
 
 pub triggers_same : (a : List ℕ) (r : Registry) (e : Event) → AllEven (Conn a) r.devices → triggers_after (outlines_of r) e r.triggers ≡ triggers_after (outlines_of (own_registry a r)) e r.triggers
 triggers_same a r (Polled trigger moment) even =

@@ -12,7 +12,7 @@ use Rattle.iiod_grammar.specs.declared.command.Refused.TheVariants.{Empty}
 use Rattle.iiod_grammar.specs.Command.{Place, Open, Close, Read, ReadBuf, WriteBuf, GetTrig, SetTrig, SetBuffers, EvOpen, EvRead, EvClose}
 use Rattle.iiod_reply.specs.Reply.{Reply, Number, Value, Raw, text_of}
 use Rattle.iio_desc.specs.Description.{find_device, trigger_name, device_name}
-use Rattle.iio_history.specs.Places.{is_empty}
+use Rattle.iio_device.specs.Site.{is_empty}
 use Rattle.iio_history.specs.Who.{Who, Conn, same}
 use Rattle.iiod_grammar.specs.Stream.{Item, Said, Written, End, InLine, items_from}
 use Rattle.iio_history.specs.Event.{Event, Arrived, Heard, Polled, Handled}

@@ -1,0 +1,12 @@
+mod ApartLemmas
+mod CountLemmas
+mod DeviceLemmas
+mod HasLemmas
+mod JoiningLemmas
+mod MaskLemmas
+mod MoveLemmas
+mod OfferLemmas
+mod SensingLemmas
+mod SoundLemmas
+mod StoredLemmas
+mod TakeLemmas

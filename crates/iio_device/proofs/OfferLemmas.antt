@@ -1,0 +1,220 @@
+-- What a capture makes of members and groups.
+use Rattle.std.proofs.Common.{◌≡◌, ◌==◌, ◌||◌, ℕ, ◌+◌, ◌^◌, ◌<◌, Bool, true, false, List, [], ◌∷◌, ◌++◌, length, map, take, drop, find, slice_index_or, option_map, unwrap_or, Option, Some, None, if◌then◌else◌, ℤ, subst, refl, sym, ap, ◌∙◌, arith}
+use Rattle.std.specs.List.{All, AllZip, IsDistinct}
+use Rattle.std.specs.Option.{option_map_or}
+use Rattle.std.proofs.lemmas.List.Elements.{All-nil, All-cons, All-head, All-tail, All-map, All-weaker, length_all_zip}
+use Rattle.std.proofs.Math.Seq.{take-append_seam}
+use Rattle.std.proofs.lemmas.List.FromFn.{length-map-range_with_len}
+use Rattle.iio_mask.specs.Mask.{is_within, union_of_all}
+use Rattle.iio_mask.specs.declared.Mask.{Mask}
+use Rattle.iio_mask.proofs.PlaceLemmas.{has-within}
+use Rattle.iio_mask.specs.Mask.{matching_mask}
+use Rattle.iio_layout.specs.Active.{active_of, data_part, with_stamp}
+use Rattle.iio_layout.proofs.ActiveLemmas.{active_contains, matching_mask_contains}
+use Rattle.iio_layout.specs.Layout.{scan_size}
+use Rattle.iio_layout.specs.Scan.{scan_of}
+use Rattle.iio_layout.specs.Shape.{ShapeRecord, count_of, width_of}
+use Rattle.iio_demux.specs.Table.{byte_at, copied, table_of}
+use Rattle.iio_demux.proofs.ScanLemmas.{table_scans}
+use Rattle.iio_kfifo.specs.declared.tail.Offered.{Offered}
+use Rattle.iio_device.specs.declared.membership.Membership.{Membership}
+use Rattle.iio_device.specs.Groups.{GroupRecord, IsGroup, has_group, laid_out, scan_under}
+use Rattle.iio_device.specs.Active.{active_for}
+use Rattle.iio_device.specs.Members.{WasOffered, is_wanted, mask_of, masks_of}
+use Rattle.iio_device.proofs.ApartLemmas.{distinct_map, kept_key}
+use Rattle.iio_device.proofs.MaskLemmas.{wanted_within, within_trans}
+use Rattle.iio_device.proofs.SoundLemmas.{wanted_at}
+use Rattle.iio_device.specs.Sound.{IsMember, IsSound, bits_of, is_nil}
+
+-- the active mask contains what is wanted
+rule_contains : (shape : ShapeRecord) (wanted m : ℕ) → active_of shape wanted ≡ Some m → is_within wanted m ≡ true
+rule_contains shape wanted m found = by (matching_mask shape.listed (data_part shape wanted)) refl found
+  where
+    by : (o : Option ℕ) → matching_mask shape.listed (data_part shape wanted) ≡ o → option_map (with_stamp shape wanted) o ≡ Some m → is_within wanted m ≡ true
+    by None e f = absurd (cc)
+    by (Some x) e f =
+        let is : with_stamp shape wanted x ≡ m = cc in
+        subst (λ k. is_within wanted k ≡ true) is (active_contains shape wanted x (matching_mask_contains shape.listed (data_part shape wanted) x e))
+
+-- what is made of a table's scan by the group of a mask
+pub scan_found : (shape : ShapeRecord) (active mask : ℕ) (union : List ℕ) (groups : List GroupRecord) → All (IsGroup shape active) groups → has_group groups mask ≡ true
+    → scan_under (map (laid_out union) groups) mask ≡ copied (table_of shape active mask).entries union (scan_size shape mask)
+scan_found shape active mask union [] each there = absurd (cc)
+scan_found shape active mask union (g ∷ gs) each there =
+    by (λ h. scan_found shape active mask union gs (All-tail (IsGroup shape active) g gs each) h) (g.mask == mask) refl there
+  where
+    first : IsGroup shape active g
+    first = All-head (IsGroup shape active) g gs each
+
+    laid : g.mask ≡ mask → copied g.table.entries union g.table.buffer_size ≡ copied (table_of shape active mask).entries union (scan_size shape mask)
+    laid same = ap (λ t. copied t.entries union t.buffer_size) (first.table ∙ ap (table_of shape active) same)
+
+    by : (has_group gs mask ≡ true → scan_under (map (laid_out union) gs) mask ≡ copied (table_of shape active mask).entries union (scan_size shape mask))
+        → (b : Bool) → (g.mask == mask) ≡ b → (b || has_group gs mask) ≡ true
+        → option_map_or (λ (x : GroupRecord). x.scan) (if b then Some (laid_out union g) else find (λ (x : GroupRecord). x.mask == mask) (map (laid_out union) gs)) []
+        ≡ copied (table_of shape active mask).entries union (scan_size shape mask)
+    by later true e h = let same : g.mask ≡ mask = grind (arith, e) in laid same
+    by later false e h = later h
+
+-- it has the mask's size, and it is the scan of the capture
+pub scan_found-size : (shape : ShapeRecord) (active mask : ℕ) (union : List ℕ) (groups : List GroupRecord) → All (IsGroup shape active) groups → has_group groups mask ≡ true
+    → length (scan_under (map (laid_out union) groups) mask) ≡ scan_size shape mask
+scan_found-size shape active mask union groups each there =
+    ap length (scan_found shape active mask union groups each there) ∙ length-map-range_with_len (λ j. byte_at (table_of shape active mask).entries union j) 0 (scan_size shape mask)
+
+pub scan_found-is : (shape : ShapeRecord) (active mask : ℕ) (union : List ℕ) (groups : List GroupRecord) (values : List ℤ) (t : ℤ) → All (IsGroup shape active) groups → has_group groups mask ≡ true
+    → is_within mask active ≡ true → length values ≡ width_of shape → union ≡ scan_of shape active values t
+    → scan_under (map (laid_out union) groups) mask ≡ scan_of shape mask values t
+scan_found-is shape active mask union groups values t each there within wide is =
+    scan_found shape active mask union groups each there
+    ∙ ap (λ u. copied (table_of shape active mask).entries u (scan_size shape mask)) is
+    ∙ table_scans shape active mask values t (has-within mask active within) wide
+
+-- ---- lists that change together
+
+pub zip_all : {A : Type 0} (R : A → A → Type 0) (P P' : A → Type 0) (xs ys : List A) → ((x y : A) → P x → R x y → P' y) → AllZip R xs ys → All P xs → All P' ys
+zip_all R P P' [] [] keeps zip all = All-nil P'
+zip_all R P P' [] (y ∷ ys) keeps zip all = absurd zip
+zip_all R P P' (x ∷ xs) [] keeps zip all = absurd zip
+zip_all R P P' (x ∷ xs) (y ∷ ys) keeps zip all =
+    All-cons P' y ys (keeps x y (All-head P x xs all) zip.0) (zip_all R P P' xs ys keeps zip.1 (All-tail P x xs all))
+
+pub zip_more : {A : Type 0} (R R' : A → A → Type 0) (P : A → Type 0) (xs ys : List A) → ((x y : A) → P x → R x y → R' x y) → AllZip R xs ys → All P xs → AllZip R' xs ys
+zip_more R R' P [] [] keeps zip all = tt
+zip_more R R' P [] (y ∷ ys) keeps zip all = absurd zip
+zip_more R R' P (x ∷ xs) [] keeps zip all = absurd zip
+zip_more R R' P (x ∷ xs) (y ∷ ys) keeps zip all = (keeps x y (All-head P x xs all) zip.0, zip_more R R' P xs ys keeps zip.1 (All-tail P x xs all))
+
+pub zip_map : {A B : Type 0} (R : A → A → Type 0) (f : A → B) (xs ys : List A) → ((x y : A) → R x y → f y ≡ f x) → AllZip R xs ys → map f ys ≡ map f xs
+zip_map R f [] [] keeps zip = refl
+zip_map R f [] (y ∷ ys) keeps zip = absurd zip
+zip_map R f (x ∷ xs) [] keeps zip = absurd zip
+zip_map R f (x ∷ xs) (y ∷ ys) keeps zip = let head = keeps x y zip.0 in let tail = zip_map R f xs ys keeps zip.1 in rw (head, tail) refl
+
+-- ---- members that keep their masks
+
+module _ {Q : Type 0} (R : Membership Q → Membership Q → Type 0) (same_mask : (a b : Membership Q) → R a b → b.mask.bits ≡ a.mask.bits)
+    (same_number : (a b : Membership Q) → R a b → b.number ≡ a.number) where
+  kept_masks : (old new : List (Membership Q)) → AllZip R old new → masks_of new ≡ masks_of old
+  kept_masks old new zip = zip_map R mask_of old new same_mask zip
+
+  kept_wanted : (old new : List (Membership Q)) (mask : ℕ) → AllZip R old new → is_wanted new mask ≡ is_wanted old mask
+  kept_wanted [] [] mask zip = refl
+  kept_wanted [] (y ∷ ys) mask zip = absurd zip
+  kept_wanted (x ∷ xs) [] mask zip = absurd zip
+  kept_wanted (x ∷ xs) (y ∷ ys) mask zip = let head = same_mask x y zip.0 in let tail = kept_wanted xs ys mask zip.1 in rw (head, tail) refl
+
+  kept_nil : (old new : List (Membership Q)) → AllZip R old new → is_nil new ≡ is_nil old
+  kept_nil [] [] zip = refl
+  kept_nil [] (y ∷ ys) zip = absurd zip
+  kept_nil (x ∷ xs) [] zip = absurd zip
+  kept_nil (x ∷ xs) (y ∷ ys) zip = refl
+
+  -- they are sound over the same groups, where each is sound by itself
+  pub sound_moves : (taken lost size : Q → ℕ) (shape : ShapeRecord) (active : Option Mask) (captures captures' next : ℕ) (old new : List (Membership Q)) (groups : List GroupRecord)
+      → ((a b : Membership Q) → IsMember taken lost size shape captures next a → R a b → IsMember taken lost size shape captures' next b)
+      → IsSound taken lost size shape active captures next old groups → AllZip R old new → IsSound taken lost size shape active captures' next new groups
+  sound_moves taken lost size shape active captures captures' next old new groups moves sound zip = record {
+    below = sound.below;
+    ruled = sound.ruled ∙ ap (active_for shape) (sym (kept_masks old new zip));
+    asked = sound.asked ∙ sym (kept_nil old new zip);
+    few = subst (λ n. n < 2 ^ 32) (length_all_zip R old new zip) sound.few;
+    numbers = subst (IsDistinct (λ a b. a == b)) (sym (zip_map R (λ (m : Membership Q). m.number) old new same_number zip)) sound.numbers;
+    each = zip_all R (IsMember taken lost size shape captures next) (IsMember taken lost size shape captures' next) old new moves zip sound.each;
+    grouped = record {
+      each = sound.grouped.each;
+      there = zip_all R (λ (m : Membership Q). has_group groups m.mask.bits ≡ true) (λ (m : Membership Q). has_group groups m.mask.bits ≡ true) old new
+          (λ a b there r. ap (has_group groups) (same_mask a b r) ∙ there) zip sound.grouped.there;
+      used = All-weaker (λ (g : GroupRecord). is_wanted old g.mask ≡ true) (λ (g : GroupRecord). is_wanted new g.mask ≡ true) (λ g used. kept_wanted old new g.mask zip ∙ used) groups sound.grouped.used;
+      apart = sound.grouped.apart;
+    };
+  }
+
+-- ---- groups whose scans are laid out
+
+laid_group : (shape : ShapeRecord) (active : ℕ) (union : List ℕ) (g : GroupRecord) → IsGroup shape active g → IsGroup shape active (laid_out union g)
+laid_group shape active union g is = record {
+  table = is.table;
+  room = length-map-range_with_len (λ j. byte_at g.table.entries union j) 0 g.table.buffer_size ∙ ap (λ t. t.buffer_size) is.table;
+}
+
+sound_laid : {Q : Type 0} (taken lost size : Q → ℕ) (shape : ShapeRecord) (active : Option Mask) (captures next : ℕ) (members : List (Membership Q)) (groups : List GroupRecord) (union : List ℕ)
+    → IsSound taken lost size shape active captures next members groups → IsSound taken lost size shape active captures next members (map (laid_out union) groups)
+sound_laid {Q = Q} taken lost size shape active captures next members groups union sound =
+    let mask = unwrap_or (bits_of active) 0 in
+    record {
+      below = sound.below;
+      ruled = sound.ruled;
+      asked = sound.asked;
+      few = sound.few;
+      numbers = sound.numbers;
+      each = sound.each;
+      grouped = record {
+        each = All-map (IsGroup shape mask) (laid_out union) groups (All-weaker (IsGroup shape mask) (λ g. IsGroup shape mask (laid_out union g)) (laid_group shape mask union) groups sound.grouped.each);
+        there = All-weaker (λ (m : Membership Q). has_group groups m.mask.bits ≡ true) (λ (m : Membership Q). has_group (map (laid_out union) groups) m.mask.bits ≡ true)
+            (λ m there. kept_key (λ (g : GroupRecord). g.mask) (laid_out union) (λ g. refl) groups m.mask.bits ∙ there) members sound.grouped.there;
+        used = All-map (λ (g : GroupRecord). is_wanted members g.mask ≡ true) (laid_out union) groups sound.grouped.used;
+        apart = distinct_map (λ (g : GroupRecord). g.mask) (laid_out union) (λ g. refl) groups sound.grouped.apart;
+      };
+    }
+
+-- ---- members that were offered scans
+
+module _ {Q : Type 0} (taken lost size capacity : Q → ℕ) (offer_gives : Q → List ℕ → Offered → Q → Type 0) where
+  module _ (scans : ℕ → List ℕ) where
+    abbrev Moves : Membership Q → Membership Q → Type 0
+    Moves a b = WasOffered taken lost size capacity offer_gives (scans a.mask.bits) a b
+
+    offered_mask : (a b : Membership Q) → Moves a b → b.mask.bits ≡ a.mask.bits
+    offered_mask a b r = ap (λ (m : Membership Q). m.mask.bits) r.same
+
+    offered_member : (shape : ShapeRecord) (captures next : ℕ) (a b : Membership Q) → IsMember taken lost size shape captures next a → Moves a b → IsMember taken lost size shape (captures + 1) next b
+    offered_member shape captures next a b is r =
+        let number = ap (λ (m : Membership Q). m.number) r.same in
+        let mask = offered_mask a b r in
+        let joined = ap (λ (m : Membership Q). m.joined) r.same in
+        let low = is.numbered in
+        let was = is.counted in
+        let one = r.counted in
+        record {
+          numbered = subst (λ n. n < next) (sym number) low;
+          below = subst (λ k. k < 2 ^ count_of shape) (sym mask) is.below;
+          counted = omega (arith, joined, was, one);
+          sized = r.sized ∙ is.sized ∙ ap (scan_size shape) (sym mask);
+        }
+
+    pub sound_captures : (shape : ShapeRecord) (active : Option Mask) (captures next : ℕ) (old new : List (Membership Q)) (groups : List GroupRecord) (union : List ℕ)
+        → IsSound taken lost size shape active captures next old groups → AllZip Moves old new → IsSound taken lost size shape active (captures + 1) next new (map (laid_out union) groups)
+    sound_captures shape active captures next old new groups union sound zip =
+        sound_laid taken lost size shape active (captures + 1) next new groups union
+        (sound_moves Moves offered_mask (λ a b r. ap (λ (m : Membership Q). m.number) r.same) taken lost size shape active captures (captures + 1) next old new groups (offered_member shape captures next) sound zip)
+
+  -- each scan that is offered has its queue's size, and no count comes to its end
+  pub all_sized : (shape : ShapeRecord) (active : Option Mask) (captures next : ℕ) (members : List (Membership Q)) (groups : List GroupRecord) (union : List ℕ)
+      → IsSound taken lost size shape active captures next members groups → All (λ (m : Membership Q). length (scan_under (map (laid_out union) groups) m.mask.bits) ≡ size m.tail) members
+  all_sized shape active captures next members groups union sound = λ k d within.
+      let m = slice_index_or members k d in
+      scan_found-size shape (unwrap_or (bits_of active) 0) m.mask.bits union groups sound.grouped.each (sound.grouped.there k d within) ∙ sym ((sound.each k d within).sized)
+
+  pub all_fewer : (shape : ShapeRecord) (active : Option Mask) (captures next : ℕ) (members : List (Membership Q)) (groups : List GroupRecord) → captures < 18446744073709551615
+      → IsSound taken lost size shape active captures next members groups → All (λ (m : Membership Q). taken m.tail + lost m.tail < 18446744073709551615) members
+  all_fewer shape active captures next members groups few sound = λ k d within. let counted = (sound.each k d within).counted in omega (arith, few, counted)
+
+  -- each member's mask lies within the active one
+  pub member_within : (shape : ShapeRecord) (active : Option Mask) (captures next : ℕ) (members : List (Membership Q)) (groups : List GroupRecord)
+      → IsSound taken lost size shape active captures next members groups
+      → (k : ℕ) (d : Membership Q) → k < length members → is_within (slice_index_or members k d).mask.bits (unwrap_or (bits_of active) 0) ≡ true
+  member_within shape active captures next [] groups sound k d within = absurd (omega arith)
+  member_within shape None captures next (m ∷ ms) groups sound k d within = let asked = sound.asked in absurd (cc)
+  member_within shape (Some a) captures next (m ∷ ms) groups sound k d within =
+      let mask = (slice_index_or (m ∷ ms) k d).mask.bits in
+      within_trans mask (union_of_all (masks_of (m ∷ ms))) a.bits
+      (wanted_within (m ∷ ms) mask (wanted_at taken lost size (m ∷ ms) k d within))
+      (rule_contains shape (union_of_all (masks_of (m ∷ ms))) a.bits (sym sound.ruled))
+
+-- ---- the room
+
+-- what was written to the front of the room is what its first bytes are
+pub room_front : (size len : ℕ) (new old : List ℕ) → length new ≡ len → take size (take len (new ++ drop (length new) old)) ≡ take size new
+room_front size len new old same =
+    subst (λ n. take size (take n (new ++ drop (length new) old)) ≡ take size new) same (ap (take size) (take-append_seam new (drop (length new) old)))

@@ -1,0 +1,47 @@
+use Rattle.std.proofs.Common.{◌≡◌, ◌+◌, ◌<◌, length, take, drop, slice_index_or, Some, refl, sym, ap, ◌∙◌}
+use Rattle.iio_kfifo.specs.Queue.{Queue}
+use Rattle.iio_layout.specs.Layout.{scan_size}
+use Rattle.iio_device.specs.declared.membership.Membership.{Membership}
+use Rattle.iio_device.specs.Members.{member_of}
+use Rattle.iio_device.proofs.ApartLemmas.{eq_same}
+use Rattle.iio_device.proofs.SoundLemmas.{split_at}
+use Rattle.iio_device.proofs.TakeLemmas.{keeps_drained, set_split, sound_takes}
+use Rattle.iio_device.proofs.roster.Roster+Kfifo.take.Goals as goal
+
+pub invariant_of-self : goal.invariant_of-self
+invariant_of-self c =
+    let roster = c.args.self.now in
+    let members = roster.members.items in
+    let at = c.in_ok-at.at in
+    let old = slice_index_or members at c.index.result.now in
+    let new = slice_index_or c.take_at.new.members.items at c.index.result.now in
+    let within : at < length members = rw (sym c.deref.ensures.value) c.in_ok-at.ensures.within in
+    record {
+      sound = sound_takes roster.shape roster.active roster.captures roster.next members c.take_at.new.members.items roster.groups.items at old new
+          roster.sound within (ap (λ d. slice_index_or members at d) c.index.ensures) (keeps_drained _ _ _ old new (c.take_at.ensures.moved c.index.result.now)) (c.take_at.ensures.others c.index.result.now);
+      roomy = roster.roomy;
+    }
+
+pub returns : goal.returns
+returns c =
+    let roster = c.args.self.now in
+    let members = roster.members.items in
+    let at = c.in_ok-at.at in
+    let old = slice_index_or members at c.index.result.now in
+    let new = slice_index_or c.take_at.new.members.items at c.index.result.now in
+    let within : at < length members = rw (sym c.deref.ensures.value) c.in_ok-at.ensures.within in
+    let found : member_of c.args.number members ≡ Some old = rw (sym c.deref.ensures.value) (c.in_ok-at.ensures.member c.index.result.now) in
+    let sized : old.tail.size ≡ scan_size roster.shape old.mask.bits = (roster.sound.each at c.index.result.now within).sized in (
+      rw (found) (eq_same (length c.args.out.now) (scan_size roster.shape old.mask.bits) (c.if-out-size.false ∙ c.size.ensures ∙ ap (λ (m : Membership Queue). m.tail.size) c.index.ensures ∙ sized)),
+      refl,
+      record {
+        before = take at members;
+        member = old;
+        changed = new;
+        after = drop (at + 1) members;
+        was = split_at (λ (q : Queue). q.taken) (λ q. q.lost) (λ q. q.size) members at old within (ap (λ d. slice_index_or members at d) c.index.ensures);
+        is = c.take_at.ensures.others c.index.result.now ∙ set_split members at new within;
+        found = found;
+        moved = c.take_at.ensures.moved c.index.result.now;
+      },
+    )

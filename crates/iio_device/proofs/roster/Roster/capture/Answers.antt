@@ -1,0 +1,47 @@
+use Rattle.std.proofs.Common.{◌≡◌, ap, take, true, unwrap_or, subst, ◌∙◌}
+use Rattle.iio_mask.specs.Mask.{is_within}
+use Rattle.iio_layout.specs.Scan.{scan_of}
+use Rattle.iio_device.specs.declared.membership.Membership.{Membership}
+use Rattle.iio_device.specs.Groups.{has_group, scan_under}
+use Rattle.iio_device.specs.Members.{WasOffered}
+use Rattle.iio_device.specs.Sound.{bits_of}
+use Rattle.iio_device.proofs.OfferLemmas.{all_sized, member_within, scan_found-is, sound_captures, zip_more}
+use Rattle.iio_device.proofs.roster.Roster.capture.Goals as goal
+
+pub offer_all-requires-clause-sized : goal.offer_all-requires-clause-sized
+offer_all-requires-clause-sized g c =
+    let tail = g.Q.Tail in
+    let roster = c.args.self.now in
+    rw (c.deref-2.ensures.value, c.lay_out_all.ensures)
+    (all_sized tail.taken tail.lost tail.size tail.capacity tail.offer_gives roster.shape roster.active roster.captures roster.next roster.members.items roster.groups.items (take c.args.size c.deref.result.now) roster.sound)
+
+pub invariant_of-self : goal.invariant_of-self
+invariant_of-self g c =
+    let tail = g.Q.Tail in
+    let roster = c.args.self.now in
+    record {
+      roomy = roster.roomy;
+      sound = rw (c.lay_out_all.ensures)
+          (sound_captures tail.taken tail.lost tail.size tail.capacity tail.offer_gives (λ mask. scan_under c.deref-2.result.now mask) roster.shape roster.active roster.captures roster.next
+          roster.members.items c.offer_all.new.members.items roster.groups.items (take c.args.size c.deref.result.now) roster.sound c.offer_all.ensures);
+    }
+
+pub returns-clause-offered : goal.returns-clause-offered
+returns-clause-offered g c =
+    let tail = g.Q.Tail in
+    let roster = c.args.self.now in
+    let active = unwrap_or (bits_of roster.active) 0 in
+    λ values t wide is.
+    zip_more (λ a b. WasOffered tail.taken tail.lost tail.size tail.capacity tail.offer_gives (scan_under c.deref-2.result.now a.mask.bits) a b)
+    (λ a b. WasOffered tail.taken tail.lost tail.size tail.capacity tail.offer_gives (scan_of roster.shape a.mask.bits values t) a b)
+    (λ (m : Membership g.row.Q.Denot). (has_group roster.groups.items m.mask.bits ≡ true) × (is_within m.mask.bits active ≡ true))
+    roster.members.items c.offer_all.new.members.items
+    (λ a b own r.
+    subst (λ s. WasOffered tail.taken tail.lost tail.size tail.capacity tail.offer_gives s a b)
+    (ap (λ gs. scan_under gs a.mask.bits) (c.deref-2.ensures.value ∙ c.lay_out_all.ensures)
+    ∙ scan_found-is roster.shape active a.mask.bits (take c.args.size c.deref.result.now) roster.groups.items values t roster.sound.grouped.each own.0 own.1 wide (ap (take c.args.size) c.deref.ensures.value ∙ is)) r)
+    c.offer_all.ensures
+    (λ k d within. (
+      roster.sound.grouped.there k d within,
+      member_within tail.taken tail.lost tail.size tail.capacity tail.offer_gives roster.shape roster.active roster.captures roster.next roster.members.items roster.groups.items roster.sound k d within,
+    ))

@@ -1,0 +1,34 @@
+-- Members of the same mask share a copy table, and the scan that it makes of a capture.
+use Rattle.std.specs.Prelude.{◌≡◌, ◌==◌, ℕ, Bool, List, [], length, find}
+use Rattle.std.specs.List.{list_any}
+use Rattle.std.specs.Option.{option_map_or}
+use Rattle.iio_layout.specs.Layout.{scan_size}
+use Rattle.iio_layout.specs.Shape.{ShapeRecord}
+use Rattle.iio_demux.specs.Table.{CopyTable, copied, table_of}
+
+-- a mask, the table for it, and room for its scan
+pub record GroupRecord : Type 0 where
+  pub mask : ℕ
+  pub table : CopyTable
+  pub scan : List ℕ
+
+-- whether a group is of that mask
+abbrev pub has_group : List GroupRecord → ℕ → Bool
+has_group groups mask = list_any (λ g. g.mask == mask) groups
+
+-- the table is the one from the active mask
+pub record IsGroup (shape : ShapeRecord) (active : ℕ) (g : GroupRecord) : Type 0 where
+  pub table : g.table ≡ table_of shape active g.mask
+  pub room : length g.scan ≡ scan_size shape g.mask
+
+-- the table is made anew, for another active mask
+abbrev pub remade : ShapeRecord → ℕ → GroupRecord → GroupRecord
+remade shape active g = record g { table = table_of shape active g.mask }
+
+-- the scan of an active one is laid out
+abbrev pub laid_out : List ℕ → GroupRecord → GroupRecord
+laid_out union g = record g { scan = copied g.table.entries union g.table.buffer_size }
+
+-- the scan of the group of that mask
+abbrev pub scan_under : List GroupRecord → ℕ → List ℕ
+scan_under groups mask = option_map_or (λ g. g.scan) (find (λ g. g.mask == mask) groups) []

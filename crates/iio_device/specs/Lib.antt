@@ -1,0 +1,14 @@
+pub mod Active
+pub mod Members
+pub mod Moves
+pub mod Groups
+pub mod Sound
+pub mod Joining
+pub mod Roster
+pub mod Standing
+pub mod Site
+pub mod Plug
+pub mod Sensing
+pub mod Stored
+pub mod Whole
+pub mod Device

@@ -1,0 +1,54 @@
+-- The members of a device, in the order of their joining.
+use Rattle.std.specs.Prelude.{◌≡◌, ℕ, ◌+◌, ◌==◌, Bool, not, List, [], ◌∷◌, map, filter, find, Option, None, Some, MatchBool}
+use Rattle.std.specs.List.{list_any}
+use Rattle.std.specs.Set.{distinct_count}
+use Rattle.iio_kfifo.specs.declared.tail.Offered.{Offered}
+use Rattle.iio_kfifo.specs.Queue.{GivesFirst, Queue}
+use Rattle.iio_device.specs.declared.membership.Membership.{Membership}
+
+module _ {Q : Type 0} where
+  abbrev pub mask_of : Membership Q → ℕ
+  mask_of m = m.mask.bits
+
+  abbrev pub masks_of : List (Membership Q) → List ℕ
+  masks_of members = map mask_of members
+
+  -- whether a member has that mask
+  abbrev pub is_wanted : List (Membership Q) → ℕ → Bool
+  is_wanted members mask = list_any (λ (m : Membership Q). m.mask.bits == mask) members
+
+  -- whether a member has that number
+  abbrev pub is_live : ℕ → List (Membership Q) → Bool
+  is_live number members = list_any (λ (m : Membership Q). m.number == number) members
+
+  -- the member of that number
+  abbrev pub member_of : ℕ → List (Membership Q) → Option (Membership Q)
+  member_of number members = find (λ (m : Membership Q). m.number == number) members
+
+  -- the members of other numbers
+  abbrev pub without : ℕ → List (Membership Q) → List (Membership Q)
+  without number members = filter (λ (m : Membership Q). not (m.number == number)) members
+
+  -- the number of the first to have joined
+  abbrev pub first_number : List (Membership Q) → Option ℕ
+  first_number [] = None
+  first_number (m ∷ ms) = Some m.number
+
+  -- how many masks the members have, where those that are equal count once
+  abbrev pub mask_count : List (Membership Q) → ℕ
+  mask_count members = distinct_count (λ a b. a == b) (masks_of members)
+
+  module _ (taken lost size capacity : Q → ℕ) (offer_gives : Q → List ℕ → Offered → Q → Type 0) where
+    -- a member that was offered this scan, once
+    pub record WasOffered (scan : List ℕ) (old new : Membership Q) : Type 0 where
+      pub same : new ≡ record old { tail = new.tail }
+      pub answer : Offered
+      pub offered : offer_gives old.tail scan answer new.tail
+      pub counted : taken new.tail + lost new.tail ≡ taken old.tail + lost old.tail + 1
+      pub sized : size new.tail ≡ size old.tail
+      pub bounded : capacity new.tail ≡ capacity old.tail
+
+-- the oldest scan of a member's queue is moved out, and the answer says whether there was one
+pub record Drains (given : Bool) (out out' : List ℕ) (old new : Membership Queue) : Type 0 where
+  pub same : new ≡ record old { tail = new.tail }
+  pub moved : MatchBool given (GivesFirst old.tail out' new.tail) ((old.tail.scans ≡ []) × (new.tail ≡ old.tail) × (out' ≡ out))

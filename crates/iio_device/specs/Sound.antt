@@ -1,0 +1,51 @@
+-- What holds of a device's members after every call.
+use Rattle.std.specs.Prelude.{◌≡◌, IfSome, ℕ, ◌+◌, ◌*◌, ◌^◌, ◌<◌, ◌≤◌, ◌==◌, Bool, true, false, All, List, [], ◌∷◌, length, map, is_none, Option, option_map, unwrap_or}
+use Rattle.std.specs.List.{IsDistinct}
+use Rattle.iio_mask.specs.declared.Mask.{Mask}
+use Rattle.iio_scan_type.specs.declared.TheConstants.{MAX_CHANNEL_SIZE}
+use Rattle.iio_layout.specs.Layout.{scan_size}
+use Rattle.iio_layout.specs.Shape.{ShapeRecord, count_of}
+use Rattle.iio_device.specs.declared.membership.Membership.{Membership}
+use Rattle.iio_device.specs.Active.{active_for}
+use Rattle.iio_device.specs.Members.{is_wanted, masks_of}
+use Rattle.iio_device.specs.Groups.{GroupRecord, IsGroup, has_group}
+
+abbrev pub is_nil : {A : Type 0} → List A → Bool
+is_nil [] = true
+is_nil (x ∷ xs) = false
+
+abbrev pub bits_of : Option Mask → Option ℕ
+bits_of mask = option_map (λ m. m.bits) mask
+
+-- room for the scan under any mask of the shape
+abbrev pub HasRoom : ShapeRecord → List ℕ → Type 0
+HasRoom shape room = MAX_CHANNEL_SIZE * count_of shape ≤ length room
+
+module _ {Q : Type 0} (taken lost size : Q → ℕ) where
+  -- a member: its number was given out, its mask is one of the shape, the captures since its joining are the scans taken in
+  -- and those lost, and its queue is of its mask's scans
+  pub record IsMember (shape : ShapeRecord) (captures next : ℕ) (m : Membership Q) : Type 0 where
+    pub numbered : m.number < next
+    pub below : m.mask.bits < 2 ^ count_of shape
+    pub counted : m.joined + (taken m.tail + lost m.tail) ≡ captures
+    pub sized : size m.tail ≡ scan_size shape m.mask.bits
+
+  -- each mask of a member has one group, each group has a member, and each table is the one from the active mask
+  pub record AreGroups (shape : ShapeRecord) (active : ℕ) (members : List (Membership Q)) (groups : List GroupRecord) : Type 0 where
+    pub each : All (IsGroup shape active) groups
+    pub there : All (λ (m : Membership Q). has_group groups m.mask.bits ≡ true) members
+    pub used : All (λ (g : GroupRecord). is_wanted members g.mask ≡ true) groups
+    pub apart : IsDistinct (λ a b. a == b) (map (λ (g : GroupRecord). g.mask) groups)
+
+  pub record IsSound (shape : ShapeRecord) (active : Option Mask) (captures next : ℕ) (members : List (Membership Q)) (groups : List GroupRecord) : Type 0 where
+    -- the active mask is the rule of the members, and one of the shape
+    pub ruled : bits_of active ≡ active_for shape (masks_of members)
+    pub below : IfSome active (λ mask. mask.bits < 2 ^ count_of shape)
+    -- there is an active mask exactly where there is a member
+    pub asked : is_none active ≡ is_nil members
+    -- the members are counted in 32 bits
+    pub few : length members < 2 ^ 32
+    -- no two members have one number
+    pub numbers : IsDistinct (λ a b. a == b) (map (λ (m : Membership Q). m.number) members)
+    pub each : All (IsMember shape captures next) members
+    pub grouped : AreGroups shape (unwrap_or (bits_of active) 0) members groups

@@ -1,0 +1,149 @@
+//! A device: its members, what the core keeps of it, and its driver.
+
+ghost use Rattle.std.specs.Prelude.{◌≡◌, ⊤, IfOk, All, is_some, length, option_map};
+ghost use Rattle.iio_desc.specs.WellFormed.{IsWrite};
+ghost use Rattle.iio_kfifo.specs.Queue.{Queue};
+ghost use Rattle.iio_device.specs.declared.membership.Member.{Member};
+ghost use Rattle.iio_device.specs.declared.membership.Membership.{Membership};
+ghost use Rattle.iio_device.specs.Members.{first_number, mask_count, member_of};
+ghost use Rattle.iio_device.specs.Roster.{Takes};
+ghost use Rattle.iio_device.specs.Device.{new_view, view_of};
+
+use crate::iio_dev::IioDev;
+use crate::membership::Member;
+use crate::plug::Plug;
+use crate::roster::Roster;
+use crate::values::first_stored;
+use iio_attr::Name;
+use iio_base::Mem;
+use iio_desc::DeviceDesc;
+use iio_kfifo::{Kfifo, Tail};
+use iio_layout::Shape;
+use iio_mask::Mask;
+use iio_sensor::Sensor;
+use std::alloc::Global;
+
+/// A core with its driver.
+#[derive(Drop)]
+pub struct Fitted<C> {
+    pub core: C,
+    /// What it samples. None once the device is unplugged.
+    pub plug: Option<Plug>,
+}
+
+/// A device whose members' queues have this end.
+pub type Device<Q> = Fitted<IioDev<Q>>;
+
+impl<Q: Tail> Fitted<IioDev<Q>> {
+    /// A device of that number: it is plugged, has the description's trigger and no member. What it samples is `plug`. The
+    /// attribute lines of the description are written, in their order. Its room for a capture and for events is made here.
+    pub fn new(alloc: Global, desc: DeviceDesc, number: u32, plug: Plug) -> Result<Device<Q>, Mem>
+        requires { All (IsWrite (length desc.shape.channels)) desc.attrs }
+        ensures { IfOk result (λ d. view_of ⟦<Plug as Sensor>⟧.driver d.core d.plug ≡ new_view desc number (⟦<Plug as Sensor>⟧.driver plug)) }
+    {
+        let mut plug = plug;
+        let stored = first_stored(alloc, &desc.shape, &desc.attrs, &mut plug)?;
+        let core = IioDev {
+            roster: Roster::new(alloc, desc.shape)?,
+            name: desc.name,
+            number,
+            trigger: desc.trigger,
+            attachment: 0,
+            stored,
+        };
+        Ok(Fitted {
+            core,
+            plug: Some(plug),
+        })
+    }
+
+    /// Its number in the description.
+    pub fn number(&self) -> u32
+        ensures { result ≡ self.now.core.number }
+    {
+        self.core.number
+    }
+
+    /// Its channels.
+    pub fn shape(&self) -> &Shape
+        ensures { result.now ≡ self.now.core.roster.shape }
+    {
+        &self.core.roster.shape
+    }
+
+    /// The mask that its sensor is asked under. None exactly where it has no member.
+    pub fn active(&self) -> Option<Mask>
+        ensures { result ≡ self.now.core.roster.active }
+    {
+        self.core.roster.active
+    }
+
+    /// The number of its trigger, where it has one.
+    pub fn trigger(&self) -> Option<u32>
+        ensures { result ≡ self.now.core.trigger }
+    {
+        self.core.trigger
+    }
+
+    /// How many captures it had.
+    pub fn captures(&self) -> u64
+        ensures { result ≡ self.now.core.roster.captures }
+    {
+        self.core.roster.captures
+    }
+
+    /// Whether it is plugged.
+    pub fn plugged(&self) -> bool
+        ensures { result ≡ is_some self.now.plug }
+    {
+        self.plug.is_some()
+    }
+
+    /// How many members it has.
+    pub fn members(&self) -> u32
+        ensures { result ≡ length self.now.core.roster.members.items }
+    {
+        self.core.roster.len()
+    }
+
+    /// How many masks its members have, where those that are equal count once. So many scans are laid out at a capture.
+    pub fn groups(&self) -> u32
+        ensures { result ≡ mask_count self.now.core.roster.members.items }
+    {
+        self.core.roster.groups()
+    }
+
+    /// The member that joined first. None exactly where there is no member.
+    pub fn first_member(&self) -> Option<Member>
+        ensures { option_map (λ (m : Member). m.number) result ≡ first_number self.now.core.roster.members.items }
+    {
+        let number = self.core.roster.first_member()?;
+        Some(Member { number })
+    }
+
+    /// How many scans the member has lost since its joining. None exactly where it isn't live.
+    pub fn lost(&self, member: &Member) -> Option<u64>
+        ensures { result ≡ option_map (λ (m : Membership Q). Q.lost m.tail) (member_of member.now.number self.now.core.roster.members.items) }
+    {
+        self.core.roster.lost(member.number)
+    }
+}
+
+impl Fitted<IioDev<Kfifo>> {
+    /// Moves the member's oldest scan into `out`, and says whether there was one. None exactly where the member isn't live
+    /// or `out` hasn't the size of its scans, and then nothing changes.
+    pub fn take(&mut self, member: &Member, out: &mut [u8]) -> Option<bool>
+        requires { ⊤ }
+        ensures taken { Takes member.now.number result out.old out.new (view_of ⟦<Plug as Sensor>⟧.driver self.old.core self.old.plug).standing (view_of ⟦<Plug as Sensor>⟧.driver self.new.core self.new.plug).standing }
+        ensures rest { view_of ⟦<Plug as Sensor>⟧.driver self.new.core self.new.plug ≡ record (view_of ⟦<Plug as Sensor>⟧.driver self.old.core self.old.plug) { standing = (view_of ⟦<Plug as Sensor>⟧.driver self.new.core self.new.plug).standing } }
+    {
+        self.core.roster.take(member.number, out)
+    }
+
+    /// How many scans wait for the member. None exactly where it isn't live.
+    pub fn waiting(&self, member: &Member) -> Option<u32>
+        ensures { result ≡ option_map (λ (m : Membership Queue). length m.tail.scans) (member_of member.now.number self.now.core.roster.members.items) }
+    {
+        self.core.roster.waiting(member.number)
+    }
+}

@@ -1,0 +1,119 @@
+//! Members of the same mask share a copy table.
+
+ghost use Rattle.std.specs.Prelude.{◌≡◌, ◌==◌, ℕ, ◌+◌, ◌^◌, ◌<◌, true, All, IfOk, length, map, find, vec_len, vec_capacity};
+ghost use Rattle.iio_mask.specs.Mask.{is_within};
+ghost use Rattle.iio_layout.specs.Layout.{scan_size};
+ghost use Rattle.iio_layout.specs.Shape.{count_of};
+ghost use Rattle.iio_demux.specs.Table.{table_of};
+ghost use Rattle.iio_device.specs.Groups.{GroupRecord, IsGroup, has_group, laid_out, remade, scan_under};
+
+use iio_base::Mem;
+use iio_demux::Table;
+use iio_layout::{Shape, scan_size};
+use iio_mask::Mask;
+use std::alloc::Global;
+use std::marker::Model;
+
+/// What the members of one mask share: the table from the active mask, and room for their scan of a capture.
+#[derive(Debug, Drop)]
+pub(crate) struct Group {
+    mask: Mask,
+    table: Table,
+    scan: Vec<u8>,
+}
+
+impl Model for Group {
+    ghost use Rattle.iio_device.specs.Groups.{GroupRecord};
+
+    ghost Value = { GroupRecord };
+
+    ghost view = { λ g. record { mask = g.mask.bits; table = g.table; scan = g.scan.items } };
+}
+
+impl Group {
+    /// A group of that mask, for a sensor that is asked under this mask. All memory that it ever takes is taken here.
+    pub(crate) fn new(alloc: Global, shape: &Shape, active: Mask, mask: Mask) -> Result<Group, Mem>
+        requires below { active.bits < 2 ^ count_of shape.now }
+        requires own { mask.bits < 2 ^ count_of shape.now }
+        requires within { is_within mask.bits active.bits ≡ true }
+        ensures mask { IfOk result (λ g. g.mask ≡ mask.bits) }
+        ensures group { IfOk result (λ g. IsGroup shape.now active.bits g) }
+    {
+        let table = Table::build(alloc, shape, active, mask)?;
+        let scan = vec![in alloc; 0u8; scan_size(shape, mask) as usize]?;
+        Ok(Group { mask, table, scan })
+    }
+
+    /// Makes the table anew, for another active mask.
+    fn remake(&mut self, shape: &Shape, active: Mask)
+        requires below { active.bits < 2 ^ count_of shape.now }
+        requires within { is_within self.old.mask active.bits ≡ true }
+        ensures { self.new ≡ remade shape.now active.bits self.old }
+    {
+        self.table.remake(shape, active, self.mask);
+    }
+
+    /// Lays out the scan of an active one.
+    fn lay_out(&mut self, union: &[u8])
+        requires union { length union.now ≡ self.old.table.active_size }
+        requires room { length self.old.scan ≡ self.old.table.buffer_size }
+        ensures { self.new ≡ laid_out union.now self.old }
+    {
+        self.table.apply(union, &mut self.scan);
+    }
+
+    fn is_of(&self, mask: Mask) -> bool
+        ensures { result ≡ (self.now.mask == mask.bits) }
+    {
+        self.mask == mask
+    }
+
+    /// The mask that the group is of.
+    pub(crate) fn mask(&self) -> Mask
+        ensures { result.bits ≡ self.now.mask }
+    {
+        self.mask
+    }
+}
+
+/// Makes each group's table anew, for another active mask.
+pub(crate) fn remake_all(groups: &mut Vec<Group>, shape: &Shape, active: Mask)
+    requires below { active.bits < 2 ^ count_of shape.now }
+    requires within { All (λ (g : GroupRecord). is_within g.mask active.bits ≡ true) groups.old.items }
+    ensures remade { groups.new.items ≡ map (remade shape.now active.bits) groups.old.items }
+    ensures capacity { vec_capacity groups.new ≡ vec_capacity groups.old }
+{
+    for i in 0..groups.len() {
+        groups[i].remake(shape, active);
+    }
+}
+
+/// Lays out each group's scan of an active one.
+pub(crate) fn lay_out_all(groups: &mut Vec<Group>, union: &[u8])
+    requires union { All (λ (g : GroupRecord). length union.now ≡ g.table.active_size) groups.old.items }
+    requires room { All (λ (g : GroupRecord). length g.scan ≡ g.table.buffer_size) groups.old.items }
+    ensures { groups.new.items ≡ map (laid_out union.now) groups.old.items }
+{
+    for i in 0..groups.len() {
+        groups[i].lay_out(union);
+    }
+}
+
+/// The scan of the group of that mask.
+pub(crate) fn scan_under(groups: &[Group], mask: Mask) -> &[u8]
+    ensures { result.now ≡ scan_under groups.now mask.bits }
+{
+    for group in groups {
+        if group.is_of(mask) {
+            return &group.scan;
+        }
+    }
+    &[]
+}
+
+/// Whether a group of that mask is there.
+pub(crate) fn has_group(groups: &[Group], mask: Mask) -> bool
+    ensures { result ≡ has_group groups.now mask.bits }
+{
+    groups.iter().any(|group| group.is_of(mask))
+}

@@ -1,0 +1,24 @@
+//! What the core keeps of a device.
+
+ghost use Rattle.std.specs.Prelude.{length};
+ghost use Rattle.iio_device.specs.Whole.{IsWhole};
+
+use crate::roster::Roster;
+use crate::stored::Stored;
+use iio_attr::Name;
+use iio_kfifo::Tail;
+
+/// What the core keeps of a device: all but its driver (kernel: `struct iio_dev`).
+#[derive(Drop)]
+pub struct IioDev<Q: Tail> {
+    pub roster: Roster<Q>,
+    pub name: Name,
+    /// Its number in the description.
+    pub number: u32,
+    /// The number of its trigger.
+    pub trigger: Option<u32>,
+    /// How often a first member has joined: the number of the present attachment.
+    pub attachment: u64,
+    pub stored: Stored,
+    ghost whole: { IsWhole (length roster.shape.channels) attachment roster.next stored },
+}

@@ -1,0 +1,78 @@
+//! What is made of all members, one after another.
+
+ghost use Rattle.std.specs.Prelude.{◌≡◌, ◌==◌, ℕ, ◌+◌, ◌-◌, ◌^◌, ◌<◌, true, All, IfNone, IfSome, None, Some, is_some, length, slice_index_or, slice_set};
+ghost use Rattle.std.specs.List.{AllZip};
+ghost use Rattle.iio_mask.specs.Mask.{union_of_all};
+ghost use Rattle.iio_kfifo.specs.Queue.{Queue};
+ghost use Rattle.iio_device.specs.declared.membership.Membership.{Membership};
+ghost use Rattle.iio_device.specs.Groups.{scan_under};
+ghost use Rattle.iio_device.specs.Members.{Drains, WasOffered, is_live, is_wanted, masks_of, member_of};
+
+use crate::group::{Group, scan_under};
+use crate::membership::Membership;
+use iio_kfifo::{Kfifo, Tail};
+use iio_mask::Mask;
+
+/// The union of the members' masks.
+pub(crate) fn union_mask<Q>(members: &[Membership<Q>]) -> Mask
+    ensures { result.bits ≡ union_of_all (masks_of members.now) }
+{
+    let mut union = Mask { bits: 0 };
+    for member in members {
+        union = member.mask.union(union);
+    }
+    union
+}
+
+/// Whether a member has that mask.
+pub(crate) fn is_wanted<Q>(members: &[Membership<Q>], mask: Mask) -> bool
+    ensures { result ≡ is_wanted members.now mask.bits }
+{
+    members.iter().any(|member| member.mask.bits == mask.bits)
+}
+
+/// Where the member of that number stands.
+pub(crate) fn position_of<Q>(members: &[Membership<Q>], number: u64) -> Option<usize>
+    ensures live { is_some result ≡ is_live number members.now }
+    ensures none { IfNone result (member_of number members.now ≡ None) }
+    ensures within { IfSome result (λ at. at < length members.now) }
+    ensures at { IfSome result (λ at. (d : Membership Q) → (slice_index_or members.now at d).number ≡ number) }
+    ensures member { IfSome result (λ at. (d : Membership Q) → member_of number members.now ≡ Some (slice_index_or members.now at d)) }
+{
+    for i in 0..members.len() {
+        if members[i].number == number {
+            return Some(i);
+        }
+    }
+    None
+}
+
+// Offers a member the scan of its group.
+fn offer_one<Q: Tail>(member: &mut Membership<Q>, groups: &[Group])
+    requires sized { length (scan_under groups.now member.old.mask.bits) ≡ Q.size member.old.tail }
+    requires fewer { Q.taken member.old.tail + Q.lost member.old.tail < 2 ^ 64 - 1 }
+    ensures { WasOffered Q.taken Q.lost Q.size Q.capacity Q.offer_gives (scan_under groups.now member.old.mask.bits) member.old member.new }
+{
+    member.tail.offer(scan_under(groups, member.mask));
+}
+
+/// Offers each member the scan of its group, once.
+pub(crate) fn offer_all<Q: Tail>(members: &mut Vec<Membership<Q>>, groups: &[Group])
+    requires sized { All (λ (m : Membership Q). length (scan_under groups.now m.mask.bits) ≡ Q.size m.tail) members.old.items }
+    requires fewer { All (λ (m : Membership Q). Q.taken m.tail + Q.lost m.tail < 2 ^ 64 - 1) members.old.items }
+    ensures { AllZip (λ (a b : Membership Q). WasOffered Q.taken Q.lost Q.size Q.capacity Q.offer_gives (scan_under groups.now a.mask.bits) a b) members.old.items members.new.items }
+{
+    for i in 0..members.len() {
+        offer_one(&mut members[i], groups);
+    }
+}
+
+// Moves the oldest scan of the member at that place into `out`, and says whether there was one.
+pub(crate) fn take_at(members: &mut Vec<Membership<Kfifo>>, at: usize, out: &mut [u8]) -> bool
+    requires within { at < length members.old.items }
+    requires size { (d : Membership Queue) → length out.old ≡ (slice_index_or members.old.items at d).tail.size }
+    ensures moved { (d : Membership Queue) → Drains result out.old out.new (slice_index_or members.old.items at d) (slice_index_or members.new.items at d) }
+    ensures others { (d : Membership Queue) → members.new.items ≡ slice_set members.old.items at (slice_index_or members.new.items at d) }
+{
+    members[at].tail.take(out)
+}

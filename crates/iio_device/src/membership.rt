@@ -1,0 +1,18 @@
+//! A member of a device.
+
+use iio_mask::Mask;
+
+/// A member of a device. Numbers of a device are never used twice.
+#[derive(Clone, Copy, Debug, PartialEq, Eq, Hash)]
+pub struct Member {
+    pub number: u64,
+}
+
+/// A member: its number, the mask that it joined with, the device's captures at its joining, and its queue's end.
+#[derive(Drop)]
+pub struct Membership<Q> {
+    pub number: u64,
+    pub mask: Mask,
+    pub joined: u64,
+    pub tail: Q,
+}

@@ -1,0 +1,346 @@
+//! A device's members, with their groups and the active mask.
+
+ghost use Rattle.std.specs.Prelude.{◌≡◌, ◌==◌, ◌&&◌, ℕ, ℤ, ◌+◌, ◌-◌, ◌*◌, ◌^◌, ◌<◌, ◌≤◌, true, false, All, IfOk, IfErr, IfSome, IfNone, filter, is_err, is_none, length, take, List, unwrap_or, vec_len, vec_capacity, option_map, Some, None};
+ghost use Rattle.std.specs.List.{AllZip};
+ghost use Rattle.std.proofs.Props.{props};
+ghost use Rattle.iio_mask.specs.Mask.{is_within, union_of, union_of_all};
+ghost use Rattle.iio_layout.specs.Active.{active_of};
+ghost use Rattle.iio_layout.specs.Layout.{scan_size};
+ghost use Rattle.iio_layout.specs.Scan.{scan_of};
+ghost use Rattle.iio_layout.specs.Shape.{count_of, width_of};
+ghost use Rattle.iio_kfifo.specs.Queue.{Queue};
+ghost use Rattle.iio_sensor.specs.Driver.{after_capture, ask_fails, values_of};
+ghost use Rattle.iio_device.specs.declared.membership.Membership.{Membership};
+ghost use Rattle.iio_device.specs.Groups.{GroupRecord, IsGroup, has_group};
+ghost use Rattle.iio_device.specs.Active.{active_for};
+ghost use Rattle.iio_device.specs.Members.{WasOffered, first_number, is_wanted, mask_count, masks_of, member_of};
+ghost use Rattle.iio_device.specs.Roster.{Captures, IsRefusal, Joins, Leaves, Takes, active_with, join_fault, nobody, remade_for, with_capture, with_group};
+ghost use Rattle.iio_device.specs.Sound.{HasRoom, IsSound, bits_of};
+
+use crate::group::{Group, has_group, lay_out_all, remake_all};
+use crate::members::{is_wanted, offer_all, position_of, take_at, union_mask};
+use crate::membership::Membership;
+use iio_base::Mem;
+use iio_kfifo::{Kfifo, Tail};
+use iio_layout::{Shape, active, scan_size};
+use iio_mask::Mask;
+use iio_scan_type::MAX_CHANNEL_SIZE;
+use iio_sensor::{Fault, Sensor};
+use std::alloc::Global;
+
+/// A device's members, in the order of their joining.
+#[derive(Drop)]
+pub struct Roster<Q: Tail> {
+    alloc: Global,
+    pub shape: Shape,
+    /// The mask that the sensor is asked under; none without a member.
+    pub active: Option<Mask>,
+    pub captures: u64,
+    /// The number of the next member.
+    pub next: u64,
+    pub members: Vec<Membership<Q>>,
+    groups: Vec<Group>,
+    // Room for the scan under the active mask.
+    room: Vec<u8>,
+    ghost sound: { IsSound Q.taken Q.lost Q.size shape active captures next members.items groups.items } by { Prim.hlevel props },
+    ghost roomy: { HasRoom shape room.items },
+}
+
+/// Why a join was refused.
+#[derive(Clone, Copy, Debug, PartialEq, Eq, Hash)]
+pub enum JoinFault {
+    /// The device is unplugged.
+    Gone,
+    /// The mask has a channel that the device hasn't, or no data channel.
+    BadMask,
+    /// The device has no trigger.
+    NoTrigger,
+    /// The sensor can be asked under no mask that serves all members.
+    NoUnion,
+    /// The trigger has no place for the device, or 2^64 - 1 members have joined.
+    NoPlace,
+    /// Want of memory.
+    Mem,
+}
+
+/// A join that was refused. It gives the queue's end back.
+pub struct JoinRefused<Q> {
+    pub fault: JoinFault,
+    pub tail: Q,
+}
+
+/// The mask that the sensor is asked under for these members.
+fn active_for<Q>(shape: &Shape, members: &[Membership<Q>]) -> Option<Mask>
+    requires { All (λ (m : Membership Q). m.mask.bits < 2 ^ count_of shape.now) members.now }
+    ensures value { bits_of result ≡ active_for shape.now (masks_of members.now) }
+    ensures contains { IfSome result (λ m. is_within (union_of_all (masks_of members.now)) m.bits ≡ true) }
+    ensures below { IfSome result (λ m. m.bits < 2 ^ count_of shape.now) }
+{
+    if members.is_empty() {
+        return None;
+    }
+    active(shape, union_mask(members))
+}
+
+// Adds a group, where there is one to add.
+fn add_group(groups: &mut Vec<Group>, group: Option<Group>)
+    requires { vec_len groups.old < vec_capacity groups.old }
+    ensures { groups.new.items ≡ with_group group groups.old.items }
+{
+    if let Some(group) = group {
+        groups.push_reserved(group);
+    }
+}
+
+// Keeps the groups that a member wants.
+fn keep_wanted<Q>(groups: &mut Vec<Group>, members: &[Membership<Q>])
+    ensures { groups.new.items ≡ filter (λ (g : GroupRecord). is_wanted members.now g.mask) groups.old.items }
+{
+    groups.retain(|group| is_wanted(members, group.mask()));
+}
+
+// Makes the tables anew, where there is an active mask.
+fn remake_for(groups: &mut Vec<Group>, shape: &Shape, active: Option<Mask>)
+    requires below { IfSome active (λ m. m.bits < 2 ^ count_of shape.now) }
+    requires within { IfSome active (λ m. All (λ (g : GroupRecord). is_within g.mask m.bits ≡ true) groups.old.items) }
+    ensures { groups.new.items ≡ remade_for shape.now active groups.old.items }
+{
+    if let Some(active) = active {
+        remake_all(groups, shape, active);
+    }
+}
+
+// Asks a driver for a capture's scan, into the first bytes of the room, and answers how many.
+fn ask<P: Sensor>(
+    plug: &mut P,
+    shape: &Shape,
+    t: i64,
+    active: Mask,
+    room: &mut [u8],
+) -> Result<usize, Fault>
+    requires below { active.bits < 2 ^ count_of shape.now }
+    requires room { HasRoom shape.now room.old }
+    ensures asked { P.driver plug.new ≡ after_capture (P.driver plug.old) t active.bits }
+    ensures fault { is_err result ≡ ask_fails (P.driver plug.old) }
+    ensures size { IfOk result (λ size. (size ≡ scan_size shape.now active.bits) × (size ≤ length room.new)) }
+    ensures scan { IfOk result (λ size. take size room.new ≡ scan_of shape.now active.bits (values_of (P.driver plug.old) shape.now t) t) }
+{
+    let size = scan_size(shape, active) as usize;
+    plug.capture(shape, t, active, &mut room[..size])?;
+    Ok(size)
+}
+
+impl<Q: Tail> Roster<Q> {
+    ghost use Rattle.iio_device.specs.Standing.{standing_of};
+
+    /// No member, at a device of that shape. Its room for scans is made here.
+    pub(crate) fn new(alloc: Global, shape: Shape) -> Result<Roster<Q>, Mem>
+        ensures { IfOk result (λ r. standing_of r ≡ nobody shape) }
+    {
+        let room = vec![in alloc; 0u8; (MAX_CHANNEL_SIZE * shape.count()) as usize]?;
+        Ok(Roster {
+            alloc,
+            shape,
+            active: None,
+            captures: 0,
+            next: 0,
+            members: Vec::new(alloc),
+            groups: Vec::new(alloc),
+            room,
+        })
+    }
+
+    /// The mask that the sensor would be asked under with one member more, of this mask.
+    pub(crate) fn active_with(&self, mask: Mask) -> Option<Mask>
+        requires { mask.bits < 2 ^ count_of self.now.shape }
+        ensures value { bits_of result ≡ active_with mask.bits (standing_of self.now) }
+        ensures contains { IfSome result (λ m. (is_within mask.bits m.bits ≡ true) × (is_within (union_of_all (masks_of self.now.members.items)) m.bits ≡ true)) }
+        ensures below { IfSome result (λ m. m.bits < 2 ^ count_of self.now.shape) }
+    {
+        active(&self.shape, mask.union(union_mask(&self.members)))
+    }
+
+    // Makes room for one member more, and the group of its mask where there is none.
+    fn grow(&mut self, active: Mask, mask: Mask) -> Result<Option<Group>, Mem>
+        requires below { active.bits < 2 ^ count_of self.old.shape }
+        requires own { mask.bits < 2 ^ count_of self.old.shape }
+        requires within { is_within mask.bits active.bits ≡ true }
+        ensures same { standing_of self.new ≡ standing_of self.old }
+        ensures few { IfOk result (λ _. length self.new.members.items < 2 ^ 32 - 1) }
+        ensures room { IfOk result (λ _. (vec_len self.new.members < vec_capacity self.new.members) × (vec_len self.new.groups < vec_capacity self.new.groups)) }
+        ensures group { IfOk result (λ group. IfSome group (λ g. IsGroup self.new.shape active.bits g × (g.mask ≡ mask.bits) × (has_group self.new.groups.items mask.bits ≡ false))) }
+        ensures none { IfOk result (λ group. IfNone group (has_group self.new.groups.items mask.bits ≡ true)) }
+    {
+        if self.members.len() >= u32::MAX as usize {
+            return Err(Mem);
+        }
+        self.members.reserve(1)?;
+        self.groups.reserve(1)?;
+        if has_group(&self.groups, mask) {
+            return Ok(None);
+        }
+        Ok(Some(Group::new(self.alloc, &self.shape, active, mask)?))
+    }
+
+    // The active mask with one member more, and what `grow` makes for it; or why there is to be none.
+    fn prepare(&mut self, mask: Mask) -> Result<(Mask, Option<Group>), JoinFault>
+        requires { mask.bits < 2 ^ count_of self.old.shape }
+        ensures same { standing_of self.new ≡ standing_of self.old }
+        ensures fault { IfErr result (λ fault. IsRefusal fault (join_fault mask.bits (standing_of self.old))) }
+        ensures accepted { IfOk result (λ made. join_fault mask.bits (standing_of self.old) ≡ None) }
+        ensures active { IfOk result (λ made. Some made.0.bits ≡ active_with mask.bits (standing_of self.old)) }
+        ensures below { IfOk result (λ made. made.0.bits < 2 ^ count_of self.old.shape) }
+        ensures within { IfOk result (λ made. is_within (union_of_all (masks_of self.old.members.items)) made.0.bits ≡ true) }
+        ensures few { IfOk result (λ _. length self.new.members.items < 2 ^ 32 - 1) }
+        ensures next { IfOk result (λ _. self.old.next < 2 ^ 64 - 1) }
+        ensures room { IfOk result (λ _. (vec_len self.new.members < vec_capacity self.new.members) × (vec_len self.new.groups < vec_capacity self.new.groups)) }
+        ensures group { IfOk result (λ made. IfSome made.1 (λ g. IsGroup self.new.shape made.0.bits g × (g.mask ≡ mask.bits) × (has_group self.new.groups.items mask.bits ≡ false))) }
+        ensures none { IfOk result (λ made. IfNone made.1 (has_group self.new.groups.items mask.bits ≡ true)) }
+    {
+        let active = self.active_with(mask).ok_or(JoinFault::NoUnion)?;
+        if self.next == u64::MAX {
+            return Err(JoinFault::NoPlace);
+        }
+        let Ok(group) = self.grow(active, mask) else {
+            return Err(JoinFault::Mem);
+        };
+        Ok((active, group))
+    }
+
+    /// A member more. Where it is refused, the queue's end comes back, and nothing changes.
+    pub(crate) fn join(&mut self, mask: Mask, tail: Q) -> Result<u64, JoinRefused<Q>>
+        requires own { mask.bits < 2 ^ count_of self.old.shape }
+        requires size { Q.size tail ≡ scan_size self.old.shape mask.bits }
+        requires fresh { Q.taken tail + Q.lost tail ≡ 0 }
+        ensures { Joins mask tail result (standing_of self.old) (standing_of self.new) }
+    {
+        let (active, group) = match self.prepare(mask) {
+            Err(fault) => return Err(JoinRefused { fault, tail }),
+            Ok(made) => made,
+        };
+        let number = self.next;
+        remake_all(&mut self.groups, &self.shape, active);
+        add_group(&mut self.groups, group);
+        self.members.push_reserved(Membership {
+            number,
+            mask,
+            joined: self.captures,
+            tail,
+        });
+        self.next += 1;
+        self.active = Some(active);
+        Ok(number)
+    }
+
+    /// A member less; its queue's end comes back, and the others get tables for their own active mask. `None` comes exactly
+    /// where no member has that number, and then nothing changes.
+    pub(crate) fn leave(&mut self, number: u64) -> Option<Q>
+        ensures { Leaves number result (standing_of self.old) (standing_of self.new) }
+    {
+        let at = position_of(&self.members, number)?;
+        let Membership {
+            number: _,
+            mask: _,
+            joined: _,
+            tail,
+        } = self.members.remove(at);
+        let active = active_for(&self.shape, &self.members);
+        keep_wanted(&mut self.groups, &self.members);
+        remake_for(&mut self.groups, &self.shape, active);
+        self.active = active;
+        Some(tail)
+    }
+
+    /// The mask that the sensor is asked under; the empty one without a member.
+    pub(crate) fn asked(&self) -> Mask
+        ensures value { result.bits ≡ unwrap_or (bits_of self.now.active) 0 }
+        ensures below { result.bits < 2 ^ count_of self.now.shape }
+    {
+        self.active.unwrap_or(Mask { bits: 0 })
+    }
+
+    // Offers each member its own scan of a capture, whose scan under the active mask is the first `size` bytes of the room.
+    fn capture(&mut self, size: usize)
+        requires size { size ≡ scan_size self.old.shape (unwrap_or (bits_of self.old.active) 0) }
+        requires room { size ≤ length self.old.room.items }
+        requires fewer { self.old.captures < 2 ^ 64 - 1 }
+        ensures offered { (values : List ℤ) (t : ℤ) → length values ≡ width_of self.old.shape → take size self.old.room.items ≡ scan_of self.old.shape (unwrap_or (bits_of self.old.active) 0) values t
+            → AllZip (λ (a b : Membership Q). WasOffered Q.taken Q.lost Q.size Q.capacity Q.offer_gives (scan_of self.old.shape a.mask.bits values t) a b) self.old.members.items self.new.members.items }
+        ensures rest { standing_of self.new ≡ with_capture self.new.members.items (standing_of self.old) }
+    {
+        lay_out_all(&mut self.groups, &self.room[..size]);
+        offer_all(&mut self.members, &self.groups);
+        self.captures += 1;
+    }
+
+    /// A capture by a driver: it is asked once, under the active mask. Where that succeeds, the scan of each distinct mask is
+    /// laid out once, each member is offered its own, and the answer is how many were.
+    pub(crate) fn capture_by<P: Sensor>(&mut self, plug: &mut P, t: i64) -> Result<usize, Fault>
+        requires { self.old.captures < 2 ^ 64 - 1 }
+        ensures asked { P.driver plug.new ≡ after_capture (P.driver plug.old) t (unwrap_or (bits_of self.old.active) 0) }
+        ensures fault { is_err result ≡ ask_fails (P.driver plug.old) }
+        ensures few { IfOk result (λ count. count < 2 ^ 32) }
+        ensures captures { Captures Q.taken Q.lost Q.size Q.capacity Q.offer_gives (values_of (P.driver plug.old) self.old.shape t) t result (standing_of self.old) (standing_of self.new) }
+    {
+        let active = self.asked();
+        let size = ask(plug, &self.shape, t, active, &mut self.room)?;
+        self.capture(size);
+        Ok(self.len() as usize)
+    }
+
+    /// The number of the first member to have joined. `None` comes exactly where there is no member.
+    pub(crate) fn first_member(&self) -> Option<u64>
+        ensures { result ≡ first_number self.now.members.items }
+    {
+        if self.members.is_empty() {
+            return None;
+        }
+        Some(self.members[0].number)
+    }
+
+    /// How many members there are.
+    pub(crate) fn len(&self) -> u32
+        ensures { result ≡ length self.now.members.items }
+    {
+        self.members.len() as u32
+    }
+
+    /// How many masks the members have, where those that are equal count once.
+    pub(crate) fn groups(&self) -> u32
+        ensures { result ≡ mask_count self.now.members.items }
+    {
+        self.groups.len() as u32
+    }
+
+    /// How many scans the member of that number has lost. `None` comes exactly where no member has it.
+    pub(crate) fn lost(&self, number: u64) -> Option<u64>
+        ensures { result ≡ option_map (λ (m : Membership Q). Q.lost m.tail) (member_of number self.now.members.items) }
+    {
+        let at = position_of(&self.members, number)?;
+        Some(self.members[at].tail.lost())
+    }
+}
+
+impl Roster<Kfifo> {
+    ghost use Rattle.iio_device.specs.Standing.{standing_of};
+
+    /// Moves the oldest scan of the member of that number into `out`, and says whether there was one. `None` comes exactly
+    /// where no member has that number, or `out` hasn't the size of its scans, and then nothing changes.
+    pub(crate) fn take(&mut self, number: u64, out: &mut [u8]) -> Option<bool>
+        ensures { Takes number result out.old out.new (standing_of self.old) (standing_of self.new) }
+    {
+        let at = position_of(&self.members, number)?;
+        if out.len() != self.members[at].tail.size() as usize {
+            return None;
+        }
+        Some(take_at(&mut self.members, at, out))
+    }
+
+    /// How many scans wait for the member of that number. `None` comes exactly where no member has it.
+    pub(crate) fn waiting(&self, number: u64) -> Option<u32>
+        ensures { result ≡ option_map (λ (m : Membership Queue). length m.tail.scans) (member_of number self.now.members.items) }
+    {
+        let at = position_of(&self.members, number)?;
+        Some(self.members[at].tail.waiting())
+    }
+}
