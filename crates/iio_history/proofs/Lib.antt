@@ -8,4 +8,23 @@ pub mod TranscriptLaws
 pub mod OutstandingLaws
 pub mod MoreLaws
 pub mod ReadingLaws
+pub mod BenchSizes
+pub mod BenchLists
+pub mod BenchSeats
+pub mod BenchSites
+pub mod BenchSteps
+pub mod BenchDesks
+pub mod BenchKept
+pub mod BenchPlaces
+pub mod BenchPlain
+pub mod BenchSet
+pub mod BenchEvents
+pub mod BenchBuffers
+pub mod BenchAttributes
+pub mod BenchOpen
+pub mod BenchItems
+pub mod BenchOthers
+pub mod BenchEnds
+pub mod BenchFeeds
+pub mod BenchMoves
 mod Rows

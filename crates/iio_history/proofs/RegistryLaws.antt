@@ -165,7 +165,7 @@ remasked_apart who mask [] apart = tt
 remasked_apart who mask (m ∷ ms) apart =
     (remasked_member (with_mask who mask m).who who mask ms ∙ ap (λ (w : Who). is_member w ms) (who_kept (same who m.who) m mask) ∙ apart.0, remasked_apart who mask ms apart.1)
 
-apart_after : (act : Act) (d : Device) → Fits act d → AreApart d.members → AreApart (members_after act d.members)
+pub apart_after : (act : Act) (d : Device) → Fits act d → AreApart d.members → AreApart (members_after act d.members)
 apart_after (Joining n) d fit apart = joined_apart d.members n fit apart
 apart_after (Remasking m mask) d fit apart = remasked_apart m.who mask d.members apart
 apart_after (Leaving gone) d fit apart = left_apart gone d.members apart

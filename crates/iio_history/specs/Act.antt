@@ -1,20 +1,17 @@
 -- What an event is to a device.
 use Rattle.std.specs.Prelude.{ℕ, ◌==◌, ◌&&◌, not, Bool, true, false, List, [], ◌∷◌, Option, Some, None, Result, Ok, Err, if◌then◌else◌, ℤ, slice_get}
-use Rattle.iio_base.specs.Refusals.{ensure, ◌>>=◌}
 use Rattle.iio_text.specs.declared.errors.Errno.{Errno}
-use Rattle.iio_text.specs.declared.errors.Errno.TheVariants.{EBADF, ENODEV}
 use Rattle.iio_text.specs.declared.values.Fixed.{Fixed}
 use Rattle.iio_attr.specs.declared.attributes.Attr.{Attr}
 use Rattle.iio_attr.specs.declared.attributes.Attr.TheVariants as attr
-use Rattle.iio_attr.specs.Attributes.{check_of}
 use Rattle.iio_sensor.specs.Driver.{values_of, ask_fails}
 use Rattle.iio_device.specs.Site.{is_current, is_empty}
 use Rattle.iiod_grammar.specs.Command.{Place, Open, Close, Read, ReadBuf, SetTrig, EvOpen, EvRead, EvClose}
+use Rattle.iiod_session.specs.Attributes.{Assignment, Named, found as found_by, write_found as write_found_by}
 use Rattle.iio_history.specs.Who.{Who, Conn}
 use Rattle.iiod_grammar.specs.Stream.{Item, Said, Written, End}
 use Rattle.iio_history.specs.Event.{Event, Heard, Dropped, Handled, Sensed, Unplugged, Remasked}
 use Rattle.iio_history.specs.Registry.{Setup, Member, Device, Outline, outline_of, Registry, Capture, Entry, is_member, is_named, buffers_of, entries_at, entry_of}
-use Rattle.iio_history.specs.Attributes.{Named, named_at, is_of_buffer}
 use Rattle.iio_history.specs.Opening.{open_answer, remask_answer, trigger_answer}
 
 pub data Act : Type 0 where
@@ -56,26 +53,13 @@ accepted act (Err e) = Nothing
 
 -- ---- the answers that a device decides
 
--- READ and WRITE of a buffer's attribute are for members, also of a device that is unplugged
+-- what a READ names, for a connection that is a member or isn't
 abbrev pub found : Device → Who → Place → Option (List ℕ) → Result Named Errno
-found d who place name =
-    if is_of_buffer place name && is_member who d.members then named_at d.shape place name
-    else (do
-      plugged ← ensure d.site.plugged ENODEV
-      member ← ensure (not (is_of_buffer place name)) EBADF
-      named_at d.shape place name)
+found d who place name = found_by d.shape d.site.plugged (is_member who d.members) place name
 
 -- a WRITE: what is set to which value
-pub record Assignment : Type 0 where
-  pub target : Named
-  pub value : Fixed
-
 abbrev pub write_found : Device → Who → Place → Option (List ℕ) → List ℕ → Result Assignment Errno
-write_found d who place name payload = do
-  plugged ← ensure d.site.plugged ENODEV
-  target ← found d who place name
-  value ← check_of target.attribute payload
-  Ok (record { target = target; value = value })
+write_found d who place name payload = write_found_by d.shape d.site.plugged (is_member who d.members) place name payload
 
 abbrev pub setting : Assignment → Act
 setting x = Setting x.target x.value

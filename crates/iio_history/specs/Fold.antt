@@ -1,5 +1,5 @@
 -- The registry after a history: a fold over its events.
-use Rattle.std.specs.Prelude.{slice_index_or, ℕ, ◌||◌, ◌&&◌, nat_lt, Bool, false, List, [], ◌∷◌, ◌++◌, map, length, replicate, slice_get, slice_set, Option, Some, None, is_some, Ok, if◌then◌else◌, ℤ, pos}
+use Rattle.std.specs.Prelude.{slice_index_or, ℕ, ◌||◌, ◌&&◌, Bool, false, List, [], ◌∷◌, ◌++◌, map, length, replicate, slice_get, slice_set, Option, Some, None, is_some, Ok, if◌then◌else◌, ℤ, pos}
 use Rattle.std.specs.Option.{option_map_or}
 use Rattle.std.specs.Str.{bytes_eq}
 use Rattle.iio_trigger.specs.Trigger.{poll_made, missed_after}
@@ -11,6 +11,7 @@ use Rattle.iio_desc.specs.Description.{DeviceRecord, find_device}
 use Rattle.iio_device.specs.Active.{active_for}
 use Rattle.iio_device.specs.Sensing.{sensed, with_sensed}
 use Rattle.iio_device.specs.Site.{Site, is_empty, at_place, site_written, first_site, attached, captured, sampled, with_monitor, no_driver, unplugged}
+use Rattle.iiod_session.specs.Acts.{is_buffers_count}
 use Rattle.iio_history.specs.Places.{map_from}
 use Rattle.iio_history.specs.Who.{Who, same}
 use Rattle.iiod_grammar.specs.Stream.{Said, End}
@@ -75,10 +76,6 @@ triggers_after outlines e ts = ts
 -- a connection is made when its first bytes arrive
 abbrev pub new_user : Setup → List ℕ → User
 new_user s name = record { who = name; ended = false; buffers = replicate (length s.desc.devices) first_buffers }
-
--- a SET of a device: 1 to 64 buffers
-abbrev pub is_buffers_count : ℕ → Bool
-is_buffers_count n = nat_lt 0 n && nat_lt n 65
 
 abbrev pub is_plugged : Option Device → Bool
 is_plugged None = false

@@ -1,5 +1,8 @@
 pub mod Act
 pub mod Attributes
+pub mod Bench
+pub mod BenchLaw
+pub mod BenchMoves
 pub mod Event
 pub mod Fold
 pub mod Input

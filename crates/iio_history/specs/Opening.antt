@@ -1,68 +1,23 @@
 -- What decides an OPEN, a REMASK and a SETTRIG: the refusals in their order. (Which errno is the kernel's or libiio's, and
 -- which this project's own, is said in docs/FORMATS.md.)
-use Rattle.std.specs.Prelude.{ℕ, ◌*◌, ◌==◌, ◌||◌, ◌&&◌, not, nat_lt, Bool, false, List, [], ◌∷◌, ◌++◌, map, Option, Some, None, is_some, is_none, unwrap_or, Result, Ok}
+use Rattle.std.specs.Prelude.{ℕ, ◌*◌, ◌&&◌, not, nat_lt, Bool, false, List, [], ◌∷◌, ◌++◌, map, Option, Some, None, is_some, is_none, unwrap_or, Result, Ok}
 use Rattle.std.specs.Option.{ok_or}
 use Rattle.iio_base.specs.Refusals.{ensure, ◌>>=◌, first_refusal, unless_refused}
 use Rattle.iio_text.specs.declared.errors.Errno.{Errno}
-use Rattle.iio_text.specs.declared.errors.Errno.TheVariants.{EBADF, EBUSY, ENODEV, EINVAL, ENOSPC, ENOSYS, ENOENT}
+use Rattle.iio_text.specs.declared.errors.Errno.TheVariants.{EBADF, EBUSY, ENODEV, EINVAL, ENOENT}
 use Rattle.iio_mask.specs.Text.{mask_of}
 use Rattle.iio_layout.specs.Shape.{ShapeRecord, count_of}
 use Rattle.iio_layout.specs.Active.{has_data}
 use Rattle.iio_layout.specs.Layout.{scan_size}
 use Rattle.iio_desc.specs.Description.{find_trigger, place_count}
-use Rattle.iio_device.specs.declared.roster.JoinFault.{JoinFault}
-use Rattle.iio_device.specs.declared.roster.JoinFault.TheVariants as fault
 use Rattle.iio_device.specs.Active.{is_without_union}
-use Rattle.iio_device.specs.Joining.{member_faults}
 use Rattle.iio_device.specs.Site.{is_empty}
+use Rattle.iiod_session.specs.declared.limits.TheConstants.{MAX_BYTES}
+use Rattle.iiod_session.specs.Opening.{is_excess, asked_refusals, join_refusals}
 use Rattle.iio_history.specs.Who.{Who}
 use Rattle.iio_history.specs.Registry.{Setup, Member, Device, Outline, outline_of, outlines_of, Registry, is_member, member_of, without_members, mask_of_member, attached_count}
 
 -- ---- OPEN
-
--- the most scans, and the most bytes, of a member's queue
-abbrev pub max_scans : ℕ
-max_scans = 65536
-
-abbrev pub max_bytes : ℕ
-max_bytes = 4194304
-
-abbrev pub is_excess : ℕ → ℕ → Bool
-is_excess capacity size = capacity == 0 || nat_lt max_scans capacity || nat_lt max_bytes (capacity * size)
-
--- what an OPEN asks for, before others are looked at
-abbrev pub asked_refusals : Bool → Bool → Bool → Bool → Bool → Bool → List (Bool × Errno)
-asked_refusals is_gone is_cyclic is_no_mask is_without_data is_too_much is_open =
-    (is_gone, ENODEV)
-    ∷ (is_cyclic, ENOSYS)
-    ∷ (is_no_mask, EINVAL)
-    ∷ (is_without_data, EINVAL)
-    ∷ (is_too_much, EINVAL)
-    ∷ (is_open, EBUSY)
-    ∷ []
-
--- what a fault of joining is answered with; want of memory has its own answer, which is no errno
-abbrev pub errno_of : JoinFault → Option Errno
-errno_of fault.Gone = Some ENODEV
-errno_of fault.BadMask = Some EINVAL
-errno_of fault.NoTrigger = Some EINVAL
-errno_of fault.NoUnion = Some EINVAL
-errno_of fault.NoPlace = Some ENOSPC
-errno_of fault.Mem = None
-
--- one refusal more, where its fault has an errno
-abbrev pub with_errno : Bool → Option Errno → List (Bool × Errno) → List (Bool × Errno)
-with_errno applies None refusals = refusals
-with_errno applies (Some errno) refusals = (applies, errno) ∷ refusals
-
--- the same refusals in the same order, by their errnos
-abbrev pub errnos_of : List (Bool × JoinFault) → List (Bool × Errno)
-errnos_of [] = []
-errnos_of (r ∷ rs) = with_errno r.0 (errno_of r.1) (errnos_of rs)
-
--- a member more at a device
-abbrev pub join_refusals : Bool → Bool → Bool → List (Bool × Errno)
-join_refusals is_without_trigger is_without_union is_full = errnos_of (member_faults is_without_trigger is_without_union is_full)
 
 -- whether a trigger has no place for one device more
 abbrev pub has_no_place : Setup → List Outline → Option ℕ → Bool
@@ -95,7 +50,7 @@ abbrev pub remask_refusals : ShapeRecord → List ℕ → Member → Bool → �
 remask_refusals shape others m is_mask mask =
     (not is_mask, EINVAL)
     ∷ (not (has_data shape mask), EINVAL)
-    ∷ (nat_lt max_bytes (m.capacity * scan_size shape mask), EINVAL)
+    ∷ (nat_lt MAX_BYTES (m.capacity * scan_size shape mask), EINVAL)
     ∷ (is_without_union shape others mask, EINVAL)
     ∷ []
 

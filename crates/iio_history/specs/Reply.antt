@@ -17,24 +17,22 @@ use Rattle.iiod_grammar.specs.Command.{Place, Help, Version, Print, Timeout, Ope
 use Rattle.iiod_reply.specs.Reply.{Reply, Nothing, Number, Refusal, Line, Value, Raw, Block}
 use Rattle.iio_desc.specs.Description.{find_device, device_name, trigger_name}
 use Rattle.iio_device.specs.Site.{is_empty}
+use Rattle.iiod_session.specs.Acts.{is_buffers_count, zero_reply}
+use Rattle.iiod_session.specs.Attributes.{is_of_buffer, buffer_number as queue_number}
 use Rattle.iio_history.specs.Who.{Who, Conn, same}
 use Rattle.iiod_grammar.specs.Stream.{Item, Said, Written, End}
 use Rattle.iio_event.specs.Code.{event_bytes}
 use Rattle.iio_event.specs.Monitor.{is_holder}
 use Rattle.iio_history.specs.Registry.{Setup, outline_of, buffers_of}
-use Rattle.iio_history.specs.Attributes.{is_of_buffer, value_text}
+use Rattle.iio_history.specs.Attributes.{value_text}
 use Rattle.iio_history.specs.Opening.{open_answer, trigger_answer}
 use Rattle.iio_history.specs.Act.{found, write_found}
-use Rattle.iio_history.specs.Fold.{is_buffers_count}
 use Rattle.iio_history.specs.Told.{Seat, Station, Told, device_of, registry_of}
 
 -- an answer, or a refusal
 abbrev pub replied : Result Reply Errno → Reply
 replied (Ok reply) = reply
 replied (Err e) = Refusal e
-
-abbrev pub zero_reply : Reply
-zero_reply = Number (pos 0)
 
 -- ---- who is spoken of
 
@@ -73,9 +71,7 @@ read_buffer st x asked =
       Ok (Block (count_of st.shape) x.member.mask (take (asked / size) x.queue.scans) asked))
 
 abbrev pub buffer_number : Attr → Seat → ℕ
-buffer_number attr.Overruns x = x.queue.lost
-buffer_number attr.DataAvailable x = length x.queue.scans
-buffer_number a x = x.member.capacity
+buffer_number a x = queue_number a x.member.capacity (length x.queue.scans) x.queue.lost
 
 abbrev pub buffer_value : Attr → Option Seat → Result Reply Errno
 buffer_value a seat = do

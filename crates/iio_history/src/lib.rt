@@ -1,7 +1,9 @@
-//! The history of the core, the plain state that it tells, and the law that joins the two.
+//! The history of the core, the plain state that it tells, and the laws that join the two, and that state and a session's.
 #![tactic(auto)]
 
 ghost use Rattle.iio_history.specs.Law.{StepIsTold, MachineIsTold, QueuesArePrivate, MembersAreApart, OthersAreAbsent, PlayedIsTranscript, OutstandingIs, ReadingIsOne};
+ghost use Rattle.iio_history.specs.BenchLaw.{FirstIsBench, BenchIsKept, ToldIsBench, SizesAreSome, NamesStay, ArrivedIsThere, LiveIsThere, RoomLasts, ItemsAreActs, ActsTell, DesksAreKept, NewIsDesk, ArrivalIsNothing, EndsAreLeft, FeedsAreActs, ScriptFeedsTell, FeedsKeepDesks};
+ghost use Rattle.iio_history.specs.BenchMoves.{UnpluggingIs, ClockIs, PollIs, LookIs, HandlingIs, TriggersAre, MovesPrint};
 
 /// The plain machine carries what the history tells.
 pub fn law()
@@ -13,4 +15,37 @@ pub fn law()
     ensures outstanding { OutstandingIs }
     ensures transcript { PlayedIsTranscript }
     ensures reading { ReadingIsOne }
+{}
+
+/// What a session sees of the told state, and what its connection has there, go with the history: item by item, and over
+/// whole feeds.
+pub fn bench_law()
+    ensures first { FirstIsBench }
+    ensures kept { BenchIsKept }
+    ensures told { ToldIsBench }
+    ensures sizes { SizesAreSome }
+    ensures names { NamesStay }
+    ensures arrived { ArrivedIsThere }
+    ensures live { LiveIsThere }
+    ensures room { RoomLasts }
+    ensures items { ItemsAreActs }
+    ensures acts { ActsTell }
+    ensures others { DesksAreKept }
+    ensures arrives { NewIsDesk }
+    ensures arrival { ArrivalIsNothing }
+    ensures ends { EndsAreLeft }
+    ensures feeds { FeedsAreActs }
+    ensures script { ScriptFeedsTell }
+    ensures beside { FeedsKeepDesks }
+{}
+
+/// What happens to the core besides, by what a session sees of the told state.
+pub fn move_law()
+    ensures unplugging { UnpluggingIs }
+    ensures clock { ClockIs }
+    ensures poll { PollIs }
+    ensures look { LookIs }
+    ensures handling { HandlingIs }
+    ensures triggers { TriggersAre }
+    ensures printed { MovesPrint }
 {}

@@ -19,8 +19,9 @@ use Rattle.iio_history.specs.Who.{Who, Conn}
 use Rattle.iiod_grammar.specs.Stream.{Item, Said, Written, End}
 use Rattle.iio_history.specs.Event.{Event, Arrived, Heard, Dropped, Polled, Handled, Sensed, Clock, Unplugged, Remasked}
 use Rattle.iio_history.specs.Registry.{Setup, Member, Device, Outline, outline_of, outlines_of, Registry, Entry, User, mask_of_member, is_member, member_of, without_members, first_buffers, buffers_of, is_attached, is_at, attached_count, entries_from, entries_at, entry_of, is_named}
-use Rattle.iio_history.specs.Attributes.{Named, named_at, is_of_buffer}
-use Rattle.iio_history.specs.Opening.{is_excess, asked_refusals, join_refusals, has_no_place, open_answer, Remask, remasked, remask_answer, remask_refusals, trigger_named, trigger_answer}
+use Rattle.iiod_session.specs.Attributes.{Named, named_at, is_of_buffer}
+use Rattle.iiod_session.specs.Opening.{is_excess, asked_refusals, join_refusals}
+use Rattle.iio_history.specs.Opening.{has_no_place, open_answer, Remask, remasked, remask_answer, remask_refusals, trigger_named, trigger_answer}
 use Rattle.iio_history.specs.Act.{Act, Nothing, Joining, Remasking, Failing, Capturing, Retriggering, Asking, only, accepted, found, write_found, setting, is_raw, asking, handled_act, item_act, act_of}
 use Rattle.iio_history.proofs.RegistryLaws.{name_found}
 use Rattle.iio_worlds.specs.Bystanders.{is_parting, has_other}

@@ -16,7 +16,7 @@ use Rattle.iiod_grammar.specs.Stream.{Item, Said, Written, End, scanner_after}
 use Rattle.iio_history.specs.Event.{Event, Arrived, Heard, Dropped, Remasked}
 use Rattle.iio_history.specs.Monitor.{held_among}
 use Rattle.iio_history.specs.Registry.{Setup, Member, Device, Outline, outline_of, outlines_of, Registry, User, is_member, is_at, is_named, member_of, mask_of_member, buffers_of, user_named}
-use Rattle.iio_history.specs.Attributes.{Named}
+use Rattle.iiod_session.specs.Attributes.{Named}
 use Rattle.iio_history.specs.Opening.{member_asked, Remask, remasked}
 use Rattle.iio_history.specs.Act.{Act, Joining, Remasking, Leaving, Ending, Reading, Asking, only, accepted, found, asking, is_raw, item_act, act_of}
 use Rattle.iio_history.specs.Fold.{with_count, new_user, newcomers, triggers_after, clock_after}

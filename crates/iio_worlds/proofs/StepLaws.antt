@@ -12,7 +12,8 @@ use Rattle.iiod_grammar.specs.Stream.{Said}
 use Rattle.iio_history.specs.Event.{Event, Heard, Polled}
 use Rattle.iio_history.specs.Registry.{Setup, Device, Entry, Trigger, User, Registry, outline_of, outlines_of, user_named}
 use Rattle.iio_history.specs.Act.{act_of}
-use Rattle.iio_history.specs.Fold.{is_plugged, is_buffers_count, with_count, new_user, newcomers, triggers_after, polled, clock_after, site_after}
+use Rattle.iiod_session.specs.Acts.{is_buffers_count}
+use Rattle.iio_history.specs.Fold.{is_plugged, with_count, new_user, newcomers, triggers_after, polled, clock_after, site_after}
 use Rattle.iio_history.specs.Told.{Station, Line, Told, device_of, registry_of}
 use Rattle.iio_history.specs.Machine.{station_by, station_after, seats_after, line_after, new_line, step_by, step}
 use Rattle.iio_worlds.specs.Bystanders.{is_parting, has_other}

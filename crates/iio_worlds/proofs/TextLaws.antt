@@ -19,12 +19,12 @@ use Rattle.iio_history.specs.Event.{Event, Arrived, Heard, Polled, Handled}
 use Rattle.iio_event.specs.Code.{event_bytes}
 use Rattle.iio_event.specs.Monitor.{is_holder}
 use Rattle.iio_history.specs.Registry.{Setup, Entry, user_named, has_ended, is_live, buffers_of, outline_of, outlines_of, entries_from, entries_at, entry_of}
-use Rattle.iio_history.specs.Attributes.{Named, is_of_buffer}
+use Rattle.iiod_session.specs.Acts.{is_buffers_count, zero_reply}
+use Rattle.iiod_session.specs.Attributes.{Named, is_of_buffer}
 use Rattle.iio_history.specs.Opening.{open_answer, trigger_answer}
 use Rattle.iio_history.specs.Act.{found, write_found, handled_act}
-use Rattle.iio_history.specs.Fold.{is_buffers_count}
 use Rattle.iio_history.specs.Told.{Seat, Station, Told, device_of, member_of_seat, registry_of}
-use Rattle.iio_history.specs.Reply.{replied, zero_reply, Known, known, there, seat_of, read_buffer, buffer_number, buffer_value, raw_value, attribute_value, read_value, trigger_value, reply}
+use Rattle.iio_history.specs.Reply.{replied, Known, known, there, seat_of, read_buffer, buffer_number, buffer_value, raw_value, attribute_value, read_value, trigger_value, reply}
 use Rattle.iio_history.specs.Transcript.{Step, Feed, Fire, Poll, Handle, Sense, SetClock, Drop, Unplug, begun_by, poll_entries, events_of_step, printed, missed_at, act_word, handled_word, sensed_words, sense_words, unplug_word, event_text}
 use Rattle.iio_worlds.proofs.Alone.{plain_seat, own_seats, own_station, own_registry, own, Even, empty_map, get_map, members_own, device_own, registry_own, user_own, line_own, seat_own}
 use Rattle.iio_worlds.proofs.SiteLaws.{sensed_plain}

@@ -1,0 +1,213 @@
+-- Seats by the name of their connection are members by number.
+use Rattle.std.proofs.Common.{◌≡◌, ℕ, suc, ◌/◌, ◌≤◌, ◌<◌, ◌==◌, ◌||◌, ◌&&◌, not, Bool, true, false, List, [], ◌∷◌, ◌++◌, map, drop, is_some, Option, Some, None, cond, refl, sym, ap, ◌∙◌, subst, arith}
+use Rattle.std.proofs.lemmas.Bool.Decides.{nat_tests}
+use Rattle.iio_layout.specs.Shape.{ShapeRecord}
+use Rattle.iio_layout.specs.Layout.{scan_size}
+use Rattle.iio_device.specs.Site.{is_empty}
+use Rattle.iiod_session.specs.Machine.{Member as MachineMember, MemberId, is_id_of, masks_of, member_in, scans_in, with_scans, without}
+use Rattle.iio_history.specs.Who.{Who, same, is_among}
+use Rattle.iio_history.specs.Registry.{is_member, mask_of_member}
+use Rattle.iio_history.specs.Queue.{taken_from}
+use Rattle.iio_history.specs.Told.{Seat, member_of_seat}
+use Rattle.iio_history.specs.Machine.{read_seat, without_seats}
+use Rattle.iio_history.specs.Reply.{seat_of}
+use Rattle.iio_history.specs.Law.{AreApart}
+use Rattle.iio_history.specs.Bench.{Every, NumbersRise, numbered}
+use Rattle.iio_history.proofs.WhoLaws.{either, same_is, same_sym}
+use Rattle.iio_history.proofs.BenchLists.{itself}
+
+-- of these seats the one of the name is the one of the number, and it is this one
+abbrev pub TellSame : Who → Seat → List Seat → Type 0
+TellSame who y [] = Unit {0}
+TellSame who y (x ∷ xs) = (same who x.member.who ≡ (x.number == y.number)) × (same who x.member.who ≡ true → x ≡ y) × TellSame who y xs
+
+above : (n number : ℕ) → n < number → (number == n) ≡ false
+above n number h = grind (arith, nat_tests)
+
+apart_number : (n number : ℕ) → suc n ≤ number → (n == number) ≡ false
+apart_number n number h = grind (arith, nat_tests)
+
+-- behind the one of the number there is none of its name and none of its number
+behind : (who : Who) (y : Seat) (low high : ℕ) (xs : List Seat) → y.number < low → is_member who (map member_of_seat xs) ≡ false → NumbersRise low high xs → TellSame who y xs
+behind who y low high [] below absent rising = tt
+behind who y low high (x ∷ xs) below absent rising =
+    let parts = either (same who x.member.who) (is_member who (map member_of_seat xs)) absent in
+    let more : y.number < x.number = omega (arith, rising.0) in
+    let other : same who x.member.who ≡ false = parts.0 in
+    (other ∙ sym (above y.number x.number more), λ own. cc, behind who y (suc x.number) high xs (omega (arith, more)) parts.1 rising.1)
+
+-- a seat that is found has a number from `low` on
+found_above : (who : Who) (low high : ℕ) (xs : List Seat) (y : Seat) → NumbersRise low high xs → seat_of who xs ≡ Some y → low ≤ y.number
+found_above who low high [] y rising is = cc
+found_above who low high (x ∷ xs) y rising is = by_who (same who x.member.who) is (λ h. found_above who (suc x.number) high xs y rising.1 h)
+  where
+    by_who : (b : Bool) → cond b (Some x) (seat_of who xs) ≡ Some y → (seat_of who xs ≡ Some y → suc x.number ≤ y.number) → low ≤ y.number
+    by_who true h rest = let one : x ≡ y = cc in subst (λ (z : Seat). low ≤ z.number) one rising.0
+    by_who false h rest = let more = rest h in omega (arith, more, rising.0)
+
+pub tell_same : (who : Who) (low high : ℕ) (xs : List Seat) (y : Seat) → AreApart (map member_of_seat xs) → NumbersRise low high xs → seat_of who xs ≡ Some y → TellSame who y xs
+tell_same who low high [] y apart rising is = tt
+tell_same who low high (x ∷ xs) y apart rising is =
+    by_who (same who x.member.who) refl is
+    (λ h. tell_same who (suc x.number) high xs y apart.1 rising.1 h)
+    (λ h. found_above who (suc x.number) high xs y rising.1 h)
+  where
+    by_who : (b : Bool) → same who x.member.who ≡ b → cond b (Some x) (seat_of who xs) ≡ Some y
+        → (seat_of who xs ≡ Some y → TellSame who y xs) → (seat_of who xs ≡ Some y → suc x.number ≤ y.number)
+        → TellSame who y (x ∷ xs)
+    by_who true own h rest more =
+        let one : x ≡ y = cc in
+        let name : x.member.who ≡ who = sym (same_is who x.member.who own) in
+        let absent : is_member who (map member_of_seat xs) ≡ false = subst (λ (w : Who). is_member w (map member_of_seat xs) ≡ false) name apart.0 in
+        subst (λ (z : Seat). TellSame who z (x ∷ xs)) one
+        (own ∙ sym (itself x.number), λ is. refl, behind who x (suc x.number) high xs (omega arith) absent rising.1)
+    by_who false other h rest more = (other ∙ sym (apart_number x.number y.number (more h)), λ own. cc, rest h)
+
+-- ---- the seat of a connection, or none
+
+pub absent_seat : (who : Who) (xs : List Seat) → is_member who (map member_of_seat xs) ≡ false → seat_of who xs ≡ None
+absent_seat who [] absent = refl
+absent_seat who (x ∷ xs) absent =
+    let parts = either (same who x.member.who) (is_member who (map member_of_seat xs)) absent in
+    ap (λ (b : Bool). cond b (Some x) (seat_of who xs)) parts.0 ∙ absent_seat who xs parts.1
+
+is_some_by : (b : Bool) (x : Seat) (found : Option Seat) (rest : Bool) → rest ≡ is_some found → (b || rest) ≡ is_some (cond b (Some x) found)
+is_some_by true x found rest h = refl
+is_some_by false x found rest h = h
+
+pub member_seat : (who : Who) (xs : List Seat) → is_member who (map member_of_seat xs) ≡ is_some (seat_of who xs)
+member_seat who [] = refl
+member_seat who (x ∷ xs) = is_some_by (same who x.member.who) x (seat_of who xs) (is_member who (map member_of_seat xs)) (member_seat who xs)
+
+-- ---- what a machine finds by the number and the mask
+
+abbrev pub id_of_seat : Seat → MemberId
+id_of_seat x = record { number = x.number; mask = x.member.mask }
+
+own_id : (x : Seat) → true ≡ is_id_of (id_of_seat x) (numbered x)
+own_id x = sym (ap (λ (b : Bool). b && (x.member.mask == x.member.mask)) (itself x.number) ∙ itself x.member.mask)
+
+tell_id : (own : Bool) (x y : Seat) → own ≡ (x.number == y.number) → (own ≡ true → x ≡ y) → own ≡ is_id_of (id_of_seat y) (numbered x)
+tell_id true x y tell one = subst (λ (z : Seat). true ≡ is_id_of (id_of_seat z) (numbered x)) (one refl) (own_id x)
+tell_id false x y tell one = ap (λ (b : Bool). b && (x.member.mask == y.member.mask)) tell
+
+scans_by : (a b : Bool) (x y : Seat) (found : Option Seat) (more : List (List ℕ)) → a ≡ b → (a ≡ true → x ≡ y) → cond a (Some x) found ≡ Some y → (found ≡ Some y → more ≡ y.queue.scans)
+    → cond b x.queue.scans more ≡ y.queue.scans
+scans_by true true x y found more p one is rest = ap (λ (z : Seat). z.queue.scans) (one refl)
+scans_by true false x y found more p one is rest = cc
+scans_by false true x y found more p one is rest = cc
+scans_by false false x y found more p one is rest = rest is
+
+pub scans_same : (who : Who) (y : Seat) (xs : List Seat) → TellSame who y xs → seat_of who xs ≡ Some y → scans_in (id_of_seat y) (map numbered xs) ≡ y.queue.scans
+scans_same who y [] tell is = cc
+scans_same who y (x ∷ xs) tell is =
+    scans_by (same who x.member.who) (is_id_of (id_of_seat y) (numbered x)) x y (seat_of who xs) (scans_in (id_of_seat y) (map numbered xs)) (tell_id _ x y tell.0 tell.1) tell.1 is (λ h. scans_same who y xs tell.2 h)
+
+member_by : (a b : Bool) (x y : Seat) (found : Option Seat) (more : Option MachineMember) → a ≡ b → (a ≡ true → x ≡ y) → cond a (Some x) found ≡ Some y → (found ≡ Some y → more ≡ Some (numbered y))
+    → cond b (Some (numbered x)) more ≡ Some (numbered y)
+member_by true true x y found more p one is rest = ap (λ (z : Seat). Some (numbered z)) (one refl)
+member_by true false x y found more p one is rest = cc
+member_by false true x y found more p one is rest = cc
+member_by false false x y found more p one is rest = rest is
+
+pub member_same : (who : Who) (y : Seat) (xs : List Seat) → TellSame who y xs → seat_of who xs ≡ Some y → member_in (id_of_seat y) (map numbered xs) ≡ Some (numbered y)
+member_same who y [] tell is = cc
+member_same who y (x ∷ xs) tell is =
+    member_by (same who x.member.who) (is_id_of (id_of_seat y) (numbered x)) x y (seat_of who xs) (member_in (id_of_seat y) (map numbered xs)) (tell_id _ x y tell.0 tell.1) tell.1 is (λ h. member_same who y xs tell.2 h)
+
+-- ---- a member leaves
+
+pub among_one : (who x : Who) → is_among x (who ∷ []) ≡ same who x
+among_one who x = or_false (same x who) ∙ same_sym x who
+  where
+    or_false : (b : Bool) → (b || false) ≡ b
+    or_false true = refl
+    or_false false = refl
+
+left_by : (a b : Bool) (x : Seat) (rest : List Seat) (members : List MachineMember) → a ≡ b → map numbered rest ≡ members
+    → map numbered (cond a rest (x ∷ rest)) ≡ cond (not b) (numbered x ∷ members) members
+left_by true true x rest members p is = is
+left_by true false x rest members p is = cc
+left_by false true x rest members p is = cc
+left_by false false x rest members p is = ap (λ (ms : List MachineMember). numbered x ∷ ms) is
+
+pub left_same : (who : Who) (y : Seat) (xs : List Seat) → TellSame who y xs → map numbered (without_seats (who ∷ []) xs) ≡ without y.number (map numbered xs)
+left_same who y [] tell = refl
+left_same who y (x ∷ xs) tell =
+    left_by (is_among x.member.who (who ∷ [])) (x.number == y.number) x (without_seats (who ∷ []) xs) (without y.number (map numbered xs))
+    (among_one who x.member.who ∙ tell.0) (left_same who y xs tell.2)
+
+left_none_by : (a b : Bool) (x : Seat) (found : Option Seat) (rest xs : List Seat) → a ≡ b → cond b (Some x) found ≡ None → (found ≡ None → rest ≡ xs) → cond a rest (x ∷ rest) ≡ x ∷ xs
+left_none_by a true x found rest xs p none is = cc
+left_none_by true false x found rest xs p none is = cc
+left_none_by false false x found rest xs p none is = ap (λ (ys : List Seat). x ∷ ys) (is none)
+
+pub left_none : (who : Who) (xs : List Seat) → seat_of who xs ≡ None → without_seats (who ∷ []) xs ≡ xs
+left_none who [] none = refl
+left_none who (x ∷ xs) none =
+    left_none_by (is_among x.member.who (who ∷ [])) (same who x.member.who) x (seat_of who xs) (without_seats (who ∷ []) xs) xs (among_one who x.member.who) none (left_none who xs)
+
+gone_by : (a b : Bool) (x : Seat) (who : Who) (rest : List Seat) → a ≡ b → same who x.member.who ≡ b → seat_of who rest ≡ None → seat_of who (cond a rest (x ∷ rest)) ≡ None
+gone_by true b x who rest p is none = none
+gone_by false true x who rest p is none = cc
+gone_by false false x who rest p is none = ap (λ (t : Bool). cond t (Some x) (seat_of who rest)) is ∙ none
+
+pub gone : (who : Who) (xs : List Seat) → seat_of who (without_seats (who ∷ []) xs) ≡ None
+gone who [] = refl
+gone who (x ∷ xs) = gone_by (is_among x.member.who (who ∷ [])) (same who x.member.who) x who (without_seats (who ∷ []) xs) (among_one who x.member.who) refl (gone who xs)
+
+-- ---- a member takes scans
+
+read_none_by : (b : Bool) (x z : Seat) (found : Option Seat) (rest xs : List Seat) → cond b (Some x) found ≡ None → (found ≡ None → rest ≡ xs) → cond b z x ∷ rest ≡ x ∷ xs
+read_none_by true x z found rest xs none is = cc
+read_none_by false x z found rest xs none is = ap (λ (ys : List Seat). x ∷ ys) (is none)
+
+pub read_none : (shape : ShapeRecord) (who : Who) (bytes : ℕ) (xs : List Seat) → seat_of who xs ≡ None → map (read_seat shape who bytes) xs ≡ xs
+read_none shape who bytes [] none = refl
+read_none shape who bytes (x ∷ xs) none = read_none_by (same who x.member.who) x _ (seat_of who xs) (map (read_seat shape who bytes) xs) xs none (read_none shape who bytes xs)
+
+-- one seat that is read, as a member
+abbrev taken_member : ShapeRecord → ℕ → Seat → MachineMember
+taken_member shape bytes x = numbered (record x { queue = taken_from (bytes / scan_size shape x.member.mask) x.queue })
+
+taken_by : (shape : ShapeRecord) (bytes : ℕ) (a b : Bool) (x y : Seat) (xs rest : List Seat) (found : Option Seat) (more : List MachineMember) → a ≡ b → (a ≡ true → x ≡ y)
+    → (a ≡ true → rest ≡ xs) → (found ≡ Some y → more ≡ map numbered rest) → cond a (Some x) found ≡ Some y
+    → cond b (record (numbered x) { scans = drop (bytes / scan_size shape y.member.mask) y.queue.scans } ∷ map numbered xs) (numbered x ∷ more)
+    ≡ map numbered (cond a (record x { queue = taken_from (bytes / scan_size shape x.member.mask) x.queue }) x ∷ rest)
+taken_by shape bytes true true x y xs rest found more p one none is h =
+    ap (λ (z : Seat). record (numbered x) { scans = drop (bytes / scan_size shape z.member.mask) z.queue.scans } ∷ map numbered xs) (sym (one refl))
+    ∙ ap (λ (ys : List Seat). taken_member shape bytes x ∷ map numbered ys) (sym (none refl))
+taken_by shape bytes true false x y xs rest found more p one none is h = cc
+taken_by shape bytes false true x y xs rest found more p one none is h = cc
+taken_by shape bytes false false x y xs rest found more p one none is h = ap (λ (ms : List MachineMember). numbered x ∷ ms) (is h)
+
+pub taken_same : (shape : ShapeRecord) (who : Who) (bytes : ℕ) (y : Seat) (xs : List Seat) → AreApart (map member_of_seat xs) → TellSame who y xs → seat_of who xs ≡ Some y
+    → with_scans (id_of_seat y) (drop (bytes / scan_size shape y.member.mask) y.queue.scans) (map numbered xs) ≡ map numbered (map (read_seat shape who bytes) xs)
+taken_same shape who bytes y [] apart tell is = refl
+taken_same shape who bytes y (x ∷ xs) apart tell is =
+    taken_by shape bytes (same who x.member.who) (is_id_of (id_of_seat y) (numbered x)) x y xs (map (read_seat shape who bytes) xs) (seat_of who xs) _ (tell_id _ x y tell.0 tell.1) tell.1
+    (λ own. read_none shape who bytes xs (absent_seat who xs (subst (λ (w : Who). is_member w (map member_of_seat xs) ≡ false) (sym (same_is who x.member.who own)) apart.0)))
+    (λ h. taken_same shape who bytes y xs apart.1 tell.2 h) is
+
+-- ---- a member more, and the masks of all
+
+pub joined_numbered : (xs : List Seat) (y : Seat) → map numbered (xs ++ y ∷ []) ≡ map numbered xs ++ numbered y ∷ []
+joined_numbered [] y = refl
+joined_numbered (x ∷ xs) y = ap (λ (ms : List MachineMember). numbered x ∷ ms) (joined_numbered xs y)
+
+pub masks_same : (xs : List Seat) → masks_of (map numbered xs) ≡ map mask_of_member (map member_of_seat xs)
+masks_same [] = refl
+masks_same (x ∷ xs) = ap (λ (ns : List ℕ). x.member.mask ∷ ns) (masks_same xs)
+
+pub empty_same : (xs : List Seat) → is_empty (map numbered xs) ≡ is_empty (map mask_of_member (map member_of_seat xs))
+empty_same [] = refl
+empty_same (x ∷ xs) = refl
+
+-- what holds of every seat holds of one that is found
+pub found_sound : (who : Who) (P : Seat → Type 0) (xs : List Seat) (y : Seat) → Every P xs → seat_of who xs ≡ Some y → P y
+found_sound who P [] y all is = cc
+found_sound who P (x ∷ xs) y all is = by (same who x.member.who) is (found_sound who P xs y all.1)
+  where
+    by : (b : Bool) → cond b (Some x) (seat_of who xs) ≡ Some y → (seat_of who xs ≡ Some y → P y) → P y
+    by true h rest = let one : x ≡ y = cc in subst P one all.0
+    by false h rest = rest h

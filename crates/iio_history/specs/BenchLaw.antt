@@ -1,0 +1,157 @@
+-- The law that joins a session's machine and desks to the told state.
+use Rattle.std.specs.Prelude.{◌≡◌, ℕ, suc, ◌+◌, ◌-◌, ◌^◌, ◌≤◌, false, true, List, [], ◌∷◌, ◌++◌, map, length, All, Option, Some}
+use Rattle.std.specs.Str.{bytes_eq}
+use Rattle.iio_text.specs.declared.errors.Errno.{Errno}
+use Rattle.iio_scan_type.specs.Format.{size_of}
+use Rattle.iio_layout.specs.declared.channel.Channel.{Channel}
+use Rattle.iio_layout.specs.Shape.{ShapeRecord}
+use Rattle.iiod_grammar.specs.Stream.{Item, End}
+use Rattle.iiod_reply.specs.Reply.{Reply, NoMemory}
+use Rattle.iiod_session.specs.declared.manner.Manner.TheVariants.{Script}
+use Rattle.iiod_session.specs.Acts.{Acts, act, left_desk, left_machine}
+use Rattle.iiod_session.specs.Desk.{DeskRecord}
+use Rattle.iiod_session.specs.Machine.{Machine}
+use Rattle.iiod_session.specs.Run.{FeedTells, State, desk_after, machine_after, texts_of}
+use Rattle.iio_history.specs.Event.{Event, Arrived, Heard, Dropped, Remasked}
+use Rattle.iio_history.specs.Registry.{Setup, is_live}
+use Rattle.iio_history.specs.Told.{Station, Told, registry_of, told}
+use Rattle.iio_history.specs.Machine.{step}
+use Rattle.iio_history.specs.Played.{steps, texts}
+use Rattle.iio_history.specs.Reply.{reply}
+use Rattle.iio_history.specs.Bench.{CanJoin, Every, HasDeviceSizes, HasSizes, IsAct, IsBench, IsDeskOf, IsStep, front_of, is_in, machine_of, names_of}
+
+-- ---- what holds of every told state
+
+abbrev pub FirstIsBench : Type 0
+FirstIsBench = (s : Setup) → Every HasDeviceSizes s.desc.devices → IsBench s (told s [])
+
+abbrev pub BenchIsKept : Type 0
+BenchIsKept = (s : Setup) (m : Told) (e : Event) → IsStep (names_of m) e → IsBench s m → IsBench s (step s m e)
+
+-- and so of the told state of every history of steps
+abbrev pub AreSteps : Setup → List Event → Type 0
+AreSteps s [] = Unit {0}
+AreSteps s (e ∷ h) = IsStep (names_of (told s h)) e × AreSteps s h
+
+abbrev pub ToldIsBench : Type 0
+ToldIsBench = (s : Setup) (h : List Event) → Every HasDeviceSizes s.desc.devices → AreSteps s h → IsBench s (told s h)
+
+-- where each channel's type has a byte, each scan with a channel's data has one
+abbrev pub SizesAreSome : Type 0
+SizesAreSome = (shape : ShapeRecord) → All (λ (channel : Channel). 1 ≤ size_of channel.ty) shape.channels → HasSizes shape
+
+-- ---- connections that are there
+
+-- one that is there stays; one of which bytes arrive is there; one that hasn't ended is there
+abbrev pub NamesStay : Type 0
+NamesStay = (s : Setup) (m : Told) (e : Event) (name : List ℕ) → is_in (names_of m) name ≡ true → is_in (names_of (step s m e)) name ≡ true
+
+abbrev pub ArrivedIsThere : Type 0
+ArrivedIsThere = (s : Setup) (m : Told) (name bytes : List ℕ) → is_in (names_of (step s m (Arrived name bytes))) name ≡ true
+
+abbrev pub LiveIsThere : Type 0
+LiveIsThere = (m : Told) (name : List ℕ) → is_live name (registry_of m).users ≡ true → is_in (names_of m) name ≡ true
+
+-- ---- numbers of members
+
+-- so many members more can be numbered
+abbrev pub CanJoinMore : ℕ → Station → Type 0
+CanJoinMore n st = st.joinings + n ≤ 2 ^ 64 - 1
+
+-- an event makes one more at most, and at first there is none
+abbrev pub RoomLasts : Type 0
+RoomLasts =
+    (s : Setup)
+    → Every (CanJoinMore (2 ^ 64 - 1)) (told s []).stations
+    × ((m : Told) (e : Event) (n : ℕ) → Every (CanJoinMore (suc n)) m.stations → Every (CanJoinMore n) (step s m e).stations)
+    × ((m : Told) (n : ℕ) → Every (CanJoinMore (suc n)) m.stations → Every CanJoin m.stations)
+
+-- ---- items
+
+-- what an item is answered, and what stands then, is one thing by the session's machine and by the history
+abbrev pub ItemsAreActs : Type 0
+ItemsAreActs =
+    (s : Setup) (m : Told) (name : List ℕ) (desk : DeskRecord) (item : Item) → IsBench s m → is_in (names_of m) name ≡ true → IsDeskOf m name desk → Every CanJoin m.stations
+    → IsAct s m name item (act (front_of s) (machine_of m) desk item)
+
+-- what a session promises of an item over a told state, by the history: want of memory changes nothing
+abbrev pub TellsAs : Setup → Told → List ℕ → DeskRecord → Item → Reply → Option Machine → DeskRecord → Type 0
+TellsAs s m name desk item NoMemory machine desk' = (machine ≡ Some (machine_of m)) × (desk' ≡ desk)
+TellsAs s m name desk item answer machine desk' =
+    (answer ≡ reply s m name item) × (machine ≡ Some (machine_of (step s m (Heard name item)))) × IsDeskOf (step s m (Heard name item)) name desk'
+
+abbrev pub ActsTell : Type 0
+ActsTell =
+    (s : Setup) (m : Told) (name : List ℕ) (desk : DeskRecord) (item : Item) (answer : Reply) (machine : Option Machine) (desk' : DeskRecord)
+    → IsBench s m → is_in (names_of m) name ≡ true → IsDeskOf m name desk → Every CanJoin m.stations
+    → Acts (front_of s) (machine_of m) desk item answer machine desk' → TellsAs s m name desk item answer machine desk'
+
+-- ---- other events, and other connections
+
+-- an event of another connection than this one, or of none
+abbrev pub IsOthers : List ℕ → Event → Type 0
+IsOthers name (Heard speaker item) = bytes_eq speaker name ≡ false
+IsOthers name (Dropped speaker) = bytes_eq speaker name ≡ false
+IsOthers name (Remasked speaker device mask) = bytes_eq speaker name ≡ false
+IsOthers name e = Unit {0}
+
+abbrev pub DesksAreKept : Type 0
+DesksAreKept =
+    (s : Setup) (m : Told) (e : Event) (name : List ℕ) (desk : DeskRecord) → IsOthers name e → is_in (names_of m) name ≡ true → IsDeskOf m name desk → IsDeskOf (step s m e) name desk
+
+-- a connection that comes has nothing
+abbrev pub new_desk : ℕ → DeskRecord
+new_desk who = record { who = who; seats = []; buffers = []; holdings = [] }
+
+abbrev pub NewIsDesk : Type 0
+NewIsDesk =
+    (s : Setup) (m : Told) (name bytes : List ℕ) → IsBench s m → is_in (names_of m) name ≡ false → IsDeskOf (step s m (Arrived name bytes)) name (new_desk (length m.lines))
+
+abbrev pub ArrivalIsNothing : Type 0
+ArrivalIsNothing = (s : Setup) (m : Told) (name bytes : List ℕ) → IsBench s m → machine_of (step s m (Arrived name bytes)) ≡ machine_of m
+
+-- ---- ends
+
+-- the end of a connection closes its seats, and ends its holdings
+pub record IsLeft (s : Setup) (m : Told) (name : List ℕ) (desk : DeskRecord) (e : Event) : Type 0 where
+  pub state : left_machine (machine_of m) desk ≡ machine_of (step s m e)
+  pub desk_then : IsDeskOf (step s m e) name (left_desk desk)
+
+abbrev pub EndsAreLeft : Type 0
+EndsAreLeft =
+    (s : Setup) (m : Told) (name : List ℕ) (desk : DeskRecord) → IsBench s m → IsDeskOf m name desk
+    → ((error : Option Errno) → IsLeft s m name desk (Heard name (End error))) × IsLeft s m name desk (Dropped name)
+
+-- ---- items one after another
+
+abbrev pub heard : List ℕ → List Item → List Event
+heard name items = map (λ item. Heard name item) items
+
+-- what a session of a script says of items over a told state is what the history says
+pub record IsFed (s : Setup) (m : Told) (name : List ℕ) (desk : DeskRecord) (items : List Item) : Type 0 where
+  pub printed : texts_of (front_of s) (machine_of m) desk items ≡ texts s m (heard name items)
+  pub state : machine_after (front_of s) (machine_of m) desk items ≡ machine_of (steps s m (heard name items))
+  pub desk_then : IsDeskOf (steps s m (heard name items)) name (desk_after (front_of s) (machine_of m) desk items)
+  pub bench : IsBench s (steps s m (heard name items))
+
+abbrev pub FeedsAreActs : Type 0
+FeedsAreActs =
+    (s : Setup) (m : Told) (name : List ℕ) (desk : DeskRecord) (items : List Item) → IsBench s m → is_in (names_of m) name ≡ true → IsDeskOf m name desk
+    → Every (CanJoinMore (length items)) m.stations → IsFed s m name desk items
+
+-- a session's feed in a script, over the told state: it prints what the history says, and what stands then is what the
+-- history tells
+abbrev pub ScriptFeedsTell : Type 0
+ScriptFeedsTell =
+    (s : Setup) (m : Told) (name : List ℕ) (items : List Item) (a b : State) (before after : List ℕ) → IsBench s m → is_in (names_of m) name ≡ true → IsDeskOf m name a.desk
+    → Every (CanJoinMore (length items)) m.stations → a.told ≡ Some (machine_of m) → FeedTells Script (front_of s) a items before after b
+    → (after ≡ before ++ texts s m (heard name items))
+    × (b.told ≡ Some (machine_of (steps s m (heard name items))))
+    × IsDeskOf (steps s m (heard name items)) name b.desk
+    × IsBench s (steps s m (heard name items))
+
+-- and the other connections keep theirs
+abbrev pub FeedsKeepDesks : Type 0
+FeedsKeepDesks =
+    (s : Setup) (m : Told) (name : List ℕ) (items : List Item) (other : List ℕ) (desk : DeskRecord) → bytes_eq name other ≡ false → is_in (names_of m) other ≡ true → IsDeskOf m other desk
+    → IsDeskOf (steps s m (heard name items)) other desk

@@ -1,0 +1,215 @@
+-- READ and WRITE at a device.
+use Rattle.std.proofs.Common.{◌≡◌, ℕ, ℤ, ◌<◌, Bool, true, false, not, List, length, slice_index_or, Option, Some, None, IfSome, is_some, Result, Ok, Err, inl, refl, sym, ap, ◌∙◌}
+use Rattle.std.specs.Prelude.{⊤}
+use Rattle.std.specs.Fmt.{decimal}
+use Rattle.iio_base.specs.Refusals.{◌>>=◌, ensure}
+use Rattle.iio_text.specs.declared.errors.Errno.{Errno}
+use Rattle.iio_text.specs.declared.errors.Errno.TheVariants.{EBUSY, EINVAL, EIO, ENODEV}
+use Rattle.iio_text.specs.declared.values.Fixed.{Fixed}
+use Rattle.iio_attr.specs.declared.attributes.Attr.{Attr}
+use Rattle.iio_attr.specs.declared.attributes.Attr.TheVariants as attr
+use Rattle.iio_attr.specs.declared.values.Value.{Value as AttrValue}
+use Rattle.iio_attr.specs.declared.values.Value.TheVariants.{Number as StoredNumber, Int}
+use Rattle.iio_layout.specs.Shape.{ShapeRecord}
+use Rattle.iio_sensor.specs.Driver.{ask_fails, value_of}
+use Rattle.iio_device.specs.Site.{is_empty}
+use Rattle.iiod_grammar.specs.Command.{Place, Read}
+use Rattle.iiod_grammar.specs.Stream.{Said, Written}
+use Rattle.iiod_reply.specs.Reply.{Reply, Refusal, Value, NoMemory}
+use Rattle.iiod_session.specs.declared.desk.Held.{Held}
+use Rattle.iiod_session.specs.declared.iio.No.{No}
+use Rattle.iiod_session.specs.declared.iio.No.TheVariants.{Errno as NoErrno, Mem as NoMem}
+use Rattle.iiod_session.specs.Acts.{Acted, act, at_device, only, refused, read_attribute_at, read_buffer_attribute, read_buffer_attribute_at, read_device_attribute, read_named, value_reply, write_assignment, write_attribute_at, written}
+use Rattle.iiod_session.specs.Attributes.{Assignment, Named, buffer_number, found, is_of_buffer, text_of_value, write_found}
+use Rattle.iiod_session.specs.Calls.{raw_answer, read_attr_of, write_attr_of}
+use Rattle.iiod_session.specs.Desk.{DeskRecord, bare_of, place_of, seats_of, with_seats}
+use Rattle.iiod_session.specs.Front.{Front, find_device, shape_at}
+use Rattle.iiod_session.specs.Machine.{Machine, MemberId, Station, is_plugged, lost_of, queue_of, station_at}
+use Rattle.iiod_session.specs.Moves.{Serves}
+use Rattle.iiod_session.specs.Performs.{Comes}
+use Rattle.iiod_session.specs.Seat.{Answers, SeatRecord, Tale, seat_id}
+use Rattle.iiod_session.specs.Targets.{text_by, written_by}
+use Rattle.iiod_session.proofs.HeldLaws.{id_is}
+use Rattle.iiod_session.proofs.PlainLaws.{serves_only}
+use Rattle.iiod_session.proofs.SeatsLaws.{get_is}
+use Rattle.iiod_session.proofs.ServeLaws.{all_comes}
+
+-- ---- an attribute of the device
+
+-- a sample is no stored number
+not_stored : (shape : ShapeRecord) (clock : ℤ) (c : ℕ) (st : Station) (v : Fixed) → (ensure st.site.plugged ENODEV >>= (λ free. raw_answer shape clock c st)) ≡ Ok (StoredNumber v) → {A : Type 0} → A
+not_stored shape clock c st v e = by st.site.plugged (is_empty st.members) (ask_fails st.site.driver) e
+  where
+    by : (p q f : Bool) → (ensure p ENODEV >>= (λ x. ensure q EBUSY >>= (λ y. ensure (not f) EIO >>= (λ z. Ok (Int (value_of st.site.driver shape clock c 0)))))) ≡ Ok (StoredNumber v) → {A : Type 0} → A
+    by false q f e = absurd (cc)
+    by true false f e = absurd (cc)
+    by true true true e = absurd (cc)
+    by true true false e = absurd (cc)
+
+-- where a stored number is read, nothing changes
+still : (front : Front) (m : Machine) (dev : ℕ) (channel : Option ℕ) (a : Attr) (v : Fixed) → (read_attr_of front m dev channel a).answer ≡ Ok (StoredNumber v)
+    → (read_attr_of front m dev channel a).machine ≡ m
+unfolding read_attr_of
+still front m dev None a v e = refl
+still front m dev (Some c) attr.Raw v e = not_stored (shape_at front dev) m.clock c (station_at m dev) v e
+still front m dev (Some c) a v e = refl
+
+pub said_no : (front : Front) (told told' : Option Machine) (desk : DeskRecord) (dev : ℕ) (target : Named) (why : No)
+    → IfSome told (λ m. Answers (read_attr_of front m dev target.channel target.attribute) m (Err why) told')
+    → IfSome told (λ m. Comes m desk (read_device_attribute front m desk dev target) (text_by (Err why)) told' desk)
+said_no front None told' desk dev target why a = tt
+said_no front (Some m) told' desk dev target (NoErrno e) a =
+    (_, a.1, ap (λ (r : Result AttrValue Errno). record { reply = value_reply r; machine = (read_attr_of front m dev target.channel target.attribute).machine; desk = desk }) a.0)
+said_no front (Some m) told' desk dev target NoMem a = (a, refl)
+
+pub said_value : (front : Front) (told told' : Option Machine) (desk : DeskRecord) (dev : ℕ) (target : Named) (v : AttrValue) (text : List ℕ) → text ≡ text_of_value v
+    → IfSome told (λ m. Answers (read_attr_of front m dev target.channel target.attribute) m (Ok v) told')
+    → IfSome told (λ m. Comes m desk (read_device_attribute front m desk dev target) (Value text) told' desk)
+said_value front None told' desk dev target v text t a = tt
+said_value front (Some m) told' desk dev target v text t a = (
+  _,
+  a.1,
+  ap (λ (r : Result AttrValue Errno). record { reply = value_reply r; machine = (read_attr_of front m dev target.channel target.attribute).machine; desk = desk }) a.0
+      ∙ ap (λ (bytes : List ℕ). record { reply = Value bytes; machine = (read_attr_of front m dev target.channel target.attribute).machine; desk = desk }) (sym t),
+)
+
+-- a stored number for whose digits there was no memory
+pub said_short : (front : Front) (told told' : Option Machine) (desk : DeskRecord) (dev : ℕ) (target : Named) (v : Fixed)
+    → IfSome told (λ m. Answers (read_attr_of front m dev target.channel target.attribute) m (Ok (StoredNumber v)) told')
+    → IfSome told (λ m. Comes m desk (read_device_attribute front m desk dev target) NoMemory told' desk)
+said_short front None told' desk dev target v a = tt
+said_short front (Some m) told' desk dev target v a = (a.1 ∙ ap (λ (n : Machine). Some n) (still front m dev target.channel target.attribute v a.0), refl)
+
+-- ---- an attribute of a buffer
+
+module _ {S : Type 0} (seen : S → SeatRecord) where
+  pub counted : (told told' : Option Machine) (base : DeskRecord) (dev i n : ℕ) (a : Attr) (held : List (Held S)) (h : Held S)
+      → place_of dev (seats_of seen held) ≡ Some i → i < length held → h ≡ slice_index_or held i h → (seen h.seat).mask ≡ h.mask.bits
+      → IfSome told (λ m. n ≡ buffer_number a h.capacity (length (queue_of m h.dev (seat_id (seen h.seat)))) (lost_of m h.dev (seat_id (seen h.seat))))
+      → IfSome told (λ m. told' ≡ Some m)
+      → IfSome told (λ m. Comes m (with_seats (seats_of seen held) base) (read_buffer_attribute_at m (with_seats (seats_of seen held) base) a (place_of dev (seats_of seen held)))
+      (Value (decimal n)) told' (with_seats (seats_of seen held) base))
+  counted None told' base dev i n a held h at l e under v t = tt
+  counted (Some m) told' base dev i n a held h at l e under v t = let desk = with_seats (seats_of seen held) base in (
+    m,
+    t,
+    ap (λ p. read_buffer_attribute_at m desk a p) at
+        ∙ ap (λ s. read_buffer_attribute m desk a s) (get_is seen (bare_of seen) held i h l e)
+        ∙ ap (λ (id : MemberId). record { reply = Value (decimal (buffer_number a h.capacity (length (queue_of m h.dev id)) (lost_of m h.dev id))); machine = m; desk = desk })
+        (id_is (bare_of seen h) (seen h.seat) refl under)
+        ∙ ap (λ (k : ℕ). record { reply = Value (decimal k); machine = m; desk = desk }) (sym v),
+  )
+
+-- ---- what the code found is what the definitions say
+
+found_is : (front : Front) (m : Machine) (desk : DeskRecord) (dev : ℕ) (place : Place) (name : Option (List ℕ)) (is_open plugged of_buffer : Bool) (shape : ShapeRecord) (w : Result Named Errno)
+    → is_open ≡ is_some (place_of dev desk.seats) → plugged ≡ is_plugged m dev → shape ≡ shape_at front dev → of_buffer ≡ is_of_buffer place name
+    → w ≡ found shape plugged is_open place name
+    → read_attribute_at front m desk place name dev ≡ read_named front m desk dev of_buffer w
+found_is front m desk dev place name is_open plugged of_buffer shape w e0 e1 e2 e3 e =
+    ap (λ b. read_named front m desk dev b (found (shape_at front dev) (is_plugged m dev) (is_some (place_of dev desk.seats)) place name)) (sym e3)
+    ∙ ap (λ x. read_named front m desk dev of_buffer x) (rw (sym e0, sym e1, sym e2) (sym e))
+
+pub reads_found : (front : Front) (told told' : Option Machine) (desk : DeskRecord) (dev : ℕ) (place : Place) (name : Option (List ℕ)) (is_open plugged of_buffer : Bool) (shape : ShapeRecord) (w : Result Named Errno) (reply : Reply)
+    → is_open ≡ is_some (place_of dev desk.seats) → IfSome told (λ m. plugged ≡ is_plugged m dev) → shape ≡ shape_at front dev → of_buffer ≡ is_of_buffer place name
+    → w ≡ found shape plugged is_open place name
+    → IfSome told (λ m. Comes m desk (read_named front m desk dev of_buffer w) reply told' desk)
+    → IfSome told (λ m. Comes m desk (read_attribute_at front m desk place name dev) reply told' desk)
+reads_found front None told' desk dev place name is_open plugged of_buffer shape w reply e0 e1 e2 e3 e c = tt
+reads_found front (Some m) told' desk dev place name is_open plugged of_buffer shape w reply e0 e1 e2 e3 e c =
+    rw (found_is front m desk dev place name is_open plugged of_buffer shape w e0 e1 e2 e3 e) c
+
+write_is : (front : Front) (m : Machine) (desk : DeskRecord) (dev : ℕ) (place : Place) (name : Option (List ℕ)) (payload : List ℕ) (is_open plugged : Bool) (shape : ShapeRecord) (w : Result Assignment Errno)
+    → is_open ≡ is_some (place_of dev desk.seats) → plugged ≡ is_plugged m dev → shape ≡ shape_at front dev
+    → w ≡ write_found shape plugged is_open place name payload
+    → write_attribute_at front m desk place name payload dev ≡ write_assignment m desk dev (length payload) w
+write_is front m desk dev place name payload is_open plugged shape w e0 e1 e2 e =
+    ap (λ x. write_assignment m desk dev (length payload) x) (rw (sym e0, sym e1, sym e2) (sym e))
+
+pub writes_found : (front : Front) (told told' : Option Machine) (desk : DeskRecord) (dev : ℕ) (place : Place) (name : Option (List ℕ)) (payload : List ℕ) (is_open plugged : Bool) (shape : ShapeRecord) (w : Result Assignment Errno) (reply : Reply)
+    → is_open ≡ is_some (place_of dev desk.seats) → IfSome told (λ m. plugged ≡ is_plugged m dev) → shape ≡ shape_at front dev
+    → w ≡ write_found shape plugged is_open place name payload
+    → IfSome told (λ m. Comes m desk (write_assignment m desk dev (length payload) w) reply told' desk)
+    → IfSome told (λ m. Comes m desk (write_attribute_at front m desk place name payload dev) reply told' desk)
+writes_found front None told' desk dev place name payload is_open plugged shape w reply e0 e1 e2 e c = tt
+writes_found front (Some m) told' desk dev place name payload is_open plugged shape w reply e0 e1 e2 e c =
+    rw (write_is front m desk dev place name payload is_open plugged shape w e0 e1 e2 e) c
+
+pub wrote : (told told' : Option Machine) (desk : DeskRecord) (dev count : ℕ) (x : Assignment) (r : Result ⊤ No)
+    → IfSome told (λ m. Answers (write_attr_of m dev x.target.channel x.target.attribute x.value) m r told')
+    → IfSome told (λ m. Comes m desk (write_assignment m desk dev count (Ok x)) (written_by count r) told' desk)
+wrote None told' desk dev count x r a = tt
+wrote (Some m) told' desk dev count x (Ok done) a =
+    (_, a.1, ap (λ (r : Result ⊤ Errno). written desk count (write_attr_of m dev x.target.channel x.target.attribute x.value).machine r) a.0)
+wrote (Some m) told' desk dev count x (Err (NoErrno e)) a =
+    (_, a.1, ap (λ (r : Result ⊤ Errno). written desk count (write_attr_of m dev x.target.channel x.target.attribute x.value).machine r) a.0)
+wrote (Some m) told' desk dev count x (Err NoMem) a = (a, refl)
+
+-- ---- the commands
+
+read_is : (front : Front) (m : Machine) (desk : DeskRecord) (device : List ℕ) (place : Place) (name : Option (List ℕ))
+    → act front m desk (Said (Ok (Read device place name))) ≡ at_device m desk (read_attribute_at front m desk place name) (find_device front device)
+unfolding act
+read_is front m desk device place name = refl
+
+pub serves_read_attribute : (front : Front) (told told' : Option Machine) (desk desk' : DeskRecord) (tales tales' : List (Option Tale)) (device : List ℕ) (place : Place) (name : Option (List ℕ)) (reply : Reply)
+    → IfSome told (λ m. Comes m desk (at_device m desk (read_attribute_at front m desk place name) (find_device front device)) reply told' desk)
+    → desk' ≡ desk → tales' ≡ tales
+    → Serves front told desk tales (Said (Ok (Read device place name))) reply told' desk' tales'
+serves_read_attribute front told told' desk desk' tales tales' device place name reply c d t = record {
+  alone = tt;
+  exact = rw d (all_comes front told told' desk desk _ (λ m. at_device m desk (read_attribute_at front m desk place name) (find_device front device)) reply (λ m. read_is front m desk device place name) c);
+  moves = (d, t);
+}
+
+written_is : (front : Front) (m : Machine) (desk : DeskRecord) (device : List ℕ) (place : Place) (name : Option (List ℕ)) (payload : List ℕ)
+    → act front m desk (Written device (Some (place, name)) payload) ≡ at_device m desk (write_attribute_at front m desk place name payload) (find_device front device)
+unfolding act
+written_is front m desk device place name payload = refl
+
+pub serves_write_attribute : (front : Front) (told told' : Option Machine) (desk : DeskRecord) (tales : List (Option Tale)) (device : List ℕ) (place : Place) (name : Option (List ℕ)) (payload : List ℕ) (reply : Reply)
+    → IfSome told (λ m. Comes m desk (at_device m desk (write_attribute_at front m desk place name payload) (find_device front device)) reply told' desk)
+    → Serves front told desk tales (Written device (Some (place, name)) payload) reply told' desk tales
+serves_write_attribute front told told' desk tales device place name payload reply c =
+    record { alone = tt; exact = all_comes front told told' desk desk _ (λ m. at_device m desk (write_attribute_at front m desk place name payload) (find_device front device)) reply (λ m. written_is front m desk device place name payload) c; moves = (refl, refl) }
+
+-- a WRITE whose words name nothing
+nameless_is : (front : Front) (m : Machine) (desk : DeskRecord) (device payload : List ℕ) → act front m desk (Written device None payload) ≡ only (Refusal EINVAL) m desk
+unfolding act
+nameless_is front m desk device payload = refl
+
+pub serves_nameless : (front : Front) (told : Option Machine) (desk : DeskRecord) (tales : List (Option Tale)) (device payload : List ℕ)
+    → Serves front told desk tales (Written device None payload) (Refusal EINVAL) told desk tales
+serves_nameless front told desk tales device payload = serves_only front told desk tales _ (Refusal EINVAL) tt (inl refl) (λ m. nameless_is front m desk device payload) (refl, refl)
+
+-- ---- refusals
+
+unchanged : (told : Option Machine) (desk : DeskRecord) (e : Errno) (o : Machine → Acted) → ((m : Machine) → o m ≡ refused e m desk)
+    → IfSome told (λ m. Comes m desk (o m) (Refusal e) told desk)
+unchanged None desk e o is = tt
+unchanged (Some m) desk e o is = (m, refl, is m)
+
+pub reads_refused : (front : Front) (told : Option Machine) (desk : DeskRecord) (dev : ℕ) (place : Place) (name : Option (List ℕ)) (is_open plugged : Bool) (shape : ShapeRecord) (errno : Errno)
+    → is_open ≡ is_some (place_of dev desk.seats) → IfSome told (λ m. plugged ≡ is_plugged m dev) → shape ≡ shape_at front dev
+    → Err errno ≡ found shape plugged is_open place name
+    → IfSome told (λ m. Comes m desk (read_attribute_at front m desk place name dev) (Refusal errno) told desk)
+reads_refused front told desk dev place name is_open plugged shape errno e0 e1 e2 e =
+    reads_found front told told desk dev place name is_open plugged (is_of_buffer place name) shape (Err errno) (Refusal errno) e0 e1 e2 refl e
+    (unchanged told desk errno (λ m. read_named front m desk dev (is_of_buffer place name) (Err errno)) (λ m. refl))
+
+pub writes_refused : (front : Front) (told : Option Machine) (desk : DeskRecord) (dev : ℕ) (place : Place) (name : Option (List ℕ)) (payload : List ℕ) (is_open plugged : Bool) (shape : ShapeRecord) (errno : Errno)
+    → is_open ≡ is_some (place_of dev desk.seats) → IfSome told (λ m. plugged ≡ is_plugged m dev) → shape ≡ shape_at front dev
+    → Err errno ≡ write_found shape plugged is_open place name payload
+    → IfSome told (λ m. Comes m desk (write_attribute_at front m desk place name payload dev) (Refusal errno) told desk)
+writes_refused front told desk dev place name payload is_open plugged shape errno e0 e1 e2 e =
+    writes_found front told told desk dev place name payload is_open plugged shape (Err errno) (Refusal errno) e0 e1 e2 e
+    (unchanged told desk errno (λ m. write_assignment m desk dev (length payload) (Err errno)) (λ m. refl))
+
+pub writes : (front : Front) (told told' : Option Machine) (desk : DeskRecord) (dev : ℕ) (place : Place) (name : Option (List ℕ)) (payload : List ℕ) (is_open plugged : Bool) (shape : ShapeRecord) (x : Assignment) (r : Result ⊤ No)
+    → is_open ≡ is_some (place_of dev desk.seats) → IfSome told (λ m. plugged ≡ is_plugged m dev) → shape ≡ shape_at front dev
+    → Ok x ≡ write_found shape plugged is_open place name payload
+    → IfSome told (λ m. Answers (write_attr_of m dev x.target.channel x.target.attribute x.value) m r told')
+    → IfSome told (λ m. Comes m desk (write_attribute_at front m desk place name payload dev) (written_by (length payload) r) told' desk)
+writes front told told' desk dev place name payload is_open plugged shape x r e0 e1 e2 e a =
+    writes_found front told told' desk dev place name payload is_open plugged shape (Ok x) (written_by (length payload) r) e0 e1 e2 e
+    (wrote told told' desk dev (length payload) x r a)

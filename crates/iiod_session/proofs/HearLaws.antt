@@ -1,0 +1,277 @@
+-- What a piece of the stream is to the items, and what is made of it.
+use Rattle.std.proofs.Common.{◌≡◌, ◌≢◌, ℕ, ◌<◌, ◌≤◌, nat_lt, true, false, List, [], ◌∷◌, ◌++◌, ◌+◌, ◌-◌, take, drop, length, refl, sym, ap, ◌∙◌, append-nil, Option, Some, None, IfSome, Result, Ok, Err, IfOk, arith}
+use Rattle.std.proofs.lemmas.List.{drop-drop, length-drop, take_rest}
+use Rattle.std.proofs.Math.Seq.{drop-append_seam}
+use Rattle.iio_base.specs.declared.Mem.{Mem}
+use Rattle.iio_text.specs.declared.errors.Errno.{Errno}
+use Rattle.iio_text.specs.declared.errors.Errno.TheVariants.{E2BIG, EFBIG}
+use Rattle.iiod_grammar.specs.declared.command.Refused.{Refused}
+use Rattle.iiod_grammar.specs.declared.lines.Ready.{Ready}
+use Rattle.iiod_grammar.specs.declared.lines.Ready.TheVariants.{More, Line, Payload, TooLong}
+use Rattle.iiod_grammar.specs.declared.lines.TheConstants.{MAX_PAYLOAD}
+use Rattle.std.specs.Borrow.{Bor}
+use Rattle.iiod_grammar.specs.declared.command.Command.{Command as CodeCommand}
+use Rattle.iiod_grammar.specs.declared.command.Command.TheVariants as code
+use Rattle.iiod_grammar.specs.declared.command.Place.{Place as CodePlace}
+use Rattle.iiod_grammar.specs.View.{command_view}
+use Rattle.iiod_grammar.specs.Command.{Command, Exit, Target, Write, command_of}
+use Rattle.iiod_grammar.specs.Lines.{LinesRecord, after_piece}
+use Rattle.iiod_grammar.specs.Scans.{ScansBy, scan_on, scanner_at}
+use Rattle.iiod_grammar.specs.Stream.{Item, Said, Written, End, ItemsCutAnywhere, ScannerCutAnywhere, Scanned, AtEnd, InLine, after_line, after_said, ended_by, no_item, one_item, payload_after}
+use Rattle.iiod_reply.specs.Reply.{text_of}
+use Rattle.iiod_session.specs.declared.desk.Held.{Held}
+use Rattle.iiod_session.specs.declared.manner.Going.{Going}
+use Rattle.iiod_session.specs.declared.manner.Going.TheVariants.{On, Waits, Ended}
+use Rattle.iiod_session.specs.declared.manner.Manner.{Manner}
+use Rattle.iiod_session.specs.declared.manner.Manner.TheVariants.{Script, Server}
+use Rattle.iiod_session.specs.declared.manner.Performed.{Performed}
+use Rattle.iiod_session.specs.declared.manner.Performed.TheVariants.{Done, Waits as PerformedWaits}
+use Rattle.iiod_session.specs.Acts.{Acts, act, end_reply, left_desk, left_machine}
+use Rattle.iiod_session.specs.Desk.{tales_of}
+use Rattle.iiod_session.specs.Front.{Front}
+use Rattle.iiod_session.specs.Machine.{Machine}
+use Rattle.iiod_session.specs.Performs.{IsAllowed, Performs}
+use Rattle.iiod_session.specs.Run.{State, Fed, Feeds}
+use Rattle.iiod_session.specs.Seat.{SeatRecord}
+use Rattle.iiod_session.specs.Session.{IsKept, IsPlain, IsReady, device_by, piece_by, stream_by, target_by, unread_of}
+use Rattle.iiod_session.proofs.FeedLaws.{fed_more, fed_none, fed_one, fed_then, feeds_more, feeds_of, feeds_on, feeds_then, goes_on}
+use Rattle.iiod_session.proofs.StreamLaws.{scan_end, scan_nil, scan_rest, scanner_goes_on}
+
+-- ---- the end
+
+end_allowed : (manner : Manner) (error : Option Errno) → IsAllowed manner (end_reply error)
+end_allowed Script None = tt
+end_allowed Script (Some e) = tt
+end_allowed Server None = tt
+end_allowed Server (Some e) = tt
+
+end_acts : (front : Front) (a b : State) (error : Option Errno) → IfSome a.told (λ m. b.told ≡ Some (left_machine m a.desk)) → b.desk ≡ left_desk a.desk
+    → IfSome a.told (λ m. Acts front m a.desk (End error) (end_reply error) b.told b.desk)
+unfolding act
+end_acts front a b error t d = by a.told t error
+  where
+    by : (told : Option Machine) → IfSome told (λ m. b.told ≡ Some (left_machine m a.desk)) → (error : Option Errno)
+        → IfSome told (λ m. Acts front m a.desk (End error) (end_reply error) b.told b.desk)
+    by None x error = tt
+    by (Some m) x None = (left_machine m a.desk, x, rw d refl)
+    by (Some m) x (Some e) = (left_machine m a.desk, x, rw d refl)
+
+ends : (manner : Manner) (front : Front) (a b : State) (error : Option Errno) (before after : List ℕ)
+    → after ≡ before ++ text_of (end_reply error)
+    → IfSome a.told (λ m. b.told ≡ Some (left_machine m a.desk)) → b.desk ≡ left_desk a.desk → b.tales ≡ []
+    → Feeds manner front a (ended_by error) before after b (no_item AtEnd) Ended
+ends manner front a b error before after text t d none =
+    feeds_of manner front a b b (ended_by error) (no_item AtEnd) before after Ended
+    (fed_one manner front a b (ended_by error) (no_item AtEnd) before after (End error) (end_reply error) refl refl text
+    (record { allowed = end_allowed manner error; answer = tt; served = record { alone = tt; exact = end_acts front a b error t d; moves = (refl, d, none) } }))
+    (refl, refl)
+
+none_seen : {S : Type 0} (seen : S → SeatRecord) (held : List (Held S)) → held ≡ [] → tales_of seen held ≡ []
+none_seen seen held e = ap (λ hs. tales_of seen hs) e
+
+-- the end of a connection, as `end` makes it
+pub end_feeds : {S : Type 0} (seen : S → SeatRecord) (manner : Manner) (front : Front) (a b : State) (held : List (Held S)) (error : Option Errno) (before after : List ℕ)
+    → after ≡ before ++ text_of (end_reply error)
+    → IfSome a.told (λ m. b.told ≡ Some (left_machine m a.desk)) → b.desk ≡ left_desk a.desk → b.tales ≡ tales_of seen held → held ≡ []
+    → Feeds manner front a (ended_by error) before after b (no_item AtEnd) Ended
+end_feeds seen manner front a b held error before after text t d tales none = ends manner front a b error before after text t d (tales ∙ none_seen seen held none)
+
+-- a line that ends the connection
+pub ended_line : (manner : Manner) (front : Front) (a b : State) (error : Option Errno) (all : Scanned) (before after : List ℕ) (lines : LinesRecord) (write_line : List ℕ) (r : Result Going Mem)
+    → all ≡ ended_by error → IfOk r (λ going. going ≡ Ended)
+    → IfOk r (λ going. Feeds manner front a (ended_by error) before after b (no_item AtEnd) going)
+    → IfOk r (λ going. Feeds manner front a all before after b (stream_by going lines write_line) going)
+ended_line manner front a b error all before after lines write_line (Ok Ended) is e f = rw is f
+ended_line manner front a b error all before after lines write_line (Ok On) is e f = cc
+ended_line manner front a b error all before after lines write_line (Ok (Waits dev)) is e f = cc
+ended_line manner front a b error all before after lines write_line (Err fault) is e f = tt
+
+pub ended_ready : (lines : LinesRecord) (r : Result Going Mem) → IfOk r (λ going. going ≡ Ended) → IfOk r (λ going. IsReady going lines)
+ended_ready lines (Ok Ended) e = tt
+ended_ready lines (Ok On) e = cc
+ended_ready lines (Ok (Waits dev)) e = cc
+ended_ready lines (Err fault) e = tt
+
+-- ---- lines
+
+pub exit_line : (line : List ℕ) → command_of line ≡ Ok Exit → after_line line ≡ ended_by None
+exit_line line e = ap (λ said. after_said said) e
+
+pub overlong_line : (line device : List ℕ) (target : Option Target) (count : ℕ) → command_of line ≡ Ok (Write device target count) → MAX_PAYLOAD < count → after_line line ≡ ended_by (Some EFBIG)
+overlong_line line device target count e more = ap (λ said. after_said said) e ∙ rw (let b : nat_lt MAX_PAYLOAD count ≡ true = grind arith in b) refl
+
+-- the line of a WRITE whose payload comes next
+write_stream : (line device : List ℕ) (target : Option Target) (count : ℕ) → command_of line ≡ Ok (Write device target count) → count ≤ MAX_PAYLOAD
+    → after_line line ≡ stream_by On (record (after_piece line) { wanted = Some count }) line
+write_stream line device target count e within =
+    ap (λ said. after_said said) e ∙ rw (let b : nat_lt MAX_PAYLOAD count ≡ false = grind arith in b) refl ∙ ap (λ said. payload_after (device_by said) (target_by said) count []) (sym e)
+
+pub write_feeds : (manner : Manner) (front : Front) (a : State) (line device kept : List ℕ) (target : Option Target) (count : ℕ) (before : List ℕ) (lines : LinesRecord)
+    → command_of line ≡ Ok (Write device target count) → count ≤ MAX_PAYLOAD → lines ≡ record (after_piece line) { wanted = Some count } → kept ≡ line
+    → Feeds manner front a (after_line line) before before a (stream_by On lines kept) On
+write_feeds manner front a line device kept target count before lines e within is same =
+    let here : after_line line ≡ stream_by On lines kept = write_stream line device target count e within ∙ rw (is, same) refl in
+    goes_on manner front a a (after_line line) (stream_by On lines kept) before before (scanner_goes_on lines (device_by (command_of kept)) (target_by (command_of kept)))
+    (rw here (fed_none manner front a (stream_by On lines kept) before))
+
+plain_line : (said : Result Command Refused) → IsPlain said → after_said said ≡ one_item (Said said)
+plain_line (Ok Exit) p = absurd p
+plain_line (Ok (Write device target count)) p = absurd p
+plain_line said p = refl
+
+abbrev pub going_of : Performed → Going
+going_of Done = On
+going_of (PerformedWaits dev) = Waits dev
+
+pub plain_feeds : (manner : Manner) (front : Front) (a b : State) (line kept : List ℕ) (said : Result Command Refused) (lines : LinesRecord) (before after : List ℕ) (p : Performed)
+    → command_of line ≡ said → IsPlain said → lines ≡ after_piece line
+    → Performs manner front a.told b.told a.desk a.tales (Said said) b.desk b.tales before after p
+    → Feeds manner front a (after_line line) before after b (stream_by (going_of p) lines kept) (going_of p)
+plain_feeds manner front a b line kept said lines before after Done e plain is x =
+    let all : after_line line ≡ one_item (Said said) = ap (λ z. after_said z) e ∙ plain_line said plain in
+    let left : stream_by On lines kept ≡ no_item (InLine []) = rw is refl in
+    goes_on manner front a b (after_line line) (stream_by On lines kept) before after (scanner_goes_on lines (device_by (command_of kept)) (target_by (command_of kept)))
+    (rw (all, left) (fed_one manner front a b (one_item (Said said)) (no_item (InLine [])) before after (Said said) x.0 refl refl x.1 (record { allowed = x.2; answer = x.3; served = x.4 })))
+plain_feeds manner front a b line kept said lines before after (PerformedWaits dev) e plain is x =
+    let all : after_line line ≡ one_item (Said said) = ap (λ z. after_said z) e ∙ plain_line said plain in
+    let left : stream_by (Waits dev) lines kept ≡ one_item (Said said) = rw is all in
+    feeds_of manner front a a b (after_line line) (stream_by (Waits dev) lines kept) before after (Waits dev)
+    (rw (all, left, x.0) (fed_none manner front a (one_item (Said said)) before))
+    (record { server = x.1; item = Said said; more = []; first = ap (λ (z : Scanned). z.items) left; read = x.2; served = x.3 })
+
+-- ---- payloads
+
+pub written_feeds : (manner : Manner) (front : Front) (a b : State) (lines : LinesRecord) (kept device : List ℕ) (target : Option Target) (payload before after : List ℕ) (p : Performed)
+    → lines ≡ after_piece lines.piece
+    → Performs manner front a.told b.told a.desk a.tales (Written device target payload) b.desk b.tales before after p
+    → Feeds manner front a (one_item (Written device target payload)) before after b (stream_by On lines kept) On
+written_feeds manner front a b lines kept device target payload before after Done is x =
+    let left : stream_by On lines kept ≡ no_item (InLine []) = ap (λ (z : LinesRecord). stream_by On z kept) is in
+    goes_on manner front a b (one_item (Written device target payload)) (stream_by On lines kept) before after (scanner_goes_on lines (device_by (command_of kept)) (target_by (command_of kept)))
+    (rw left (fed_one manner front a b (one_item (Written device target payload)) (no_item (InLine [])) before after (Written device target payload) x.0 refl refl x.1 (record { allowed = x.2; answer = x.3; served = x.4 })))
+written_feeds manner front a b lines kept device target payload before after (PerformedWaits dev) is x = absurd x.2
+
+pub said_feeds : (manner : Manner) (front : Front) (a b : State) (kept : List ℕ) (said : Result Command Refused) (lines : LinesRecord) (before after : List ℕ) (p : Performed)
+    → lines ≡ after_piece lines.piece → command_of lines.piece ≡ said → IsPlain said
+    → Performs manner front a.told b.told a.desk a.tales (Said said) b.desk b.tales before after p
+    → Feeds manner front a (after_line lines.piece) before after b (stream_by (going_of p) lines kept) (going_of p)
+said_feeds manner front a b kept said lines before after p is e plain x = plain_feeds manner front a b lines.piece kept said lines before after p e plain is x
+
+-- ---- pieces of further bytes
+
+-- no piece is whole
+pub more_feeds : (manner : Manner) (front : Front) (a b : State) (all : Scanned) (before after : List ℕ) (old new : LinesRecord) (device : List ℕ) (target : Option Target) (rest whole tail : List ℕ)
+    → scan_on (scanner_at old device target) rest ≡ scanner_at new device target → rest ≡ whole → tail ≡ []
+    → Fed manner front a all before after b (scan_on (scanner_at old device target) whole)
+    → Feeds manner front a all before after b (scan_on (scanner_at new device target) tail) On
+more_feeds manner front a b all before after old new device target rest whole tail scans same none f =
+    let left : scan_on (scanner_at new device target) tail ≡ scanner_at new device target =
+    ap (λ bs. scan_on (scanner_at new device target) bs) none ∙ scan_nil (scanner_at new device target) in
+    rw left (goes_on manner front a b all (scanner_at new device target) before after (scanner_goes_on new device target) (rw scans at (rw (← same) at f)))
+
+ended_stays : (e : Option Errno) (bytes : List ℕ) → scan_on (ended_by e) bytes ≡ ended_by e
+ended_stays e bytes = ap (λ (s : Scanned). let x : Scanned = record { items = End e ∷ s.items; next = s.next } in x) (scan_end bytes)
+
+-- the bytes from a place on, and those after some of them
+pub rest_after : (at taken : ℕ) (bytes : List ℕ) → drop taken (take (length bytes - at) (drop at bytes)) ≡ drop (at + taken) bytes
+rest_after at taken bytes = ap (λ bs. drop taken bs) (take_rest bytes at) ∙ drop-drop taken at bytes
+
+drop_all : (bytes : List ℕ) → drop (length bytes) bytes ≡ []
+drop_all bytes = ap (λ bs. drop (length bytes) bs) (sym (append-nil bytes)) ∙ drop-append_seam bytes []
+
+-- all bytes were taken
+pub all_taken : (at taken : ℕ) (bytes : List ℕ) → at ≤ length bytes → taken ≡ length (take (length bytes - at) (drop at bytes)) → at + taken ≡ length bytes
+all_taken at taken bytes within all =
+    let n : taken ≡ length bytes - at = all ∙ ap length (take_rest bytes at) ∙ length-drop at bytes in omega arith
+
+pub none_after : (at taken : ℕ) (bytes : List ℕ) → at ≤ length bytes → taken ≡ length (take (length bytes - at) (drop at bytes)) → drop (at + taken) bytes ≡ []
+none_after at taken bytes within all = ap (λ n. drop n bytes) (all_taken at taken bytes within all) ∙ drop_all bytes
+
+-- a piece is whole, and the bytes after it
+pub piece_scans : ItemsCutAnywhere → ScannerCutAnywhere → (old new : LinesRecord) (kept rest : List ℕ) (taken : ℕ) (ready : Ready) → (ready ≢ More) → old.overlong ≡ false
+    → ScansBy (device_by (command_of kept)) (target_by (command_of kept)) old rest taken ready new
+    → scan_on (stream_by On old kept) rest ≡ scan_on (piece_by ready new kept) (drop taken rest)
+piece_scans items scanner old new kept rest taken More n going scans = absurd (n refl)
+piece_scans items scanner old new kept rest taken Line n going scans =
+    scan_rest items scanner (stream_by On old kept) taken rest ∙ ap (λ x. scan_on x (drop taken rest)) scans
+piece_scans items scanner old new kept rest taken Payload n going scans =
+    scan_rest items scanner (stream_by On old kept) taken rest ∙ ap (λ x. scan_on x (drop taken rest)) scans
+piece_scans items scanner old new kept rest taken TooLong n going scans = scans going ∙ sym (ended_stays (Some E2BIG) (drop taken rest))
+
+pub on_fed : (manner : Manner) (front : Front) (a b c : State) (all left piece next : Scanned) (before mid after tail tail' : List ℕ)
+    → left ≡ scan_on piece tail → tail ≡ tail' → Fed manner front a all before mid b left → Feeds manner front b piece mid after c next On
+    → Fed manner front a all before after c (scan_on next tail')
+on_fed manner front a b c all left piece next before mid after tail tail' e same f g =
+    rw (sym same) (fed_then manner front a b c all left (scan_on next tail) before mid after f
+    (rw e (fed_more manner front b c piece next mid after tail (feeds_on manner front b c piece next mid after g))))
+
+pub stop_feeds : (manner : Manner) (front : Front) (a b c : State) (all left piece next : Scanned) (before mid after tail tail' : List ℕ) (going : Going) → going ≢ On
+    → left ≡ scan_on piece tail → tail ≡ tail' → Fed manner front a all before mid b left → Feeds manner front b piece mid after c next going
+    → Feeds manner front a all before after c (scan_on next tail') going
+stop_feeds manner front a b c all left piece next before mid after tail tail' going stops e same f g =
+    rw (sym same) (feeds_then manner front a b c all left (scan_on next tail) before mid after going f
+    (rw e (feeds_more manner front b c piece next mid after tail going stops g)))
+
+-- a line that is too long ends the connection
+pub too_long_stops : (manner : Manner) (front : Front) (a b : State) (e : Option Errno) (next : Scanned) (before after : List ℕ) → Feeds manner front a (ended_by e) before after b next On → ⊥
+too_long_stops manner front a b e next before after f = f.stands.1 (f.fed.next)
+
+-- ---- bytes after a READBUF that waits
+
+pub ended_feeds : (manner : Manner) (front : Front) (a : State) (before bytes more : List ℕ) → Feeds manner front a (scan_on (no_item AtEnd) bytes) before before a (scan_on (no_item AtEnd) more) Ended
+ended_feeds manner front a before bytes more =
+    rw (scan_end bytes, scan_end more) (feeds_of manner front a a a (no_item AtEnd) (no_item AtEnd) before before Ended (fed_none manner front a (no_item AtEnd) before) (refl, refl))
+
+pub resumed : (manner : Manner) (front : Front) (a b c : State) (all left : Scanned) (before mid after bytes : List ℕ) (next : ℕ × Going → Scanned) (r : Result (ℕ × Going) Mem)
+    → Feeds manner front a all before mid b left On → IfOk r (λ x. Feeds manner front b (scan_on left bytes) mid after c (next x) x.1)
+    → IfOk r (λ x. Feeds manner front a (scan_on all bytes) before after c (next x) x.1)
+resumed manner front a b c all left before mid after bytes next (Ok x) f g =
+    feeds_then manner front a b c (scan_on all bytes) (scan_on left bytes) (next x) before mid after x.1
+    (fed_more manner front a b all left before mid bytes (feeds_on manner front a b all left before mid f)) g
+resumed manner front a b c all left before mid after bytes next (Err fault) f g = tt
+
+-- the bytes that are kept
+pub unread_feeds : (manner : Manner) (front : Front) (a b : State) (all : Scanned) (before after bytes : List ℕ) (taken : ℕ) (going : Going) (lines : LinesRecord) (kept : List ℕ)
+    → (going ≡ On → (taken ≡ length bytes) × ((stream_by On lines kept).items ≡ []))
+    → Feeds manner front a all before after b (scan_on (stream_by going lines kept) (drop taken bytes)) going
+    → Feeds manner front a all before after b (scan_on (stream_by going lines kept) (unread_of going taken bytes)) going
+unread_feeds manner front a b all before after bytes taken On lines kept on f =
+    let none : drop taken bytes ≡ [] = ap (λ n. drop n bytes) (on refl).0 ∙ drop_all bytes in rw none at f
+unread_feeds manner front a b all before after bytes taken (Waits dev) lines kept on f = f
+unread_feeds manner front a b all before after bytes taken Ended lines kept on f = rw (scan_end (drop taken bytes), ← (scan_end [])) at f
+
+pub none_left : (bytes : List ℕ) (taken : ℕ) (going : Going) (lines : LinesRecord) (kept : List ℕ)
+    → (going ≡ On → (taken ≡ length bytes) × ((stream_by On lines kept).items ≡ []))
+    → going ≡ On → (scan_on (stream_by going lines kept) (unread_of going taken bytes)).items ≡ []
+none_left bytes taken On lines kept on e = ap (λ (s : Scanned). s.items) (scan_nil (stream_by On lines kept)) ∙ (on refl).1
+none_left bytes taken (Waits dev) lines kept on e = cc
+none_left bytes taken Ended lines kept on e = cc
+
+pub kept_by : (bytes : List ℕ) (taken : ℕ) (going : Going) (lines : LinesRecord) → IsReady going lines → IsKept going lines (unread_of going taken bytes)
+kept_by bytes taken On lines r = (r, refl)
+kept_by bytes taken (Waits dev) lines r = r
+kept_by bytes taken Ended lines r = tt
+
+-- ---- a command of the code
+
+pub plain_command : (command : CodeCommand) → (command ≡ code.Exit → ⊥) → ((dev : Bor (List ℕ)) (target : Option (CodePlace × Option (Bor (List ℕ)))) (count : ℕ) → command ≡ code.Write dev target count → ⊥) → IsPlain (Ok (command_view command))
+plain_command code.Exit e w = absurd (e refl)
+plain_command (code.Write dev target count) e w = absurd (w dev target count refl)
+plain_command command e w = tt
+
+-- ---- whether a connection has ended
+
+pub is_ended : (lines : LinesRecord) (kept left : List ℕ) (going : Going) → going ≡ Ended → scan_on (stream_by going lines kept) left ≡ no_item AtEnd
+is_ended lines kept left going e = ap (λ g. scan_on (stream_by g lines kept) left) e ∙ scan_end left
+
+not_nothing : (item : Item) (more : List Item) → item ∷ more ≡ [] → ⊥
+not_nothing item more e = cc
+
+pub not_ended : (lines : LinesRecord) (kept left : List ℕ) (going : Going) → IsKept going lines left → (going ≡ Ended → ⊥) → scan_on (stream_by going lines kept) left ≡ no_item AtEnd → ⊥
+not_ended lines kept left Ended k n e = n refl
+not_ended lines kept left On k n e =
+    let stays : scan_on (stream_by On lines kept) left ≡ stream_by On lines kept = ap (λ bs. scan_on (stream_by On lines kept) bs) k.1 ∙ scan_nil (stream_by On lines kept) in
+    scanner_goes_on lines (device_by (command_of kept)) (target_by (command_of kept)) (ap (λ (s : Scanned). s.next) (sym stays ∙ e))
+not_ended lines kept left (Waits dev) k n e =
+    let one : after_line lines.piece ≡ one_item (Said (command_of lines.piece)) = plain_line (command_of lines.piece) k.1 in
+    not_nothing _ _ (ap (λ (s : Scanned). s.items) (ap (λ s. scan_on s left) (sym one) ∙ e))

@@ -1,0 +1,94 @@
+-- READBUF at a seat, by what its takes gave.
+use Rattle.std.proofs.Common.{◌≡◌, ℕ, ◌≤◌, ◌<◌, nat_lt, Bool, true, false, not, cond, List, [], ◌∷◌, length, take, drop, Option, Some, None, IfSome, option_map, Result, Ok, Err, refl, ap, arith}
+use Rattle.std.proofs.Math.Seq.{take-nil}
+use Rattle.iio_base.specs.declared.Mem.{Mem}
+use Rattle.iio_text.specs.declared.errors.Errno.TheVariants.{ENODEV, EAGAIN}
+use Rattle.iiod_reply.specs.Reply.{Refusal, Block}
+use Rattle.iiod_session.specs.declared.iio.Took.{Took}
+use Rattle.iiod_session.specs.declared.iio.Took.TheVariants.{Scan, Empty, Gone}
+use Rattle.iiod_session.specs.Acts.{zero_reply, refused, read_at_seat, read_scans_of}
+use Rattle.iiod_session.specs.Desk.{Bare, DeskRecord, bare_id}
+use Rattle.iiod_session.specs.Front.{Front, channel_count, size_at}
+use Rattle.iiod_session.specs.Machine.{Machine, queue_of, with_queue}
+use Rattle.iiod_session.specs.Moves.{ReadsAs}
+use Rattle.iiod_session.specs.Performs.{ReadServed, ReadHeld}
+use Rattle.iiod_session.specs.Reading.{ReadSome, ReadNone, ReadEnds, FoundNothing, most_scans}
+use Rattle.iiod_session.specs.Seat.{SeatRecord, Tale, after_nothing, seat_id}
+
+-- a seat takes from the queue of its member
+pub id_is : (s : Bare) (v : SeatRecord) → s.number ≡ v.number → v.mask ≡ s.mask → bare_id s ≡ seat_id v
+id_is s v number under = rw (number, ← under) refl
+
+less_is : (a b : ℕ) → a < b → nat_lt a b ≡ true
+less_is a b h = grind arith
+
+not_less_is : (a b : ℕ) → b ≤ a → nat_lt a b ≡ false
+not_less_is a b h = grind arith
+
+-- less than one scan is asked for
+pub served_less : (front : Front) (asked : ℕ) (told : Option Machine) (s : Bare) (tale : Option Tale) → asked < size_at front s.dev s.mask
+    → ReadServed front asked told told s tale tale zero_reply
+served_less front asked told s tale h = record { exact = by told; moves = rw (less_is _ _ h) (refl, refl); whole = tt }
+  where
+    by : (told : Option Machine) → IfSome told (λ m. (n : Machine) × (told ≡ Some n)
+        × ((desk : DeskRecord) → read_at_seat front m desk s asked ≡ record { reply = zero_reply; machine = n; desk = desk }))
+    by None = tt
+    by (Some m) = (m, refl, λ desk. rw (less_is _ _ h) refl)
+
+read_scans_is : (front : Front) (m : Machine) (desk : DeskRecord) (s : Bare) (want asked : ℕ) (scans : List (List ℕ)) → 0 < length scans
+    → read_scans_of front m desk s want asked scans
+    ≡ record { reply = Block (channel_count front s.dev) s.mask scans asked; machine = with_queue m s.dev (bare_id s) (drop want (queue_of m s.dev (bare_id s))); desk = desk }
+read_scans_is front m desk s want asked [] h = absurd (omega arith)
+read_scans_is front m desk s want asked (x ∷ xs) h = refl
+
+served_some : (front : Front) (asked : ℕ) (told told' : Option Machine) (s : Bare) (v v' : SeatRecord) (scans : List (List ℕ)) → bare_id s ≡ seat_id v
+    → size_at front s.dev s.mask ≤ asked
+    → ReadSome s.dev (most_scans asked (size_at front s.dev s.mask) s.capacity) told told' v v' scans
+    → ReadServed front asked told told' s v.tale v'.tale (Block (channel_count front s.dev) s.mask scans asked)
+served_some front asked told told' s v v' scans same h r =
+    record { exact = by told (rw (← same) at r.from); moves = rw (not_less_is _ _ h) (refl, refl, refl, r.reads); whole = tt }
+  where
+    by : (told : Option Machine)
+        → IfSome told (λ m. (take (most_scans asked (size_at front s.dev s.mask) s.capacity) (queue_of m s.dev (bare_id s)) ≡ scans)
+        × (told' ≡ Some (with_queue m s.dev (bare_id s) (drop (most_scans asked (size_at front s.dev s.mask) s.capacity) (queue_of m s.dev (bare_id s))))))
+        → IfSome told (λ m. (n : Machine) × (told' ≡ Some n)
+        × ((desk : DeskRecord) → read_at_seat front m desk s asked
+        ≡ record { reply = Block (channel_count front s.dev) s.mask scans asked; machine = n; desk = desk }))
+    by None f = tt
+    by (Some m) f = (_, f.1, λ desk. rw (not_less_is _ _ h, f.0) (read_scans_is front m desk s (most_scans asked (size_at front s.dev s.mask) s.capacity) asked scans r.reads.some))
+
+served_none : (front : Front) (asked : ℕ) (gone : Bool) (told told' : Option Machine) (s : Bare) (v v' : SeatRecord) → bare_id s ≡ seat_id v
+    → size_at front s.dev s.mask ≤ asked
+    → ReadNone s.dev gone told told' v v'
+    → ReadServed front asked told told' s v.tale v'.tale (Refusal (cond gone ENODEV EAGAIN))
+served_none front asked gone told told' s v v' same h r =
+    record { exact = by told (rw (← same) at r.from); moves = rw (not_less_is _ _ h) (moved gone (ap (λ (x : SeatRecord). x.tale) r.same)); whole = tt }
+  where
+    moved : (gone : Bool) → v'.tale ≡ option_map (after_nothing gone) v.tale
+        → ReadsAs (channel_count front s.dev) s.mask (most_scans asked (size_at front s.dev s.mask) s.capacity) asked (Refusal (cond gone ENODEV EAGAIN)) v.tale v'.tale
+    moved true e = e
+    moved false e = e
+
+    errno_is : (plugged : Bool) → plugged ≡ not gone → cond plugged EAGAIN ENODEV ≡ cond gone ENODEV EAGAIN
+    errno_is plugged e = turned gone plugged e
+      where
+        turned : (gone plugged : Bool) → plugged ≡ not gone → cond plugged EAGAIN ENODEV ≡ cond gone ENODEV EAGAIN
+        turned true plugged e = rw e refl
+        turned false plugged e = rw e refl
+
+    by : (told : Option Machine) → FoundNothing s.dev (bare_id s) (not gone) told told'
+        → IfSome told (λ m. (n : Machine) × (told' ≡ Some n)
+        × ((desk : DeskRecord) → read_at_seat front m desk s asked
+        ≡ record { reply = Refusal (cond gone ENODEV EAGAIN); machine = n; desk = desk }))
+    by None f = tt
+    by (Some m) f = (m, f.2, λ desk. rw (not_less_is _ _ h, f.0, take-nil) (ap (λ e. refused e m desk) (errno_is _ f.1)))
+
+pub read_ends : (front : Front) (asked : ℕ) (s : Bare) (told told' : Option Machine) (v v' : SeatRecord) (before after : List ℕ) (r : Result Took Mem) → bare_id s ≡ seat_id v
+    → size_at front s.dev s.mask ≤ asked
+    → ReadEnds front s.dev s.mask s.capacity asked told told' v v' before after r
+    → ReadHeld front asked told told' s v.tale v'.tale before after r
+read_ends front asked s told told' v v' before after (Ok Scan) same h e =
+    (Block (channel_count front s.dev) s.mask e.0 asked, e.1, tt, served_some front asked told told' s v v' e.0 same h e.2)
+read_ends front asked s told told' v v' before after (Ok Empty) same h e = (e.0, served_none front asked false told told' s v v' same h e.1)
+read_ends front asked s told told' v v' before after (Ok Gone) same h e = (e.0, served_none front asked true told told' s v v' same h e.1)
+read_ends front asked s told told' v v' before after (Err fault) same h e = (e.0, e.1, ap (λ (x : SeatRecord). x.tale) e.2)

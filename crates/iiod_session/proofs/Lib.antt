@@ -1,0 +1,15 @@
+pub mod BlockLaws
+pub mod QueueLaws
+pub mod ReadLaws
+pub mod SeatsLaws
+pub mod HeldLaws
+pub mod ServeLaws
+pub mod SettleLaws
+pub mod FeedLaws
+pub mod GivenLaws
+pub mod StreamLaws
+pub mod TellLaws
+pub mod HearLaws
+pub mod PlainLaws
+pub mod NameLaws
+pub mod AttributeLaws

@@ -1,0 +1,246 @@
+-- Takes one after another.
+use Rattle.std.proofs.Common.{◌≡◌, ℕ, zero, suc, ◌+◌, ◌-◌, ◌*◌, ◌≤◌, ◌<◌, List, [], ◌∷◌, ◌++◌, length, take, drop, Option, Some, None, IfSome, option_map, length-append, refl, sym, ap, ◌∙◌, arith, append-nil, append_assoc, Bool, true, false, not}
+use Rattle.std.proofs.Math.Seq.{drop-nil, take-nil}
+use Rattle.std.proofs.lemmas.Slice.{take-put_mid}
+use Rattle.std.proofs.Math.Nat.{mul-lt-mul_of_pos_right}
+use Rattle.std.proofs.Common.{inl, inr}
+use borrow.Rule.Slice.PartMut.{put_mid}
+use Rattle.iiod_session.specs.Machine.{Machine, MemberId, queue_of, with_queue}
+use Rattle.iiod_session.specs.Seat.{SeatRecord, Tale, seat_id, after_scans, after_take, after_nothing, Takes}
+use Rattle.iiod_session.specs.declared.iio.Took.{Took}
+use Rattle.iiod_session.specs.declared.iio.Took.TheVariants.{Scan, Empty, Gone}
+use Rattle.iiod_reply.specs.Reply.{joined_scans}
+use Rattle.iiod_session.specs.Reading.{FoundNothing, ReadSome, ReadNone}
+use Rattle.iiod_session.specs.Taking.{Gave, Reading, Ends, ReadInto}
+use Rattle.iiod_session.proofs.QueueLaws.{with_queue-same, with_queue-twice, queue_of-dropped}
+
+no_more : (t : Option Tale) → option_map (after_scans []) t ≡ t
+no_more None = refl
+no_more (Some t) = ap (λ (g : List (List ℕ)). Some (record t { given = g })) (append-nil t.given)
+
+one_more : (t : Option Tale) (scans : List (List ℕ)) (x : List ℕ) → option_map (after_scans (x ∷ [])) (option_map (after_scans scans) t) ≡ option_map (after_scans (scans ++ x ∷ [])) t
+one_more None scans x = refl
+one_more (Some t) scans x = ap (λ (g : List (List ℕ)). Some (record t { given = g })) (append_assoc t.given scans (x ∷ []))
+
+shown_more : (s b b' : SeatRecord) (scans : List (List ℕ)) (out : List ℕ) → b ≡ record s { tale = option_map (after_scans scans) s.tale }
+    → b' ≡ record b { tale = option_map (after_take Scan out) b.tale }
+    → b' ≡ record s { tale = option_map (after_scans (scans ++ out ∷ [])) s.tale }
+shown_more s b b' scans out before after =
+    after ∙ ap (λ (x : SeatRecord). record x { tale = option_map (after_take Scan out) x.tale }) before
+    ∙ ap (λ (t : Option Tale). record s { tale = t }) (one_more s.tale scans out)
+
+pub gave_none : (dev : ℕ) (told : Option Machine) (s : SeatRecord) → Gave dev told told s s []
+gave_none dev None s = record { shown = ap (λ (t : Option Tale). record s { tale = t }) (sym (no_more s.tale)); from = tt }
+gave_none dev (Some m) s = record {
+  shown = ap (λ (t : Option Tale). record s { tale = t }) (sym (no_more s.tale));
+  from = (refl, ap (λ (n : Machine). Some n) (sym (with_queue-same m dev (seat_id s))));
+}
+
+-- a list of which the part from k on begins with x
+split_at : (k : ℕ) (q : List (List ℕ)) (x : List ℕ) (r : List (List ℕ)) → drop k q ≡ x ∷ r → (take (suc k) q ≡ take k q ++ x ∷ []) × (drop (suc k) q ≡ r)
+split_at k [] x r e = absurd (cc (drop-nil k))
+split_at zero (y ∷ ys) x r e = (cc, cc)
+split_at (suc k) (y ∷ ys) x r e = let h = split_at k ys x r e in (ap (λ zs. y ∷ zs) h.0, h.1)
+
+told_more : (dev k : ℕ) (m : Machine) (n : MemberId) (out : List ℕ) (scans : List (List ℕ)) (t' : Option Machine)
+    → take (length scans) (queue_of m dev n) ≡ scans
+    → Takes (with_queue m dev n (drop (length scans) (queue_of m dev n))) dev n Scan out t'
+    → (take (length (scans ++ out ∷ [])) (queue_of m dev n) ≡ scans ++ out ∷ [])
+    × (t' ≡ Some (with_queue m dev n (drop (length (scans ++ out ∷ [])) (queue_of m dev n))))
+told_more dev k m n out scans t' before takes =
+    let left = queue_of-dropped m dev n (length scans) in
+    let first : drop (length scans) (queue_of m dev n) ≡ out ∷ drop 1 (drop (length scans) (queue_of m dev n)) = rw left at takes.0 in
+    let parts = split_at (length scans) (queue_of m dev n) out (drop 1 (drop (length scans) (queue_of m dev n))) first in
+    let count : length (scans ++ out ∷ []) ≡ suc (length scans) = omega (arith, length-append scans (out ∷ [])) in (
+      rw count (parts.0 ∙ ap (λ (xs : List (List ℕ)). xs ++ out ∷ []) before),
+      takes.1 ∙ ap (λ (x : Machine). Some x) (with_queue-twice m dev n _ _)
+          ∙ ap (λ (xs : List (List ℕ)). Some (with_queue m dev n xs)) (ap (λ (xs : List (List ℕ)). drop 1 xs) left ∙ sym parts.1 ∙ ap (λ (j : ℕ). drop j (queue_of m dev n)) (sym count)),
+    )
+
+pub gave_more : (dev : ℕ) (told t t' : Option Machine) (s b b' : SeatRecord) (scans : List (List ℕ)) (out : List ℕ)
+    → Gave dev told t s b scans
+    → IfSome t (λ (m : Machine). Takes m dev (seat_id b) Scan out t')
+    → b' ≡ record b { tale = option_map (after_take Scan out) b.tale }
+    → Gave dev told t' s b' (scans ++ out ∷ [])
+gave_more dev None t t' s b b' scans out gave takes shown = record { shown = shown_more s b b' scans out gave.shown shown; from = tt }
+gave_more dev (Some m) t t' s b b' scans out gave takes shown = record {
+  shown = shown_more s b b' scans out gave.shown shown;
+  from =
+      let at : Takes (with_queue m dev (seat_id s) (drop (length scans) (queue_of m dev (seat_id s)))) dev (seat_id b) Scan out t' = rw gave.from.1 at takes in
+      told_more dev 0 m (seat_id s) out scans t' gave.from.0 (rw (ap (λ (x : SeatRecord). seat_id x) gave.shown) at at);
+}
+
+joined-append : (xs : List (List ℕ)) (x : List ℕ) → joined_scans (xs ++ x ∷ []) ≡ joined_scans xs ++ x
+joined-append [] x = append-nil x
+joined-append (y ∷ ys) x = ap (λ zs. y ++ zs) (joined-append ys x) ∙ sym (append_assoc y (joined_scans ys) x)
+
+pub reading_none : (dev want size : ℕ) (told : Option Machine) (s : SeatRecord) (room : List ℕ) → size ≡ s.size → length room ≡ want * size
+    → Reading dev want told told s s want 0 room
+reading_none dev want size told s room same all =
+    record { scans = []; gave = gave_none dev told s; bytes = refl; count = omega arith; ends = omega arith }
+
+pub reading_more : (dev want size : ℕ) (told t t' : Option Machine) (s b b' : SeatRecord) (left end k : ℕ) (room out : List ℕ)
+    → Reading dev want told t s b left end room
+    → 0 < left → length room ≡ want * size → size ≡ b.size → length out ≡ size → k ≡ size
+    → IfSome t (λ (m : Machine). Takes m dev (seat_id b) Scan out t')
+    → b' ≡ record b { tale = option_map (after_take Scan out) b.tale }
+    → Reading dev want told t' s b' (left - 1) (end + size) (put_mid end k room out)
+reading_more dev want size told t t' s b b' left end k room out before more all same whole part takes shown =
+    let sized : s.size ≡ size = sym (same ∙ ap (λ (x : SeatRecord). x.size) before.gave.shown) in
+    let known : end + left * size ≡ length room = rw sized at before.ends ∙ sym all in
+    let fits : end + size ≤ length room = by_left left known more in
+    record {
+      scans = before.scans ++ out ∷ [];
+      gave = gave_more dev told t t' s b b' before.scans out before.gave takes shown;
+      bytes = take-put_mid end k room out (end + size) (omega (arith, whole)) (omega (arith, fits)) ∙ ap (λ (xs : List ℕ). xs ++ out) before.bytes ∙ sym (joined-append before.scans out);
+      count = omega (arith, length-append before.scans (out ∷ []), before.count, more);
+      ends = rw sized (by_less left (rw sized at before.ends) more);
+    }
+  where
+    by_less : (left : ℕ) → end + left * size ≡ want * size → 0 < left → (end + size) + (left - 1) * size ≡ want * size
+    by_less zero e h = absurd (omega (arith, h))
+    by_less (suc n) e h = let one : suc n - 1 ≡ n = omega arith in rw one (omega (arith, e))
+
+    by_left : (left : ℕ) → end + left * size ≡ length room → 0 < left → end + size ≤ length room
+    by_left zero e h = absurd (omega (arith, h))
+    by_left (suc n) e h = omega (arith, e)
+
+-- ---- the end of a READBUF
+
+-- a queue of which `k` scans were taken and nothing is left
+rest_empty : (k want : ℕ) (q : List (List ℕ)) → drop k q ≡ [] → k ≤ want → (take want q ≡ take k q) × (drop want q ≡ drop k q)
+rest_empty k want [] e h = (take-nil want ∙ sym (take-nil k), drop-nil want ∙ sym (drop-nil k))
+rest_empty zero want (x ∷ xs) e h = absurd (cc)
+rest_empty (suc k) zero (x ∷ xs) e h = absurd (omega arith)
+rest_empty (suc k) (suc want) (x ∷ xs) e h = let r = rest_empty k want xs e (omega arith) in (ap (λ zs. x ∷ zs) r.0, r.1)
+
+-- the scans are those wanted, if nothing more was there
+from_all : (dev want : ℕ) (m : Machine) (t t' : Option Machine) (n : MemberId) (plugged : Bool) (scans : List (List ℕ))
+    → (take (length scans) (queue_of m dev n) ≡ scans) × (t ≡ Some (with_queue m dev n (drop (length scans) (queue_of m dev n))))
+    → FoundNothing dev n plugged t t' → length scans ≤ want
+    → (take want (queue_of m dev n) ≡ scans) × (t' ≡ Some (with_queue m dev n (drop want (queue_of m dev n))))
+from_all dev want m t t' n plugged scans before nothing most =
+    let now : FoundNothing dev n plugged (Some (with_queue m dev n (drop (length scans) (queue_of m dev n)))) t' = rw before.1 at nothing in
+    let rest = rest_empty (length scans) want (queue_of m dev n) (sym (queue_of-dropped m dev n (length scans)) ∙ now.0) most in
+    (rest.0 ∙ before.0, now.2 ∙ ap (λ (q : List (List ℕ)). Some (with_queue m dev n q)) (sym rest.1))
+
+-- nothing stands in the room exactly where nothing was taken
+none_taken : (dev want : ℕ) (told t : Option Machine) (s b : SeatRecord) (left end : ℕ) (room : List ℕ) (r : Reading dev want told t s b left end room)
+    → end ≡ 0 → 0 < s.size → r.scans ≡ []
+none_taken dev want told t s b left end room r e some = by r.scans r.count r.ends
+  where
+    by : (scans : List (List ℕ)) → length scans + left ≡ want → end + left * s.size ≡ want * s.size → scans ≡ []
+    by [] c h = refl
+    by (x ∷ xs) c h = absurd (too_many (length xs) left want s.size (omega (arith, c)) (omega (arith, h, e)) some)
+      where
+        too_many : (k left want size : ℕ) → suc k + left ≡ want → left * size ≡ want * size → 0 < size → ⊥
+        too_many k left want size c h some = let less : left * size < want * size = mul-lt-mul_of_pos_right (omega arith) some in omega arith
+
+some_taken : (dev want : ℕ) (told t : Option Machine) (s b : SeatRecord) (left end : ℕ) (room : List ℕ) (r : Reading dev want told t s b left end room)
+    → 0 < end → 0 < length r.scans
+some_taken dev want told t s b left end room r e = by r.scans r.count r.ends
+  where
+    by : (scans : List (List ℕ)) → length scans + left ≡ want → end + left * s.size ≡ want * s.size → 0 < length scans
+    by [] c h = absurd (same left want (omega (arith, c)) h)
+      where
+        same : (a b : ℕ) → a ≡ b → end + a * s.size ≡ b * s.size → ⊥
+        same a b x y = let z : end + b * s.size ≡ b * s.size = rw x at y in omega (arith, z, e)
+    by (x ∷ xs) c h = omega arith
+
+-- what a last take that found nothing makes of a seat of which scans were taken
+record_after : (gone : Bool) (s b s' : SeatRecord) (scans : List (List ℕ)) → b ≡ record s { tale = option_map (after_scans scans) s.tale }
+    → s' ≡ record b { tale = option_map (after_nothing gone) b.tale }
+    → s' ≡ record s { tale = option_map (after_nothing gone) (option_map (after_scans scans) s.tale) }
+record_after gone s b s' scans before after = after ∙ ap (λ (x : SeatRecord). record x { tale = option_map (after_nothing gone) x.tale }) before
+
+same_but_tale : (s s' : SeatRecord) (t : Option Tale) → s' ≡ record s { tale = t } → s' ≡ record s { tale = s'.tale }
+same_but_tale s s' t e = e ∙ ap (λ (u : Option Tale). record s { tale = u }) (sym (ap (λ (x : SeatRecord). x.tale) e))
+
+from_last : (dev want : ℕ) (told t t' : Option Machine) (s b : SeatRecord) (plugged : Bool) (scans : List (List ℕ))
+    → seat_id b ≡ seat_id s
+    → IfSome told (λ (m : Machine). (take (length scans) (queue_of m dev (seat_id s)) ≡ scans) × (t ≡ Some (with_queue m dev (seat_id s) (drop (length scans) (queue_of m dev (seat_id s))))))
+    → FoundNothing dev (seat_id b) plugged t t' → length scans ≤ want
+    → IfSome told (λ (m : Machine). (take want (queue_of m dev (seat_id s)) ≡ scans) × (t' ≡ Some (with_queue m dev (seat_id s) (drop want (queue_of m dev (seat_id s))))))
+from_last dev want None t t' s b plugged scans same before nothing most = tt
+from_last dev want (Some m) t t' s b plugged scans same before nothing most =
+    from_all dev want m t t' (seat_id s) plugged scans before (rw same at nothing) most
+
+short_ended : (dev want : ℕ) (gone : Bool) (told t t' : Option Machine) (s b s' : SeatRecord) (left end : ℕ) (room : List ℕ)
+    → (r : Reading dev want told t s b left end room) → FoundNothing dev (seat_id b) (not gone) t t'
+    → s' ≡ record b { tale = option_map (after_nothing gone) b.tale } → 0 < end
+    → ReadSome dev want told t' s s' r.scans
+short_ended dev want gone told t t' s b s' left end room r nothing after some =
+    let shown = record_after gone s b s' r.scans r.gave.shown after in
+    record {
+      reads = record {
+        some = some_taken dev want told t s b left end room r some;
+        most = omega (arith, r.count);
+        grown = inr (gone, ap (λ (x : SeatRecord). x.tale) shown);
+      };
+      same = same_but_tale s s' _ shown;
+      from = from_last dev want told t t' s b (not gone) r.scans (ap (λ (x : SeatRecord). seat_id x) r.gave.shown) r.gave.from nothing (omega (arith, r.count));
+    }
+
+whole_from : (dev want : ℕ) (n : MemberId) (told t : Option Machine) (scans : List (List ℕ)) → length scans ≡ want
+    → IfSome told (λ (m : Machine). (take (length scans) (queue_of m dev n) ≡ scans) × (t ≡ Some (with_queue m dev n (drop (length scans) (queue_of m dev n)))))
+    → IfSome told (λ (m : Machine). (take want (queue_of m dev n) ≡ scans) × (t ≡ Some (with_queue m dev n (drop want (queue_of m dev n)))))
+whole_from dev want n None t scans e h = tt
+whole_from dev want n (Some m) t scans e h = rw (← e) h
+
+whole_ended : (dev want : ℕ) (told t : Option Machine) (s b : SeatRecord) (end : ℕ) (room : List ℕ)
+    → (r : Reading dev want told t s b 0 end room) → 0 < end
+    → ReadSome dev want told t s b r.scans
+whole_ended dev want told t s b end room r some =
+    let all : length r.scans ≡ want = omega (arith, r.count) in
+    record {
+      reads = record {
+        some = some_taken dev want told t s b 0 end room r some;
+        most = omega (arith, all);
+        grown = inl (all, ap (λ (x : SeatRecord). x.tale) r.gave.shown);
+      };
+      same = same_but_tale s b _ r.gave.shown;
+      from = whole_from dev want (seat_id s) told t r.scans all r.gave.from;
+    }
+
+pub some_ended : (dev want : ℕ) (told t : Option Machine) (s b : SeatRecord) (end : ℕ) (room : List ℕ) (took : Took)
+    → Ends dev want told t s b end room took → 0 < end
+    → (scans : List (List ℕ)) × (take end room ≡ joined_scans scans) × ReadSome dev want told t s b scans
+some_ended dev want told t s b end room Scan e some = (e.scans, e.bytes, whole_ended dev want told t s b end room e some)
+some_ended dev want told t s b end room Empty e some = (e.4.scans, e.4.bytes, short_ended dev want false told e.0 t s e.1 b e.2 end room e.4 e.5 e.6 some)
+some_ended dev want told t s b end room Gone e some = (e.4.scans, e.4.bytes, short_ended dev want true told e.0 t s e.1 b e.2 end room e.4 e.5 e.6 some)
+
+from_first : (dev : ℕ) (n : MemberId) (plugged : Bool) (told t t' : Option Machine) (scans : List (List ℕ)) → scans ≡ []
+    → IfSome told (λ (m : Machine). (take (length scans) (queue_of m dev n) ≡ scans) × (t ≡ Some (with_queue m dev n (drop (length scans) (queue_of m dev n)))))
+    → FoundNothing dev n plugged t t' → FoundNothing dev n plugged told t'
+from_first dev n plugged None t t' scans e before nothing = tt
+from_first dev n plugged (Some m) t t' scans e before nothing =
+    let now : t ≡ Some (with_queue m dev n (drop (length scans) (queue_of m dev n))) = before.1 in
+    let first : t ≡ Some m = now ∙ ap (λ (xs : List (List ℕ)). Some (with_queue m dev n (drop (length xs) (queue_of m dev n)))) e ∙ ap (λ (x : Machine). Some x) (with_queue-same m dev n) in
+    rw first at nothing
+
+first_ended : (dev want : ℕ) (gone : Bool) (told t t' : Option Machine) (s b s' : SeatRecord) (left end : ℕ) (room : List ℕ)
+    → Reading dev want told t s b left end room → FoundNothing dev (seat_id b) (not gone) t t'
+    → s' ≡ record b { tale = option_map (after_nothing gone) b.tale } → end ≡ 0 → 0 < s.size
+    → ReadNone dev gone told t' s s'
+first_ended dev want gone told t t' s b s' left end room r nothing after none some =
+    let empty = none_taken dev want told t s b left end room r none some in
+    let shown = record_after gone s b s' r.scans r.gave.shown after in
+    let number : seat_id b ≡ seat_id s = ap (λ (x : SeatRecord). seat_id x) r.gave.shown in
+    record {
+      same = shown ∙ ap (λ (xs : List (List ℕ)). record s { tale = option_map (after_nothing gone) (option_map (after_scans xs) s.tale) }) empty
+          ∙ ap (λ (t : Option Tale). record s { tale = option_map (after_nothing gone) t }) (no_more s.tale);
+      from = from_first dev (seat_id s) (not gone) told t t' r.scans empty r.gave.from (rw number at nothing);
+    }
+
+pub none_ended : (channels dev want mask asked : ℕ) (told t : Option Machine) (s b : SeatRecord) (end : ℕ) (room out : List ℕ) (took : Took)
+    → Ends dev want told t s b end room took → end ≡ 0 → 0 < s.size → 0 < want
+    → ReadInto channels dev want mask asked told t s b out out took
+none_ended channels dev want mask asked told t s b end room out Scan e none some wanted =
+    absurd (all_wanted e.scans (none_taken dev want told t s b 0 end room e none some) e.count)
+  where
+    all_wanted : (scans : List (List ℕ)) → scans ≡ [] → length scans + 0 ≡ want → ⊥
+    all_wanted scans e c = let l : length scans ≡ 0 = ap length e in omega arith
+none_ended channels dev want mask asked told t s b end room out Empty e none some wanted =
+    (refl, first_ended dev want false told e.0 t s e.1 b e.2 end room e.4 e.5 e.6 none some)
+none_ended channels dev want mask asked told t s b end room out Gone e none some wanted =
+    (refl, first_ended dev want true told e.0 t s e.1 b e.2 end room e.4 e.5 e.6 none some)

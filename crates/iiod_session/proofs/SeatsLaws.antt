@@ -1,0 +1,229 @@
+-- A connection's seats as lists.
+use Rattle.std.proofs.Common.{◌≡◌, ◌≢◌, ℕ, zero, suc, ◌+◌, ◌<◌, ◌==◌, Bool, not, cond, List, [], ◌∷◌, ◌++◌, map, length, slice_get, slice_set, slice_index_or, remove, Option, Some, None, IfSome, is_some, Result, Ok, Err, refl, sym, ap, ◌∙◌, arith}
+use Rattle.std.proofs.lemmas.List.{length-map}
+use Rattle.std.specs.Prelude.{⊤}
+use Rattle.std.specs.List.{position, prefix_len}
+use Rattle.iio_base.specs.declared.Mem.{Mem}
+use Rattle.iio_layout.specs.Shape.{ShapeRecord}
+use Rattle.iio_text.specs.declared.errors.Errno.{Errno}
+use Rattle.iio_text.specs.declared.errors.Errno.TheVariants.{EBADF}
+use Rattle.iiod_reply.specs.Reply.{Reply, Refusal}
+use Rattle.iiod_session.specs.declared.desk.Held.{Held}
+use Rattle.iiod_session.specs.declared.iio.No.{No}
+use Rattle.iiod_session.specs.declared.iio.No.TheVariants.{Errno as NoErrno, Mem as NoMem}
+use Rattle.iiod_session.specs.declared.iio.Took.{Took}
+use Rattle.iiod_session.specs.declared.iio.Took.TheVariants.{Scan, Empty, Gone}
+use Rattle.iiod_session.specs.declared.wanted.Wanted.{Wanted as CodeWanted}
+use Rattle.iio_mask.specs.declared.Mask.{Mask}
+use Rattle.iiod_session.specs.Acts.{all_closed, all_released, zero_reply, open_at, open_wanted, joined_at, close_at, close_seat, read_at, read_seat, read_at_seat}
+use Rattle.iiod_session.specs.Calls.{closed, ev_close_of}
+use Rattle.iiod_session.specs.Desk.{Wanted, Bare, DeskRecord, bare_of, tale_of, seats_of, tales_of, place_of, buffers_of, with_seats, wanted_of}
+use Rattle.iiod_session.specs.Front.{Front, shape_at}
+use Rattle.iiod_session.specs.Machine.{Machine, is_plugged}
+use Rattle.iiod_session.specs.Moves.{ReadsBy}
+use Rattle.iiod_session.specs.Performs.{Comes, JoinsBy, LeavesBy, ReadAt, ReadHeld, ReadServed, ReadServedAt}
+use Rattle.iiod_session.specs.Seat.{Answers, SeatRecord, Tale, IsNew}
+use Rattle.iiod_session.specs.Wanted.{wanted_of_code}
+
+module _ {S : Type 0} (seen : S → SeatRecord) where
+  one_more_held : {B : Type 0} (f : Held S → B) (held : List (Held S)) (h : Held S) → map f (held ++ h ∷ []) ≡ map f held ++ f h ∷ []
+  one_more_held f [] h = refl
+  one_more_held f (x ∷ xs) h = ap (λ ys. f x ∷ ys) (one_more_held f xs h)
+
+  pub joins : (front : Front) (dev capacity : ℕ) (mask : Mask) (base : DeskRecord) (held mid held' : List (Held S)) (s : S) → IsNew front dev mask.bits capacity (seen s)
+      → place_of dev (seats_of seen held) ≡ None
+      → mid ≡ held → held' ≡ mid ++ record { dev = dev; mask = mask; capacity = capacity; seat = s } ∷ []
+      → JoinsBy dev (with_seats (seats_of seen held) base) (tales_of seen held) (Ok tt) (with_seats (seats_of seen held') base) (tales_of seen held')
+  joins front dev capacity mask base held mid held' s is free z e' =
+      let e : held' ≡ held ++ record { dev = dev; mask = mask; capacity = capacity; seat = s } ∷ [] = rw z at e' in (
+        bare_of seen (record { dev = dev; mask = mask; capacity = capacity; seat = s }),
+        (seen s).tale,
+        refl,
+        free,
+        ap (λ hs. with_seats (seats_of seen hs) base) e ∙ ap (λ (bs : List Bare). with_seats bs base) (one_more_held (bare_of seen) held _),
+        ap (λ hs. tales_of seen hs) e ∙ one_more_held (tale_of seen) held _,
+        is.fresh,
+      )
+
+  prefix_is : (dev : ℕ) (held : List (Held S)) → prefix_len (λ (s : Bare). not (s.dev == dev)) (seats_of seen held) ≡ prefix_len (λ (h : Held S). not (h.dev == dev)) held
+  prefix_is dev [] = refl
+  prefix_is dev (h ∷ hs) = ap (λ (n : ℕ). cond (not (h.dev == dev)) (1 + n) 0) (prefix_is dev hs)
+
+  pub place_is : (dev : ℕ) (held : List (Held S)) → place_of dev (seats_of seen held) ≡ position (λ (h : Held S). h.dev == dev) held
+  place_is dev held = rw (prefix_is dev held, length-map held (bare_of seen)) refl
+
+  pub get_is : {B : Type 0} (f : Held S → B) (held : List (Held S)) (i : ℕ) (h : Held S) → i < length held → h ≡ slice_index_or held i h → slice_get (map f held) i ≡ Some (f h)
+  get_is f [] i h l e = absurd (omega arith)
+  get_is f (x ∷ xs) zero h l e = ap (λ y. Some (f y)) (sym e)
+  get_is f (x ∷ xs) (suc i) h l e = get_is f xs i h (omega arith) e
+
+  map_remove : {B : Type 0} (f : Held S → B) (held : List (Held S)) (i : ℕ) → map f (remove held i) ≡ remove (map f held) i
+  map_remove f [] zero = refl
+  map_remove f [] (suc i) = refl
+  map_remove f (x ∷ xs) zero = refl
+  map_remove f (x ∷ xs) (suc i) = ap (λ ys. f x ∷ ys) (map_remove f xs i)
+
+  closed_at : (m : Machine) (base : DeskRecord) (i : ℕ) (held held' : List (Held S)) (h : Held S) (p : Option ℕ)
+      → Some i ≡ p → i < length held → h ≡ slice_index_or held i h → held' ≡ remove held i
+      → close_at m (with_seats (seats_of seen held) base) p ≡ record { reply = zero_reply; machine = closed m h.dev (seen h.seat).number; desk = with_seats (seats_of seen held') base }
+  closed_at m base i held held' h p at l e gone =
+      ap (λ q. close_at m (with_seats (seats_of seen held) base) q) (sym at)
+      ∙ ap (λ s. close_seat m (with_seats (seats_of seen held) base) i s) (get_is (bare_of seen) held i h l e)
+      ∙ ap (λ (bs : List Bare). record { reply = zero_reply; machine = closed m h.dev (seen h.seat).number; desk = with_seats bs base }) (sym (ap (λ hs. seats_of seen hs) gone ∙ map_remove (bare_of seen) held i))
+
+  pub closes : (told told' : Option Machine) (base : DeskRecord) (dev i : ℕ) (held held' : List (Held S)) (h : Held S)
+      → Some i ≡ place_of dev (seats_of seen held) → i < length held → h ≡ slice_index_or held i h → held' ≡ remove held i
+      → IfSome told (λ m. told' ≡ Some (closed m h.dev (seen h.seat).number))
+      → IfSome told (λ m. Comes m (with_seats (seats_of seen held) base) (close_at m (with_seats (seats_of seen held) base) (place_of dev (seats_of seen held)))
+      zero_reply told' (with_seats (seats_of seen held') base))
+  closes None told' base dev i held held' h at l e gone t = tt
+  closes (Some m) told' base dev i held held' h at l e gone t = (closed m h.dev (seen h.seat).number, t, closed_at m base i held held' h _ at l e gone)
+
+  pub leaves : (base : DeskRecord) (dev i : ℕ) (held held' : List (Held S)) → Some i ≡ place_of dev (seats_of seen held) → held' ≡ remove held i
+      → LeavesBy dev (with_seats (seats_of seen held) base) (tales_of seen held) (Ok tt) (with_seats (seats_of seen held') base) (tales_of seen held')
+  leaves base dev i held held' at gone = (
+    i,
+    sym at,
+    ap (λ hs. with_seats (seats_of seen hs) base) gone ∙ ap (λ (bs : List Bare). with_seats bs base) (map_remove (bare_of seen) held i),
+    ap (λ hs. tales_of seen hs) gone ∙ map_remove (tale_of seen) held i,
+  )
+
+  map_set : {B : Type 0} (f : Held S → B) (held : List (Held S)) (i : ℕ) (y : Held S) → map f (slice_set held i y) ≡ slice_set (map f held) i (f y)
+  map_set f [] zero y = refl
+  map_set f [] (suc i) y = refl
+  map_set f (x ∷ xs) zero y = refl
+  map_set f (x ∷ xs) (suc i) y = ap (λ ys. f x ∷ ys) (map_set f xs i y)
+
+  pub map_set_same : {B : Type 0} (f : Held S → B) (held : List (Held S)) (i : ℕ) (y h : Held S) → i < length held → h ≡ slice_index_or held i h → f y ≡ f h
+      → map f (slice_set held i y) ≡ map f held
+  map_set_same f [] i y h l e same = absurd (omega arith)
+  map_set_same f (x ∷ xs) zero y h l e same = ap (λ z. z ∷ map f xs) (same ∙ ap f e)
+  map_set_same f (x ∷ xs) (suc i) y h l e same = ap (λ ys. f x ∷ ys) (map_set_same f xs i y h (omega arith) e same)
+
+  served_at : (front : Front) (dev asked i : ℕ) (told told' : Option Machine) (base : DeskRecord) (held : List (Held S)) (h h' : Held S) (reply : Reply)
+      → place_of dev (seats_of seen held) ≡ Some i → i < length held → h ≡ slice_index_or held i h
+      → ReadServed front asked told told' (bare_of seen h) (tale_of seen h) (tale_of seen h') reply
+      → ReadServedAt front dev asked told told' (with_seats (seats_of seen held) base) (tales_of seen held) (tales_of seen (slice_set held i h')) reply
+  served_at front dev asked i told told' base held h h' reply at l e r = record { exact = by told r.exact; moves = moved (place_of dev (seats_of seen held)) at; whole = r.whole }
+    where
+      by : (told : Option Machine)
+          → IfSome told (λ m. (n : Machine) × (told' ≡ Some n) × ((desk : DeskRecord) → read_at_seat front m desk (bare_of seen h) asked ≡ record { reply = reply; machine = n; desk = desk }))
+          → IfSome told (λ m. (n : Machine) × (told' ≡ Some n) × (read_at front m (with_seats (seats_of seen held) base) asked (place_of dev (seats_of seen held)) ≡ record { reply = reply; machine = n; desk = with_seats (seats_of seen held) base }))
+      by None x = tt
+      by (Some m) x = (
+        x.0,
+        x.1,
+        ap (λ p. read_at front m (with_seats (seats_of seen held) base) asked p) at
+            ∙ ap (λ s. read_seat front m (with_seats (seats_of seen held) base) asked s) (get_is (bare_of seen) held i h l e) ∙ x.2 (with_seats (seats_of seen held) base),
+      )
+
+      moved : (p : Option ℕ) → p ≡ Some i → ReadsBy front asked (seats_of seen held) (tales_of seen held) p reply (tales_of seen (slice_set held i h'))
+      moved None c = absurd (cc)
+      moved (Some j) c = let same : j ≡ i = cc in record {
+        s = bare_of seen h;
+        at = rw same (get_is (bare_of seen) held i h l e);
+        tale = tale_of seen h;
+        before = rw same (get_is (tale_of seen) held i h l e);
+        tale' = tale_of seen h';
+        after = rw same (map_set (tale_of seen) held i h');
+        reads = r.moves;
+      }
+
+  pub reads_at : (front : Front) (dev asked i : ℕ) (told told' : Option Machine) (base : DeskRecord) (held : List (Held S)) (h h' : Held S) (before after : List ℕ) (r : Result Took Mem)
+      → Some i ≡ place_of dev (seats_of seen held) → i < length held → h ≡ slice_index_or held i h
+      → ReadHeld front asked told told' (bare_of seen h) (tale_of seen h) (tale_of seen h') before after r
+      → ReadAt front dev asked told told' (with_seats (seats_of seen held) base) (tales_of seen held) (tales_of seen (slice_set held i h')) before after r
+  reads_at front dev asked i told told' base held h h' before after (Ok Scan) at l e r = (r.0, r.1, r.2, served_at front dev asked i told told' base held h h' r.0 (sym at) l e r.3)
+  reads_at front dev asked i told told' base held h h' before after (Ok Empty) at l e r = (r.0, served_at front dev asked i told told' base held h h' _ (sym at) l e r.1)
+  reads_at front dev asked i told told' base held h h' before after (Ok Gone) at l e r = (r.0, served_at front dev asked i told told' base held h h' _ (sym at) l e r.1)
+  reads_at front dev asked i told told' base held h h' before after (Err fault) at l e r = (r.0, r.1, map_set_same (tale_of seen) held i h' h l e r.2)
+
+  closed_last : (m : Machine) (xs : List Bare) (s : Bare) → all_closed m (xs ++ s ∷ []) ≡ all_closed (closed m s.dev s.number) xs
+  closed_last m [] s = refl
+  closed_last m (x ∷ xs) s = ap (λ n. closed n x.dev x.number) (closed_last m xs s)
+
+  closing_one : (m n : Machine) (t t' : Option Machine) (first before after : List (Held S)) (h : Held S)
+      → before ≡ after ++ h ∷ [] → t ≡ Some n → all_closed n (seats_of seen before) ≡ all_closed m (seats_of seen first)
+      → IfSome t (λ k. t' ≡ Some (closed k h.dev (seen h.seat).number))
+      → (k : Machine) × (t' ≡ Some k) × (all_closed k (seats_of seen after) ≡ all_closed m (seats_of seen first))
+  closing_one m n t t' first before after h split told same close =
+      let now : t' ≡ Some (closed n h.dev (seen h.seat).number) = rw told at close in (
+        closed n h.dev (seen h.seat).number,
+        now,
+        sym (closed_last n (seats_of seen after) (bare_of seen h)) ∙ ap (λ d. all_closed n d) (sym (ap (λ hs. seats_of seen hs) split ∙ one_more_held (bare_of seen) after h)) ∙ same,
+      )
+
+  pub closing_more : (told t t' : Option Machine) (first before after : List (Held S)) (h : Held S)
+      → before ≡ after ++ h ∷ []
+      → IfSome told (λ m. (n : Machine) × (t ≡ Some n) × (all_closed n (seats_of seen before) ≡ all_closed m (seats_of seen first)))
+      → IfSome t (λ k. t' ≡ Some (closed k h.dev (seen h.seat).number))
+      → IfSome told (λ m. (n : Machine) × (t' ≡ Some n) × (all_closed n (seats_of seen after) ≡ all_closed m (seats_of seen first)))
+  closing_more None t t' first before after h split inv close = tt
+  closing_more (Some m) t t' first before after h split inv close = closing_one m inv.0 t t' first before after h split inv.1 inv.2 close
+
+-- ---- holdings
+
+released_last : (m : Machine) (who : ℕ) (xs : List ℕ) (dev : ℕ) → all_released m who (xs ++ dev ∷ []) ≡ all_released (ev_close_of m dev who).machine who xs
+released_last m who [] dev = refl
+released_last m who (x ∷ xs) dev = ap (λ n. (ev_close_of n x who).machine) (released_last m who xs dev)
+
+-- a holding that ends, or was none: either way the state is the one that is stated
+ended : (n : Machine) (dev who : ℕ) (r : Result ⊤ No) (t' : Option Machine) → r ≢ Err NoMem → Answers (ev_close_of n dev who) n r t' → t' ≡ Some (ev_close_of n dev who).machine
+ended n dev who (Ok done) t' some a = a.1
+ended n dev who (Err (NoErrno e)) t' some a = a.1
+ended n dev who (Err NoMem) t' some a = absurd (some refl)
+
+releasing_one : (m n : Machine) (t t' : Option Machine) (who : ℕ) (first before after : List ℕ) (dev : ℕ) (r : Result ⊤ No)
+    → before ≡ after ++ dev ∷ [] → t ≡ Some n → all_released n who before ≡ all_released m who first
+    → r ≢ Err NoMem → IfSome t (λ k. Answers (ev_close_of k dev who) k r t')
+    → (k : Machine) × (t' ≡ Some k) × (all_released k who after ≡ all_released m who first)
+releasing_one m n t t' who first before after dev r split told same some close = (
+  (ev_close_of n dev who).machine,
+  ended n dev who r t' some (rw told at close),
+  sym (released_last n who after dev) ∙ ap (λ ds. all_released n who ds) (sym split) ∙ same,
+)
+
+pub releasing_more : (told t t' : Option Machine) (who : ℕ) (first before after : List ℕ) (dev : ℕ) (r : Result ⊤ No)
+    → before ≡ after ++ dev ∷ []
+    → IfSome told (λ m. (n : Machine) × (t ≡ Some n) × (all_released n who before ≡ all_released m who first))
+    → r ≢ Err NoMem → IfSome t (λ k. Answers (ev_close_of k dev who) k r t')
+    → IfSome told (λ m. (n : Machine) × (t' ≡ Some n) × (all_released n who after ≡ all_released m who first))
+releasing_more None t t' who first before after dev r split inv some close = tt
+releasing_more (Some m) t t' who first before after dev r split inv some close = releasing_one m inv.0 t t' who first before after dev r split inv.1 inv.2 some close
+
+pub read_nowhere : (front : Front) (dev asked : ℕ) (told : Option Machine) (desk : DeskRecord) (tales : List (Option Tale)) → place_of dev desk.seats ≡ None
+    → ReadServedAt front dev asked told told desk tales tales (Refusal EBADF)
+read_nowhere front dev asked told desk tales at = record { exact = by told; moves = moved (place_of dev desk.seats) at; whole = tt }
+  where
+    by : (told : Option Machine) → IfSome told (λ m. (n : Machine) × (told ≡ Some n) × (read_at front m desk asked (place_of dev desk.seats) ≡ record { reply = Refusal EBADF; machine = n; desk = desk }))
+    by None = tt
+    by (Some m) = (m, refl, ap (λ p. read_at front m desk asked p) at)
+
+    moved : (p : Option ℕ) → p ≡ None → ReadsBy front asked desk.seats tales p (Refusal EBADF) tales
+    moved None e = (refl, refl)
+    moved (Some i) e = absurd (cc)
+
+-- what the code found is what the definitions say
+wanted_is : (front : Front) (m : Machine) (desk : DeskRecord) (dev samples : ℕ) (text : List ℕ) (cyclic is_open plugged : Bool) (shape : ShapeRecord) (buffers : ℕ) (w : Result Wanted Errno)
+    → is_open ≡ is_some (place_of dev desk.seats) → plugged ≡ is_plugged m dev → shape ≡ shape_at front dev → buffers ≡ buffers_of dev desk.buffers
+    → w ≡ wanted_of is_open plugged shape buffers samples text cyclic
+    → open_at front m desk dev samples text cyclic ≡ open_wanted front m desk dev w
+wanted_is front m desk dev samples text cyclic is_open plugged shape buffers w e0 e1 e2 e3 e =
+    ap (λ x. open_wanted front m desk dev x) (rw (sym e0, sym e1, sym e2, sym e3) (sym e))
+
+pub opens : (front : Front) (told told' : Option Machine) (desk desk' : DeskRecord) (dev samples : ℕ) (text : List ℕ) (cyclic is_open plugged : Bool) (shape : ShapeRecord) (buffers : ℕ) (w : CodeWanted) (reply : Reply)
+    → is_open ≡ is_some (place_of dev desk.seats) → IfSome told (λ m. plugged ≡ is_plugged m dev) → shape ≡ shape_at front dev → buffers ≡ buffers_of dev desk.buffers
+    → Ok (wanted_of_code w) ≡ wanted_of is_open plugged shape buffers samples text cyclic
+    → IfSome told (λ m. Comes m desk (joined_at front m desk dev (wanted_of_code w)) reply told' desk')
+    → IfSome told (λ m. Comes m desk (open_at front m desk dev samples text cyclic) reply told' desk')
+opens front None told' desk desk' dev samples text cyclic is_open plugged shape buffers w reply e0 e1 e2 e3 e c = tt
+opens front (Some m) told' desk desk' dev samples text cyclic is_open plugged shape buffers w reply e0 e1 e2 e3 e c =
+    rw (wanted_is front m desk dev samples text cyclic is_open plugged shape buffers _ e0 e1 e2 e3 e) c
+
+pub refuses : (front : Front) (told : Option Machine) (desk : DeskRecord) (dev samples : ℕ) (text : List ℕ) (cyclic is_open plugged : Bool) (shape : ShapeRecord) (buffers : ℕ) (errno : Errno)
+    → is_open ≡ is_some (place_of dev desk.seats) → IfSome told (λ m. plugged ≡ is_plugged m dev) → shape ≡ shape_at front dev → buffers ≡ buffers_of dev desk.buffers
+    → Err errno ≡ wanted_of is_open plugged shape buffers samples text cyclic
+    → IfSome told (λ m. Comes m desk (open_at front m desk dev samples text cyclic) (Refusal errno) told desk)
+refuses front None desk dev samples text cyclic is_open plugged shape buffers errno e0 e1 e2 e3 e = tt
+refuses front (Some m) desk dev samples text cyclic is_open plugged shape buffers errno e0 e1 e2 e3 e =
+    (m, refl, wanted_is front m desk dev samples text cyclic is_open plugged shape buffers _ e0 e1 e2 e3 e)

@@ -1,0 +1,77 @@
+-- In a script, over devices that tell their state, what a feed answers is determined.
+use Rattle.std.proofs.Common.{◌≡◌, ℕ, List, [], ◌∷◌, ◌++◌, refl, sym, ap, ◌∙◌, append-nil, Option, Some, None, Result, Ok, Err, IfOk}
+use Rattle.std.specs.List.{flat_map}
+use Rattle.iio_base.specs.declared.Mem.{Mem}
+use Rattle.iiod_grammar.specs.Stream.{Item, Scanned}
+use Rattle.iiod_reply.specs.Reply.{Reply, Nothing, Number, Refusal, Line, Value, Raw, Block, NoMemory, text_of}
+use Rattle.iiod_session.specs.declared.manner.Going.{Going}
+use Rattle.iiod_session.specs.declared.manner.Going.TheVariants.{On, Waits, Ended}
+use Rattle.iiod_session.specs.declared.manner.Manner.{Manner}
+use Rattle.iiod_session.specs.declared.manner.Manner.TheVariants.{Script, Server}
+use Rattle.iiod_session.specs.Acts.{Acted, Acts, act}
+use Rattle.iiod_session.specs.Front.{Front}
+use Rattle.iiod_session.specs.Machine.{Machine}
+use Rattle.iiod_session.specs.Performs.{IsAllowed}
+use Rattle.iiod_session.specs.Run.{State, IsAnswered, Run, Feeds, FeedTells, Tells}
+
+-- what one item made
+record Acting (front : Front) (a mid : State) (m : Machine) (item : Item) (reply : Reply) : Type 0 where
+  machine : mid.told ≡ Some (act front m a.desk item).machine
+  desk : mid.desk ≡ (act front m a.desk item).desk
+  answer : reply ≡ (act front m a.desk item).reply
+
+step_tells : (front : Front) (a mid : State) (m : Machine) (item : Item) (reply : Reply) → IsAnswered Script front a item reply mid → a.told ≡ Some m → Acting front a mid m item reply
+step_tells front a mid m item reply one told = by reply one.allowed (rw told at one.served.exact)
+  where
+    so : (reply : Reply) → (n : Machine) × (mid.told ≡ Some n) × (act front m a.desk item ≡ record { reply = reply; machine = n; desk = mid.desk }) → Acting front a mid m item reply
+    so reply x = record {
+      machine = x.1 ∙ ap (λ (o : Acted). Some o.machine) (sym x.2);
+      desk = ap (λ (o : Acted). o.desk) (sym x.2);
+      answer = ap (λ (o : Acted). o.reply) (sym x.2);
+    }
+
+    by : (reply : Reply) → IsAllowed Script reply → Acts front m a.desk item reply mid.told mid.desk → Acting front a mid m item reply
+    by NoMemory w x = absurd w
+    by Nothing w x = so Nothing x
+    by (Number n) w x = so (Number n) x
+    by (Refusal e) w x = so (Refusal e) x
+    by (Line t) w x = so (Line t) x
+    by (Value t) w x = so (Value t) x
+    by (Raw t) w x = so (Raw t) x
+    by (Block p q r s) w x = so (Block p q r s) x
+
+run_tells : (front : Front) (a b : State) (m : Machine) (items : List Item) (replies : List Reply)
+    → Run Script front a items replies b → a.told ≡ Some m → Tells front m a.desk items (flat_map text_of replies) b
+run_tells front a b m [] [] r told = record { said = refl; machine = ap (λ (s : State). s.told) r ∙ told; after = ap (λ (s : State). s.desk) r }
+run_tells front a b m [] (y ∷ ys) r told = absurd r
+run_tells front a b m (x ∷ xs) [] r told = absurd r
+run_tells front a b m (x ∷ xs) (y ∷ ys) r told =
+    let step = step_tells front a r.0 m x y r.1 told in
+    let rest : Tells front (act front m a.desk x).machine (act front m a.desk x).desk xs (flat_map text_of ys) b =
+    rw step.desk at (run_tells front r.0 b (act front m a.desk x).machine xs ys r.2 step.machine) in
+    record {
+      said = ap (λ (z : Reply). text_of z ++ flat_map text_of ys) step.answer ∙ ap (λ (zs : List ℕ). text_of (act front m a.desk x).reply ++ zs) rest.said;
+      machine = rest.machine;
+      after = rest.after;
+    }
+
+-- all items that were whole are answered
+all_tell : (front : Front) (a b : State) (all left : Scanned) (before after : List ℕ) (going : Going) (told : Option Machine) → a.told ≡ told → left.items ≡ []
+    → (f : Feeds Script front a all before after b left going) → b ≡ f.mid → FeedTells Script front a all.items before after b
+all_tell front a b all left before after going None is none f same = rw is tt
+all_tell front a b all left before after going (Some m) is none f same =
+    let items : all.items ≡ f.fed.items = f.fed.heard ∙ ap (λ (xs : List Item). f.fed.items ++ xs) none ∙ append-nil f.fed.items in
+    rw (is, items, same) (flat_map text_of f.fed.replies, f.fed.text, run_tells front a f.mid m f.fed.items f.fed.replies f.fed.run is)
+
+feeds_tell : (front : Front) (a b : State) (all left : Scanned) (before after : List ℕ) (going : Going) → (going ≡ On → left.items ≡ [])
+    → Feeds Script front a all before after b left going → FeedTells Script front a all.items before after b
+feeds_tell front a b all left before after On none f = all_tell front a b all left before after On a.told refl (none refl) f f.stands.0
+feeds_tell front a b all left before after Ended none f = all_tell front a b all left before after Ended a.told refl (ap (λ (x : Scanned). x.items) f.stands.1) f f.stands.0
+feeds_tell front a b all left before after (Waits dev) none f = let never : Script ≡ Server = f.stands.server in cc
+
+pub feed_tells : (manner : Manner) (front : Front) (a b : State) (all left : Scanned) (before after : List ℕ) (r : Result Going Mem)
+    → IfOk r (λ going. going ≡ On → left.items ≡ []) → IfOk r (Feeds manner front a all before after b left)
+    → IfOk r (λ going. FeedTells manner front a all.items before after b)
+feed_tells Script front a b all left before after (Ok going) none f = feeds_tell front a b all left before after going none f
+feed_tells Server front a b all left before after (Ok going) none f = tt
+feed_tells manner front a b all left before after (Err fault) none f = tt

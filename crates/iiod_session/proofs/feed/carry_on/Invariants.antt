@@ -1,0 +1,21 @@
+use Rattle.std.proofs.Common.{◌≡◌, ◌≤◌, ◌+◌, ◌-◌, ℕ, drop, length}
+use Rattle.std.specs.Option.{option_map_or}
+use Rattle.iiod_grammar.specs.Scans.{scan_on}
+use Rattle.iiod_session.specs.Desk.{IsDesk}
+use Rattle.iiod_session.specs.Run.{Fed, state_of}
+use Rattle.iiod_session.specs.Session.{IsReady, stream_by}
+use Rattle.iiod_session.specs.declared.manner.Going.TheVariants.{On}
+use Rattle.iiod_session.proofs.feed.carry_on.Given as goal
+
+abbrev pub invariant-loop-desk : goal.invariant-loop-desk
+invariant-loop-desk g l = let iio = g.I.Iio in record {
+  front : iio.front l.iio ≡ iio.front l.fn.iio;
+  desk : IsDesk iio.seen (iio.front l.fn.iio) l.desk;
+  within : l.at ≤ length l.bytes;
+  ready : IsReady On l.lines;
+  fed : Fed l.manner (iio.front l.fn.iio) (state_of iio.seen (iio.told l.fn.iio) l.fn.desk) (scan_on (stream_by On l.fn.lines l.fn.write_line.items) l.bytes)
+      l.fn.out.items l.out.items (state_of iio.seen (iio.told l.iio) l.desk) (scan_on (stream_by On l.lines l.write_line.items) (drop l.at l.bytes));
+}
+
+abbrev pub decreases-loop-desk : goal.decreases-loop-desk
+decreases-loop-desk g l = (length l.bytes - l.at) + (length l.bytes - l.at) + option_map_or (λ (n : ℕ). 1) l.lines.wanted 0

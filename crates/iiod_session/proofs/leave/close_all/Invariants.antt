@@ -1,0 +1,15 @@
+use Rattle.std.proofs.Common.{◌≡◌, vec_len, IfSome, Some}
+use Rattle.iiod_session.specs.Machine.{Machine}
+use Rattle.iiod_session.specs.Acts.{all_closed}
+use Rattle.iiod_session.specs.Desk.{AllHeld, seats_of}
+use Rattle.iiod_session.proofs.leave.close_all.Given as goal
+
+abbrev pub invariant-loop-h : goal.invariant-loop-h
+invariant-loop-h g l = let iio = g.I.Iio in record {
+  front : iio.front l.iio ≡ iio.front l.fn.iio;
+  held : AllHeld iio.seen (iio.front l.fn.iio) l.held.items;
+  told : IfSome (iio.told l.fn.iio) (λ m. (n : Machine) × (iio.told l.iio ≡ Some n) × (all_closed n (seats_of iio.seen l.held.items) ≡ all_closed m (seats_of iio.seen l.fn.held.items)));
+}
+
+abbrev pub decreases-loop-h : goal.decreases-loop-h
+decreases-loop-h g l = vec_len l.held

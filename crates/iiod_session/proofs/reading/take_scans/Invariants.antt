@@ -1,0 +1,13 @@
+use Rattle.std.proofs.Common.{◌≡◌}
+use Rattle.iiod_session.specs.Taking.{Reading}
+use Rattle.iiod_session.proofs.reading.take_scans.Given as goal
+
+abbrev pub invariant-loop-left : goal.invariant-loop-left
+invariant-loop-left g l = let iio = g.I.Iio in record {
+  front : iio.front l.iio ≡ iio.front l.fn.iio;
+  size : l.size ≡ (iio.seen l.seat).size;
+  reading : Reading l.dev l.want (iio.told l.fn.iio) (iio.told l.iio) (iio.seen l.fn.seat) (iio.seen l.seat) l.left l.end l.room;
+}
+
+abbrev pub decreases-loop-left : goal.decreases-loop-left
+decreases-loop-left g l = l.left

@@ -1,0 +1,14 @@
+use Rattle.std.proofs.Common.{rules}
+use Rattle.iiod_session.specs.Desk.{desk_of}
+use Rattle.iiod_session.proofs.SeatsLaws.{opens, refuses}
+use Rattle.iiod_session.proofs.seats.open_at.Goals as goal
+
+pub returns-in-Err-clause-told : goal.returns-in-Err-clause-told
+returns-in-Err-clause-told g c =
+    refuses _ _ (desk_of g.I.Iio.seen c.args.desk.now) c.args.dev c.args.samples c.args.text.now c.args.cyclic c.is_some-is_open.result c.plugged-plugged.result c.shape.result.now
+    c.buffers_of-buffers.result _ (search rules) c.plugged-plugged.ensures c.shape.ensures (search rules) (search rules)
+
+pub returns-in-Ok-clause-told : goal.returns-in-Ok-clause-told
+returns-in-Ok-clause-told g c =
+    opens _ _ _ (desk_of g.I.Iio.seen c.args.desk.now) _ c.args.dev c.args.samples c.args.text.now c.args.cyclic c.is_some-is_open.result c.plugged-plugged.result c.shape.result.now
+    c.buffers_of-buffers.result _ _ (search rules) c.plugged-plugged.ensures c.shape.ensures (search rules) (search rules) c.join.ensures.told

@@ -1,0 +1,103 @@
+-- What a connection has of the devices: its seats, its buffers counts, and the devices whose events go to it. The seats'
+-- tales stand beside, in the same order.
+use Rattle.std.specs.Prelude.{ℕ, ◌*◌, ◌==◌, ◌<◌, not, Bool, List, [], ◌∷◌, ◌++◌, map, filter, length, if◌then◌else◌, Option, is_none, unwrap_or, All, Result, position}
+use Rattle.iio_base.specs.Refusals.{first_refusal, unless_refused}
+use Rattle.iio_text.specs.declared.errors.Errno.{Errno}
+use Rattle.iio_mask.specs.Text.{mask_of}
+use Rattle.iio_layout.specs.Active.{has_data}
+use Rattle.iio_layout.specs.Layout.{scan_size}
+use Rattle.iio_layout.specs.Shape.{ShapeRecord, count_of}
+use Rattle.iiod_session.specs.declared.desk.BuffersCount.{BuffersCount}
+use Rattle.iiod_session.specs.declared.desk.Desk.{Desk}
+use Rattle.iiod_session.specs.declared.desk.Held.{Held}
+use Rattle.iiod_session.specs.declared.desk.TheConstants.{FIRST_BUFFERS}
+use Rattle.iiod_session.specs.Front.{Front}
+use Rattle.iiod_session.specs.Machine.{MemberId}
+use Rattle.iiod_session.specs.Opening.{asked_refusals, is_excess}
+use Rattle.iiod_session.specs.Seat.{SeatRecord, Tale, MayOpen, IsOwned}
+
+-- a seat of a connection as the told state knows it
+pub record Bare : Type 0 where
+  pub dev : ℕ
+  pub number : ℕ
+  pub mask : ℕ
+  pub capacity : ℕ
+
+-- whose queue it is
+abbrev pub bare_id : Bare → MemberId
+bare_id s = record { number = s.number; mask = s.mask }
+
+pub record DeskRecord : Type 0 where
+  pub who : ℕ
+  pub seats : List Bare
+  pub buffers : List BuffersCount
+  pub holdings : List ℕ
+
+-- the seat at a device, by its place in the list
+abbrev pub place_of : ℕ → List Bare → Option ℕ
+place_of dev seats = position (λ (s : Bare). s.dev == dev) seats
+
+-- the buffers count of a device: the one of its SET
+abbrev pub buffers_of : ℕ → List BuffersCount → ℕ
+buffers_of dev [] = FIRST_BUFFERS
+buffers_of dev (b ∷ bs) = if b.dev == dev then b.count else buffers_of dev bs
+
+abbrev pub with_seats : List Bare → DeskRecord → DeskRecord
+with_seats seats desk = record desk { seats = seats }
+
+-- the buffers count of a device is set
+abbrev pub with_count : ℕ → ℕ → DeskRecord → DeskRecord
+with_count dev n desk = record desk { buffers = filter (λ (b : BuffersCount). not (b.dev == dev)) desk.buffers ++ record { dev = dev; count = n } ∷ [] }
+
+-- a device more whose events are held, and one less
+abbrev pub with_holding : ℕ → DeskRecord → DeskRecord
+with_holding dev desk = record desk { holdings = desk.holdings ++ dev ∷ [] }
+
+abbrev pub without_holding : ℕ → DeskRecord → DeskRecord
+without_holding dev desk = record desk { holdings = filter (λ d. not (d == dev)) desk.holdings }
+
+-- ---- what an OPEN asks for
+
+-- a mask, and how many scans the queue is to hold
+pub record Wanted : Type 0 where
+  pub mask : ℕ
+  pub capacity : ℕ
+
+-- the capacity is the samples times the buffers count
+unfoldable pub wanted_of : (is_open plugged : Bool) → ShapeRecord → (buffers samples : ℕ) → (text : List ℕ) → (cyclic : Bool) → Result Wanted Errno
+wanted_of is_open plugged shape buffers samples text cyclic =
+    let mask = unwrap_or (mask_of text (count_of shape)) 0 in
+    let capacity = samples * buffers in
+    unless_refused (record { mask = mask; capacity = capacity })
+    (first_refusal (asked_refusals (not plugged) cyclic (is_none (mask_of text (count_of shape))) (not (has_data shape mask)) (is_excess capacity (scan_size shape mask)) is_open))
+
+-- ---- a connection's seats as these lists
+
+module _ {S : Type 0} (seen : S → SeatRecord) where
+  abbrev pub bare_of : Held S → Bare
+  bare_of h = record { dev = h.dev; number = (seen h.seat).number; mask = h.mask.bits; capacity = h.capacity }
+
+  abbrev pub tale_of : Held S → Option Tale
+  tale_of h = (seen h.seat).tale
+
+  abbrev pub seats_of : List (Held S) → List Bare
+  seats_of held = map bare_of held
+
+  abbrev pub tales_of : List (Held S) → List (Option Tale)
+  tales_of held = map tale_of held
+
+  abbrev pub desk_of : Desk S → DeskRecord
+  desk_of d = record { who = d.who; seats = seats_of d.held.items; buffers = d.buffers.items; holdings = d.holdings.items }
+
+  -- a seat is owned at its device, with the mask and the capacity of its OPEN
+  pub record IsHeld (front : Front) (h : Held S) : Type 0 where
+    pub opened : MayOpen front h.dev h.mask.bits h.capacity
+    pub owned : IsOwned front h.dev h.mask.bits h.capacity (seen h.seat)
+
+  abbrev pub AllHeld : Front → List (Held S) → Type 0
+  AllHeld front held = All (IsHeld front) held
+
+  -- each seat is, and each device whose events are held is there
+  pub record IsDesk (front : Front) (d : Desk S) : Type 0 where
+    pub seats : AllHeld front d.held.items
+    pub holdings : All (λ dev. dev < length front.devices) d.holdings.items

@@ -1,0 +1,55 @@
+-- The scans that READBUF's answers give, device by device, by the items and their answers alone.
+use Rattle.std.specs.Prelude.{◌≡◌, ℕ, ◌==◌, ◌||◌, Bool, false, List, [], ◌∷◌, ◌++◌, length, Option, Some, None, Ok, if◌then◌else◌}
+use Rattle.std.specs.Option.{option_map_or}
+use Rattle.iiod_grammar.specs.Command.{Open, ReadBuf}
+use Rattle.iiod_grammar.specs.Stream.{Item, Said}
+use Rattle.iiod_reply.specs.Reply.{Reply, Number, Block}
+use Rattle.iiod_session.specs.Desk.{Bare}
+use Rattle.iiod_session.specs.Front.{Front, find_device}
+use Rattle.iiod_session.specs.Seat.{Tale}
+
+-- whether the device of that number has the name
+abbrev pub is_named : Front → List ℕ → ℕ → Bool
+is_named front device dev = option_map_or (λ k. k == dev) (find_device front device) false
+
+-- what was given of a device, once an item was answered: an OPEN that is accepted begins anew, a READBUF adds its scans
+abbrev pub given_by : Front → ℕ → Item → Reply → List (List ℕ) → List (List ℕ)
+given_by front dev (Said (Ok (Open device samples text cyclic))) (Number n) given = if is_named front device dev then [] else given
+given_by front dev (Said (Ok (ReadBuf device asked))) (Block channels mask scans bytes) given = if is_named front device dev then given ++ scans else given
+given_by front dev item reply given = given
+
+-- after items with their answers
+abbrev pub given_after : Front → ℕ → List Item → List Reply → List (List ℕ) → List (List ℕ)
+given_after front dev (item ∷ items) (reply ∷ replies) given = given_after front dev items replies (given_by front dev item reply given)
+given_after front dev items replies given = given
+
+-- ---- seats and their tales
+
+-- what the seat at a device tells
+abbrev pub tale_at : ℕ → List Bare → List (Option Tale) → Option Tale
+tale_at dev (s ∷ ss) (t ∷ ts) = if s.dev == dev then t else tale_at dev ss ts
+tale_at dev seats tales = None
+
+-- the scans that it gave; none where there is no seat
+abbrev pub given_in : Option Tale → List (List ℕ)
+given_in None = []
+given_in (Some t) = t.given
+
+abbrev pub has_seat : ℕ → List Bare → Bool
+has_seat dev [] = false
+has_seat dev (s ∷ ss) = (s.dev == dev) || has_seat dev ss
+
+-- no two seats are at one device
+abbrev pub AreApart : List Bare → Type 0
+AreApart [] = Unit {0}
+AreApart (s ∷ ss) = (has_seat s.dev ss ≡ false) × AreApart ss
+
+-- and each seat has its tale
+pub record AreSeated (seats : List Bare) (tales : List (Option Tale)) : Type 0 where
+  pub apart : AreApart seats
+  pub told : length tales ≡ length seats
+
+-- for each device whose seat tells: the scans that it gave are those before and those of the answers
+abbrev pub GivenIs : Front → List Item → List Reply → (seats : List Bare) → (tales : List (Option Tale)) → (seats' : List Bare) → (tales' : List (Option Tale)) → Type 0
+GivenIs front items replies seats tales seats' tales' = (dev : ℕ) (t : Tale) → tale_at dev seats' tales' ≡ Some t
+    → t.given ≡ given_after front dev items replies (given_in (tale_at dev seats tales))

@@ -1,0 +1,47 @@
+-- The refusals of an OPEN, in their order, over plain conditions. (Which errno is the kernel's or libiio's, and which this
+-- project's own, is said in docs/FORMATS.md.)
+use Rattle.std.specs.Prelude.{ℕ, ◌*◌, ◌==◌, ◌||◌, nat_lt, Bool, List, [], ◌∷◌, Option, Some, None}
+use Rattle.iio_text.specs.declared.errors.Errno.{Errno}
+use Rattle.iio_text.specs.declared.errors.Errno.TheVariants.{EBUSY, ENODEV, EINVAL, ENOSPC, ENOSYS}
+use Rattle.iio_device.specs.declared.roster.JoinFault.{JoinFault}
+use Rattle.iio_device.specs.declared.roster.JoinFault.TheVariants as fault
+use Rattle.iio_device.specs.Joining.{member_faults}
+use Rattle.iiod_session.specs.declared.limits.TheConstants.{MAX_SCANS, MAX_BYTES}
+
+-- whether a member can't have a queue of so many scans of that size
+abbrev pub is_excess : ℕ → ℕ → Bool
+is_excess capacity size = capacity == 0 || nat_lt MAX_SCANS capacity || nat_lt MAX_BYTES (capacity * size)
+
+-- what an OPEN asks for, before others are looked at
+abbrev pub asked_refusals : Bool → Bool → Bool → Bool → Bool → Bool → List (Bool × Errno)
+asked_refusals is_gone is_cyclic is_no_mask is_without_data is_too_much is_open =
+    (is_gone, ENODEV)
+    ∷ (is_cyclic, ENOSYS)
+    ∷ (is_no_mask, EINVAL)
+    ∷ (is_without_data, EINVAL)
+    ∷ (is_too_much, EINVAL)
+    ∷ (is_open, EBUSY)
+    ∷ []
+
+-- what a fault of joining is answered with; want of memory has its own answer, which is no errno
+abbrev pub errno_of : JoinFault → Option Errno
+errno_of fault.Gone = Some ENODEV
+errno_of fault.BadMask = Some EINVAL
+errno_of fault.NoTrigger = Some EINVAL
+errno_of fault.NoUnion = Some EINVAL
+errno_of fault.NoPlace = Some ENOSPC
+errno_of fault.Mem = None
+
+-- one refusal more, where its fault has an errno
+abbrev pub with_errno : Bool → Option Errno → List (Bool × Errno) → List (Bool × Errno)
+with_errno applies None refusals = refusals
+with_errno applies (Some errno) refusals = (applies, errno) ∷ refusals
+
+-- the same refusals in the same order, by their errnos
+abbrev pub errnos_of : List (Bool × JoinFault) → List (Bool × Errno)
+errnos_of [] = []
+errnos_of (r ∷ rs) = with_errno r.0 (errno_of r.1) (errnos_of rs)
+
+-- a member more at a device
+abbrev pub join_refusals : Bool → Bool → Bool → List (Bool × Errno)
+join_refusals is_without_trigger is_without_union is_full = errnos_of (member_faults is_without_trigger is_without_union is_full)

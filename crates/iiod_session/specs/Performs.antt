@@ -1,0 +1,153 @@
+-- What the functions below a command promise. Cited by private functions alone.
+use Rattle.std.specs.Prelude.{◌≡◌, ℕ, List, [], ◌∷◌, ◌++◌, remove, Option, Some, None, option_map, IfSome, Result, Ok, Err, ⊤}
+use Rattle.iio_base.specs.declared.Mem.{Mem}
+use Rattle.iio_text.specs.declared.errors.Errno.{Errno}
+use Rattle.iio_text.specs.declared.errors.Errno.TheVariants.{EAGAIN, ENODEV}
+use Rattle.iio_event.specs.Code.{event_bytes}
+use Rattle.iio_event.specs.declared.event.EventData.{EventData}
+use Rattle.iiod_grammar.specs.Command.{ReadBuf}
+use Rattle.iiod_grammar.specs.Stream.{Item, Said}
+use Rattle.iiod_reply.specs.Reply.{Reply, Raw, Refusal, NoMemory, text_of}
+use Rattle.iiod_session.specs.declared.iio.No.{No}
+use Rattle.iiod_session.specs.declared.iio.No.TheVariants.{Errno as NoErrno, Mem as NoMem}
+use Rattle.iiod_session.specs.declared.iio.Took.{Took}
+use Rattle.iiod_session.specs.declared.iio.Took.TheVariants.{Scan, Empty, Gone}
+use Rattle.iiod_session.specs.declared.manner.Manner.{Manner}
+use Rattle.iiod_session.specs.declared.manner.Manner.TheVariants.{Script, Server}
+use Rattle.iiod_session.specs.declared.manner.Performed.{Performed}
+use Rattle.iiod_session.specs.declared.manner.Performed.TheVariants.{Done, Waits}
+use Rattle.iiod_session.specs.Front.{Front, find_device}
+use Rattle.iiod_session.specs.Machine.{Machine}
+use Rattle.iiod_session.specs.Seat.{Tale, first_tale}
+use Rattle.iiod_session.specs.Desk.{Bare, DeskRecord, place_of, with_seats}
+use Rattle.iiod_session.specs.Acts.{Acted, read_at, read_at_seat, trigger_reply, zero_reply}
+use Rattle.iiod_session.specs.Moves.{ReadMoves, ReadsBy, Serves}
+
+-- the reply to an answer by 0 or a refusal
+abbrev pub reply_by : Result ⊤ No → Reply
+reply_by (Ok done) = zero_reply
+reply_by (Err (NoErrno e)) = Refusal e
+reply_by (Err NoMem) = NoMemory
+
+-- an outcome, or want of memory, which changes nothing
+abbrev pub Comes : Machine → DeskRecord → Acted → Reply → Option Machine → DeskRecord → Type 0
+Comes m desk acted NoMemory told desk' = (told ≡ Some m) × (desk' ≡ desk)
+Comes m desk acted reply told desk' = (n : Machine) × (told ≡ Some n) × (acted ≡ record { reply = reply; machine = n; desk = desk' })
+
+-- an answer that isn't want of memory
+abbrev pub IsWhole : Reply → Type 0
+IsWhole NoMemory = ⊥
+IsWhole reply = Unit {0}
+
+-- an answer that isn't that of a queue in which nothing waits
+abbrev pub IsFound : Reply → Type 0
+IsFound (Refusal EAGAIN) = ⊥
+IsFound reply = Unit {0}
+
+-- ---- seats
+
+-- a seat more at a device where there was none, or nothing more
+abbrev pub JoinsBy : ℕ → DeskRecord → List (Option Tale) → Result ⊤ No → DeskRecord → List (Option Tale) → Type 0
+JoinsBy dev desk tales (Ok done) desk' tales' = (s : Bare) × (t : Option Tale) × (s.dev ≡ dev) × (place_of dev desk.seats ≡ None)
+    × (desk' ≡ with_seats (desk.seats ++ s ∷ []) desk) × (tales' ≡ tales ++ t ∷ []) × (t ≡ option_map (λ (x : Tale). first_tale) t)
+JoinsBy dev desk tales (Err e) desk' tales' = (desk' ≡ desk) × (tales' ≡ tales)
+
+-- a seat less, or nothing less
+abbrev pub LeavesBy : ℕ → DeskRecord → List (Option Tale) → Result ⊤ No → DeskRecord → List (Option Tale) → Type 0
+LeavesBy dev desk tales (Ok done) desk' tales' =
+    (i : ℕ) × (place_of dev desk.seats ≡ Some i) × (desk' ≡ with_seats (remove desk.seats i) desk) × (tales' ≡ remove tales i)
+LeavesBy dev desk tales (Err e) desk' tales' = (desk' ≡ desk) × (tales' ≡ tales)
+
+-- ---- READBUF
+
+-- at a seat: over a told state, and over any Iio
+pub record ReadServed (front : Front) (asked : ℕ) (told told' : Option Machine) (s : Bare) (tale tale' : Option Tale) (reply : Reply) : Type 0 where
+  pub exact : IfSome told (λ m. (n : Machine) × (told' ≡ Some n)
+      × ((desk : DeskRecord) → read_at_seat front m desk s asked ≡ record { reply = reply; machine = n; desk = desk }))
+  pub moves : ReadMoves front s asked reply tale tale'
+  pub whole : IsWhole reply
+
+-- by the first take's answer. Before memory ran out nothing had changed
+abbrev pub ReadHeld : Front → ℕ → Option Machine → Option Machine → Bare → Option Tale → Option Tale → List ℕ → List ℕ → Result Took Mem → Type 0
+ReadHeld front asked told told' s tale tale' before after (Ok Scan) =
+    (reply : Reply) × (after ≡ before ++ text_of reply) × IsFound reply × ReadServed front asked told told' s tale tale' reply
+ReadHeld front asked told told' s tale tale' before after (Ok Empty) =
+    (after ≡ before) × ReadServed front asked told told' s tale tale' (Refusal EAGAIN)
+ReadHeld front asked told told' s tale tale' before after (Ok Gone) =
+    (after ≡ before) × ReadServed front asked told told' s tale tale' (Refusal ENODEV)
+ReadHeld front asked told told' s tale tale' before after (Err mem) =
+    (after ≡ before) × (told' ≡ told) × (tale' ≡ tale)
+
+-- at a device
+pub record ReadServedAt (front : Front) (dev asked : ℕ) (told told' : Option Machine) (desk : DeskRecord) (tales tales' : List (Option Tale)) (reply : Reply) : Type 0 where
+  pub exact : IfSome told (λ m. (n : Machine) × (told' ≡ Some n)
+      × (read_at front m desk asked (place_of dev desk.seats) ≡ record { reply = reply; machine = n; desk = desk }))
+  pub moves : ReadsBy front asked desk.seats tales (place_of dev desk.seats) reply tales'
+  pub whole : IsWhole reply
+
+abbrev pub ReadAt : Front → ℕ → ℕ → Option Machine → Option Machine → DeskRecord → List (Option Tale) → List (Option Tale) → List ℕ → List ℕ → Result Took Mem → Type 0
+ReadAt front dev asked told told' desk tales tales' before after (Ok Scan) =
+    (reply : Reply) × (after ≡ before ++ text_of reply) × IsFound reply × ReadServedAt front dev asked told told' desk tales tales' reply
+ReadAt front dev asked told told' desk tales tales' before after (Ok Empty) =
+    (after ≡ before) × ReadServedAt front dev asked told told' desk tales tales' (Refusal EAGAIN)
+ReadAt front dev asked told told' desk tales tales' before after (Ok Gone) =
+    (after ≡ before) × ReadServedAt front dev asked told told' desk tales tales' (Refusal ENODEV)
+ReadAt front dev asked told told' desk tales tales' before after (Err mem) =
+    (after ≡ before) × (told' ≡ told) × (tales' ≡ tales)
+
+-- ---- one item
+
+-- want of memory is an answer of the server alone
+abbrev pub IsAllowed : Manner → Reply → Type 0
+IsAllowed Script NoMemory = ⊥
+IsAllowed manner reply = Unit {0}
+
+-- a READBUF that finds nothing isn't answered in manner Server: it waits
+abbrev pub IsAnswerOf : Item → Manner → Reply → Type 0
+IsAnswerOf (Said (Ok (ReadBuf device asked))) Server (Refusal EAGAIN) = ⊥
+IsAnswerOf item manner reply = Unit {0}
+
+-- a READBUF of the device of that number
+abbrev pub IsReadOf : Front → ℕ → Item → Type 0
+IsReadOf front dev (Said (Ok (ReadBuf device asked))) = find_device front device ≡ Some dev
+IsReadOf front dev item = ⊥
+
+-- the item was answered, or it is a READBUF for which nothing waits, and is tried again
+abbrev pub Performs : Manner → Front → Option Machine → Option Machine → DeskRecord → List (Option Tale) → Item → DeskRecord → List (Option Tale) → List ℕ → List ℕ → Performed → Type 0
+Performs manner front told told' desk tales item desk' tales' before after Done =
+    (reply : Reply) × (after ≡ before ++ text_of reply) × IsAllowed manner reply × IsAnswerOf item manner reply
+    × Serves front told desk tales item reply told' desk' tales'
+Performs manner front told told' desk tales item desk' tales' before after (Waits dev) =
+    (after ≡ before) × (manner ≡ Server) × IsReadOf front dev item × Serves front told desk tales item (Refusal EAGAIN) told' desk' tales'
+
+-- the rest of READBUF's answer
+abbrev pub AnswersRead : Manner → ℕ → Result Took Mem → List ℕ → List ℕ → Performed → Type 0
+AnswersRead manner dev (Ok Scan) before after p = (after ≡ before) × (p ≡ Done)
+AnswersRead manner dev (Ok Gone) before after p = (after ≡ before ++ text_of (Refusal ENODEV)) × (p ≡ Done)
+AnswersRead Server dev (Ok Empty) before after p = (after ≡ before) × (p ≡ Waits dev)
+AnswersRead Script dev (Ok Empty) before after p = (after ≡ before ++ text_of (Refusal EAGAIN)) × (p ≡ Done)
+AnswersRead manner dev (Err mem) before after p = (after ≡ before ++ text_of NoMemory) × (p ≡ Done) × IsAllowed manner NoMemory
+
+-- ---- commands that change no seat
+
+-- what the connection has after an answer that may alter it
+abbrev pub desk_by : (DeskRecord → DeskRecord) → DeskRecord → Result ⊤ No → DeskRecord
+desk_by change desk (Ok done) = change desk
+desk_by change desk (Err why) = desk
+
+-- at the device of that name, where the command isn't refused
+abbrev pub AltersBy : Front → List ℕ → (ℕ → DeskRecord → DeskRecord) → DeskRecord → Result ⊤ No → DeskRecord → Type 0
+AltersBy front device change desk (Ok done) desk' = (dev : ℕ) × (find_device front device ≡ Some dev) × (desk' ≡ change dev desk)
+AltersBy front device change desk (Err why) desk' = desk' ≡ desk
+
+-- the reply to a GETTRIG
+abbrev pub trigger_by : Front → Result (Option ℕ) Errno → Reply
+trigger_by front (Ok trigger) = trigger_reply front trigger
+trigger_by front (Err e) = Refusal e
+
+-- the reply to an EVREAD
+abbrev pub event_by : Result (Option EventData) No → Reply
+event_by (Ok None) = Refusal EAGAIN
+event_by (Ok (Some event)) = Raw (event_bytes event)
+event_by (Err (NoErrno e)) = Refusal e
+event_by (Err NoMem) = NoMemory

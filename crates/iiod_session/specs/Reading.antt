@@ -1,0 +1,47 @@
+-- What a READBUF makes of its seat, and the block that it appends.
+use Rattle.std.specs.Prelude.{◌≡◌, ◌⊎◌, ℕ, ◌/◌, ◌<◌, ◌≤◌, min, not, Bool, true, false, List, [], ◌++◌, length, take, drop, Option, Some, option_map, IfSome, Result, Ok, Err}
+use Rattle.iio_base.specs.declared.Mem.{Mem}
+use Rattle.iiod_reply.specs.Reply.{block_text, joined_scans}
+use Rattle.iiod_session.specs.declared.iio.Took.{Took}
+use Rattle.iiod_session.specs.declared.iio.Took.TheVariants.{Scan, Empty, Gone}
+use Rattle.iiod_session.specs.Front.{Front, channel_count, size_at}
+use Rattle.iiod_session.specs.Machine.{Machine, MemberId, is_plugged, queue_of, with_queue}
+use Rattle.iiod_session.specs.Seat.{SeatRecord, Tale, seat_id, after_scans, after_nothing}
+
+-- how many scans a READBUF of so many bytes may take: those asked for, and no more than the queue holds
+abbrev pub most_scans : (asked size capacity : ℕ) → ℕ
+most_scans asked size capacity = min (asked / size) capacity
+
+-- scans of a seat as one READBUF takes them: as many as it may, or fewer and then a take that found nothing
+pub record Reads (want : ℕ) (scans : List (List ℕ)) (tale tale' : Option Tale) : Type 0 where
+  pub some : 0 < length scans
+  pub most : length scans ≤ want
+  pub grown : ((length scans ≡ want) × (tale' ≡ option_map (after_scans scans) tale))
+      ⊎ ((gone : Bool) × (tale' ≡ option_map (after_nothing gone) (option_map (after_scans scans) tale)))
+
+-- these scans were read
+pub record ReadSome (dev want : ℕ) (told told' : Option Machine) (s s' : SeatRecord) (scans : List (List ℕ)) : Type 0 where
+  pub reads : Reads want scans s.tale s'.tale
+  pub same : s' ≡ record s { tale = s'.tale }
+  pub from : IfSome told (λ m. (take want (queue_of m dev (seat_id s)) ≡ scans)
+      × (told' ≡ Some (with_queue m dev (seat_id s) (drop want (queue_of m dev (seat_id s))))))
+
+-- a take found nothing, at a device that is plugged or isn't
+abbrev pub FoundNothing : ℕ → MemberId → Bool → Option Machine → Option Machine → Type 0
+FoundNothing dev id plugged told told' = IfSome told (λ m. (queue_of m dev id ≡ []) × (is_plugged m dev ≡ plugged) × (told' ≡ Some m))
+
+-- the first take found nothing
+pub record ReadNone (dev : ℕ) (gone : Bool) (told told' : Option Machine) (s s' : SeatRecord) : Type 0 where
+  pub same : s' ≡ record s { tale = option_map (after_nothing gone) s.tale }
+  pub from : FoundNothing dev (seat_id s) (not gone) told told'
+
+-- a READBUF of `asked` bytes for at least one scan: the block of the scans that its takes gave, or the first take's
+-- answer. Before memory ran out no take was made
+abbrev pub ReadEnds : Front → (dev mask capacity asked : ℕ) → (told told' : Option Machine) → (s s' : SeatRecord) → (before after : List ℕ) → Result Took Mem → Type 0
+ReadEnds front dev mask capacity asked told told' s s' before after (Ok Scan) =
+    (scans : List (List ℕ))
+    × (after ≡ before ++ block_text (channel_count front dev) mask (joined_scans scans) asked)
+    × ReadSome dev (most_scans asked (size_at front dev mask) capacity) told told' s s' scans
+ReadEnds front dev mask capacity asked told told' s s' before after (Ok Empty) = (after ≡ before) × ReadNone dev false told told' s s'
+ReadEnds front dev mask capacity asked told told' s s' before after (Ok Gone) = (after ≡ before) × ReadNone dev true told told' s s'
+ReadEnds front dev mask capacity asked told told' s s' before after (Err mem) = (after ≡ before) × (told' ≡ told) × (s' ≡ s)

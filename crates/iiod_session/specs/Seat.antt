@@ -1,0 +1,88 @@
+-- What a seat is, by its own value alone; and what the calls of an `Iio` answer, by cases on the answer.
+use Rattle.std.specs.Prelude.{◌≡◌, ℕ, ◌+◌, ◌-◌, ◌*◌, ◌^◌, ◌≤◌, ◌<◌, min, Bool, true, false, List, [], ◌∷◌, ◌++◌, length, drop, Option, Some, option_map, Result, Ok, Err}
+use Rattle.iio_layout.specs.Active.{has_data}
+use Rattle.iiod_session.specs.declared.limits.TheConstants.{MAX_SCANS, MAX_BYTES}
+use Rattle.iiod_session.specs.declared.iio.No.{No}
+use Rattle.iiod_session.specs.declared.iio.No.TheVariants.{Errno as NoErrno, Mem as NoMem}
+use Rattle.iiod_session.specs.declared.iio.Took.{Took}
+use Rattle.iiod_session.specs.declared.iio.Took.TheVariants.{Scan, Empty, Gone}
+use Rattle.iiod_session.specs.Front.{Front, channel_count, shape_at, size_at}
+use Rattle.iiod_session.specs.Machine.{Machine, MemberId, is_plugged, queue_of, with_queue}
+use Rattle.iiod_session.specs.Calls.{Outcome}
+
+-- what a seat tells, if anything: the scans that it gave, how many of its takes found nothing, and whether the last of
+-- these found the device unplugged
+pub record Tale : Type 0 where
+  pub given : List (List ℕ)
+  pub empties : ℕ
+  pub gone : Bool
+
+-- a seat: the member's number, its mask, the bytes of its scans, how many its queue holds, and its tale
+pub record SeatRecord : Type 0 where
+  pub number : ℕ
+  pub mask : ℕ
+  pub size : ℕ
+  pub capacity : ℕ
+  pub tale : Option Tale
+
+-- whose queue a seat takes from
+abbrev pub seat_id : SeatRecord → MemberId
+seat_id s = record { number = s.number; mask = s.mask }
+
+abbrev pub first_tale : Tale
+first_tale = record { given = []; empties = 0; gone = false }
+
+abbrev pub after_scans : List (List ℕ) → Tale → Tale
+after_scans scans t = record t { given = t.given ++ scans }
+
+abbrev pub after_nothing : Bool → Tale → Tale
+after_nothing gone t = record t { empties = min (t.empties + 1) (2 ^ 64 - 1); gone = gone }
+
+abbrev pub after_take : Took → List ℕ → Tale → Tale
+after_take Scan scan t = after_scans (scan ∷ []) t
+after_take Empty scan t = after_nothing false t
+after_take Gone scan t = after_nothing true t
+
+-- ---- owned seats
+
+-- what may be opened: a device that is there, a mask of its channels with a data channel, and a queue within the limits
+pub record MayOpen (front : Front) (dev mask capacity : ℕ) : Type 0 where
+  pub known : dev < length front.devices
+  pub below : mask < 2 ^ channel_count front dev
+  pub channel : has_data (shape_at front dev) mask ≡ true
+  pub some : 1 ≤ capacity
+  pub scans : capacity ≤ MAX_SCANS
+  pub bytes : capacity * size_at front dev mask ≤ MAX_BYTES
+
+-- the seat is one of the device, under this mask and of this capacity
+pub record IsOwned (front : Front) (dev mask capacity : ℕ) (s : SeatRecord) : Type 0 where
+  pub under : s.mask ≡ mask
+  pub sized : s.size ≡ size_at front dev mask
+  pub bounded : s.capacity ≡ capacity
+
+-- the seat is one of the device, under some mask
+abbrev pub IsOfDevice : Front → ℕ → SeatRecord → Type 0
+IsOfDevice front dev s = IsOwned front dev s.mask s.capacity s
+
+-- the seat of an accepted OPEN
+pub record IsNew (front : Front) (dev mask capacity : ℕ) (s : SeatRecord) : Type 0 where
+  pub owned : IsOwned front dev mask capacity s
+  pub fresh : s.tale ≡ option_map (λ (t : Tale). first_tale) s.tale
+
+-- ---- what a call answers over a told state. Want of memory is free, and changes nothing
+
+abbrev pub Answers : {A : Type 0} → Outcome A → Machine → Result A No → Option Machine → Type 0
+Answers o m (Ok x) told = (o.answer ≡ Ok x) × (told ≡ Some o.machine)
+Answers o m (Err (NoErrno e)) told = (o.answer ≡ Err e) × (told ≡ Some o.machine)
+Answers o m (Err NoMem) told = told ≡ Some m
+
+-- a seat is known by its member's number
+abbrev pub number_by : {S : Type 0} → (S → SeatRecord) → Result S No → Result ℕ No
+number_by seen (Ok s) = Ok (seen s).number
+number_by seen (Err refusal) = Err refusal
+
+abbrev pub Takes : Machine → ℕ → MemberId → Took → List ℕ → Option Machine → Type 0
+Takes m dev id Scan scan told = (queue_of m dev id ≡ scan ∷ drop 1 (queue_of m dev id))
+    × (told ≡ Some (with_queue m dev id (drop 1 (queue_of m dev id))))
+Takes m dev id Empty scan told = (queue_of m dev id ≡ []) × (is_plugged m dev ≡ true) × (told ≡ Some m)
+Takes m dev id Gone scan told = (queue_of m dev id ≡ []) × (is_plugged m dev ≡ false) × (told ≡ Some m)

@@ -1,0 +1,56 @@
+-- What READ and WRITE name, and what they answer, as contracts see it of the code. Cited by private functions alone.
+use Rattle.std.specs.Prelude.{ℕ, pos, ⊤, List, Option, Result, Ok, Err, string_bytes}
+use Rattle.std.specs.Fmt.{decimal, signed_decimal}
+use Rattle.std.specs.Option.{ok_or}
+use Rattle.iio_base.specs.Refusals.{◌>>=◌}
+use Rattle.iio_text.specs.declared.errors.Errno.{Errno}
+use Rattle.iio_text.specs.declared.errors.Errno.TheVariants.{ENOENT}
+use Rattle.iio_attr.specs.declared.attributes.Scope.{Scope}
+use Rattle.iio_attr.specs.Attributes.{find_of}
+use Rattle.iiod_reply.specs.Reply.{Reply, Number, Refusal, Value, NoMemory}
+use Rattle.iiod_session.specs.declared.attributes.AttrText.{AttrText}
+use Rattle.iiod_session.specs.declared.attributes.AttrText.TheVariants as text
+use Rattle.iiod_session.specs.declared.iio.No.{No}
+use Rattle.iiod_session.specs.declared.iio.No.TheVariants.{Errno as NoErrno, Mem as NoMem}
+use Rattle.iiod_session.specs.declared.targets.Assignment.{Assignment as CodeAssignment}
+use Rattle.iiod_session.specs.declared.targets.Named.{Named as CodeNamed}
+use Rattle.iiod_session.specs.Attributes.{Assignment, Named}
+
+-- ---- names
+
+abbrev pub named_of_code : CodeNamed → Named
+named_of_code x = record { channel = x.channel; attribute = x.attribute }
+
+abbrev pub named_view : Result CodeNamed Errno → Result Named Errno
+named_view (Ok x) = Ok (named_of_code x)
+named_view (Err e) = Err e
+
+abbrev pub assignment_of_code : CodeAssignment → Assignment
+assignment_of_code x = record { target = named_of_code x.target; value = x.value }
+
+abbrev pub assignment_view : Result CodeAssignment Errno → Result Assignment Errno
+assignment_view (Ok x) = Ok (assignment_of_code x)
+assignment_view (Err e) = Err e
+
+-- the attribute of that name in a scope
+abbrev pub named_in : Scope → Option ℕ → List ℕ → Result Named Errno
+named_in scope channel name = do
+  a ← ok_or (find_of scope name) ENOENT
+  Ok (record { channel = channel; attribute = a })
+
+-- ---- replies
+
+-- to a READ
+abbrev pub text_by : Result AttrText No → Reply
+text_by (Ok (text.Fixed digits)) = Value (string_bytes digits)
+text_by (Ok (text.Int n)) = Value (signed_decimal n)
+text_by (Ok (text.Count n)) = Value (decimal n)
+text_by (Ok (text.Name name)) = Value name
+text_by (Err (NoErrno e)) = Refusal e
+text_by (Err NoMem) = NoMemory
+
+-- to a WRITE of so many bytes
+abbrev pub written_by : ℕ → Result ⊤ No → Reply
+written_by count (Ok done) = Number (pos count)
+written_by count (Err (NoErrno e)) = Refusal e
+written_by count (Err NoMem) = NoMemory

@@ -1,0 +1,12 @@
+-- What an OPEN asks for, as contracts see it. Cited by private functions alone.
+use Rattle.std.specs.Prelude.{Result, Ok, Err}
+use Rattle.iio_text.specs.declared.errors.Errno.{Errno}
+use Rattle.iiod_session.specs.declared.wanted.Wanted.{Wanted as CodeWanted}
+use Rattle.iiod_session.specs.Desk.{Wanted}
+
+abbrev pub wanted_of_code : CodeWanted → Wanted
+wanted_of_code x = record { mask = x.mask.bits; capacity = x.capacity }
+
+abbrev pub wanted_view : Result CodeWanted Errno → Result Wanted Errno
+wanted_view (Ok x) = Ok (wanted_of_code x)
+wanted_view (Err e) = Err e

@@ -1,0 +1,110 @@
+//! Answers, appended to what was answered before.
+ghost use Rattle.std.specs.Prelude.{◌≡◌, ◌<◌, ◌≤◌, ◌+◌, ◌^◌, ◌++◌, length, pos, vec_capacity, IfOk, OnOk};
+ghost use Rattle.iiod_reply.specs.Reply.{Appends, Line, Number, Raw, Refusal, text_of};
+ghost use Rattle.iiod_session.specs.Performs.{IsAllowed, reply_by};
+ghost use Rattle.iiod_session.specs.Plain.{EndsPush};
+ghost use Rattle.iiod_session.specs.declared.manner.Performed.{Performed};
+
+use crate::iio::No;
+use crate::manner::{Manner, Performed};
+use iio_base::Mem;
+use iio_text::Errno;
+use iiod_reply::number;
+use itoa::Buffer;
+
+// What want of memory is answered with.
+const ENOMEM: i64 = 12;
+
+/// Minus the error's number.
+pub(crate) fn push_refusal(out: &mut Vec<u8>, errno: Errno) -> Result<(), Mem>
+    ensures { Appends (text_of (Refusal errno)) out.old.items result out.new.items }
+{
+    number(-errno.number(), out)
+}
+
+/// 0, or minus an error's number. In a script want of memory ends the call.
+pub(crate) fn push_answer(
+    manner: Manner,
+    out: &mut Vec<u8>,
+    answer: Result<(), No>,
+) -> Result<(), Mem>
+    ensures text { OnOk result (out.new.items ≡ out.old.items ++ text_of (reply_by answer)) }
+    ensures allowed { OnOk result (IsAllowed manner (reply_by answer)) }
+{
+    match answer {
+        Ok(()) => number(0, out),
+        Err(No::Errno(errno)) => push_refusal(out, errno),
+        Err(No::Mem) => match manner {
+            Manner::Script => Err(Mem),
+            Manner::Server => number(-ENOMEM, out),
+        },
+    }
+}
+
+/// The same, as the end of a command.
+pub(crate) fn finish(
+    manner: Manner,
+    out: &mut Vec<u8>,
+    answer: Result<(), No>,
+) -> Result<Performed, Mem>
+    ensures done { IfOk result (λ p. p ≡ Performed.Done) }
+    ensures text { OnOk result (out.new.items ≡ out.old.items ++ text_of (reply_by answer)) }
+    ensures allowed { OnOk result (IsAllowed manner (reply_by answer)) }
+{
+    push_answer(manner, out, answer)?;
+    Ok(Performed::Done)
+}
+
+/// The end of a command that changes nothing and whose answer was appended; where there was no memory for it, `out` is
+/// unchanged.
+pub(crate) fn finish_push(
+    manner: Manner,
+    out: &mut Vec<u8>,
+    pushed: Result<(), Mem>,
+) -> Result<Performed, Mem>
+    ensures { IfOk result (EndsPush manner pushed out.old.items out.new.items) }
+{
+    match pushed {
+        Ok(()) => Ok(Performed::Done),
+        Err(Mem) => finish(manner, out, Err(No::Mem)),
+    }
+}
+
+// Appends bytes in the room that is there for them.
+fn append(bytes: &[u8], out: &mut Vec<u8>)
+    requires { length out.old.items + length bytes.now ≤ vec_capacity out.old }
+    ensures items { out.new.items ≡ out.old.items ++ bytes.now }
+    ensures room { vec_capacity out.old ≤ vec_capacity out.new }
+{
+    let _ = out.extend_from_slice(bytes);
+}
+
+/// A text that is a line of its own. After `Mem`, `out` is unchanged.
+pub(crate) fn push_line(out: &mut Vec<u8>, text: &[u8]) -> Result<(), Mem>
+    ensures { Appends (text_of (Line text.now)) out.old.items result out.new.items }
+{
+    out.reserve(text.len() + 1)?;
+    append(text, out);
+    append(b"\n", out);
+    Ok(())
+}
+
+/// A number of bytes. After `Mem`, `out` is unchanged.
+pub(crate) fn push_count(out: &mut Vec<u8>, count: usize) -> Result<(), Mem>
+    ensures { Appends (text_of (Number (pos count))) out.old.items result out.new.items }
+{
+    push_line(out, Buffer::new().format(count).as_bytes())
+}
+
+/// Bytes, with their number in a line before them. After `Mem`, `out` is unchanged.
+pub(crate) fn push_raw(out: &mut Vec<u8>, bytes: &[u8]) -> Result<(), Mem>
+    ensures { Appends (text_of (Raw bytes.now)) out.old.items result out.new.items }
+{
+    let mut buffer = Buffer::new();
+    let count = buffer.format(bytes.len()).as_bytes();
+    out.reserve(count.len() + 1 + bytes.len())?;
+    append(count, out);
+    append(b"\n", out);
+    append(bytes, out);
+    Ok(())
+}

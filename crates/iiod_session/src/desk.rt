@@ -1,0 +1,34 @@
+//! What a connection has of the devices.
+
+use iio_mask::Mask;
+
+/// The buffers count of a device of which the connection has set none.
+pub(crate) const FIRST_BUFFERS: u32 = 4;
+
+/// The most buffers.
+pub(crate) const MAX_BUFFERS: u32 = 64;
+
+/// A seat, with its device, and the mask and the capacity of its OPEN.
+#[derive(Drop)]
+pub(crate) struct Held<S> {
+    pub(crate) dev: u32,
+    pub(crate) mask: Mask,
+    pub(crate) capacity: u32,
+    pub(crate) seat: S,
+}
+
+/// How many buffers later OPENs of a device have.
+#[derive(Clone, Copy, Debug, PartialEq, Eq)]
+pub(crate) struct BuffersCount {
+    pub(crate) dev: u32,
+    pub(crate) count: u32,
+}
+
+/// A connection's number, its seats, the buffers counts that it has set, and the devices whose events go to it.
+#[derive(Drop)]
+pub(crate) struct Desk<S> {
+    pub(crate) who: u32,
+    pub(crate) held: Vec<Held<S>>,
+    pub(crate) buffers: Vec<BuffersCount>,
+    pub(crate) holdings: Vec<u32>,
+}

@@ -1,0 +1,297 @@
+//! The items of a stream, carried out one after another.
+ghost use Rattle.std.specs.Prelude.{◌≡◌, ℕ, ◌≤◌, ◌++◌, List, [], IfOk, OnOk, drop, length};
+ghost use Rattle.iiod_grammar.specs.Command.{command_of};
+ghost use Rattle.iiod_grammar.specs.Lines.{LinesRecord, after_piece};
+ghost use Rattle.iiod_grammar.specs.Scans.{scan_on};
+ghost use Rattle.iiod_grammar.specs.Stream.{AtEnd, Written, after_line, ended_by, no_item};
+ghost use Rattle.iiod_grammar.specs.View.{line_view};
+ghost use Rattle.iiod_reply.specs.Reply.{text_of};
+ghost use Rattle.iiod_session.specs.Acts.{end_reply};
+ghost use Rattle.iiod_session.specs.Desk.{IsDesk, desk_of, tales_of};
+ghost use Rattle.iiod_session.specs.Performs.{Performs};
+ghost use Rattle.iiod_session.specs.Run.{Feeds, state_of};
+ghost use Rattle.iiod_session.specs.Session.{IsKept, IsPlain, IsReady, IsWhole, device_by, piece_by, stream_by, target_by, unread_of};
+ghost use Rattle.iiod_session.specs.declared.manner.Going.{Going};
+ghost use Rattle.iiod_session.specs.declared.manner.Manner.{Manner};
+ghost use Rattle.iiod_grammar.specs.declared.lines.Ready.{Ready};
+
+use crate::answers::push_refusal;
+use crate::desk::Desk;
+use crate::iio::Iio;
+use crate::leave::leave;
+use crate::manner::{Going, Manner, Performed};
+use crate::perform::{perform, perform_written};
+use iio_base::Mem;
+use iio_text::Errno;
+use iiod_grammar::{Command, Lines, MAX_PAYLOAD, Ready, Refused, cut_anywhere, read_line};
+use std::alloc::Global;
+
+// The answer to the end of a connection: none to EXIT, and the error of a broken limit.
+fn push_end(out: &mut Vec<u8>, error: Option<Errno>) -> Result<(), Mem>
+    ensures { OnOk result (out.new.items ≡ out.old.items ++ text_of (end_reply error)) }
+{
+    match error {
+        None => Ok(()),
+        Some(errno) => push_refusal(out, errno),
+    }
+}
+
+// The end of a connection.
+fn end<I: Iio>(
+    desk: &mut Desk<I::Seat>,
+    iio: &mut I,
+    error: Option<Errno>,
+    out: &mut Vec<u8>,
+) -> Result<Going, Mem>
+    requires desk { IsDesk I.seen (I.front iio.old) desk.old }
+    ensures front { I.front iio.new ≡ I.front iio.old }
+    ensures desk { IsDesk I.seen (I.front iio.new) desk.new }
+    ensures ended { IfOk result (λ going. going ≡ Going.Ended) }
+    ensures feeds { (manner : Manner) → IfOk result (λ going. Feeds manner (I.front iio.old) (state_of I.seen (I.told iio.old) desk.old)
+        (ended_by error) out.old.items out.new.items (state_of I.seen (I.told iio.new) desk.new) (no_item AtEnd) going) }
+{
+    push_end(out, error)?;
+    leave(desk, iio);
+    Ok(Going::Ended)
+}
+
+// A line that says neither EXIT nor WRITE.
+fn hear_said<I: Iio>(
+    alloc: Global,
+    manner: Manner,
+    desk: &mut Desk<I::Seat>,
+    iio: &mut I,
+    said: Result<Command<'_>, Refused>,
+    out: &mut Vec<u8>,
+) -> Result<Going, Mem>
+    requires desk { IsDesk I.seen (I.front iio.old) desk.old }
+    ensures front { I.front iio.new ≡ I.front iio.old }
+    ensures desk { IsDesk I.seen (I.front iio.new) desk.new }
+    ensures ready { (lines : LinesRecord) → lines ≡ after_piece lines.piece
+        → command_of lines.piece ≡ line_view said.entry → IsPlain (line_view said.entry) → IfOk result (λ going. IsReady going lines) }
+    ensures feeds { (lines : LinesRecord) (write_line : List ℕ) → lines ≡ after_piece lines.piece
+        → command_of lines.piece ≡ line_view said.entry → IsPlain (line_view said.entry)
+        → IfOk result (λ going. Feeds manner (I.front iio.old) (state_of I.seen (I.told iio.old) desk.old)
+        (after_line lines.piece) out.old.items out.new.items (state_of I.seen (I.told iio.new) desk.new)
+        (stream_by going lines write_line) going) }
+{
+    match perform(alloc, manner, desk, iio, said, out)? {
+        Performed::Done => Ok(Going::On),
+        Performed::Waits(dev) => Ok(Going::Waits(dev)),
+    }
+}
+
+// A whole line. The line of a WRITE is kept until its payload has come.
+fn hear_line<I: Iio>(
+    alloc: Global,
+    manner: Manner,
+    desk: &mut Desk<I::Seat>,
+    iio: &mut I,
+    lines: &mut Lines,
+    write_line: &mut Vec<u8>,
+    out: &mut Vec<u8>,
+) -> Result<Going, Mem>
+    requires piece { lines.old ≡ after_piece lines.old.piece }
+    requires desk { IsDesk I.seen (I.front iio.old) desk.old }
+    ensures front { I.front iio.new ≡ I.front iio.old }
+    ensures desk { IsDesk I.seen (I.front iio.new) desk.new }
+    ensures ready { IfOk result (λ going. IsReady going lines.new) }
+    ensures feeds { IfOk result (λ going. Feeds manner (I.front iio.old) (state_of I.seen (I.told iio.old) desk.old)
+        (after_line lines.old.piece) out.old.items out.new.items (state_of I.seen (I.told iio.new) desk.new)
+        (stream_by going lines.new write_line.new.items) going) }
+{
+    match read_line(lines.piece()) {
+        Err(refused) => hear_said(alloc, manner, desk, iio, Err(refused), out),
+        Ok(command) => match command {
+            Command::Exit => end(desk, iio, None, out),
+            Command::Write { count, .. } => {
+                if count > MAX_PAYLOAD {
+                    return end(desk, iio, Some(Errno::EFBIG), out);
+                }
+                write_line.clear();
+                write_line.extend_from_slice(lines.piece())?;
+                lines.want(count);
+                Ok(Going::On)
+            }
+            command => hear_said(alloc, manner, desk, iio, Ok(command), out),
+        },
+    }
+}
+
+// A whole payload, of the WRITE whose line was kept.
+fn hear_payload<I: Iio>(
+    alloc: Global,
+    manner: Manner,
+    desk: &mut Desk<I::Seat>,
+    iio: &mut I,
+    payload: &[u8],
+    write_line: &[u8],
+    out: &mut Vec<u8>,
+) -> Result<Performed, Mem>
+    requires desk { IsDesk I.seen (I.front iio.old) desk.old }
+    ensures front { I.front iio.new ≡ I.front iio.old }
+    ensures desk { IsDesk I.seen (I.front iio.new) desk.new }
+    ensures served { IfOk result (Performs manner (I.front iio.old) (I.told iio.old) (I.told iio.new)
+        (desk_of I.seen desk.old) (tales_of I.seen desk.old.held.items)
+        (Written (device_by (command_of write_line.now)) (target_by (command_of write_line.now)) payload.now)
+        (desk_of I.seen desk.new) (tales_of I.seen desk.new.held.items) out.old.items out.new.items) }
+{
+    match read_line(write_line) {
+        Ok(Command::Write { dev, target, .. }) => {
+            perform_written(alloc, manner, desk, iio, dev, target, payload, out)
+        }
+        _ => perform_written(alloc, manner, desk, iio, b"", None, payload, out),
+    }
+}
+
+// A piece that is whole: a line, the payload of the WRITE before it, or a line that is too long.
+fn hear_piece<I: Iio>(
+    alloc: Global,
+    manner: Manner,
+    desk: &mut Desk<I::Seat>,
+    iio: &mut I,
+    lines: &mut Lines,
+    write_line: &mut Vec<u8>,
+    ready: Ready,
+    out: &mut Vec<u8>,
+) -> Result<Going, Mem>
+    requires whole { IsWhole ready lines.old }
+    requires desk { IsDesk I.seen (I.front iio.old) desk.old }
+    ensures front { I.front iio.new ≡ I.front iio.old }
+    ensures desk { IsDesk I.seen (I.front iio.new) desk.new }
+    ensures ready { IfOk result (λ going. IsReady going lines.new) }
+    ensures payload { ready ≡ Ready.Payload → lines.new ≡ lines.old }
+    ensures feeds { IfOk result (λ going. Feeds manner (I.front iio.old) (state_of I.seen (I.told iio.old) desk.old)
+        (piece_by ready lines.old write_line.old.items) out.old.items out.new.items (state_of I.seen (I.told iio.new) desk.new)
+        (stream_by going lines.new write_line.new.items) going) }
+{
+    match ready {
+        Ready::More => Ok(Going::On),
+        Ready::Line => hear_line(alloc, manner, desk, iio, lines, write_line, out),
+        Ready::Payload => {
+            hear_payload(alloc, manner, desk, iio, lines.piece(), write_line, out)?;
+            Ok(Going::On)
+        }
+        Ready::TooLong => end(desk, iio, Some(Errno::E2BIG), out),
+    }
+}
+
+// Takes the pieces of further bytes one after another, and carries each out.
+fn carry_on<I: Iio>(
+    alloc: Global,
+    manner: Manner,
+    desk: &mut Desk<I::Seat>,
+    iio: &mut I,
+    lines: &mut Lines,
+    write_line: &mut Vec<u8>,
+    bytes: &[u8],
+    out: &mut Vec<u8>,
+) -> Result<(usize, Going), Mem>
+    requires ready { IsReady Going.On lines.old }
+    requires desk { IsDesk I.seen (I.front iio.old) desk.old }
+    ensures front { I.front iio.new ≡ I.front iio.old }
+    ensures desk { IsDesk I.seen (I.front iio.new) desk.new }
+    ensures within { IfOk result (λ r. r.0 ≤ length bytes.now) }
+    ensures ready { IfOk result (λ r. IsReady r.1 lines.new) }
+    ensures feeds { IfOk result (λ r. Feeds manner (I.front iio.old) (state_of I.seen (I.told iio.old) desk.old)
+        (scan_on (stream_by Going.On lines.old write_line.old.items) bytes.now) out.old.items out.new.items (state_of I.seen (I.told iio.new) desk.new)
+        (scan_on (stream_by r.1 lines.new write_line.new.items) (drop r.0 bytes.now)) r.1) }
+    ensures all { IfOk result (λ r. r.1 ≡ Going.On → (r.0 ≡ length bytes.now) × ((stream_by Going.On lines.new write_line.new.items).items ≡ [])) }
+{
+    cut_anywhere();
+    let mut at = 0;
+    loop {
+        let (taken, ready) = lines.feed(&bytes[at..]);
+        at += taken;
+        if let Ready::More = ready {
+            return Ok((at, Going::On));
+        }
+        match hear_piece(alloc, manner, desk, iio, lines, write_line, ready, out)? {
+            Going::On => {}
+            going => return Ok((at, going)),
+        }
+    }
+}
+
+/// Carries out the items that further bytes make whole, first the READBUF that waits, where there is one. Answers how many
+/// of the bytes were looked at, and how the connection stands then.
+pub(crate) fn carry_out<I: Iio>(
+    alloc: Global,
+    manner: Manner,
+    desk: &mut Desk<I::Seat>,
+    iio: &mut I,
+    lines: &mut Lines,
+    write_line: &mut Vec<u8>,
+    going: Going,
+    bytes: &[u8],
+    out: &mut Vec<u8>,
+) -> Result<(usize, Going), Mem>
+    requires ready { IsReady going lines.old }
+    requires desk { IsDesk I.seen (I.front iio.old) desk.old }
+    ensures front { I.front iio.new ≡ I.front iio.old }
+    ensures desk { IsDesk I.seen (I.front iio.new) desk.new }
+    ensures within { IfOk result (λ r. r.0 ≤ length bytes.now) }
+    ensures ready { IfOk result (λ r. IsReady r.1 lines.new) }
+    ensures feeds { IfOk result (λ r. Feeds manner (I.front iio.old) (state_of I.seen (I.told iio.old) desk.old)
+        (scan_on (stream_by going lines.old write_line.old.items) bytes.now) out.old.items out.new.items (state_of I.seen (I.told iio.new) desk.new)
+        (scan_on (stream_by r.1 lines.new write_line.new.items) (drop r.0 bytes.now)) r.1) }
+    ensures all { IfOk result (λ r. r.1 ≡ Going.On → (r.0 ≡ length bytes.now) × ((stream_by Going.On lines.new write_line.new.items).items ≡ [])) }
+{
+    match going {
+        Going::On => carry_on(alloc, manner, desk, iio, lines, write_line, bytes, out),
+        Going::Ended => Ok((0, Going::Ended)),
+        Going::Waits(_) => match hear_line(alloc, manner, desk, iio, lines, write_line, out)? {
+            Going::On => carry_on(alloc, manner, desk, iio, lines, write_line, bytes, out),
+            going => Ok((0, going)),
+        },
+    }
+}
+
+// The bytes that a READBUF keeps waiting.
+fn unread(going: Going, taken: usize, bytes: &[u8]) -> &[u8]
+    requires { taken ≤ length bytes.now }
+    ensures { result.now ≡ unread_of going taken bytes.now }
+{
+    match going {
+        Going::Waits(_) => &bytes[taken..],
+        _ => b"",
+    }
+}
+
+/// The same with the bytes that were kept waiting, and keeps those that wait now.
+pub(crate) fn hear<I: Iio>(
+    alloc: Global,
+    manner: Manner,
+    desk: &mut Desk<I::Seat>,
+    iio: &mut I,
+    lines: &mut Lines,
+    write_line: &mut Vec<u8>,
+    left: &mut Vec<u8>,
+    was: Going,
+    bytes: &[u8],
+    out: &mut Vec<u8>,
+) -> Result<Going, Mem>
+    requires kept { IsKept was lines.old left.old.items }
+    requires desk { IsDesk I.seen (I.front iio.old) desk.old }
+    ensures front { I.front iio.new ≡ I.front iio.old }
+    ensures desk { IsDesk I.seen (I.front iio.new) desk.new }
+    ensures kept { IfOk result (λ going. IsKept going lines.new left.new.items) }
+    ensures feeds { IfOk result (λ going. Feeds manner (I.front iio.old) (state_of I.seen (I.told iio.old) desk.old)
+        (scan_on (scan_on (stream_by was lines.old write_line.old.items) left.old.items) bytes.now) out.old.items out.new.items (state_of I.seen (I.told iio.new) desk.new)
+        (scan_on (stream_by going lines.new write_line.new.items) left.new.items) going) }
+    ensures all { IfOk result (λ going. going ≡ Going.On → (scan_on (stream_by going lines.new write_line.new.items) left.new.items).items ≡ []) }
+{
+    if left.is_empty() {
+        let (taken, going) = carry_out(
+            alloc, manner, desk, iio, lines, write_line, was, bytes, out,
+        )?;
+        left.extend_from_slice(unread(going, taken, bytes))?;
+        return Ok(going);
+    }
+    cut_anywhere();
+    left.extend_from_slice(bytes)?;
+    let (taken, going) = carry_out(alloc, manner, desk, iio, lines, write_line, was, left, out)?;
+    let rest = Vec::from_slice(alloc, unread(going, taken, left))?;
+    *left = rest;
+    Ok(going)
+}

@@ -1,0 +1,31 @@
+//! The sessions of libiio 0.25's iiod: what a connection sends, what it is answered, and what becomes of the devices.
+#![tactic(auto)]
+
+mod answers;
+mod attributes;
+mod buffers;
+mod desk;
+mod events;
+mod feed;
+mod iio;
+mod leave;
+mod limits;
+mod manner;
+mod perform;
+mod plain;
+mod reading;
+mod seats;
+mod session;
+mod targets;
+mod triggers;
+mod wanted;
+
+pub use iio::{Bells, Counts, Iio, No, Took};
+pub use iio_base::Mem;
+pub use limits::{MAX_BYTES, MAX_SCANS};
+pub use manner::{Going, Manner};
+pub use reading::read_scans;
+pub use session::Session;
+
+#[cfg(test)]
+mod tests;

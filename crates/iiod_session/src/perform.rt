@@ -1,0 +1,115 @@
+//! One item of a connection.
+ghost use Rattle.std.specs.Prelude.{◌≡◌, option_map, Ok, IfOk};
+ghost use Rattle.iiod_grammar.specs.Stream.{Said, Written};
+ghost use Rattle.iiod_grammar.specs.View.{command_view, line_view, target_view};
+ghost use Rattle.iiod_session.specs.Desk.{IsDesk, desk_of, tales_of};
+ghost use Rattle.iiod_session.specs.Performs.{Performs};
+ghost use Rattle.iiod_session.specs.declared.manner.Performed.{Performed};
+
+use crate::attributes::{read, write};
+use crate::buffers::{close, open, read_buffer, set_buffers, write_buffer};
+use crate::desk::Desk;
+use crate::events::{ev_close, ev_open, ev_read};
+use crate::iio::Iio;
+use crate::manner::{Manner, Performed};
+use crate::plain::{help, print, refuse, timeout, version};
+use crate::triggers::{get_trigger, set_trigger};
+use iio_base::Mem;
+use iiod_grammar::{Command, Place, Refused};
+use std::alloc::Global;
+
+// The most bytes that an answer by a number alone has. This room is taken first, so that a server can answer want of memory.
+const SHORT_ANSWER: usize = 16;
+
+// A command.
+fn perform_command<I: Iio>(
+    alloc: Global,
+    manner: Manner,
+    desk: &mut Desk<I::Seat>,
+    iio: &mut I,
+    command: Command<'_>,
+    out: &mut Vec<u8>,
+) -> Result<Performed, Mem>
+    requires desk { IsDesk I.seen (I.front iio.old) desk.old }
+    ensures front { I.front iio.new ≡ I.front iio.old }
+    ensures desk { IsDesk I.seen (I.front iio.new) desk.new }
+    ensures served { IfOk result (Performs manner (I.front iio.old) (I.told iio.old) (I.told iio.new)
+        (desk_of I.seen desk.old) (tales_of I.seen desk.old.held.items) (Said (Ok (command_view command.entry)))
+        (desk_of I.seen desk.new) (tales_of I.seen desk.new.held.items) out.old.items out.new.items) }
+{
+    match command {
+        Command::Help => help(manner, out),
+        Command::Exit | Command::Write { .. } => Ok(Performed::Done),
+        Command::Version => version(manner, out),
+        Command::Print => print(manner, iio, out),
+        Command::Timeout { ms } => timeout(manner, ms, out),
+        Command::Open {
+            dev,
+            samples,
+            mask,
+            cyclic,
+        } => open(manner, desk, iio, dev, samples, mask, cyclic, out),
+        Command::Close { dev } => close(manner, desk, iio, dev, out),
+        Command::Read { dev, place, attr } => {
+            read(alloc, manner, desk, iio, dev, place, attr, out)
+        }
+        Command::ReadBuf { dev, bytes } => read_buffer(alloc, manner, desk, iio, dev, bytes, out),
+        Command::WriteBuf { dev, bytes } => write_buffer(manner, desk, iio, dev, bytes, out),
+        Command::GetTrig { dev } => get_trigger(manner, desk, iio, dev, out),
+        Command::SetTrig { dev, trigger } => set_trigger(manner, desk, iio, dev, trigger, out),
+        Command::SetBuffers { dev, count } => set_buffers(manner, desk, iio, dev, count, out),
+        Command::EvOpen { dev } => ev_open(manner, desk, iio, dev, out),
+        Command::EvRead { dev } => ev_read(manner, desk, iio, dev, out),
+        Command::EvClose { dev } => ev_close(manner, desk, iio, dev, out),
+    }
+}
+
+/// What a line says is performed, and answered at the end of `out`. EXIT and WRITE get no answer here: the one ends the
+/// connection, the other is performed with its payload.
+///
+/// A server answers want of memory, as long as there is the room for a short answer; a script ends with `Mem`.
+pub(crate) fn perform<I: Iio>(
+    alloc: Global,
+    manner: Manner,
+    desk: &mut Desk<I::Seat>,
+    iio: &mut I,
+    said: Result<Command<'_>, Refused>,
+    out: &mut Vec<u8>,
+) -> Result<Performed, Mem>
+    requires desk { IsDesk I.seen (I.front iio.old) desk.old }
+    ensures front { I.front iio.new ≡ I.front iio.old }
+    ensures desk { IsDesk I.seen (I.front iio.new) desk.new }
+    ensures served { IfOk result (Performs manner (I.front iio.old) (I.told iio.old) (I.told iio.new)
+        (desk_of I.seen desk.old) (tales_of I.seen desk.old.held.items) (Said (line_view said.entry))
+        (desk_of I.seen desk.new) (tales_of I.seen desk.new.held.items) out.old.items out.new.items) }
+{
+    out.reserve(SHORT_ANSWER)?;
+    match said {
+        Err(why) => refuse(manner, why, out),
+        Ok(command) => perform_command(alloc, manner, desk, iio, command, out),
+    }
+}
+
+/// A WRITE is performed with its payload, and answered at the end of `out`, as by [`perform`].
+pub(crate) fn perform_written<I: Iio>(
+    _alloc: Global,
+    manner: Manner,
+    desk: &mut Desk<I::Seat>,
+    iio: &mut I,
+    device: &[u8],
+    target: Option<(Place<'_>, Option<&[u8]>)>,
+    payload: &[u8],
+    out: &mut Vec<u8>,
+) -> Result<Performed, Mem>
+    requires desk { IsDesk I.seen (I.front iio.old) desk.old }
+    ensures front { I.front iio.new ≡ I.front iio.old }
+    ensures desk { IsDesk I.seen (I.front iio.new) desk.new }
+    ensures done { IfOk result (λ p. p ≡ Performed.Done) }
+    ensures served { IfOk result (Performs manner (I.front iio.old) (I.told iio.old) (I.told iio.new)
+        (desk_of I.seen desk.old) (tales_of I.seen desk.old.held.items)
+        (Written device.now (option_map target_view target.entry) payload.now)
+        (desk_of I.seen desk.new) (tales_of I.seen desk.new.held.items) out.old.items out.new.items) }
+{
+    out.reserve(SHORT_ANSWER)?;
+    write(manner, desk, iio, device, target, payload, out)
+}

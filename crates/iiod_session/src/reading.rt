@@ -1,0 +1,134 @@
+//! Scans taken from a seat.
+ghost use Rattle.std.specs.Prelude.{◌≡◌, ◌+◌, ◌*◌, ◌/◌, ◌≤◌, ◌<◌, ◌^◌, length, vec_capacity, true, ℕ};
+ghost use Rattle.iio_layout.specs.Active.{has_data};
+ghost use Rattle.iio_layout.specs.Layout.{scan_size};
+ghost use Rattle.iio_layout.specs.Shape.{count_of};
+ghost use Rattle.iiod_session.specs.Front.{channel_count, size_at};
+ghost use Rattle.iiod_session.specs.Reading.{ReadEnds, most_scans};
+ghost use Rattle.iiod_session.specs.Seat.{IsOfDevice, IsOwned, MayOpen};
+ghost use Rattle.iiod_session.specs.Taking.{Ends, ReadInto};
+
+use crate::iio::{Iio, Took};
+use iio_base::Mem;
+use iio_layout::{Shape, scan_size};
+use iio_mask::Mask;
+use iiod_reply::block;
+use std::alloc::Global;
+
+// The most bytes that a block has besides its scans: the count, the mask, the closing 0, and an LF after each.
+const BLOCK_FRAME: usize = 10 + 1 + 16 + 1 + 1 + 1;
+
+// The bytes of a scan under a mask with a data channel.
+pub(crate) fn data_scan_size(shape: &Shape, mask: Mask) -> u32
+    requires below { mask.bits < 2 ^ count_of shape.now }
+    requires channel { has_data shape.now mask.bits ≡ true }
+    ensures value { result ≡ scan_size shape.now mask.bits }
+    ensures some { 1 ≤ result }
+{
+    scan_size(shape, mask)
+}
+
+// Takes up to so many scans, one behind the other into `room`. Answers how many bytes they are, and the last take's
+// answer.
+fn take_scans<I: Iio>(
+    iio: &mut I,
+    dev: u32,
+    seat: &mut I::Seat,
+    size: usize,
+    want: usize,
+    room: &mut [u8],
+) -> (usize, Took)
+    requires dev { dev < length (I.front iio.old).devices }
+    requires owned { IsOfDevice (I.front iio.old) dev (I.seen seat.old) }
+    requires size { size ≡ (I.seen seat.old).size }
+    requires room { length room.old ≡ want * size }
+    ensures front { I.front iio.new ≡ I.front iio.old }
+    ensures ends { Ends dev want (I.told iio.old) (I.told iio.new) (I.seen seat.old) (I.seen seat.new) result.0 room.new result.1 }
+    ensures within { result.0 ≤ want * size }
+{
+    let mut end = 0;
+    let mut left = want;
+    while left > 0 {
+        let next = end + size;
+        match iio.take(dev, seat, &mut room[end..next]) {
+            Took::Scan => {}
+            took => return (end, took),
+        }
+        end = next;
+        left -= 1;
+    }
+    (end, Took::Scan)
+}
+
+// The block of up to so many scans, at least one, which are taken into `room`. There is room for it in `out`.
+fn read_into<I: Iio>(
+    iio: &mut I,
+    dev: u32,
+    seat: &mut I::Seat,
+    mask: Mask,
+    size: usize,
+    want: usize,
+    asked: u32,
+    room: &mut [u8],
+    out: &mut Vec<u8>,
+) -> Took
+    requires dev { dev < length (I.front iio.old).devices }
+    requires owned { IsOfDevice (I.front iio.old) dev (I.seen seat.old) }
+    requires size { size ≡ (I.seen seat.old).size }
+    requires some { 1 ≤ size }
+    requires wanted { 1 ≤ want }
+    requires most { want * size ≤ asked }
+    requires below { mask.bits < 2 ^ channel_count (I.front iio.old) dev }
+    requires room { length room.old ≡ want * size }
+    requires space { length out.old.items + (length room.old + BLOCK_FRAME) ≤ vec_capacity out.old }
+    ensures front { I.front iio.new ≡ I.front iio.old }
+    ensures read { ReadInto (channel_count (I.front iio.old) dev) dev want mask.bits asked
+        (I.told iio.old) (I.told iio.new) (I.seen seat.old) (I.seen seat.new) out.old.items out.new.items result }
+{
+    let channels = iio.shape(dev).count();
+    let (end, took) = take_scans(iio, dev, seat, size, want, room);
+    if end == 0 {
+        return took;
+    }
+    let _ = block(mask, channels, &room[..end], asked, out);
+    Took::Scan
+}
+
+/// One READBUF of `asked` bytes at a seat that `open` gave for this mask and capacity: the block of as many scans as are
+/// asked for and wait, as bytes appended to `out`. The room for it is taken first.
+///
+/// `Scan`: at least one scan was taken. `Empty` and `Gone` are the first take's answer, and `out` is unchanged. `Mem`: no
+/// take was made, and `out` is unchanged.
+pub fn read_scans<I: Iio>(
+    alloc: Global,
+    iio: &mut I,
+    dev: u32,
+    seat: &mut I::Seat,
+    mask: Mask,
+    capacity: u32,
+    asked: u32,
+    out: &mut Vec<u8>,
+) -> Result<Took, Mem>
+    requires may_open { MayOpen (I.front iio.old) dev mask.bits capacity }
+    requires owned { IsOwned (I.front iio.old) dev mask.bits capacity (I.seen seat.old) }
+    requires asked { size_at (I.front iio.old) dev mask.bits ≤ asked }
+    ensures front { I.front iio.new ≡ I.front iio.old }
+    ensures ends { ReadEnds (I.front iio.old) dev mask.bits capacity asked
+        (I.told iio.old) (I.told iio.new) (I.seen seat.old) (I.seen seat.new) out.old.items out.new.items result }
+{
+    let size = data_scan_size(iio.shape(dev), mask);
+    let want = (asked / size).min(capacity);
+    let mut room = vec![in alloc; 0; want as usize * size as usize]?;
+    out.reserve(room.len() + BLOCK_FRAME)?;
+    Ok(read_into(
+        iio,
+        dev,
+        seat,
+        mask,
+        size as usize,
+        want as usize,
+        asked,
+        &mut room,
+        out,
+    ))
+}

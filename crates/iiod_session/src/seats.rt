@@ -1,0 +1,196 @@
+//! A connection's seats: OPEN, CLOSE and READBUF, the device's number known.
+ghost use Rattle.std.specs.Prelude.{◌≡◌, ◌==◌, ◌<◌, ◌≤◌, ◌++◌, ℕ, length, IfSome, IfOk, Some, None, is_some, Bool, List};
+ghost use Rattle.std.specs.List.{position};
+ghost use Rattle.iiod_session.specs.Acts.{close_at, joined_at, open_at};
+ghost use Rattle.iiod_session.specs.Desk.{IsDesk, IsHeld, bare_of, buffers_of, desk_of, place_of, seats_of, tale_of, tales_of};
+ghost use Rattle.iiod_session.specs.Performs.{Comes, JoinsBy, LeavesBy, ReadAt, ReadHeld, reply_by};
+ghost use Rattle.iiod_session.specs.Seat.{MayOpen};
+ghost use Rattle.iiod_session.specs.Wanted.{wanted_of_code};
+ghost use Rattle.iiod_session.specs.declared.desk.Held.{Held};
+
+use crate::answers::push_refusal;
+use crate::desk::{BuffersCount, Desk, FIRST_BUFFERS, Held};
+use crate::iio::{Iio, No, Took};
+use crate::reading::{data_scan_size, read_scans};
+use crate::wanted::{Wanted, wanted_by};
+use iio_base::Mem;
+use iio_text::Errno;
+use iiod_reply::number;
+use std::alloc::Global;
+
+// The place of the seat at a device.
+fn find_held<S>(held: &[Held<S>], dev: u32) -> Option<usize>
+    ensures place { result ≡ position (λ (h : Held S). h.dev == dev) held.now }
+    ensures within { IfSome result (λ i. i < length held.now) }
+{
+    held.iter().position(|h| h.dev == dev)
+}
+
+/// The place of the seat at a device, as the seats are seen.
+pub(crate) fn place<I: Iio>(_iio: &I, held: &[Held<I::Seat>], dev: u32) -> Option<usize>
+    ensures place { result ≡ place_of dev (seats_of I.seen held.now) }
+    ensures within { IfSome result (λ i. i < length held.now) }
+{
+    find_held(held, dev)
+}
+
+// How many buffers an OPEN of a device has.
+fn buffers_of(buffers: &[BuffersCount], dev: u32) -> u32
+    ensures { result ≡ buffers_of dev buffers.now }
+{
+    for b in buffers {
+        if b.dev == dev {
+            return b.count;
+        }
+    }
+    FIRST_BUFFERS
+}
+
+// The last part of OPEN: a seat more. The room for it is taken first.
+fn join<I: Iio>(desk: &mut Desk<I::Seat>, iio: &mut I, dev: u32, wanted: Wanted) -> Result<(), No>
+    requires may_open { MayOpen (I.front iio.old) dev wanted.mask.bits wanted.capacity }
+    requires free { place_of dev (seats_of I.seen desk.old.held.items) ≡ None }
+    requires desk { IsDesk I.seen (I.front iio.old) desk.old }
+    ensures front { I.front iio.new ≡ I.front iio.old }
+    ensures desk { IsDesk I.seen (I.front iio.new) desk.new }
+    ensures told { IfSome (I.told iio.old) (λ m. Comes m (desk_of I.seen desk.old)
+        (joined_at (I.front iio.old) m (desk_of I.seen desk.old) dev (wanted_of_code wanted))
+        (reply_by result) (I.told iio.new) (desk_of I.seen desk.new)) }
+    ensures moves { JoinsBy dev (desk_of I.seen desk.old) (tales_of I.seen desk.old.held.items)
+        result (desk_of I.seen desk.new) (tales_of I.seen desk.new.held.items) }
+{
+    if desk.held.reserve(1).is_err() {
+        return Err(No::Mem);
+    }
+    let Wanted { mask, capacity } = wanted;
+    match iio.open(dev, mask, capacity) {
+        Err(no) => Err(no),
+        Ok(seat) => {
+            desk.held.push_reserved(Held {
+                dev,
+                mask,
+                capacity,
+                seat,
+            });
+            Ok(())
+        }
+    }
+}
+
+/// OPEN. It is refused as by [`wanted_by`], then as by [`Iio::open`].
+pub(crate) fn open_at<I: Iio>(
+    desk: &mut Desk<I::Seat>,
+    iio: &mut I,
+    dev: u32,
+    samples: u32,
+    text: &[u8],
+    cyclic: bool,
+) -> Result<(), No>
+    requires dev { dev < length (I.front iio.old).devices }
+    requires desk { IsDesk I.seen (I.front iio.old) desk.old }
+    ensures front { I.front iio.new ≡ I.front iio.old }
+    ensures desk { IsDesk I.seen (I.front iio.new) desk.new }
+    ensures told { IfSome (I.told iio.old) (λ m. Comes m (desk_of I.seen desk.old)
+        (open_at (I.front iio.old) m (desk_of I.seen desk.old) dev samples text.now cyclic)
+        (reply_by result) (I.told iio.new) (desk_of I.seen desk.new)) }
+    ensures moves { JoinsBy dev (desk_of I.seen desk.old) (tales_of I.seen desk.old.held.items)
+        result (desk_of I.seen desk.new) (tales_of I.seen desk.new.held.items) }
+{
+    let is_open = place(iio, &desk.held, dev).is_some();
+    let plugged = iio.plugged(dev);
+    let buffers = buffers_of(&desk.buffers, dev);
+    match wanted_by(
+        is_open,
+        plugged,
+        iio.shape(dev),
+        buffers,
+        samples,
+        text,
+        cyclic,
+    ) {
+        Err(errno) => Err(No::Errno(errno)),
+        Ok(wanted) => join(desk, iio, dev, wanted),
+    }
+}
+
+/// CLOSE. `EBADF` comes where the connection has no seat at the device.
+pub(crate) fn close_at<I: Iio>(desk: &mut Desk<I::Seat>, iio: &mut I, dev: u32) -> Result<(), No>
+    requires desk { IsDesk I.seen (I.front iio.old) desk.old }
+    ensures front { I.front iio.new ≡ I.front iio.old }
+    ensures desk { IsDesk I.seen (I.front iio.new) desk.new }
+    ensures told { IfSome (I.told iio.old) (λ m. Comes m (desk_of I.seen desk.old)
+        (close_at m (desk_of I.seen desk.old) (place_of dev (seats_of I.seen desk.old.held.items)))
+        (reply_by result) (I.told iio.new) (desk_of I.seen desk.new)) }
+    ensures moves { LeavesBy dev (desk_of I.seen desk.old) (tales_of I.seen desk.old.held.items)
+        result (desk_of I.seen desk.new) (tales_of I.seen desk.new.held.items) }
+{
+    match place(iio, &desk.held, dev) {
+        None => Err(No::Errno(Errno::EBADF)),
+        Some(i) => {
+            let Held {
+                dev: at,
+                mask: _,
+                capacity: _,
+                seat,
+            } = desk.held.remove(i);
+            iio.close(at, seat);
+            Ok(())
+        }
+    }
+}
+
+// READBUF at a seat.
+fn read_held<I: Iio>(
+    alloc: Global,
+    iio: &mut I,
+    h: &mut Held<I::Seat>,
+    asked: u32,
+    out: &mut Vec<u8>,
+) -> Result<Took, Mem>
+    requires { IsHeld I.seen (I.front iio.old) h.old }
+    ensures front { I.front iio.new ≡ I.front iio.old }
+    ensures held { IsHeld I.seen (I.front iio.new) h.new }
+    ensures bare { bare_of I.seen h.new ≡ bare_of I.seen h.old }
+    ensures read { ReadHeld (I.front iio.old) asked (I.told iio.old) (I.told iio.new)
+        (bare_of I.seen h.old) (tale_of I.seen h.old) (tale_of I.seen h.new) out.old.items out.new.items result }
+{
+    if asked < data_scan_size(iio.shape(h.dev), h.mask) {
+        number(0, out)?;
+        return Ok(Took::Scan);
+    }
+    read_scans(
+        alloc,
+        iio,
+        h.dev,
+        &mut h.seat,
+        h.mask,
+        h.capacity,
+        asked,
+        out,
+    )
+}
+
+/// READBUF. `EBADF` is answered where the connection has no seat at the device.
+pub(crate) fn read_at<I: Iio>(
+    alloc: Global,
+    desk: &mut Desk<I::Seat>,
+    iio: &mut I,
+    dev: u32,
+    asked: u32,
+    out: &mut Vec<u8>,
+) -> Result<Took, Mem>
+    requires desk { IsDesk I.seen (I.front iio.old) desk.old }
+    ensures front { I.front iio.new ≡ I.front iio.old }
+    ensures desk { IsDesk I.seen (I.front iio.new) desk.new }
+    ensures same { desk_of I.seen desk.new ≡ desk_of I.seen desk.old }
+    ensures read { ReadAt (I.front iio.old) dev asked (I.told iio.old) (I.told iio.new)
+        (desk_of I.seen desk.old) (tales_of I.seen desk.old.held.items) (tales_of I.seen desk.new.held.items) out.old.items out.new.items result }
+{
+    match place(iio, &desk.held, dev) {
+        None => {
+            push_refusal(out, Errno::EBADF)?;
+            Ok(Took::Scan)
+        }
+        Some(i) => read_held(alloc, iio, &mut desk.held[i], asked, out),
+    }
+}

@@ -1,0 +1,165 @@
+//! A connection: what it sent, what it is answered, and what it has of the devices.
+ghost use Rattle.std.specs.Prelude.{◌≡◌, ◌↔◌, [], IfOk, IfSome, IsTrue, Some};
+ghost use Rattle.iiod_grammar.specs.Scans.{scan_on};
+ghost use Rattle.iiod_grammar.specs.Stream.{AtEnd, no_item};
+ghost use Rattle.iiod_session.specs.Acts.{left_desk, left_machine};
+ghost use Rattle.iiod_session.specs.Desk.{IsDesk, desk_of};
+ghost use Rattle.iiod_session.specs.Run.{FeedTells, Feeds, state_of};
+ghost use Rattle.iiod_session.specs.Session.{IsFresh};
+ghost use Rattle.iiod_session.specs.declared.manner.Going.{Going};
+
+use crate::desk::Desk;
+use crate::feed::hear;
+use crate::iio::Iio;
+use crate::leave::leave;
+use crate::manner::{Going, Manner};
+use iio_base::Mem;
+use iiod_grammar::{Lines, MAX_LINE};
+use std::alloc::Global;
+use std::marker::Model;
+
+/// A connection of libiio 0.25's iiod, over devices that are lent to each call; `S` is the type of its seats there.
+///
+/// It is seen as what it has of the devices and as its stream: the items that are whole and not answered yet, and where the
+/// stream stands after all bytes that came. It can be dropped where a seat can; else [`Session::end`] spends it.
+#[derive(Drop)]
+pub struct Session<S> {
+    manner: Manner,
+    desk: Desk<S>,
+    lines: Lines,
+    // The line of the WRITE whose payload comes.
+    write_line: Vec<u8>,
+    going: Going,
+    // The bytes behind a READBUF that waits.
+    left: Vec<u8>,
+}
+
+impl<S> Model for Session<S> {
+    ghost use Rattle.iiod_grammar.specs.Scans.{scan_on};
+    ghost use Rattle.iiod_session.specs.Session.{IsKept, SessionRecord, stream_by};
+
+    ghost Value = { SessionRecord S };
+
+    ghost view = { λ x. record {
+      manner = x.manner;
+      desk = x.desk;
+      stream = scan_on (stream_by x.going x.lines x.write_line.items) x.left.items;
+    } };
+
+    ghost invariant = { λ x. IsKept x.going x.lines x.left.items };
+}
+
+impl<S> Session<S> {
+    /// Connection number `who`, which has nothing of the devices yet and sent nothing. The number is the one by which the
+    /// devices know whose their events are.
+    pub fn new(alloc: Global, who: u32, manner: Manner) -> Result<Session<S>, Mem>
+        ensures { IfOk result (IsFresh who manner) }
+    {
+        let lines = Lines::new(alloc)?;
+        let write_line = Vec::with_capacity(alloc, MAX_LINE)?;
+        Ok(Session {
+            manner,
+            desk: Desk {
+                who,
+                held: Vec::new(alloc),
+                buffers: Vec::new(alloc),
+                holdings: Vec::new(alloc),
+            },
+            lines,
+            write_line,
+            going: Going::On,
+            left: Vec::new(alloc),
+        })
+    }
+
+    /// Carries out the items that these bytes make whole, one after another, and appends the answer of each to `out`, in
+    /// whatever pieces the stream comes. Answers how the connection stands then.
+    ///
+    /// `Ended` comes with EXIT, which has no answer, with a line that is too long, answered -7, and with a payload that is
+    /// too large, answered -27: all seats are closed and all holdings of events have ended; later bytes mean nothing. In
+    /// manner Server `Waits` comes where a READBUF for at least one scan finds nothing at a device that is plugged: it isn't
+    /// answered, and the next feed tries it again, before further bytes. In manner Script it is answered -11.
+    ///
+    /// After `Mem` the session has ended but for [`Session::drop_all`]. In manner Server it comes only where there is no room
+    /// for a short answer or for bytes that are kept: want of memory in a command is answered -12 and changes nothing.
+    pub fn feed<I: Iio<Seat = S>>(
+        &mut self,
+        alloc: Global,
+        iio: &mut I,
+        bytes: &[u8],
+        out: &mut Vec<u8>,
+    ) -> Result<Going, Mem>
+        requires { IsDesk I.seen (I.front iio.old) self.old.desk }
+        ensures front { I.front iio.new ≡ I.front iio.old }
+        ensures desk { IsDesk I.seen (I.front iio.new) self.new.desk }
+        ensures feeds { IfOk result (Feeds self.old.manner (I.front iio.old) (state_of I.seen (I.told iio.old) self.old.desk)
+            (scan_on self.old.stream bytes.now) out.old.items out.new.items (state_of I.seen (I.told iio.new) self.new.desk) self.new.stream) }
+        ensures all { IfOk result (λ going. going ≡ Going.On → self.new.stream.items ≡ []) }
+        ensures manner { self.new.manner ≡ self.old.manner }
+
+        // In a script, over devices that tell their state, all of it is determined.
+        ensures script { IfOk result (λ going. FeedTells self.old.manner (I.front iio.old) (state_of I.seen (I.told iio.old) self.old.desk)
+            (scan_on self.old.stream bytes.now).items out.old.items out.new.items (state_of I.seen (I.told iio.new) self.new.desk)) }
+    {
+        let was = self.going;
+        self.going = Going::Ended;
+        let going = hear(
+            alloc,
+            self.manner,
+            &mut self.desk,
+            iio,
+            &mut self.lines,
+            &mut self.write_line,
+            &mut self.left,
+            was,
+            bytes,
+            out,
+        )?;
+        self.going = going;
+        Ok(going)
+    }
+
+    /// Closes every seat and ends every holding of events: the connection is lost.
+    pub fn drop_all<I: Iio<Seat = S>>(&mut self, iio: &mut I)
+        requires { IsDesk I.seen (I.front iio.old) self.old.desk }
+        ensures front { I.front iio.new ≡ I.front iio.old }
+        ensures desk { IsDesk I.seen (I.front iio.new) self.new.desk }
+        ensures left { desk_of I.seen self.new.desk ≡ left_desk (desk_of I.seen self.old.desk) }
+        ensures told { IfSome (I.told iio.old) (λ m. I.told iio.new ≡ Some (left_machine m (desk_of I.seen self.old.desk))) }
+        ensures stream { self.new.stream ≡ self.old.stream }
+        ensures manner { self.new.manner ≡ self.old.manner }
+    {
+        leave(&mut self.desk, iio);
+    }
+
+    /// The same, and spends the session.
+    pub fn end<I: Iio<Seat = S>>(self, iio: &mut I)
+        requires { IsDesk I.seen (I.front iio.old) self.desk }
+        ensures front { I.front iio.new ≡ I.front iio.old }
+        ensures told { IfSome (I.told iio.old) (λ m. I.told iio.new ≡ Some (left_machine m (desk_of I.seen self.desk))) }
+    {
+        let Session {
+            manner: _,
+            mut desk,
+            lines: _,
+            write_line: _,
+            going: _,
+            left: _,
+        } = self;
+        leave(&mut desk, iio);
+        let Desk {
+            who: _,
+            held,
+            buffers: _,
+            holdings: _,
+        } = desk;
+        held.destroy_empty();
+    }
+
+    /// Whether it has ended by EXIT or by a broken limit.
+    pub fn ended(&self) -> bool
+        ensures { IsTrue result ↔ (self.now.stream ≡ no_item AtEnd) }
+    {
+        matches!(self.going, Going::Ended)
+    }
+}

@@ -1,0 +1,80 @@
+//! What an OPEN asks for.
+ghost use Rattle.std.specs.Prelude.{◌≡◌, ◌<◌, ◌≤◌, ◌^◌, ℕ, true, IfOk, Ok, false, length};
+ghost use Rattle.iio_base.specs.Refusals.{ensure};
+ghost use Rattle.iio_layout.specs.Active.{has_data};
+ghost use Rattle.iiod_session.specs.Wanted.{wanted_view};
+ghost use Rattle.iiod_session.specs.Desk.{wanted_of};
+ghost use Rattle.iiod_session.specs.Front.{Front, shape_at};
+ghost use Rattle.iiod_session.specs.Opening.{is_excess};
+ghost use Rattle.iiod_session.specs.Seat.{MayOpen};
+
+use crate::limits::{MAX_BYTES, MAX_SCANS};
+use iio_layout::{Shape, scan_size};
+use iio_mask::Mask;
+use iio_text::Errno;
+
+/// A mask, and how many scans the queue is to hold.
+#[derive(Clone, Copy, Debug, PartialEq, Eq)]
+pub(crate) struct Wanted {
+    pub(crate) mask: Mask,
+    pub(crate) capacity: u32,
+}
+
+// Whether a mask has a data channel.
+#[tactic(auto, using(crate::proofs::BlockLaws::has_below_at))]
+fn has_data(shape: &Shape, mask: Mask) -> bool
+    ensures { result ≡ has_data shape.now mask.bits }
+{
+    for c in 0..shape.inputs() {
+        if mask.contains(c) {
+            return true;
+        }
+    }
+    false
+}
+
+// Whether a member can't have a queue of so many scans of that size.
+fn is_excess(capacity: u64, size: u32) -> bool
+    ensures { result ≡ is_excess capacity size }
+{
+    capacity == 0
+        || capacity > u64::from(MAX_SCANS)
+        || capacity * u64::from(size) > u64::from(MAX_BYTES)
+}
+
+// Goes on where the condition holds, and is refused else.
+pub(crate) fn ensure(holds: bool, errno: Errno) -> Result<(), Errno>
+    ensures { result ≡ ensure holds errno }
+{
+    if holds { Ok(()) } else { Err(errno) }
+}
+
+/// The mask and the capacity, which is the samples times the buffers count. Of the refusals the first that applies is the
+/// answer: the device is unplugged, CYCLIC is given, the text is no mask, the mask has no data channel, the capacity is 0
+/// or too large, the connection has the device open.
+#[tactic(auto, unfolding(crate::specs::Desk::wanted_of))]
+pub(crate) fn wanted_by(
+    is_open: bool,
+    plugged: bool,
+    shape: &Shape,
+    buffers: u32,
+    samples: u32,
+    text: &[u8],
+    cyclic: bool,
+) -> Result<Wanted, Errno>
+    ensures value { wanted_view result ≡ wanted_of is_open plugged shape.now buffers samples text.now cyclic }
+    ensures free { IfOk result (λ x. is_open ≡ false) }
+    ensures may_open { (front : Front) (dev : ℕ) → shape.now ≡ shape_at front dev → dev < length front.devices → IfOk result (λ x. MayOpen front dev x.mask.bits x.capacity) }
+{
+    ensure(plugged, Errno::ENODEV)?;
+    ensure(!cyclic, Errno::ENOSYS)?;
+    let mask = Mask::read(text, shape.count()).ok_or(Errno::EINVAL)?;
+    ensure(has_data(shape, mask), Errno::EINVAL)?;
+    let capacity = u64::from(samples) * u64::from(buffers);
+    ensure(!is_excess(capacity, scan_size(shape, mask)), Errno::EINVAL)?;
+    ensure(!is_open, Errno::EBUSY)?;
+    Ok(Wanted {
+        mask,
+        capacity: capacity as u32,
+    })
+}
