@@ -209,6 +209,24 @@ new_is_desk s m name bytes bench absent = record {
     hold_by k None is = refl
     hold_by k (Some st) is = no_hold (names_of m) name st.site.monitor.holder (every_at (IsStation (names_of m)) m.stations k st bench.stations is).holder absent
 
+-- and one that isn't there has nothing
+pub absent_is_desk : (s : Setup) (m : Told) (name : List ℕ) → IsBench s m → is_in (names_of m) name ≡ false → IsDeskOf m name (new_desk (place_in (names_of m) name))
+absent_is_desk s m name bench absent = record {
+  who = refl;
+  seats = λ k. sym (seat_by k (slice_get m.stations k) refl);
+  apart = tt;
+  buffers = λ k. sym (ap (λ (o : Option User). elim o [ None ↦ first_buffers | Some u ↦ slice_index_or u.buffers k first_buffers ]) (none_named (user_named name (map user_of m.lines)) (sym (named_in m.lines name) ∙ absent)));
+  holdings = λ k own. absurd (true≢false (sym own ∙ hold_by k (slice_get m.stations k) refl));
+}
+  where
+    seat_by : (k : ℕ) (o : Option Station) → slice_get m.stations k ≡ o → seat_in k (Conn name) o ≡ None
+    seat_by k None is = refl
+    seat_by k (Some st) is = ap (option_map (bare_by k)) (no_seat (names_of m) st name st.seats (every_at (IsStation (names_of m)) m.stations k st bench.stations is).seats absent)
+
+    hold_by : (k : ℕ) (o : Option Station) → slice_get m.stations k ≡ o → holds_in (Conn name) o ≡ false
+    hold_by k None is = refl
+    hold_by k (Some st) is = no_hold (names_of m) name st.site.monitor.holder (every_at (IsStation (names_of m)) m.stations k st bench.stations is).holder absent
+
 -- the numbers of connections stay
 bench_stays : (names more : List (List ℕ)) (st : Station) → IsHolderThere names st.site.monitor.holder → bench_by (names ++ more) st ≡ bench_by names st
 bench_stays names more st there = ap (λ (o : Option ℕ). record (bench_by names st) { site = record (site_by names st.site) { monitor = record (monitor_by names st.site.monitor) { holder = o } } }) (by st.site.monitor.holder there)

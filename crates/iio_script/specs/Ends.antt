@@ -1,9 +1,17 @@
 -- How a run ends, and what it has written then. (This project's own.)
 use Rattle.std.specs.Prelude.{◌≡◌, ℕ, ◌≤◌, List, ◌++◌, Option, Some, None, IfNone}
 use Rattle.iio_base.specs.Faults.{Rose}
+use Rattle.iio_history.specs.Script.{Ending}
+use Rattle.iio_history.specs.Script as ending
+use Rattle.iio_history.specs.Outcome.{Outcome}
 use Rattle.iio_script.specs.declared.status.Status.{Status}
 use Rattle.iio_script.specs.declared.status.Status.TheVariants.{Done, Refused, TooLong, ReadFault, WriteFault, Memory}
-use Rattle.iio_script.specs.Outcome.{Outcome}
+
+-- the status of a run that came to that end
+abbrev pub status_of : Ending → Status
+status_of ending.Finished = Done
+status_of (ending.Refused line why) = Refused line why
+status_of ending.TooLong = TooLong
 
 -- the statuses of a run that came to its own end: none for a failed read or write, want of memory, or wrong words
 abbrev pub IsEnd : Status → Type 0
@@ -15,7 +23,7 @@ IsEnd status = ⊥
 -- a run that ended so printed the whole outcome
 pub record Finishes (outcome : Outcome) (status : Status) (before after : List ℕ) : Type 0 where
   pub end : IsEnd status
-  pub ends : status ≡ outcome.status
+  pub ends : status ≡ status_of outcome.ending
   pub printed : after ≡ before ++ outcome.printed
 
 -- a front part of a text was written
@@ -27,7 +35,7 @@ pub record WritesFront (before text : List ℕ) (after : Option (List ℕ)) : Ty
 
 -- the whole text was written, and the status is the outcome's
 pub record WritesWhole (before : List ℕ) (outcome : Outcome) (status : Status) (after : Option (List ℕ)) : Type 0 where
-  pub ends : status ≡ outcome.status
+  pub ends : status ≡ status_of outcome.ending
   pub written : after ≡ Some (before ++ outcome.printed)
 
 -- what a run writes whose outcome is this one: after a fault, or want of memory, a front part of the printed text, and else
@@ -43,7 +51,7 @@ abbrev pub HasStatus : Outcome → Status → Type 0
 HasStatus outcome ReadFault = Unit {0}
 HasStatus outcome WriteFault = Unit {0}
 HasStatus outcome Memory = Unit {0}
-HasStatus outcome status = status ≡ outcome.status
+HasStatus outcome status = status ≡ status_of outcome.ending
 
 -- what a run shows of its source and its sink by its status, where each is seen by the bytes that it tells and by its count
 -- of faults: a failed read or write is answered only where one came, want of memory only where none did; no count falls,

@@ -1,9 +1,5 @@
 pub mod Status
 pub mod Step
-pub mod Opening
+pub mod Outline
 pub mod Told
-pub mod Outcome
 pub mod Ends
-pub mod Bench
-pub mod View
-pub mod Play

@@ -2,10 +2,11 @@
 
 ghost use Rattle.std.specs.Prelude.{◌≡◌, ◌≤◌, [], None, IfOk, IfSome, IfNone, OnErr};
 ghost use Rattle.iio_base.specs.Faults.{Rose};
+ghost use Rattle.iio_history.specs.Outcome.{Outcome, last_ending, only_ending};
+ghost use Rattle.iio_history.specs.Script.{Refused, ending_text};
 ghost use Rattle.iio_script.specs.Ends.{HasStatus, IsEnd, Finishes, Writes};
-ghost use Rattle.iio_script.specs.Outcome.{Outcome, refused, ended};
 
-use crate::reply::push_digits;
+use crate::digits::push_digits;
 use crate::status::Status;
 use iio_base::Mem;
 use iio_io::{Sink, write_whole};
@@ -14,7 +15,7 @@ use std::alloc::Global;
 
 // `refused LINE WHY`
 fn refused_line(alloc: Global, line: u32, why: Why) -> Result<Vec<u8>, Mem>
-    ensures { IfOk result (λ text. text.items ≡ (refused line why).printed) }
+    ensures { IfOk result (λ text. text.items ≡ ending_text (Refused line why)) }
 {
     let mut text = Vec::new(alloc);
     text.extend_from_slice(b"refused ")?;
@@ -27,7 +28,7 @@ fn refused_line(alloc: Global, line: u32, why: Why) -> Result<Vec<u8>, Mem>
 
 /// The end at a refused line. Where memory runs out, nothing is printed.
 pub fn push_refused(alloc: Global, out: &mut Vec<u8>, line: u32, why: Why) -> Result<Status, Mem>
-    ensures ends { IfOk result (λ status. Finishes (refused line why) status out.old.items out.new.items) }
+    ensures ends { IfOk result (λ status. Finishes (only_ending (Refused line why)) status out.old.items out.new.items) }
     ensures kept { OnErr result (out.new.items ≡ out.old.items) }
 {
     let text = refused_line(alloc, line, why)?;
@@ -37,7 +38,7 @@ pub fn push_refused(alloc: Global, out: &mut Vec<u8>, line: u32, why: Why) -> Re
 
 /// The end after the last line that is looked at. Where memory runs out, nothing is printed.
 pub fn push_end(out: &mut Vec<u8>, overlong: bool) -> Result<Status, Mem>
-    ensures ends { IfOk result (λ status. Finishes (ended overlong) status out.old.items out.new.items) }
+    ensures ends { IfOk result (λ status. Finishes (only_ending (last_ending overlong)) status out.old.items out.new.items) }
     ensures kept { OnErr result (out.new.items ≡ out.old.items) }
 {
     if overlong {

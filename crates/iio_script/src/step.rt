@@ -1,68 +1,131 @@
 //! The lines of a script as steps.
-
-ghost use Rattle.std.specs.Prelude.{◌≡◌, ◌≤◌, length, IfOk, IfErr, IfSome, option_copied, true, Some};
-ghost use Rattle.std.specs.List.{list_any};
-ghost use Rattle.std.specs.Str.{bytes_eq};
-ghost use Rattle.iio_text.specs.Words.{words_of, is_space};
-ghost use Rattle.iio_attr.specs.Name.{is_name};
+ghost use Rattle.std.specs.Prelude.{◌≡◌, ◌<◌, length, option_map, IfOk, IfErr, IfSome, MatchResult, Ok, Err, ℕ, ℤ};
 ghost use Rattle.iio_desc.specs.Description.{Description};
+ghost use Rattle.iio_history.specs.Script.{clock_step, drop_step, feed_step, from_quote, handle_step, has_quote_first, sense_step, step_by, step_of, trigger_step, unplug_step, device_word, moment_word, trigger_word, step_words};
+ghost use Rattle.iio_history.specs.Transcript.{Step as HistoryStep};
+ghost use Rattle.iio_system.specs.Step.{IsValid, step_view};
+ghost use Rattle.iio_script.specs.Step.{form_of, read_view};
 ghost use Rattle.iio_text.specs.LineFault.{Tells};
-ghost use Rattle.iio_script.specs.Play.{IsRight};
-ghost use Rattle.iio_script.specs.Step.{is_step_word, are_lines, from_quote, has_quote_first, feed_step, fire_step, step_of_words, step_of};
+ghost use Rattle.iio_text.specs.Words.{words_of, is_space};
+ghost use Rattle.iiod_grammar.specs.Command.{entry_of};
 
+use crate::step_word::StepWord;
 use iio_attr::Name;
 use iio_desc::Desc;
-use iio_single::{Quoted, Step};
+use iio_system::{Quoted, Step};
 use iio_text::{
-    Blanks, LineFault, Unescape, Why, between_quotes, first_word, next_word, read_int, two_words,
-    unescape,
+    Blanks, LineFault, Unescape, Why, between_quotes, first_word, next_word, one_word, read_int,
+    two_words, unescape,
 };
 use std::alloc::Global;
 
-/// The most bytes of a connection's line before its LF.
-const MAX_LINE_BYTES: usize = 1024;
-
-// Whether a word is one of the words of steps, which are no names of connections.
-fn is_step_word(word: &[u8]) -> bool
-    ensures { result ≡ is_step_word word.now }
+// The number of the trigger of that name.
+fn trigger_word(desc: &Desc, word: &[u8]) -> Result<u32, Why>
+    ensures value { result ≡ trigger_word desc.now word.now }
+    ensures within { IfOk result (λ trigger. trigger < length desc.now.triggers) }
 {
-    word == b"fire".as_slice()
-        || word == b"poll".as_slice()
-        || word == b"handle".as_slice()
-        || word == b"sense".as_slice()
-        || word == b"clock".as_slice()
-        || word == b"drop".as_slice()
-        || word == b"unplug".as_slice()
+    desc.find_trigger(word).ok_or(Why::Trigger)
 }
 
-// Whether bytes are whole lines without a CR, where none of them can be too long.
-#[tactic(auto, using(crate::proofs::ShortLines::are_short_lines))]
-fn are_short_lines(bytes: &[u8]) -> bool
-    requires { length bytes.now ≤ 1024 }
-    ensures { result ≡ are_lines 0 bytes.now }
+// The number of the device of that name.
+fn device_word(desc: &Desc, word: &[u8]) -> Result<u32, Why>
+    ensures value { result ≡ device_word desc.now word.now }
+    ensures within { IfOk result (λ device. device < length desc.now.devices) }
 {
-    let last = bytes.last().copied().unwrap_or(b'\n');
-    last == b'\n' && !bytes.contains(&b'\r')
+    desc.find_device(word).ok_or(Why::Device)
 }
 
-// Whether bytes are whole lines that a connection may send.
-fn are_lines(bytes: &[u8]) -> bool
-    ensures { result ≡ are_lines 0 bytes.now }
+fn moment_word(word: &[u8]) -> Result<i64, Why>
+    ensures { result ≡ moment_word word.now }
 {
-    if bytes.len() <= MAX_LINE_BYTES {
-        return are_short_lines(bytes);
-    }
-    let mut len = 0;
-    for byte in bytes {
-        if *byte == b'\n' {
-            len = 0;
-        } else if *byte == b'\r' || len >= MAX_LINE_BYTES {
-            return false;
-        } else {
-            len += 1;
+    read_int(word).ok_or(Why::Number)
+}
+
+// `TRIGGER T`
+fn trigger_and_moment(desc: &Desc, words: &[u8]) -> Result<(u32, i64), Why>
+    ensures value { (step : ℕ → ℤ → HistoryStep) → MatchResult result
+        (λ r. trigger_step step desc.now (words_of is_space words.now) ≡ Ok (step r.0 r.1))
+        (λ why. trigger_step step desc.now (words_of is_space words.now) ≡ Err why) }
+    ensures within { IfOk result (λ r. r.0 < length desc.now.triggers) }
+{
+    let (trigger, moment) = two_words(words).ok_or(Why::Count)?;
+    let trigger = trigger_word(desc, trigger)?;
+    let moment = moment_word(moment)?;
+    Ok((trigger, moment))
+}
+
+// `TRIGGER DEVICE`
+fn read_handle(desc: &Desc, words: &[u8]) -> Result<Step, Why>
+    ensures value { read_view result ≡ handle_step desc.now (words_of is_space words.now) }
+    ensures valid { IfOk result (IsValid (length desc.now.triggers) (length desc.now.devices)) }
+{
+    let (trigger, device) = two_words(words).ok_or(Why::Count)?;
+    let trigger = trigger_word(desc, trigger)?;
+    let device = device_word(desc, device)?;
+    Ok(Step::Handle(trigger, device))
+}
+
+// `DEVICE T`
+fn read_sense(desc: &Desc, words: &[u8]) -> Result<Step, Why>
+    ensures value { read_view result ≡ sense_step desc.now (words_of is_space words.now) }
+    ensures valid { IfOk result (IsValid (length desc.now.triggers) (length desc.now.devices)) }
+{
+    let (device, moment) = two_words(words).ok_or(Why::Count)?;
+    let device = device_word(desc, device)?;
+    let moment = moment_word(moment)?;
+    Ok(Step::Sense(device, moment))
+}
+
+// `T`
+fn read_clock(words: &[u8]) -> Result<Step, Why>
+    ensures value { (desc : Description) → read_view result ≡ clock_step desc (words_of is_space words.now) }
+    ensures valid { (triggers devices : ℕ) → IfOk result (IsValid triggers devices) }
+{
+    let moment = one_word(words).ok_or(Why::Count)?;
+    let moment = moment_word(moment)?;
+    Ok(Step::Clock(moment))
+}
+
+// `NAME`
+fn read_drop(words: &[u8]) -> Result<Step, Why>
+    ensures value { (desc : Description) → read_view result ≡ drop_step desc (words_of is_space words.now) }
+    ensures valid { (triggers devices : ℕ) → IfOk result (IsValid triggers devices) }
+{
+    let name = one_word(words).ok_or(Why::Count)?;
+    let name = Name::new(name).ok_or(Why::Name)?;
+    Ok(Step::Drop(name))
+}
+
+// `DEVICE`
+fn read_unplug(desc: &Desc, words: &[u8]) -> Result<Step, Why>
+    ensures value { read_view result ≡ unplug_step desc.now (words_of is_space words.now) }
+    ensures valid { IfOk result (IsValid (length desc.now.triggers) (length desc.now.devices)) }
+{
+    let device = one_word(words).ok_or(Why::Count)?;
+    let device = device_word(desc, device)?;
+    Ok(Step::Unplug(device))
+}
+
+// A step by the words after its first one.
+fn read_words(desc: &Desc, word: StepWord, words: &[u8]) -> Result<Step, Why>
+    ensures value { read_view result ≡ form_of word desc.now (words_of is_space words.now) }
+    ensures valid { IfOk result (IsValid (length desc.now.triggers) (length desc.now.devices)) }
+{
+    match word {
+        StepWord::Fire => {
+            let (trigger, moment) = trigger_and_moment(desc, words)?;
+            Ok(Step::Fire(trigger, moment))
         }
+        StepWord::Poll => {
+            let (trigger, moment) = trigger_and_moment(desc, words)?;
+            Ok(Step::Poll(trigger, moment))
+        }
+        StepWord::Handle => read_handle(desc, words),
+        StepWord::Sense => read_sense(desc, words),
+        StepWord::Clock => read_clock(words),
+        StepWord::Drop => read_drop(words),
+        StepWord::Unplug => read_unplug(desc, words),
     }
-    len == 0
 }
 
 // The part of a line from its first quote on.
@@ -87,69 +150,51 @@ fn has_quote_first(words: &[u8]) -> bool
 }
 
 // `NAME "bytes"`
-fn read_feed(alloc: Global, line: &[u8], who: &[u8], words: &[u8]) -> Result<Step, LineFault>
-    requires { is_name who.now ≡ true }
-    ensures ok { IfOk result (λ step. feed_step line.now who.now (words_of is_space words.now) ≡ Ok step) }
-    ensures err { IfErr result (λ e. Tells e (feed_step line.now who.now (words_of is_space words.now))) }
-    ensures right { IfOk result (λ step. (desc : Description) → IsRight desc step) }
+fn read_feed(alloc: Global, line: &[u8], name: &[u8], words: &[u8]) -> Result<Step, LineFault>
+    ensures ok { IfOk result (λ step. feed_step line.now name.now (words_of is_space words.now) ≡ Ok (step_view step)) }
+    ensures err { IfErr result (λ e. Tells e (feed_step line.now name.now (words_of is_space words.now))) }
+    ensures valid { (triggers devices : ℕ) → IfOk result (IsValid triggers devices) }
 {
+    let name = Name::new(name).ok_or(Why::Word)?;
     if !has_quote_first(words) {
         return Err(LineFault::Why(Why::Count));
     }
     let inner = between_quotes(from_quote(line)).ok_or(Why::Text)?;
-    let bytes = match unescape(alloc, inner) {
-        Ok(bytes) => bytes,
-        Err(Unescape::BadEscape(_)) => return Err(LineFault::Why(Why::Text)),
-        Err(Unescape::Mem) => return Err(LineFault::Mem),
-    };
-    if !are_lines(bytes.as_slice()) {
-        return Err(LineFault::Why(Why::Word));
+    match unescape(alloc, inner) {
+        Ok(bytes) => Ok(Step::Feed(name, Quoted::new(bytes))),
+        Err(Unescape::BadEscape(_)) => Err(LineFault::Why(Why::Text)),
+        Err(Unescape::Mem) => Err(LineFault::Mem),
     }
-    let name = Name::new(who).unwrap();
-    Ok(Step::Feed(name, Quoted::new(bytes)))
-}
-
-// `fire TRIGGER T`
-fn read_fire(desc: &Desc, words: &[u8]) -> Result<Step, Why>
-    ensures value { result ≡ fire_step desc.now (words_of is_space words.now) }
-    ensures right { IfOk result (IsRight desc.now) }
-{
-    let (trigger, moment) = two_words(words).ok_or(Why::Count)?;
-    let trigger = desc.find_trigger(trigger).ok_or(Why::Trigger)?;
-    let moment = read_int(moment).ok_or(Why::Number)?;
-    Ok(Step::Fire(trigger, moment))
 }
 
 // A line by its first word, and by the words after it.
-fn read_words(
+fn read_line(
     alloc: Global,
     desc: &Desc,
     line: &[u8],
     word: &[u8],
     words: &[u8],
 ) -> Result<Step, LineFault>
-    ensures ok { IfOk result (λ step. step_of_words desc.now line.now word.now (words_of is_space words.now) ≡ Ok step) }
-    ensures err { IfErr result (λ e. Tells e (step_of_words desc.now line.now word.now (words_of is_space words.now))) }
-    ensures right { IfOk result (IsRight desc.now) }
+    ensures ok { IfOk result (λ step. step_by desc.now line.now word.now (words_of is_space words.now) (entry_of step_words word.now) ≡ Ok (step_view step)) }
+    ensures err { IfErr result (λ e. Tells e (step_by desc.now line.now word.now (words_of is_space words.now) (entry_of step_words word.now))) }
+    ensures valid { IfOk result (IsValid (length desc.now.triggers) (length desc.now.devices)) }
 {
-    if word == b"fire".as_slice() {
-        return Ok(read_fire(desc, words)?);
+    match StepWord::of(word) {
+        None => read_feed(alloc, line, word, words),
+        Some(first) => Ok(read_words(desc, first, words)?),
     }
-    if is_step_word(word) || Name::new(word).is_none() {
-        return Err(LineFault::Why(Why::Word));
-    }
-    read_feed(alloc, line, word, words)
 }
 
 /// The step that a line of a script says, without its LF. `None` comes exactly for a line without a word and for a
-/// comment, whose first byte is `#`, where it isn't too long. An `Err` tells the first check that fails.
+/// comment, whose first byte is `#`, where it isn't too long. An `Err` tells the first check that fails; how many
+/// connections a script may have isn't checked here.
 pub fn read_step(alloc: Global, desc: &Desc, line: &[u8]) -> Result<Option<Step>, LineFault>
-    ensures ok { IfOk result (λ step. step_of desc.now line.now ≡ Ok step) }
+    ensures ok { IfOk result (λ step. step_of desc.now line.now ≡ Ok (option_map step_view step)) }
     ensures err { IfErr result (λ e. Tells e (step_of desc.now line.now)) }
-    ensures right { IfOk result (λ step. IfSome step (IsRight desc.now)) }
+    ensures valid { IfOk result (λ step. IfSome step (IsValid (length desc.now.triggers) (length desc.now.devices))) }
 {
     match first_word(line)? {
         None => Ok(None),
-        Some((word, words)) => Ok(Some(read_words(alloc, desc, line, word, words)?)),
+        Some((word, words)) => Ok(Some(read_line(alloc, desc, line, word, words)?)),
     }
 }

@@ -2,10 +2,10 @@
 use Rattle.std.proofs.Common.{◌≡◌, ℕ, List, [], ◌∷◌, Option, Some, None, IfSome, refl, sym, ap, ◌∙◌, subst, arith, get_or, map, String, string_bytes}
 use Rattle.std.specs.Prelude.{codes}
 use Rattle.iio_base.specs.Faults.{Rose}
+use Rattle.iio_history.specs.Outcome.{Outcome}
 use Rattle.iio_script.specs.declared.status.Status.{Status}
 use Rattle.iio_script.specs.declared.status.Status.TheVariants.{Done, Refused, Usage, ReadFault, WriteFault, Memory, TooLong}
 use Rattle.iio_script.specs.Ends.{Writes}
-use Rattle.iio_script.specs.Outcome.{Outcome}
 use Rattle.iiod_main.specs.Complete.{Completes}
 
 completes : (outcome : Outcome) (before : List ℕ) (status : Status) (after : Option (List ℕ)) (reads reads' writes writes' : ℕ)

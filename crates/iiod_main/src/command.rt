@@ -1,19 +1,22 @@
 //! What the program does for its words.
 
-ghost use Rattle.std.specs.Prelude.{◌≡◌, ℕ, ◌+◌, ◌≤◌, ◌↔◌, List, None, IsNone, IsTrue, IfSome, IfNone};
+ghost use Rattle.std.specs.Prelude.{◌≡◌, ℕ, ◌+◌, ◌^◌, ◌<◌, ◌≤◌, ◌↔◌, List, None, IsNone, IsTrue, IfSome, IfNone, length, map};
 ghost use Rattle.iio_base.specs.Faults.{Rose};
 ghost use Rattle.iio_io.specs.Bytes.{TakesAtMost};
-ghost use Rattle.iio_script.specs.Ends.{HasStatus, ShowsFaults, Writes};
+ghost use Rattle.iio_device.specs.declared.plug.Plug.TheVariants.{Given};
 ghost use Rattle.iio_history.specs.Input.{input_limit};
-ghost use Rattle.iio_script.specs.Outcome.{outcome_of};
+ghost use Rattle.iio_history.specs.Outcome.{outcome_of};
+ghost use Rattle.iio_script.specs.Ends.{HasStatus, ShowsFaults, Writes};
 ghost use Rattle.iiod_main.specs.Blocks.{TakesBlocks};
 ghost use Rattle.iiod_main.specs.Complete.{Completes};
 ghost use Rattle.iiod_main.specs.Layout.{layout_of};
 ghost use Rattle.iiod_main.specs.Usage.{IsPlay, IsLayout, IsOther, IsUsage, PrintsUsage};
 
 use crate::layout::layout;
+use iio_device::Plug;
 use iio_io::{Sink, Source, write_whole};
 use iio_script::{Status, play};
+use iio_sensor::Sensor;
 use std::alloc::Global;
 
 const USAGE: &[u8] = b"usage: play | solo NAME | layout DEVICE MASK | gen N\n";
@@ -55,30 +58,32 @@ fn print_usage<K: Sink>(output: &mut K) -> Status
     }
 }
 
-/// Does what the words after the program's name say. `play` plays the input that the source has left. `layout DEVICE
-/// MASK` reads the description of that input alone, and prints where the channels of the mask stand in a scan of the
-/// device; an unknown device and a wrong mask are refused at line 0. Other words, and none, print the line that names
-/// the commands, and leave the input alone.
+/// Does what the words after the program's name say. `play` plays the input that the source has left, with the drivers
+/// that its description names by their numbers. `layout DEVICE MASK` reads the description of that input alone, and
+/// prints where the channels of the mask stand in a scan of the device; an unknown device and a wrong mask are refused at
+/// line 0. Other words, and none, print the line that names the commands, and leave the input alone.
 pub fn run<S: Source, K: Sink>(
     alloc: Global,
     words: &[String],
+    drivers: Vec<Box<dyn Sensor + Send>>,
     input: &mut S,
     output: &mut K,
 ) -> Status
+    requires { length drivers.items < 2 ^ 32 }
     ensures transcript { IsPlay words.now → IfSome (S.left input.old) (λ left. IfSome (K.written output.old) (λ written.
-        Writes (outcome_of left) written result (K.written output.new))) }
+        Writes (outcome_of (map (λ d. ⟦<Plug as Sensor>⟧.driver (Given d)) drivers.items) left) written result (K.written output.new))) }
     // Where neither count of faults rose, the whole was written, unless memory ran out.
     ensures complete { IsPlay words.now → S.faults input.old ≡ S.faults input.new → K.faults output.old ≡ K.faults output.new →
-        IfSome (S.left input.old) (λ left. IfSome (K.written output.old) (λ written. Completes (outcome_of left) written result (K.written output.new))) }
+        IfSome (S.left input.old) (λ left. IfSome (K.written output.old) (λ written. Completes (outcome_of (map (λ d. ⟦<Plug as Sensor>⟧.driver (Given d)) drivers.items) left) written result (K.written output.new))) }
 
-    ensures status { IsPlay words.now → IfSome (S.left input.old) (λ left. HasStatus (outcome_of left) result) }
+    ensures status { IsPlay words.now → IfSome (S.left input.old) (λ left. HasStatus (outcome_of (map (λ d. ⟦<Plug as Sensor>⟧.driver (Given d)) drivers.items) left) result) }
     ensures taken { IsPlay words.now → IfSome (S.left input.old) (λ left. TakesAtMost left (input_limit + 1) (S.left input.new)) }
 
     ensures layout { (device mask : List ℕ) → IsLayout words.now device mask → IfSome (S.left input.old) (λ left. IfSome (K.written output.old) (λ written.
-        Writes (layout_of left device mask) written result (K.written output.new))) }
+        Writes (layout_of (length drivers.items) left device mask) written result (K.written output.new))) }
     ensures layout_complete { (device mask : List ℕ) → IsLayout words.now device mask → S.faults input.old ≡ S.faults input.new → K.faults output.old ≡ K.faults output.new →
-        IfSome (S.left input.old) (λ left. IfSome (K.written output.old) (λ written. Completes (layout_of left device mask) written result (K.written output.new))) }
-    ensures layout_status { (device mask : List ℕ) → IsLayout words.now device mask → IfSome (S.left input.old) (λ left. HasStatus (layout_of left device mask) result) }
+        IfSome (S.left input.old) (λ left. IfSome (K.written output.old) (λ written. Completes (layout_of (length drivers.items) left device mask) written result (K.written output.new))) }
+    ensures layout_status { (device mask : List ℕ) → IsLayout words.now device mask → IfSome (S.left input.old) (λ left. HasStatus (layout_of (length drivers.items) left device mask) result) }
     ensures layout_taken { (device mask : List ℕ) → IsLayout words.now device mask → IfSome (S.left input.old) (λ left. TakesBlocks left (S.left input.new)) }
     ensures layout_words { (device mask : List ℕ) → IsLayout words.now device mask → result ≡ Status.Usage → ⊥ }
 
@@ -90,10 +95,10 @@ pub fn run<S: Source, K: Sink>(
     ensures words { IsPlay words.now → result ≡ Status.Usage → ⊥ }
 {
     if is_play(words) {
-        return play(alloc, input, output);
+        return play(alloc, input, drivers, output);
     }
     if let Some((device, mask)) = layout_words(words) {
-        return layout(alloc, device, mask, input, output);
+        return layout(alloc, drivers.len() as u32, device, mask, input, output);
     }
     print_usage(output)
 }

@@ -1,7 +1,17 @@
-// The program over sources and sinks in memory. Expected texts by hand.
+//! The program over sources and sinks in memory. Expected texts by hand.
+
+mod commands;
+mod more;
+mod playing;
+mod refused;
+mod rows;
+mod worked;
+
 ghost use Rattle.std.specs.Prelude.{◌≤◌};
 
-use crate::command::run;
+use self::more::MORE;
+use self::playing::{joined, run_words};
+use self::worked::WORKED;
 use iio_io::{MemSink, MemSource, read_whole};
 use iio_script::Status;
 use std::alloc::Global;
@@ -17,7 +27,7 @@ const FIRST_PATH_PRINTED: &[u8] =
     b"A \"0\\n\"\npoll t0 accepted 1\nhandle t0 adc0 captured\nA \"2\\n00000001\\n\\x10\\x000\\n\"\n";
 
 const OVERRUN: &[u8] =
-    b"trigger t 1\ndevice d t\nchannel voltage0 le:u8/16>>0\nrow 1 65\nrow 2 66\nrow 3 67\nrow 4 68\nrow 5 69\n%%\nfire t 0\nA \"READBUF d 2\\nOPEN d 1 1\\nOPEN e 1 00000001\\nOPEN d 0 00000001\\nOPEN d 1 00000001\\nOPEN d 1 00000001\\nREADBUF d 1\\nREADBUF d 2\\nCLOSE d\\n\\n\"\nfire t 1\nfire t 2\nfire t 3\nfire t 4\nfire t 5\nA \"READBUF d 4\\nREADBUF d 8\\n\"\n";
+    b"trigger t 1\ndevice d t\nchannel voltage0 le:u8/16>>0\nrow 1 65\nrow 2 66\nrow 3 67\nrow 4 68\nrow 5 69\n%%\nfire t 0\nA \"READBUF d 2\\nOPEN d 1 1\\nOPEN e 1 00000001\\nOPEN d 0 00000001\\nOPEN d 1 00000001\\nOPEN d 1 00000001\\nREADBUF d 1\\nREADBUF d 2\\nCLOSE\\n\\n\"\nfire t 1\nfire t 2\nfire t 3\nfire t 4\nfire t 5\nA \"READBUF d 4\\nREADBUF d 8\\n\"\n";
 
 const OVERRUN_PRINTED: &[u8] =
     b"poll t accepted 0\nA \"-9\\n-22\\n-19\\n-22\\n0\\n-16\\n0\\n-11\\n-22\\n\"\npoll t accepted 1\nhandle t d captured\npoll t accepted 1\nhandle t d captured\npoll t accepted 1\nhandle t d captured\npoll t accepted 1\nhandle t d captured\npoll t accepted 1\nhandle t d captured\nA \"4\\n00000001\\nA\\x00B\\x004\\n00000001\\nC\\x00D\\x000\\n\"\n";
@@ -27,9 +37,7 @@ const DEVICE: &[u8] = b"trigger t 1\ndevice d t\nchannel voltage0 le:u8/16>>0\n"
 
 // What the word `play` does with a source and a sink.
 fn played(alloc: Global, input: &mut MemSource, output: &mut MemSink) -> Result<Status, Fail> {
-    let mut words = Vec::new(alloc);
-    words.push(String::from_str(alloc, "play")?)?;
-    Ok(run(alloc, words.as_slice(), input, output))
+    run_words(alloc, &["play"], input, output)
 }
 
 fn source(alloc: Global, text: &[u8], piece: usize, fails: &[u64]) -> Result<MemSource, Fail>
@@ -42,7 +50,7 @@ fn sink(alloc: Global, room: usize, fails: &[u64]) -> Result<MemSink, Fail> {
     Ok(MemSink::new(alloc, room, fails.to_vec(alloc)?)?)
 }
 
-// With enough memory the program doesn't give up.
+// With enough memory the program doesn't give up, whatever a script does.
 #[test]
 fn answers_with_ample_memory(rt: HostRuntime) -> Result<(), Fail> {
     let alloc = rt.alloc();
@@ -54,6 +62,16 @@ fn answers_with_ample_memory(rt: HostRuntime) -> Result<(), Fail> {
     )?;
     assert_ne!(rt; status, Status::Memory);
     assert_eq!(rt; status, Status::Done);
+    for rows in [WORKED, MORE] {
+        for (name, description, script, _) in rows {
+            let text = joined(alloc, &[description, "%%\n", script])?;
+            let mut input = MemSource::new(text, 1000, Vec::new(alloc));
+            let mut output = sink(alloc, 10_000, &[])?;
+            let status = played(alloc, &mut input, &mut output)?;
+            assert_ne!(rt; status, Status::Memory, "{name}");
+            assert_eq!(rt; status, Status::Done, "{name}");
+        }
+    }
     Ok(())
 }
 
@@ -146,12 +164,12 @@ const ANSWERS: &[(&[u8], &[u8])] = &[
     (b"OPEN d 1 0000000g", b"-22\\n"),
     (b"OPEN d 1 1", b"-22\\n"),
     (b"OPEN e 0 1", b"-19\\n"),
-    (b"OPEN d 1 00000001 CYCLIC", b"-22\\n"),
+    (b"OPEN d 1 00000001 CYCLIC", b"-38\\n"),
     (b"READBUF d 2", b"-9\\n"),
     (b"READBUF e 2", b"-19\\n"),
     (b"READBUF d 4294967296", b"-22\\n"),
     (b"READBUF d", b"-22\\n"),
-    (b"CLOSE d", b"-22\\n"),
+    (b"CLOSE d", b"-9\\n"),
 ];
 
 #[test]
@@ -175,11 +193,11 @@ fn commands_are_answered(rt: HostRuntime) -> Result<(), Fail> {
 
 // A connection's line has 1,024 bytes at most.
 #[test]
-fn long_commands_are_refused(rt: HostRuntime) -> Result<(), Fail> {
+fn long_commands_end_the_connection(rt: HostRuntime) -> Result<(), Fail> {
     let alloc = rt.alloc();
-    for (len, printed, status) in [
-        (1024usize, b"A \"-22\\n\"\n".as_slice(), 0u8),
-        (1025, b"refused 5 word\n", 1),
+    for (len, printed) in [
+        (1024usize, b"A \"-22\\n\"\n".as_slice()),
+        (1025, b"A \"-7\\n\"\nA closed\n"),
     ] {
         let mut text = DEVICE.to_vec(alloc)?;
         text.extend_from_slice(b"%%\nA \"")?;
@@ -187,8 +205,8 @@ fn long_commands_are_refused(rt: HostRuntime) -> Result<(), Fail> {
         text.extend_from_slice(b"\\n\"\n")?;
         let mut input = MemSource::new(text, 1000, Vec::new(alloc));
         let mut output = sink(alloc, 1000, &[])?;
-        assert_eq!(rt; played(alloc, &mut input, &mut output)?.code(), status);
-        assert_eq!(rt; output.written(), printed);
+        assert_eq!(rt; played(alloc, &mut input, &mut output)?, Status::Done);
+        assert_eq!(rt; output.written(), printed, "{len}");
     }
     Ok(())
 }
@@ -208,30 +226,32 @@ fn other_words_name_the_commands(rt: HostRuntime) -> Result<(), Fail> {
         "layout d 1 2",
         "Layout d 1",
         "play d 1",
+        "gen",
         "gen 1",
+        "serve a 10",
     ] {
         let mut words = Vec::new(alloc);
         for word in text.split(' ') {
-            words.push(String::from_str(alloc, word)?)?;
+            words.push(word)?;
         }
         let mut input = source(alloc, FIRST_PATH, 1000, &[])?;
         let mut output = sink(alloc, 1000, &[])?;
         assert_eq!(rt;
-            run(alloc, words.as_slice(), &mut input, &mut output),
+            run_words(alloc, words.as_slice(), &mut input, &mut output)?,
             Status::Usage
         );
         assert_eq!(rt; output.written(), USAGE);
         assert_eq!(rt; read_whole(alloc, &mut input, 1000)?.as_slice(), FIRST_PATH);
         let mut full = sink(alloc, 10, &[])?;
         assert_eq!(rt;
-            run(alloc, words.as_slice(), &mut input, &mut full),
+            run_words(alloc, words.as_slice(), &mut input, &mut full)?,
             Status::WriteFault
         );
         assert_eq!(rt; full.written(), &USAGE[..10]);
     }
     let mut output = sink(alloc, 1000, &[])?;
     let mut input = source(alloc, FIRST_PATH, 1000, &[])?;
-    assert_eq!(rt; run(alloc, &[], &mut input, &mut output).code(), 2);
+    assert_eq!(rt; run_words(alloc, &[], &mut input, &mut output)?.code(), 2);
     assert_eq!(rt; output.written(), USAGE);
     Ok(())
 }
@@ -244,11 +264,7 @@ fn laid(
     input: &mut MemSource,
     output: &mut MemSink,
 ) -> Result<Status, Fail> {
-    let mut words = Vec::new(alloc);
-    words.push(String::from_str(alloc, "layout")?)?;
-    words.push(String::from_str(alloc, device)?)?;
-    words.push(String::from_str(alloc, mask)?)?;
-    Ok(run(alloc, words.as_slice(), input, output))
+    run_words(alloc, &["layout", device, mask], input, output)
 }
 
 /// Six lines: a trigger, and a device with three channels and a timestamp.

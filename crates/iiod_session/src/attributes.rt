@@ -49,11 +49,11 @@ enum AttrText {
 // An attribute of the device, or of a channel. The memory for the digits of a stored number is taken after the call, which
 // changes nothing where it gives such a number.
 fn read_device<I: Iio>(alloc: Global, iio: &mut I, dev: u32, target: Named) -> Result<AttrText, No>
-    requires dev { dev < length (I.front iio.old).devices }
-    requires may_read { MayRead (I.front iio.old) dev target.channel target.attribute }
-    ensures front { I.front iio.new ≡ I.front iio.old }
+    requires dev { dev < length (I.front (I.kept iio.old)).devices }
+    requires may_read { MayRead (I.front (I.kept iio.old)) dev target.channel target.attribute }
+    ensures kept { I.kept iio.new ≡ I.kept iio.old }
     ensures told { (desk : DeskRecord) → IfSome (I.told iio.old) (λ m. Comes m desk
-        (read_device_attribute (I.front iio.old) m desk dev (named_of_code target)) (text_by result) (I.told iio.new) desk) }
+        (read_device_attribute (I.front (I.kept iio.old)) m desk dev (named_of_code target)) (text_by result) (I.told iio.new) desk) }
 {
     match iio.read_attr(dev, target.channel, target.attribute) {
         Err(no) => Err(no),
@@ -68,9 +68,9 @@ fn read_device<I: Iio>(alloc: Global, iio: &mut I, dev: u32, target: Named) -> R
 
 // A number of a seat's queue.
 fn buffer_number<I: Iio>(iio: &mut I, h: &mut Held<I::Seat>, attribute: Attr) -> u64
-    requires { IsHeld I.seen (I.front iio.old) h.old }
-    ensures front { I.front iio.new ≡ I.front iio.old }
-    ensures held { IsHeld I.seen (I.front iio.new) h.new }
+    requires { IsHeld I.seen (I.front (I.kept iio.old)) h.old }
+    ensures kept { I.kept iio.new ≡ I.kept iio.old }
+    ensures held { IsHeld I.seen (I.front (I.kept iio.new)) h.new }
     ensures bare { bare_of I.seen h.new ≡ bare_of I.seen h.old }
     ensures tale { tale_of I.seen h.new ≡ tale_of I.seen h.old }
     ensures value { IfSome (I.told iio.old) (λ m. result ≡ buffer_number attribute h.old.capacity
@@ -92,9 +92,9 @@ fn read_buffer<I: Iio>(
     dev: u32,
     attribute: Attr,
 ) -> Result<AttrText, No>
-    requires desk { IsDesk I.seen (I.front iio.old) desk.old }
-    ensures front { I.front iio.new ≡ I.front iio.old }
-    ensures desk { IsDesk I.seen (I.front iio.new) desk.new }
+    requires desk { IsDesk I.seen (I.front (I.kept iio.old)) desk.old }
+    ensures kept { I.kept iio.new ≡ I.kept iio.old }
+    ensures desk { IsDesk I.seen (I.front (I.kept iio.new)) desk.new }
     ensures same { desk_of I.seen desk.new ≡ desk_of I.seen desk.old }
     ensures tales { tales_of I.seen desk.new.held.items ≡ tales_of I.seen desk.old.held.items }
     ensures told { IfSome (I.told iio.old) (λ m. Comes m (desk_of I.seen desk.old)
@@ -116,14 +116,14 @@ fn read_attribute_at<I: Iio>(
     place: Place<'_>,
     name: Option<&[u8]>,
 ) -> Result<AttrText, No>
-    requires dev { dev < length (I.front iio.old).devices }
-    requires desk { IsDesk I.seen (I.front iio.old) desk.old }
-    ensures front { I.front iio.new ≡ I.front iio.old }
-    ensures desk { IsDesk I.seen (I.front iio.new) desk.new }
+    requires dev { dev < length (I.front (I.kept iio.old)).devices }
+    requires desk { IsDesk I.seen (I.front (I.kept iio.old)) desk.old }
+    ensures kept { I.kept iio.new ≡ I.kept iio.old }
+    ensures desk { IsDesk I.seen (I.front (I.kept iio.new)) desk.new }
     ensures same { desk_of I.seen desk.new ≡ desk_of I.seen desk.old }
     ensures tales { tales_of I.seen desk.new.held.items ≡ tales_of I.seen desk.old.held.items }
     ensures told { IfSome (I.told iio.old) (λ m. Comes m (desk_of I.seen desk.old)
-        (read_attribute_at (I.front iio.old) m (desk_of I.seen desk.old) (place_view place.entry) (option_copied name.entry) dev)
+        (read_attribute_at (I.front (I.kept iio.old)) m (desk_of I.seen desk.old) (place_view place.entry) (option_copied name.entry) dev)
         (text_by result) (I.told iio.new) (desk_of I.seen desk.old)) }
 {
     let is_open = seats::place(iio, &desk.held, dev).is_some();
@@ -150,15 +150,15 @@ fn read_attribute<I: Iio>(
     place: Place<'_>,
     name: Option<&[u8]>,
 ) -> Result<AttrText, No>
-    requires desk { IsDesk I.seen (I.front iio.old) desk.old }
-    ensures front { I.front iio.new ≡ I.front iio.old }
-    ensures desk { IsDesk I.seen (I.front iio.new) desk.new }
+    requires desk { IsDesk I.seen (I.front (I.kept iio.old)) desk.old }
+    ensures kept { I.kept iio.new ≡ I.kept iio.old }
+    ensures desk { IsDesk I.seen (I.front (I.kept iio.new)) desk.new }
     ensures same { desk_of I.seen desk.new ≡ desk_of I.seen desk.old }
     ensures tales { tales_of I.seen desk.new.held.items ≡ tales_of I.seen desk.old.held.items }
     ensures told { IfSome (I.told iio.old) (λ m. Comes m (desk_of I.seen desk.old)
         (at_device m (desk_of I.seen desk.old)
-        (read_attribute_at (I.front iio.old) m (desk_of I.seen desk.old) (place_view place.entry) (option_copied name.entry))
-        (find_device (I.front iio.old) device.now))
+        (read_attribute_at (I.front (I.kept iio.old)) m (desk_of I.seen desk.old) (place_view place.entry) (option_copied name.entry))
+        (find_device (I.front (I.kept iio.old)) device.now))
         (text_by result) (I.told iio.new) (desk_of I.seen desk.old)) }
 {
     match iio.find(device) {
@@ -192,10 +192,10 @@ pub(crate) fn read<I: Iio>(
     name: Option<&[u8]>,
     out: &mut Vec<u8>,
 ) -> Result<Performed, Mem>
-    requires desk { IsDesk I.seen (I.front iio.old) desk.old }
-    ensures front { I.front iio.new ≡ I.front iio.old }
-    ensures desk { IsDesk I.seen (I.front iio.new) desk.new }
-    ensures served { IfOk result (Performs manner (I.front iio.old) (I.told iio.old) (I.told iio.new)
+    requires desk { IsDesk I.seen (I.front (I.kept iio.old)) desk.old }
+    ensures kept { I.kept iio.new ≡ I.kept iio.old }
+    ensures desk { IsDesk I.seen (I.front (I.kept iio.new)) desk.new }
+    ensures served { IfOk result (Performs manner (I.front (I.kept iio.old)) (I.told iio.old) (I.told iio.new)
         (desk_of I.seen desk.old) (tales_of I.seen desk.old.held.items)
         (Said (Ok (Read device.now (place_view place.entry) (option_copied name.entry))))
         (desk_of I.seen desk.new) (tales_of I.seen desk.new.held.items) out.old.items out.new.items) }
@@ -217,10 +217,10 @@ fn write_attribute_at<I: Iio>(
     name: Option<&[u8]>,
     payload: &[u8],
 ) -> Result<(), No>
-    requires dev { dev < length (I.front iio.old).devices }
-    ensures front { I.front iio.new ≡ I.front iio.old }
+    requires dev { dev < length (I.front (I.kept iio.old)).devices }
+    ensures kept { I.kept iio.new ≡ I.kept iio.old }
     ensures told { (desk : DeskRecord) → is_open ≡ is_some (place_of dev desk.seats) → IfSome (I.told iio.old) (λ m. Comes m desk
-        (write_attribute_at (I.front iio.old) m desk (place_view place.entry) (option_copied name.entry) payload.now dev)
+        (write_attribute_at (I.front (I.kept iio.old)) m desk (place_view place.entry) (option_copied name.entry) payload.now dev)
         (written_by (length payload.now) result) (I.told iio.new) desk) }
 {
     let plugged = iio.plugged(dev);
@@ -239,11 +239,11 @@ fn write_attribute<I: Iio>(
     name: Option<&[u8]>,
     payload: &[u8],
 ) -> Result<(), No>
-    ensures front { I.front iio.new ≡ I.front iio.old }
+    ensures kept { I.kept iio.new ≡ I.kept iio.old }
     ensures told { IfSome (I.told iio.old) (λ m. Comes m (desk_of I.seen desk.now)
         (at_device m (desk_of I.seen desk.now)
-        (write_attribute_at (I.front iio.old) m (desk_of I.seen desk.now) (place_view place.entry) (option_copied name.entry) payload.now)
-        (find_device (I.front iio.old) device.now))
+        (write_attribute_at (I.front (I.kept iio.old)) m (desk_of I.seen desk.now) (place_view place.entry) (option_copied name.entry) payload.now)
+        (find_device (I.front (I.kept iio.old)) device.now))
         (written_by (length payload.now) result) (I.told iio.new) (desk_of I.seen desk.now)) }
 {
     match iio.find(device) {
@@ -281,9 +281,9 @@ pub(crate) fn write<I: Iio>(
     payload: &[u8],
     out: &mut Vec<u8>,
 ) -> Result<Performed, Mem>
-    ensures front { I.front iio.new ≡ I.front iio.old }
+    ensures kept { I.kept iio.new ≡ I.kept iio.old }
     ensures done { IfOk result (λ p. p ≡ Performed.Done) }
-    ensures served { IfOk result (Performs manner (I.front iio.old) (I.told iio.old) (I.told iio.new)
+    ensures served { IfOk result (Performs manner (I.front (I.kept iio.old)) (I.told iio.old) (I.told iio.new)
         (desk_of I.seen desk.now) (tales_of I.seen desk.now.held.items)
         (Written device.now (option_map target_view target.entry) payload.now)
         (desk_of I.seen desk.now) (tales_of I.seen desk.now.held.items) out.old.items out.new.items) }

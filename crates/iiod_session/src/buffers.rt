@@ -29,10 +29,10 @@ pub(crate) fn open<I: Iio>(
     cyclic: bool,
     out: &mut Vec<u8>,
 ) -> Result<Performed, Mem>
-    requires desk { IsDesk I.seen (I.front iio.old) desk.old }
-    ensures front { I.front iio.new ≡ I.front iio.old }
-    ensures desk { IsDesk I.seen (I.front iio.new) desk.new }
-    ensures served { IfOk result (Performs manner (I.front iio.old) (I.told iio.old) (I.told iio.new)
+    requires desk { IsDesk I.seen (I.front (I.kept iio.old)) desk.old }
+    ensures kept { I.kept iio.new ≡ I.kept iio.old }
+    ensures desk { IsDesk I.seen (I.front (I.kept iio.new)) desk.new }
+    ensures served { IfOk result (Performs manner (I.front (I.kept iio.old)) (I.told iio.old) (I.told iio.new)
         (desk_of I.seen desk.old) (tales_of I.seen desk.old.held.items) (Said (Ok (Open device.now samples text.now cyclic)))
         (desk_of I.seen desk.new) (tales_of I.seen desk.new.held.items) out.old.items out.new.items) }
 {
@@ -53,10 +53,10 @@ pub(crate) fn close<I: Iio>(
     device: &[u8],
     out: &mut Vec<u8>,
 ) -> Result<Performed, Mem>
-    requires desk { IsDesk I.seen (I.front iio.old) desk.old }
-    ensures front { I.front iio.new ≡ I.front iio.old }
-    ensures desk { IsDesk I.seen (I.front iio.new) desk.new }
-    ensures served { IfOk result (Performs manner (I.front iio.old) (I.told iio.old) (I.told iio.new)
+    requires desk { IsDesk I.seen (I.front (I.kept iio.old)) desk.old }
+    ensures kept { I.kept iio.new ≡ I.kept iio.old }
+    ensures desk { IsDesk I.seen (I.front (I.kept iio.new)) desk.new }
+    ensures served { IfOk result (Performs manner (I.front (I.kept iio.old)) (I.told iio.old) (I.told iio.new)
         (desk_of I.seen desk.old) (tales_of I.seen desk.old.held.items) (Said (Ok (Close device.now)))
         (desk_of I.seen desk.new) (tales_of I.seen desk.new.held.items) out.old.items out.new.items) }
 {
@@ -79,10 +79,10 @@ pub(crate) fn read_buffer<I: Iio>(
     asked: u32,
     out: &mut Vec<u8>,
 ) -> Result<Performed, Mem>
-    requires desk { IsDesk I.seen (I.front iio.old) desk.old }
-    ensures front { I.front iio.new ≡ I.front iio.old }
-    ensures desk { IsDesk I.seen (I.front iio.new) desk.new }
-    ensures served { IfOk result (Performs manner (I.front iio.old) (I.told iio.old) (I.told iio.new)
+    requires desk { IsDesk I.seen (I.front (I.kept iio.old)) desk.old }
+    ensures kept { I.kept iio.new ≡ I.kept iio.old }
+    ensures desk { IsDesk I.seen (I.front (I.kept iio.new)) desk.new }
+    ensures served { IfOk result (Performs manner (I.front (I.kept iio.old)) (I.told iio.old) (I.told iio.new)
         (desk_of I.seen desk.old) (tales_of I.seen desk.old.held.items) (Said (Ok (ReadBuf device.now asked)))
         (desk_of I.seen desk.new) (tales_of I.seen desk.new.held.items) out.old.items out.new.items) }
 {
@@ -117,9 +117,9 @@ fn finish_read(
 
 // SET, the device's number known.
 fn set_buffers_at<I: Iio>(desk: &mut Desk<I::Seat>, iio: &I, dev: u32, count: u32) -> Result<(), No>
-    requires dev { dev < length (I.front iio.now).devices }
-    requires desk { IsDesk I.seen (I.front iio.now) desk.old }
-    ensures desk { IsDesk I.seen (I.front iio.now) desk.new }
+    requires dev { dev < length (I.front (I.kept iio.now)).devices }
+    requires desk { IsDesk I.seen (I.front (I.kept iio.now)) desk.old }
+    ensures desk { IsDesk I.seen (I.front (I.kept iio.now)) desk.new }
     ensures told { IfSome (I.told iio.now) (λ m. Comes m (desk_of I.seen desk.old) (set_buffers_at m (desk_of I.seen desk.old) count dev)
         (reply_by result) (I.told iio.now) (desk_of I.seen desk.new)) }
     ensures alters { desk_of I.seen desk.new ≡ desk_by (with_count dev count) (desk_of I.seen desk.old) result }
@@ -155,12 +155,12 @@ fn set_buffers_of<I: Iio>(
     device: &[u8],
     count: u32,
 ) -> Result<(), No>
-    requires desk { IsDesk I.seen (I.front iio.now) desk.old }
-    ensures desk { IsDesk I.seen (I.front iio.now) desk.new }
+    requires desk { IsDesk I.seen (I.front (I.kept iio.now)) desk.old }
+    ensures desk { IsDesk I.seen (I.front (I.kept iio.now)) desk.new }
     ensures told { IfSome (I.told iio.now) (λ m. Comes m (desk_of I.seen desk.old)
-        (at_device m (desk_of I.seen desk.old) (set_buffers_at m (desk_of I.seen desk.old) count) (find_device (I.front iio.now) device.now))
+        (at_device m (desk_of I.seen desk.old) (set_buffers_at m (desk_of I.seen desk.old) count) (find_device (I.front (I.kept iio.now)) device.now))
         (reply_by result) (I.told iio.now) (desk_of I.seen desk.new)) }
-    ensures alters { AltersBy (I.front iio.now) device.now (λ dev. with_count dev count) (desk_of I.seen desk.old) result (desk_of I.seen desk.new) }
+    ensures alters { AltersBy (I.front (I.kept iio.now)) device.now (λ dev. with_count dev count) (desk_of I.seen desk.old) result (desk_of I.seen desk.new) }
     ensures held { desk.new.held ≡ desk.old.held }
 {
     match iio.find(device) {
@@ -178,9 +178,9 @@ pub(crate) fn set_buffers<I: Iio>(
     count: u32,
     out: &mut Vec<u8>,
 ) -> Result<Performed, Mem>
-    requires desk { IsDesk I.seen (I.front iio.now) desk.old }
-    ensures desk { IsDesk I.seen (I.front iio.now) desk.new }
-    ensures served { IfOk result (Performs manner (I.front iio.now) (I.told iio.now) (I.told iio.now)
+    requires desk { IsDesk I.seen (I.front (I.kept iio.now)) desk.old }
+    ensures desk { IsDesk I.seen (I.front (I.kept iio.now)) desk.new }
+    ensures served { IfOk result (Performs manner (I.front (I.kept iio.now)) (I.told iio.now) (I.told iio.now)
         (desk_of I.seen desk.old) (tales_of I.seen desk.old.held.items) (Said (Ok (SetBuffers device.now count)))
         (desk_of I.seen desk.new) (tales_of I.seen desk.new.held.items) out.old.items out.new.items) }
 {
@@ -191,7 +191,7 @@ pub(crate) fn set_buffers<I: Iio>(
 // Why a WRITEBUF is refused: nothing is written to a device.
 fn write_buffer_refusal<I: Iio>(iio: &I, device: &[u8]) -> Errno
     ensures { (desk : DeskRecord) → IfSome (I.told iio.now) (λ m. Comes m desk
-        (at_device m desk (write_buffer_at m desk) (find_device (I.front iio.now) device.now)) (Refusal result) (I.told iio.now) desk) }
+        (at_device m desk (write_buffer_at m desk) (find_device (I.front (I.kept iio.now)) device.now)) (Refusal result) (I.told iio.now) desk) }
 {
     match iio.find(device) {
         None => Errno::ENODEV,
@@ -201,7 +201,7 @@ fn write_buffer_refusal<I: Iio>(iio: &I, device: &[u8]) -> Errno
 
 // The same, the device's number known.
 fn write_buffer_refusal_at<I: Iio>(iio: &I, dev: u32) -> Errno
-    requires { dev < length (I.front iio.now).devices }
+    requires { dev < length (I.front (I.kept iio.now)).devices }
     ensures { (desk : DeskRecord) → IfSome (I.told iio.now) (λ m. Comes m desk (write_buffer_at m desk dev) (Refusal result) (I.told iio.now) desk) }
 {
     if iio.plugged(dev) {
@@ -220,7 +220,7 @@ pub(crate) fn write_buffer<I: Iio>(
     bytes: u32,
     out: &mut Vec<u8>,
 ) -> Result<Performed, Mem>
-    ensures served { IfOk result (Performs manner (I.front iio.now) (I.told iio.now) (I.told iio.now)
+    ensures served { IfOk result (Performs manner (I.front (I.kept iio.now)) (I.told iio.now) (I.told iio.now)
         (desk_of I.seen desk.now) (tales_of I.seen desk.now.held.items) (Said (Ok (WriteBuf device.now bytes)))
         (desk_of I.seen desk.now) (tales_of I.seen desk.now.held.items) out.old.items out.new.items) }
 {

@@ -21,10 +21,10 @@ const EVENT_ROOM: usize = 2 + 1 + 16;
 
 // EVOPEN, the device's number known. The room for the holding is taken first.
 fn ev_open_at<I: Iio>(desk: &mut Desk<I::Seat>, iio: &mut I, dev: u32) -> Result<(), No>
-    requires dev { dev < length (I.front iio.old).devices }
-    requires desk { IsDesk I.seen (I.front iio.old) desk.old }
-    ensures front { I.front iio.new ≡ I.front iio.old }
-    ensures desk { IsDesk I.seen (I.front iio.new) desk.new }
+    requires dev { dev < length (I.front (I.kept iio.old)).devices }
+    requires desk { IsDesk I.seen (I.front (I.kept iio.old)) desk.old }
+    ensures kept { I.kept iio.new ≡ I.kept iio.old }
+    ensures desk { IsDesk I.seen (I.front (I.kept iio.new)) desk.new }
     ensures told { IfSome (I.told iio.old) (λ m. Comes m (desk_of I.seen desk.old) (ev_open_at m (desk_of I.seen desk.old) dev)
         (reply_by result) (I.told iio.new) (desk_of I.seen desk.new)) }
     ensures alters { desk_of I.seen desk.new ≡ desk_by (with_holding dev) (desk_of I.seen desk.old) result }
@@ -44,13 +44,13 @@ fn ev_open_at<I: Iio>(desk: &mut Desk<I::Seat>, iio: &mut I, dev: u32) -> Result
 
 // EVOPEN's answer.
 fn ev_open_of<I: Iio>(desk: &mut Desk<I::Seat>, iio: &mut I, device: &[u8]) -> Result<(), No>
-    requires desk { IsDesk I.seen (I.front iio.old) desk.old }
-    ensures front { I.front iio.new ≡ I.front iio.old }
-    ensures desk { IsDesk I.seen (I.front iio.new) desk.new }
+    requires desk { IsDesk I.seen (I.front (I.kept iio.old)) desk.old }
+    ensures kept { I.kept iio.new ≡ I.kept iio.old }
+    ensures desk { IsDesk I.seen (I.front (I.kept iio.new)) desk.new }
     ensures told { IfSome (I.told iio.old) (λ m. Comes m (desk_of I.seen desk.old)
-        (at_device m (desk_of I.seen desk.old) (ev_open_at m (desk_of I.seen desk.old)) (find_device (I.front iio.old) device.now))
+        (at_device m (desk_of I.seen desk.old) (ev_open_at m (desk_of I.seen desk.old)) (find_device (I.front (I.kept iio.old)) device.now))
         (reply_by result) (I.told iio.new) (desk_of I.seen desk.new)) }
-    ensures alters { AltersBy (I.front iio.old) device.now with_holding (desk_of I.seen desk.old) result (desk_of I.seen desk.new) }
+    ensures alters { AltersBy (I.front (I.kept iio.old)) device.now with_holding (desk_of I.seen desk.old) result (desk_of I.seen desk.new) }
     ensures held { desk.new.held ≡ desk.old.held }
 {
     match iio.find(device) {
@@ -67,10 +67,10 @@ pub(crate) fn ev_open<I: Iio>(
     device: &[u8],
     out: &mut Vec<u8>,
 ) -> Result<Performed, Mem>
-    requires desk { IsDesk I.seen (I.front iio.old) desk.old }
-    ensures front { I.front iio.new ≡ I.front iio.old }
-    ensures desk { IsDesk I.seen (I.front iio.new) desk.new }
-    ensures served { IfOk result (Performs manner (I.front iio.old) (I.told iio.old) (I.told iio.new)
+    requires desk { IsDesk I.seen (I.front (I.kept iio.old)) desk.old }
+    ensures kept { I.kept iio.new ≡ I.kept iio.old }
+    ensures desk { IsDesk I.seen (I.front (I.kept iio.new)) desk.new }
+    ensures served { IfOk result (Performs manner (I.front (I.kept iio.old)) (I.told iio.old) (I.told iio.new)
         (desk_of I.seen desk.old) (tales_of I.seen desk.old.held.items) (Said (Ok (EvOpen device.now)))
         (desk_of I.seen desk.new) (tales_of I.seen desk.new.held.items) out.old.items out.new.items) }
 {
@@ -87,10 +87,10 @@ fn forget_holding(holdings: &mut Vec<u32>, dev: u32)
 
 // EVCLOSE, the device's number known.
 fn ev_close_at<I: Iio>(desk: &mut Desk<I::Seat>, iio: &mut I, dev: u32) -> Result<(), No>
-    requires dev { dev < length (I.front iio.old).devices }
-    requires desk { IsDesk I.seen (I.front iio.old) desk.old }
-    ensures front { I.front iio.new ≡ I.front iio.old }
-    ensures desk { IsDesk I.seen (I.front iio.new) desk.new }
+    requires dev { dev < length (I.front (I.kept iio.old)).devices }
+    requires desk { IsDesk I.seen (I.front (I.kept iio.old)) desk.old }
+    ensures kept { I.kept iio.new ≡ I.kept iio.old }
+    ensures desk { IsDesk I.seen (I.front (I.kept iio.new)) desk.new }
     ensures told { IfSome (I.told iio.old) (λ m. Comes m (desk_of I.seen desk.old) (ev_close_at m (desk_of I.seen desk.old) dev)
         (reply_by result) (I.told iio.new) (desk_of I.seen desk.new)) }
     ensures alters { desk_of I.seen desk.new ≡ desk_by (without_holding dev) (desk_of I.seen desk.old) result }
@@ -110,13 +110,13 @@ fn ev_close_at<I: Iio>(desk: &mut Desk<I::Seat>, iio: &mut I, dev: u32) -> Resul
 
 // EVCLOSE's answer.
 fn ev_close_of<I: Iio>(desk: &mut Desk<I::Seat>, iio: &mut I, device: &[u8]) -> Result<(), No>
-    requires desk { IsDesk I.seen (I.front iio.old) desk.old }
-    ensures front { I.front iio.new ≡ I.front iio.old }
-    ensures desk { IsDesk I.seen (I.front iio.new) desk.new }
+    requires desk { IsDesk I.seen (I.front (I.kept iio.old)) desk.old }
+    ensures kept { I.kept iio.new ≡ I.kept iio.old }
+    ensures desk { IsDesk I.seen (I.front (I.kept iio.new)) desk.new }
     ensures told { IfSome (I.told iio.old) (λ m. Comes m (desk_of I.seen desk.old)
-        (at_device m (desk_of I.seen desk.old) (ev_close_at m (desk_of I.seen desk.old)) (find_device (I.front iio.old) device.now))
+        (at_device m (desk_of I.seen desk.old) (ev_close_at m (desk_of I.seen desk.old)) (find_device (I.front (I.kept iio.old)) device.now))
         (reply_by result) (I.told iio.new) (desk_of I.seen desk.new)) }
-    ensures alters { AltersBy (I.front iio.old) device.now without_holding (desk_of I.seen desk.old) result (desk_of I.seen desk.new) }
+    ensures alters { AltersBy (I.front (I.kept iio.old)) device.now without_holding (desk_of I.seen desk.old) result (desk_of I.seen desk.new) }
     ensures held { desk.new.held ≡ desk.old.held }
 {
     match iio.find(device) {
@@ -133,10 +133,10 @@ pub(crate) fn ev_close<I: Iio>(
     device: &[u8],
     out: &mut Vec<u8>,
 ) -> Result<Performed, Mem>
-    requires desk { IsDesk I.seen (I.front iio.old) desk.old }
-    ensures front { I.front iio.new ≡ I.front iio.old }
-    ensures desk { IsDesk I.seen (I.front iio.new) desk.new }
-    ensures served { IfOk result (Performs manner (I.front iio.old) (I.told iio.old) (I.told iio.new)
+    requires desk { IsDesk I.seen (I.front (I.kept iio.old)) desk.old }
+    ensures kept { I.kept iio.new ≡ I.kept iio.old }
+    ensures desk { IsDesk I.seen (I.front (I.kept iio.new)) desk.new }
+    ensures served { IfOk result (Performs manner (I.front (I.kept iio.old)) (I.told iio.old) (I.told iio.new)
         (desk_of I.seen desk.old) (tales_of I.seen desk.old.held.items) (Said (Ok (EvClose device.now)))
         (desk_of I.seen desk.new) (tales_of I.seen desk.new.held.items) out.old.items out.new.items) }
 {
@@ -150,9 +150,9 @@ fn ev_read_of<I: Iio>(
     iio: &mut I,
     device: &[u8],
 ) -> Result<Option<EventData>, No>
-    ensures front { I.front iio.new ≡ I.front iio.old }
+    ensures kept { I.kept iio.new ≡ I.kept iio.old }
     ensures told { IfSome (I.told iio.old) (λ m. Comes m (desk_of I.seen desk.now)
-        (at_device m (desk_of I.seen desk.now) (ev_read_at m (desk_of I.seen desk.now)) (find_device (I.front iio.old) device.now))
+        (at_device m (desk_of I.seen desk.now) (ev_read_at m (desk_of I.seen desk.now)) (find_device (I.front (I.kept iio.old)) device.now))
         (event_by result) (I.told iio.new) (desk_of I.seen desk.now)) }
 {
     match iio.find(device) {
@@ -185,8 +185,8 @@ pub(crate) fn ev_read<I: Iio>(
     device: &[u8],
     out: &mut Vec<u8>,
 ) -> Result<Performed, Mem>
-    ensures front { I.front iio.new ≡ I.front iio.old }
-    ensures served { IfOk result (Performs manner (I.front iio.old) (I.told iio.old) (I.told iio.new)
+    ensures kept { I.kept iio.new ≡ I.kept iio.old }
+    ensures served { IfOk result (Performs manner (I.front (I.kept iio.old)) (I.told iio.old) (I.told iio.new)
         (desk_of I.seen desk.now) (tales_of I.seen desk.now.held.items) (Said (Ok (EvRead device.now)))
         (desk_of I.seen desk.now) (tales_of I.seen desk.now.held.items) out.old.items out.new.items) }
 {

@@ -43,11 +43,11 @@ fn end<I: Iio>(
     error: Option<Errno>,
     out: &mut Vec<u8>,
 ) -> Result<Going, Mem>
-    requires desk { IsDesk I.seen (I.front iio.old) desk.old }
-    ensures front { I.front iio.new ≡ I.front iio.old }
-    ensures desk { IsDesk I.seen (I.front iio.new) desk.new }
+    requires desk { IsDesk I.seen (I.front (I.kept iio.old)) desk.old }
+    ensures kept { I.kept iio.new ≡ I.kept iio.old }
+    ensures desk { IsDesk I.seen (I.front (I.kept iio.new)) desk.new }
     ensures ended { IfOk result (λ going. going ≡ Going.Ended) }
-    ensures feeds { (manner : Manner) → IfOk result (λ going. Feeds manner (I.front iio.old) (state_of I.seen (I.told iio.old) desk.old)
+    ensures feeds { (manner : Manner) → IfOk result (λ going. Feeds manner (I.front (I.kept iio.old)) (state_of I.seen (I.told iio.old) desk.old)
         (ended_by error) out.old.items out.new.items (state_of I.seen (I.told iio.new) desk.new) (no_item AtEnd) going) }
 {
     push_end(out, error)?;
@@ -64,14 +64,14 @@ fn hear_said<I: Iio>(
     said: Result<Command<'_>, Refused>,
     out: &mut Vec<u8>,
 ) -> Result<Going, Mem>
-    requires desk { IsDesk I.seen (I.front iio.old) desk.old }
-    ensures front { I.front iio.new ≡ I.front iio.old }
-    ensures desk { IsDesk I.seen (I.front iio.new) desk.new }
+    requires desk { IsDesk I.seen (I.front (I.kept iio.old)) desk.old }
+    ensures kept { I.kept iio.new ≡ I.kept iio.old }
+    ensures desk { IsDesk I.seen (I.front (I.kept iio.new)) desk.new }
     ensures ready { (lines : LinesRecord) → lines ≡ after_piece lines.piece
         → command_of lines.piece ≡ line_view said.entry → IsPlain (line_view said.entry) → IfOk result (λ going. IsReady going lines) }
     ensures feeds { (lines : LinesRecord) (write_line : List ℕ) → lines ≡ after_piece lines.piece
         → command_of lines.piece ≡ line_view said.entry → IsPlain (line_view said.entry)
-        → IfOk result (λ going. Feeds manner (I.front iio.old) (state_of I.seen (I.told iio.old) desk.old)
+        → IfOk result (λ going. Feeds manner (I.front (I.kept iio.old)) (state_of I.seen (I.told iio.old) desk.old)
         (after_line lines.piece) out.old.items out.new.items (state_of I.seen (I.told iio.new) desk.new)
         (stream_by going lines write_line) going) }
 {
@@ -92,11 +92,11 @@ fn hear_line<I: Iio>(
     out: &mut Vec<u8>,
 ) -> Result<Going, Mem>
     requires piece { lines.old ≡ after_piece lines.old.piece }
-    requires desk { IsDesk I.seen (I.front iio.old) desk.old }
-    ensures front { I.front iio.new ≡ I.front iio.old }
-    ensures desk { IsDesk I.seen (I.front iio.new) desk.new }
+    requires desk { IsDesk I.seen (I.front (I.kept iio.old)) desk.old }
+    ensures kept { I.kept iio.new ≡ I.kept iio.old }
+    ensures desk { IsDesk I.seen (I.front (I.kept iio.new)) desk.new }
     ensures ready { IfOk result (λ going. IsReady going lines.new) }
-    ensures feeds { IfOk result (λ going. Feeds manner (I.front iio.old) (state_of I.seen (I.told iio.old) desk.old)
+    ensures feeds { IfOk result (λ going. Feeds manner (I.front (I.kept iio.old)) (state_of I.seen (I.told iio.old) desk.old)
         (after_line lines.old.piece) out.old.items out.new.items (state_of I.seen (I.told iio.new) desk.new)
         (stream_by going lines.new write_line.new.items) going) }
 {
@@ -128,10 +128,10 @@ fn hear_payload<I: Iio>(
     write_line: &[u8],
     out: &mut Vec<u8>,
 ) -> Result<Performed, Mem>
-    requires desk { IsDesk I.seen (I.front iio.old) desk.old }
-    ensures front { I.front iio.new ≡ I.front iio.old }
-    ensures desk { IsDesk I.seen (I.front iio.new) desk.new }
-    ensures served { IfOk result (Performs manner (I.front iio.old) (I.told iio.old) (I.told iio.new)
+    requires desk { IsDesk I.seen (I.front (I.kept iio.old)) desk.old }
+    ensures kept { I.kept iio.new ≡ I.kept iio.old }
+    ensures desk { IsDesk I.seen (I.front (I.kept iio.new)) desk.new }
+    ensures served { IfOk result (Performs manner (I.front (I.kept iio.old)) (I.told iio.old) (I.told iio.new)
         (desk_of I.seen desk.old) (tales_of I.seen desk.old.held.items)
         (Written (device_by (command_of write_line.now)) (target_by (command_of write_line.now)) payload.now)
         (desk_of I.seen desk.new) (tales_of I.seen desk.new.held.items) out.old.items out.new.items) }
@@ -156,12 +156,12 @@ fn hear_piece<I: Iio>(
     out: &mut Vec<u8>,
 ) -> Result<Going, Mem>
     requires whole { IsWhole ready lines.old }
-    requires desk { IsDesk I.seen (I.front iio.old) desk.old }
-    ensures front { I.front iio.new ≡ I.front iio.old }
-    ensures desk { IsDesk I.seen (I.front iio.new) desk.new }
+    requires desk { IsDesk I.seen (I.front (I.kept iio.old)) desk.old }
+    ensures kept { I.kept iio.new ≡ I.kept iio.old }
+    ensures desk { IsDesk I.seen (I.front (I.kept iio.new)) desk.new }
     ensures ready { IfOk result (λ going. IsReady going lines.new) }
     ensures payload { ready ≡ Ready.Payload → lines.new ≡ lines.old }
-    ensures feeds { IfOk result (λ going. Feeds manner (I.front iio.old) (state_of I.seen (I.told iio.old) desk.old)
+    ensures feeds { IfOk result (λ going. Feeds manner (I.front (I.kept iio.old)) (state_of I.seen (I.told iio.old) desk.old)
         (piece_by ready lines.old write_line.old.items) out.old.items out.new.items (state_of I.seen (I.told iio.new) desk.new)
         (stream_by going lines.new write_line.new.items) going) }
 {
@@ -188,12 +188,12 @@ fn carry_on<I: Iio>(
     out: &mut Vec<u8>,
 ) -> Result<(usize, Going), Mem>
     requires ready { IsReady Going.On lines.old }
-    requires desk { IsDesk I.seen (I.front iio.old) desk.old }
-    ensures front { I.front iio.new ≡ I.front iio.old }
-    ensures desk { IsDesk I.seen (I.front iio.new) desk.new }
+    requires desk { IsDesk I.seen (I.front (I.kept iio.old)) desk.old }
+    ensures kept { I.kept iio.new ≡ I.kept iio.old }
+    ensures desk { IsDesk I.seen (I.front (I.kept iio.new)) desk.new }
     ensures within { IfOk result (λ r. r.0 ≤ length bytes.now) }
     ensures ready { IfOk result (λ r. IsReady r.1 lines.new) }
-    ensures feeds { IfOk result (λ r. Feeds manner (I.front iio.old) (state_of I.seen (I.told iio.old) desk.old)
+    ensures feeds { IfOk result (λ r. Feeds manner (I.front (I.kept iio.old)) (state_of I.seen (I.told iio.old) desk.old)
         (scan_on (stream_by Going.On lines.old write_line.old.items) bytes.now) out.old.items out.new.items (state_of I.seen (I.told iio.new) desk.new)
         (scan_on (stream_by r.1 lines.new write_line.new.items) (drop r.0 bytes.now)) r.1) }
     ensures all { IfOk result (λ r. r.1 ≡ Going.On → (r.0 ≡ length bytes.now) × ((stream_by Going.On lines.new write_line.new.items).items ≡ [])) }
@@ -227,12 +227,12 @@ pub(crate) fn carry_out<I: Iio>(
     out: &mut Vec<u8>,
 ) -> Result<(usize, Going), Mem>
     requires ready { IsReady going lines.old }
-    requires desk { IsDesk I.seen (I.front iio.old) desk.old }
-    ensures front { I.front iio.new ≡ I.front iio.old }
-    ensures desk { IsDesk I.seen (I.front iio.new) desk.new }
+    requires desk { IsDesk I.seen (I.front (I.kept iio.old)) desk.old }
+    ensures kept { I.kept iio.new ≡ I.kept iio.old }
+    ensures desk { IsDesk I.seen (I.front (I.kept iio.new)) desk.new }
     ensures within { IfOk result (λ r. r.0 ≤ length bytes.now) }
     ensures ready { IfOk result (λ r. IsReady r.1 lines.new) }
-    ensures feeds { IfOk result (λ r. Feeds manner (I.front iio.old) (state_of I.seen (I.told iio.old) desk.old)
+    ensures feeds { IfOk result (λ r. Feeds manner (I.front (I.kept iio.old)) (state_of I.seen (I.told iio.old) desk.old)
         (scan_on (stream_by going lines.old write_line.old.items) bytes.now) out.old.items out.new.items (state_of I.seen (I.told iio.new) desk.new)
         (scan_on (stream_by r.1 lines.new write_line.new.items) (drop r.0 bytes.now)) r.1) }
     ensures all { IfOk result (λ r. r.1 ≡ Going.On → (r.0 ≡ length bytes.now) × ((stream_by Going.On lines.new write_line.new.items).items ≡ [])) }
@@ -271,12 +271,12 @@ pub(crate) fn hear<I: Iio>(
     bytes: &[u8],
     out: &mut Vec<u8>,
 ) -> Result<Going, Mem>
-    requires kept { IsKept was lines.old left.old.items }
-    requires desk { IsDesk I.seen (I.front iio.old) desk.old }
-    ensures front { I.front iio.new ≡ I.front iio.old }
-    ensures desk { IsDesk I.seen (I.front iio.new) desk.new }
-    ensures kept { IfOk result (λ going. IsKept going lines.new left.new.items) }
-    ensures feeds { IfOk result (λ going. Feeds manner (I.front iio.old) (state_of I.seen (I.told iio.old) desk.old)
+    requires ready { IsKept was lines.old left.old.items }
+    requires desk { IsDesk I.seen (I.front (I.kept iio.old)) desk.old }
+    ensures kept { I.kept iio.new ≡ I.kept iio.old }
+    ensures desk { IsDesk I.seen (I.front (I.kept iio.new)) desk.new }
+    ensures ready { IfOk result (λ going. IsKept going lines.new left.new.items) }
+    ensures feeds { IfOk result (λ going. Feeds manner (I.front (I.kept iio.old)) (state_of I.seen (I.told iio.old) desk.old)
         (scan_on (scan_on (stream_by was lines.old write_line.old.items) left.old.items) bytes.now) out.old.items out.new.items (state_of I.seen (I.told iio.new) desk.new)
         (scan_on (stream_by going lines.new write_line.new.items) left.new.items) going) }
     ensures all { IfOk result (λ going. going ≡ Going.On → (scan_on (stream_by going lines.new write_line.new.items) left.new.items).items ≡ []) }

@@ -38,8 +38,9 @@ pub struct Counts {
 
 /// The devices, as one connection uses them. Devices and triggers are known by their numbers, from 0 on.
 ///
-/// What an `Iio` is, is three meanings: `front`, which no call changes; `told`, the state of the devices, where it tells
-/// it; and `seen`, what a seat is by its own value. Where it tells its state each answer is the one of that state.
+/// What an `Iio` is, is three meanings: `kept`, which no call changes, with `front`, what a session looks at of it; `told`,
+/// the state of the devices, where it tells it; and `seen`, what a seat is by its own value. Where it tells its state each
+/// answer is the one of that state.
 pub trait Iio {
     ghost use Rattle.iio_attr.specs.Attributes.{is_writable, row_of};
     ghost use Rattle.iio_text.specs.Fixed.{IsFixed};
@@ -54,7 +55,11 @@ pub trait Iio {
     /// A member of a device, as the connection has it.
     type Seat;
 
-    ghost front: { Self → Front };
+    ghost Kept: { Type 0 };
+
+    ghost kept: { Self → Kept };
+
+    ghost front: { Kept → Front };
 
     ghost told: { Self → Option Machine };
 
@@ -62,48 +67,48 @@ pub trait Iio {
 
     /// The number of the device of that name.
     fn find(&self, device: &[u8]) -> Option<u32>
-        ensures value { result ≡ find_device (front self.now) device.now }
-        ensures within { IfSome result (λ dev. dev < length (front self.now).devices) };
+        ensures value { result ≡ find_device (front (kept self.now)) device.now }
+        ensures within { IfSome result (λ dev. dev < length (front (kept self.now)).devices) };
 
     /// The device's shape.
     fn shape(&self, dev: u32) -> &Shape
-        requires { dev < length (front self.now).devices }
-        ensures { result.now ≡ shape_at (front self.now) dev };
+        requires { dev < length (front (kept self.now)).devices }
+        ensures { result.now ≡ shape_at (front (kept self.now)) dev };
 
     /// Whether the device is plugged.
     fn plugged(&self, dev: u32) -> bool
-        requires { dev < length (front self.now).devices }
+        requires { dev < length (front (kept self.now)).devices }
         ensures { IfSome (told self.now) (λ m. result ≡ is_plugged m dev) };
 
     /// A member more at the device, with a queue for `capacity` scans. `ENODEV` comes where it is unplugged, then `EINVAL`
     /// where it has no trigger, `EINVAL` where no listed mask serves all members, `ENOSPC` where there is no place.
     fn open(&mut self, dev: u32, mask: Mask, capacity: u32) -> Result<Self::Seat, No>
-        requires { MayOpen (front self.old) dev mask.bits capacity }
-        ensures front { front self.new ≡ front self.old }
-        ensures seat { IfOk result (λ s. IsNew (front self.old) dev mask.bits capacity (seen s)) }
-        ensures told { IfSome (told self.old) (λ m. Answers (open_of (front self.old) m dev mask.bits capacity) m (number_by seen result) (told self.new)) };
+        requires { MayOpen (front (kept self.old)) dev mask.bits capacity }
+        ensures kept { kept self.new ≡ kept self.old }
+        ensures seat { IfOk result (λ s. IsNew (front (kept self.old)) dev mask.bits capacity (seen s)) }
+        ensures told { IfSome (told self.old) (λ m. Answers (open_of (front (kept self.old)) m dev mask.bits capacity) m (number_by seen result) (told self.new)) };
 
     /// The member leaves; scans that wait are gone with it.
     fn close(&mut self, dev: u32, seat: Self::Seat)
-        requires dev { dev < length (front self.old).devices }
-        requires owned { IsOfDevice (front self.old) dev (seen seat) }
-        ensures front { front self.new ≡ front self.old }
+        requires dev { dev < length (front (kept self.old)).devices }
+        requires owned { IsOfDevice (front (kept self.old)) dev (seen seat) }
+        ensures kept { kept self.new ≡ kept self.old }
         ensures told { IfSome (told self.old) (λ m. told self.new ≡ Some (closed m dev (seen seat).number)) };
 
     /// Takes the oldest scan that waits into `out`, which has its size.
     fn take(&mut self, dev: u32, seat: &mut Self::Seat, out: &mut [u8]) -> Took
-        requires dev { dev < length (front self.old).devices }
-        requires owned { IsOfDevice (front self.old) dev (seen seat.old) }
+        requires dev { dev < length (front (kept self.old)).devices }
+        requires owned { IsOfDevice (front (kept self.old)) dev (seen seat.old) }
         requires size { length out.old ≡ (seen seat.old).size }
-        ensures front { front self.new ≡ front self.old }
+        ensures kept { kept self.new ≡ kept self.old }
         ensures seat { seen seat.new ≡ record (seen seat.old) { tale = option_map (after_take result out.new) (seen seat.old).tale } }
         ensures told { IfSome (told self.old) (λ m. Takes m dev (seat_id (seen seat.old)) result out.new (told self.new)) };
 
     /// The numbers of the seat's queue.
     fn counts(&mut self, dev: u32, seat: &mut Self::Seat) -> Counts
-        requires dev { dev < length (front self.old).devices }
-        requires owned { IsOfDevice (front self.old) dev (seen seat.old) }
-        ensures front { front self.new ≡ front self.old }
+        requires dev { dev < length (front (kept self.old)).devices }
+        requires owned { IsOfDevice (front (kept self.old)) dev (seen seat.old) }
+        ensures kept { kept self.new ≡ kept self.old }
         ensures seat { seen seat.new ≡ seen seat.old }
         ensures waiting { IfSome (told self.old) (λ m. result.waiting ≡ length (queue_of m dev (seat_id (seen seat.old)))) }
         ensures lost { IfSome (told self.old) (λ m. result.lost ≡ lost_of m dev (seat_id (seen seat.old))) }
@@ -112,10 +117,10 @@ pub trait Iio {
     /// The value of an attribute of the device, or of its input channel of that number. `ENODEV` comes where it is
     /// unplugged; for `raw` then `EBUSY` where it has a member, and `EIO` where the sensor's ask failed.
     fn read_attr(&mut self, dev: u32, channel: Option<u32>, attr: Attr) -> Result<Value, No>
-        requires dev { dev < length (front self.old).devices }
-        requires may_read { MayRead (front self.old) dev channel attr }
-        ensures front { front self.new ≡ front self.old }
-        ensures told { IfSome (told self.old) (λ m. Answers (read_attr_of (front self.old) m dev channel attr) m result (told self.new)) };
+        requires dev { dev < length (front (kept self.old)).devices }
+        requires may_read { MayRead (front (kept self.old)) dev channel attr }
+        ensures kept { kept self.new ≡ kept self.old }
+        ensures told { IfSome (told self.old) (λ m. Answers (read_attr_of (front (kept self.old)) m dev channel attr) m result (told self.new)) };
 
     /// Writes an attribute that can be written, with a value that it takes. `ENODEV` comes where the device is unplugged.
     fn write_attr(
@@ -125,55 +130,55 @@ pub trait Iio {
         attr: Attr,
         value: Fixed,
     ) -> Result<(), No>
-        requires dev { dev < length (front self.old).devices }
-        requires may_write { MayWrite (front self.old) dev channel attr value }
-        ensures front { front self.new ≡ front self.old }
+        requires dev { dev < length (front (kept self.old)).devices }
+        requires may_write { MayWrite (front (kept self.old)) dev channel attr value }
+        ensures kept { kept self.new ≡ kept self.old }
         ensures told { IfSome (told self.old) (λ m. Answers (write_attr_of m dev channel attr value) m result (told self.new)) };
 
     /// The number of the device's trigger.
     fn trigger(&self, dev: u32) -> Option<u32>
-        requires { dev < length (front self.now).devices }
+        requires { dev < length (front (kept self.now)).devices }
         ensures { IfSome (told self.now) (λ m. result ≡ (station_at m dev).site.trigger) };
 
     /// The name of a trigger; empty where none has that number.
     fn trigger_name(&self, trigger: u32) -> &[u8]
-        ensures { result.now ≡ trigger_name (front self.now) trigger };
+        ensures { result.now ≡ trigger_name (front (kept self.now)) trigger };
 
     /// The number of the trigger of that name.
     fn find_trigger(&self, name: &[u8]) -> Option<u32>
-        ensures value { result ≡ find_trigger (front self.now) name.now }
+        ensures value { result ≡ find_trigger (front (kept self.now)) name.now }
         ensures within { IfSome result (λ trigger. trigger < MAX_TRIGGERS) };
 
     /// Gives the device another trigger, or none. `ENODEV` comes where it is unplugged, then `EBUSY` where it has a member.
     fn set_trigger(&mut self, dev: u32, trigger: Option<u32>) -> Result<(), No>
-        requires dev { dev < length (front self.old).devices }
+        requires dev { dev < length (front (kept self.old)).devices }
         requires trigger { IfSome trigger (λ t. t < MAX_TRIGGERS) }
-        ensures front { front self.new ≡ front self.old }
+        ensures kept { kept self.new ≡ kept self.old }
         ensures told { IfSome (told self.old) (λ m. Answers (set_trigger_of m dev trigger) m result (told self.new)) };
 
     /// The context's text.
     fn context(&self) -> &[u8]
-        ensures { result.now ≡ (front self.now).context };
+        ensures { result.now ≡ (front (kept self.now)).context };
 
     /// The device's events go to connection `who` from now on. `ENODEV` comes where it is unplugged, then `EBUSY` where
     /// they go to somebody.
     fn ev_open(&mut self, dev: u32, who: u32) -> Result<(), No>
-        requires dev { dev < length (front self.old).devices }
-        ensures front { front self.new ≡ front self.old }
+        requires dev { dev < length (front (kept self.old)).devices }
+        ensures kept { kept self.new ≡ kept self.old }
         ensures told { IfSome (told self.old) (λ m. Answers (ev_open_of m dev who) m result (told self.new)) };
 
     /// Takes the oldest event. `ENODEV` comes where the device is unplugged, then `EBADF` where its events don't go to
     /// connection `who`.
     fn ev_read(&mut self, dev: u32, who: u32) -> Result<Option<EventData>, No>
-        requires dev { dev < length (front self.old).devices }
-        ensures front { front self.new ≡ front self.old }
+        requires dev { dev < length (front (kept self.old)).devices }
+        ensures kept { kept self.new ≡ kept self.old }
         ensures told { IfSome (told self.old) (λ m. Answers (ev_read_of m dev who) m result (told self.new)) };
 
     /// The device's events go to nobody, and those that wait are gone; also where it is unplugged. `EBADF` comes where they
     /// don't go to connection `who`. It takes no memory.
     fn ev_close(&mut self, dev: u32, who: u32) -> Result<(), No>
-        requires dev { dev < length (front self.old).devices }
-        ensures front { front self.new ≡ front self.old }
+        requires dev { dev < length (front (kept self.old)).devices }
+        ensures kept { kept self.new ≡ kept self.old }
         ensures no_memory { result ≢ Err No.Mem }
         ensures told { IfSome (told self.old) (λ m. Answers (ev_close_of m dev who) m result (told self.new)) };
 }
@@ -182,9 +187,9 @@ pub trait Iio {
 pub trait Bells: Iio {
     /// How often something came for a device's members.
     fn bell(&self, dev: u32) -> u64
-        requires { dev < length (Self.front self.now).devices };
+        requires { dev < length (Self.front (Self.kept self.now)).devices };
 
     /// Waits until the number isn't the one that was seen.
     fn wait(&self, dev: u32, seen: u64)
-        requires { dev < length (Self.front self.now).devices };
+        requires { dev < length (Self.front (Self.kept self.now)).devices };
 }

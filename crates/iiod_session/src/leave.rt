@@ -8,8 +8,8 @@ use crate::iio::Iio;
 
 // Closes each seat, the last one first.
 fn close_all<I: Iio>(held: &mut Vec<Held<I::Seat>>, iio: &mut I)
-    requires { AllHeld I.seen (I.front iio.old) held.old.items }
-    ensures front { I.front iio.new ≡ I.front iio.old }
+    requires { AllHeld I.seen (I.front (I.kept iio.old)) held.old.items }
+    ensures kept { I.kept iio.new ≡ I.kept iio.old }
     ensures none { held.new.items ≡ [] }
     ensures told { IfSome (I.told iio.old) (λ m. I.told iio.new ≡ Some (all_closed m (seats_of I.seen held.old.items))) }
 {
@@ -26,8 +26,8 @@ fn close_all<I: Iio>(held: &mut Vec<Held<I::Seat>>, iio: &mut I)
 
 // Ends each holding, the last one first.
 fn release_all<I: Iio>(holdings: &mut Vec<u32>, iio: &mut I, who: u32)
-    requires { All (λ dev. dev < length (I.front iio.old).devices) holdings.old.items }
-    ensures front { I.front iio.new ≡ I.front iio.old }
+    requires { All (λ dev. dev < length (I.front (I.kept iio.old)).devices) holdings.old.items }
+    ensures kept { I.kept iio.new ≡ I.kept iio.old }
     ensures none { holdings.new.items ≡ [] }
     ensures told { IfSome (I.told iio.old) (λ m. I.told iio.new ≡ Some (all_released m who holdings.old.items)) }
 {
@@ -38,9 +38,9 @@ fn release_all<I: Iio>(holdings: &mut Vec<u32>, iio: &mut I, who: u32)
 
 /// Closes each seat, and ends each holding of events.
 pub(crate) fn leave<I: Iio>(desk: &mut Desk<I::Seat>, iio: &mut I)
-    requires { IsDesk I.seen (I.front iio.old) desk.old }
-    ensures front { I.front iio.new ≡ I.front iio.old }
-    ensures desk { IsDesk I.seen (I.front iio.new) desk.new }
+    requires { IsDesk I.seen (I.front (I.kept iio.old)) desk.old }
+    ensures kept { I.kept iio.new ≡ I.kept iio.old }
+    ensures desk { IsDesk I.seen (I.front (I.kept iio.new)) desk.new }
     ensures none { desk.new.held.items ≡ [] }
     ensures left { desk_of I.seen desk.new ≡ left_desk (desk_of I.seen desk.old) }
     ensures told { IfSome (I.told iio.old) (λ m. I.told iio.new ≡ Some (left_machine m (desk_of I.seen desk.old))) }

@@ -30,10 +30,10 @@ fn perform_command<I: Iio>(
     command: Command<'_>,
     out: &mut Vec<u8>,
 ) -> Result<Performed, Mem>
-    requires desk { IsDesk I.seen (I.front iio.old) desk.old }
-    ensures front { I.front iio.new ≡ I.front iio.old }
-    ensures desk { IsDesk I.seen (I.front iio.new) desk.new }
-    ensures served { IfOk result (Performs manner (I.front iio.old) (I.told iio.old) (I.told iio.new)
+    requires desk { IsDesk I.seen (I.front (I.kept iio.old)) desk.old }
+    ensures kept { I.kept iio.new ≡ I.kept iio.old }
+    ensures desk { IsDesk I.seen (I.front (I.kept iio.new)) desk.new }
+    ensures served { IfOk result (Performs manner (I.front (I.kept iio.old)) (I.told iio.old) (I.told iio.new)
         (desk_of I.seen desk.old) (tales_of I.seen desk.old.held.items) (Said (Ok (command_view command.entry)))
         (desk_of I.seen desk.new) (tales_of I.seen desk.new.held.items) out.old.items out.new.items) }
 {
@@ -76,10 +76,10 @@ pub(crate) fn perform<I: Iio>(
     said: Result<Command<'_>, Refused>,
     out: &mut Vec<u8>,
 ) -> Result<Performed, Mem>
-    requires desk { IsDesk I.seen (I.front iio.old) desk.old }
-    ensures front { I.front iio.new ≡ I.front iio.old }
-    ensures desk { IsDesk I.seen (I.front iio.new) desk.new }
-    ensures served { IfOk result (Performs manner (I.front iio.old) (I.told iio.old) (I.told iio.new)
+    requires desk { IsDesk I.seen (I.front (I.kept iio.old)) desk.old }
+    ensures kept { I.kept iio.new ≡ I.kept iio.old }
+    ensures desk { IsDesk I.seen (I.front (I.kept iio.new)) desk.new }
+    ensures served { IfOk result (Performs manner (I.front (I.kept iio.old)) (I.told iio.old) (I.told iio.new)
         (desk_of I.seen desk.old) (tales_of I.seen desk.old.held.items) (Said (line_view said.entry))
         (desk_of I.seen desk.new) (tales_of I.seen desk.new.held.items) out.old.items out.new.items) }
 {
@@ -101,11 +101,11 @@ pub(crate) fn perform_written<I: Iio>(
     payload: &[u8],
     out: &mut Vec<u8>,
 ) -> Result<Performed, Mem>
-    requires desk { IsDesk I.seen (I.front iio.old) desk.old }
-    ensures front { I.front iio.new ≡ I.front iio.old }
-    ensures desk { IsDesk I.seen (I.front iio.new) desk.new }
+    requires desk { IsDesk I.seen (I.front (I.kept iio.old)) desk.old }
+    ensures kept { I.kept iio.new ≡ I.kept iio.old }
+    ensures desk { IsDesk I.seen (I.front (I.kept iio.new)) desk.new }
     ensures done { IfOk result (λ p. p ≡ Performed.Done) }
-    ensures served { IfOk result (Performs manner (I.front iio.old) (I.told iio.old) (I.told iio.new)
+    ensures served { IfOk result (Performs manner (I.front (I.kept iio.old)) (I.told iio.old) (I.told iio.new)
         (desk_of I.seen desk.old) (tales_of I.seen desk.old.held.items)
         (Written device.now (option_map target_view target.entry) payload.now)
         (desk_of I.seen desk.new) (tales_of I.seen desk.new.held.items) out.old.items out.new.items) }

@@ -31,7 +31,7 @@ pub(crate) fn version(manner: Manner, out: &mut Vec<u8>) -> Result<Performed, Me
 
 /// PRINT.
 pub(crate) fn print<I: Iio>(manner: Manner, iio: &I, out: &mut Vec<u8>) -> Result<Performed, Mem>
-    ensures { IfOk result (Keeps manner (I.front iio.now) (Said (Ok Print)) out.old.items out.new.items) }
+    ensures { IfOk result (Keeps manner (I.front (I.kept iio.now)) (Said (Ok Print)) out.old.items out.new.items) }
 {
     let pushed = value(iio.context(), out);
     finish_push(manner, out, pushed)

@@ -38,11 +38,11 @@ fn take_scans<I: Iio>(
     want: usize,
     room: &mut [u8],
 ) -> (usize, Took)
-    requires dev { dev < length (I.front iio.old).devices }
-    requires owned { IsOfDevice (I.front iio.old) dev (I.seen seat.old) }
+    requires dev { dev < length (I.front (I.kept iio.old)).devices }
+    requires owned { IsOfDevice (I.front (I.kept iio.old)) dev (I.seen seat.old) }
     requires size { size ≡ (I.seen seat.old).size }
     requires room { length room.old ≡ want * size }
-    ensures front { I.front iio.new ≡ I.front iio.old }
+    ensures kept { I.kept iio.new ≡ I.kept iio.old }
     ensures ends { Ends dev want (I.told iio.old) (I.told iio.new) (I.seen seat.old) (I.seen seat.new) result.0 room.new result.1 }
     ensures within { result.0 ≤ want * size }
 {
@@ -72,17 +72,17 @@ fn read_into<I: Iio>(
     room: &mut [u8],
     out: &mut Vec<u8>,
 ) -> Took
-    requires dev { dev < length (I.front iio.old).devices }
-    requires owned { IsOfDevice (I.front iio.old) dev (I.seen seat.old) }
+    requires dev { dev < length (I.front (I.kept iio.old)).devices }
+    requires owned { IsOfDevice (I.front (I.kept iio.old)) dev (I.seen seat.old) }
     requires size { size ≡ (I.seen seat.old).size }
     requires some { 1 ≤ size }
     requires wanted { 1 ≤ want }
     requires most { want * size ≤ asked }
-    requires below { mask.bits < 2 ^ channel_count (I.front iio.old) dev }
+    requires below { mask.bits < 2 ^ channel_count (I.front (I.kept iio.old)) dev }
     requires room { length room.old ≡ want * size }
     requires space { length out.old.items + (length room.old + BLOCK_FRAME) ≤ vec_capacity out.old }
-    ensures front { I.front iio.new ≡ I.front iio.old }
-    ensures read { ReadInto (channel_count (I.front iio.old) dev) dev want mask.bits asked
+    ensures kept { I.kept iio.new ≡ I.kept iio.old }
+    ensures read { ReadInto (channel_count (I.front (I.kept iio.old)) dev) dev want mask.bits asked
         (I.told iio.old) (I.told iio.new) (I.seen seat.old) (I.seen seat.new) out.old.items out.new.items result }
 {
     let channels = iio.shape(dev).count();
@@ -109,11 +109,11 @@ pub fn read_scans<I: Iio>(
     asked: u32,
     out: &mut Vec<u8>,
 ) -> Result<Took, Mem>
-    requires may_open { MayOpen (I.front iio.old) dev mask.bits capacity }
-    requires owned { IsOwned (I.front iio.old) dev mask.bits capacity (I.seen seat.old) }
-    requires asked { size_at (I.front iio.old) dev mask.bits ≤ asked }
-    ensures front { I.front iio.new ≡ I.front iio.old }
-    ensures ends { ReadEnds (I.front iio.old) dev mask.bits capacity asked
+    requires may_open { MayOpen (I.front (I.kept iio.old)) dev mask.bits capacity }
+    requires owned { IsOwned (I.front (I.kept iio.old)) dev mask.bits capacity (I.seen seat.old) }
+    requires asked { size_at (I.front (I.kept iio.old)) dev mask.bits ≤ asked }
+    ensures kept { I.kept iio.new ≡ I.kept iio.old }
+    ensures ends { ReadEnds (I.front (I.kept iio.old)) dev mask.bits capacity asked
         (I.told iio.old) (I.told iio.new) (I.seen seat.old) (I.seen seat.new) out.old.items out.new.items result }
 {
     let size = data_scan_size(iio.shape(dev), mask);

@@ -48,13 +48,13 @@ fn buffers_of(buffers: &[BuffersCount], dev: u32) -> u32
 
 // The last part of OPEN: a seat more. The room for it is taken first.
 fn join<I: Iio>(desk: &mut Desk<I::Seat>, iio: &mut I, dev: u32, wanted: Wanted) -> Result<(), No>
-    requires may_open { MayOpen (I.front iio.old) dev wanted.mask.bits wanted.capacity }
+    requires may_open { MayOpen (I.front (I.kept iio.old)) dev wanted.mask.bits wanted.capacity }
     requires free { place_of dev (seats_of I.seen desk.old.held.items) ≡ None }
-    requires desk { IsDesk I.seen (I.front iio.old) desk.old }
-    ensures front { I.front iio.new ≡ I.front iio.old }
-    ensures desk { IsDesk I.seen (I.front iio.new) desk.new }
+    requires desk { IsDesk I.seen (I.front (I.kept iio.old)) desk.old }
+    ensures kept { I.kept iio.new ≡ I.kept iio.old }
+    ensures desk { IsDesk I.seen (I.front (I.kept iio.new)) desk.new }
     ensures told { IfSome (I.told iio.old) (λ m. Comes m (desk_of I.seen desk.old)
-        (joined_at (I.front iio.old) m (desk_of I.seen desk.old) dev (wanted_of_code wanted))
+        (joined_at (I.front (I.kept iio.old)) m (desk_of I.seen desk.old) dev (wanted_of_code wanted))
         (reply_by result) (I.told iio.new) (desk_of I.seen desk.new)) }
     ensures moves { JoinsBy dev (desk_of I.seen desk.old) (tales_of I.seen desk.old.held.items)
         result (desk_of I.seen desk.new) (tales_of I.seen desk.new.held.items) }
@@ -86,12 +86,12 @@ pub(crate) fn open_at<I: Iio>(
     text: &[u8],
     cyclic: bool,
 ) -> Result<(), No>
-    requires dev { dev < length (I.front iio.old).devices }
-    requires desk { IsDesk I.seen (I.front iio.old) desk.old }
-    ensures front { I.front iio.new ≡ I.front iio.old }
-    ensures desk { IsDesk I.seen (I.front iio.new) desk.new }
+    requires dev { dev < length (I.front (I.kept iio.old)).devices }
+    requires desk { IsDesk I.seen (I.front (I.kept iio.old)) desk.old }
+    ensures kept { I.kept iio.new ≡ I.kept iio.old }
+    ensures desk { IsDesk I.seen (I.front (I.kept iio.new)) desk.new }
     ensures told { IfSome (I.told iio.old) (λ m. Comes m (desk_of I.seen desk.old)
-        (open_at (I.front iio.old) m (desk_of I.seen desk.old) dev samples text.now cyclic)
+        (open_at (I.front (I.kept iio.old)) m (desk_of I.seen desk.old) dev samples text.now cyclic)
         (reply_by result) (I.told iio.new) (desk_of I.seen desk.new)) }
     ensures moves { JoinsBy dev (desk_of I.seen desk.old) (tales_of I.seen desk.old.held.items)
         result (desk_of I.seen desk.new) (tales_of I.seen desk.new.held.items) }
@@ -115,9 +115,9 @@ pub(crate) fn open_at<I: Iio>(
 
 /// CLOSE. `EBADF` comes where the connection has no seat at the device.
 pub(crate) fn close_at<I: Iio>(desk: &mut Desk<I::Seat>, iio: &mut I, dev: u32) -> Result<(), No>
-    requires desk { IsDesk I.seen (I.front iio.old) desk.old }
-    ensures front { I.front iio.new ≡ I.front iio.old }
-    ensures desk { IsDesk I.seen (I.front iio.new) desk.new }
+    requires desk { IsDesk I.seen (I.front (I.kept iio.old)) desk.old }
+    ensures kept { I.kept iio.new ≡ I.kept iio.old }
+    ensures desk { IsDesk I.seen (I.front (I.kept iio.new)) desk.new }
     ensures told { IfSome (I.told iio.old) (λ m. Comes m (desk_of I.seen desk.old)
         (close_at m (desk_of I.seen desk.old) (place_of dev (seats_of I.seen desk.old.held.items)))
         (reply_by result) (I.told iio.new) (desk_of I.seen desk.new)) }
@@ -147,11 +147,11 @@ fn read_held<I: Iio>(
     asked: u32,
     out: &mut Vec<u8>,
 ) -> Result<Took, Mem>
-    requires { IsHeld I.seen (I.front iio.old) h.old }
-    ensures front { I.front iio.new ≡ I.front iio.old }
-    ensures held { IsHeld I.seen (I.front iio.new) h.new }
+    requires { IsHeld I.seen (I.front (I.kept iio.old)) h.old }
+    ensures kept { I.kept iio.new ≡ I.kept iio.old }
+    ensures held { IsHeld I.seen (I.front (I.kept iio.new)) h.new }
     ensures bare { bare_of I.seen h.new ≡ bare_of I.seen h.old }
-    ensures read { ReadHeld (I.front iio.old) asked (I.told iio.old) (I.told iio.new)
+    ensures read { ReadHeld (I.front (I.kept iio.old)) asked (I.told iio.old) (I.told iio.new)
         (bare_of I.seen h.old) (tale_of I.seen h.old) (tale_of I.seen h.new) out.old.items out.new.items result }
 {
     if asked < data_scan_size(iio.shape(h.dev), h.mask) {
@@ -179,11 +179,11 @@ pub(crate) fn read_at<I: Iio>(
     asked: u32,
     out: &mut Vec<u8>,
 ) -> Result<Took, Mem>
-    requires desk { IsDesk I.seen (I.front iio.old) desk.old }
-    ensures front { I.front iio.new ≡ I.front iio.old }
-    ensures desk { IsDesk I.seen (I.front iio.new) desk.new }
+    requires desk { IsDesk I.seen (I.front (I.kept iio.old)) desk.old }
+    ensures kept { I.kept iio.new ≡ I.kept iio.old }
+    ensures desk { IsDesk I.seen (I.front (I.kept iio.new)) desk.new }
     ensures same { desk_of I.seen desk.new ≡ desk_of I.seen desk.old }
-    ensures read { ReadAt (I.front iio.old) dev asked (I.told iio.old) (I.told iio.new)
+    ensures read { ReadAt (I.front (I.kept iio.old)) dev asked (I.told iio.old) (I.told iio.new)
         (desk_of I.seen desk.old) (tales_of I.seen desk.old.held.items) (tales_of I.seen desk.new.held.items) out.old.items out.new.items result }
 {
     match place(iio, &desk.held, dev) {

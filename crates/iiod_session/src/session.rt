@@ -89,16 +89,16 @@ impl<S> Session<S> {
         bytes: &[u8],
         out: &mut Vec<u8>,
     ) -> Result<Going, Mem>
-        requires { IsDesk I.seen (I.front iio.old) self.old.desk }
-        ensures front { I.front iio.new ≡ I.front iio.old }
-        ensures desk { IsDesk I.seen (I.front iio.new) self.new.desk }
-        ensures feeds { IfOk result (Feeds self.old.manner (I.front iio.old) (state_of I.seen (I.told iio.old) self.old.desk)
+        requires { IsDesk I.seen (I.front (I.kept iio.old)) self.old.desk }
+        ensures kept { I.kept iio.new ≡ I.kept iio.old }
+        ensures desk { IsDesk I.seen (I.front (I.kept iio.new)) self.new.desk }
+        ensures feeds { IfOk result (Feeds self.old.manner (I.front (I.kept iio.old)) (state_of I.seen (I.told iio.old) self.old.desk)
             (scan_on self.old.stream bytes.now) out.old.items out.new.items (state_of I.seen (I.told iio.new) self.new.desk) self.new.stream) }
         ensures all { IfOk result (λ going. going ≡ Going.On → self.new.stream.items ≡ []) }
         ensures manner { self.new.manner ≡ self.old.manner }
 
         // In a script, over devices that tell their state, all of it is determined.
-        ensures script { IfOk result (λ going. FeedTells self.old.manner (I.front iio.old) (state_of I.seen (I.told iio.old) self.old.desk)
+        ensures script { IfOk result (λ going. FeedTells self.old.manner (I.front (I.kept iio.old)) (state_of I.seen (I.told iio.old) self.old.desk)
             (scan_on self.old.stream bytes.now).items out.old.items out.new.items (state_of I.seen (I.told iio.new) self.new.desk)) }
     {
         let was = self.going;
@@ -121,9 +121,9 @@ impl<S> Session<S> {
 
     /// Closes every seat and ends every holding of events: the connection is lost.
     pub fn drop_all<I: Iio<Seat = S>>(&mut self, iio: &mut I)
-        requires { IsDesk I.seen (I.front iio.old) self.old.desk }
-        ensures front { I.front iio.new ≡ I.front iio.old }
-        ensures desk { IsDesk I.seen (I.front iio.new) self.new.desk }
+        requires { IsDesk I.seen (I.front (I.kept iio.old)) self.old.desk }
+        ensures kept { I.kept iio.new ≡ I.kept iio.old }
+        ensures desk { IsDesk I.seen (I.front (I.kept iio.new)) self.new.desk }
         ensures left { desk_of I.seen self.new.desk ≡ left_desk (desk_of I.seen self.old.desk) }
         ensures told { IfSome (I.told iio.old) (λ m. I.told iio.new ≡ Some (left_machine m (desk_of I.seen self.old.desk))) }
         ensures stream { self.new.stream ≡ self.old.stream }
@@ -134,8 +134,8 @@ impl<S> Session<S> {
 
     /// The same, and spends the session.
     pub fn end<I: Iio<Seat = S>>(self, iio: &mut I)
-        requires { IsDesk I.seen (I.front iio.old) self.desk }
-        ensures front { I.front iio.new ≡ I.front iio.old }
+        requires { IsDesk I.seen (I.front (I.kept iio.old)) self.desk }
+        ensures kept { I.kept iio.new ≡ I.kept iio.old }
         ensures told { IfSome (I.told iio.old) (λ m. I.told iio.new ≡ Some (left_machine m (desk_of I.seen self.desk))) }
     {
         let Session {

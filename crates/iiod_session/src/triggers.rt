@@ -20,7 +20,7 @@ use iiod_reply::{number, value};
 
 // The number of the trigger that a SETTRIG names, or none where it names none.
 fn named_trigger<I: Iio>(iio: &I, name: Option<&[u8]>) -> Result<Option<u32>, Errno>
-    ensures value { result ≡ trigger_named (I.front iio.now) (option_copied name.entry) }
+    ensures value { result ≡ trigger_named (I.front (I.kept iio.now)) (option_copied name.entry) }
     ensures within { IfOk result (λ trigger. IfSome trigger (λ t. t < MAX_TRIGGERS)) }
 {
     let Some(name) = name else {
@@ -34,10 +34,10 @@ fn named_trigger<I: Iio>(iio: &I, name: Option<&[u8]>) -> Result<Option<u32>, Er
 
 // SETTRIG, the device's number known.
 fn set_trigger_at<I: Iio>(iio: &mut I, dev: u32, name: Option<&[u8]>) -> Result<(), No>
-    requires dev { dev < length (I.front iio.old).devices }
-    ensures front { I.front iio.new ≡ I.front iio.old }
+    requires dev { dev < length (I.front (I.kept iio.old)).devices }
+    ensures kept { I.kept iio.new ≡ I.kept iio.old }
     ensures told { (desk : DeskRecord) → IfSome (I.told iio.old) (λ m. Comes m desk
-        (set_trigger_at (I.front iio.old) m desk (option_copied name.entry) dev) (reply_by result) (I.told iio.new) desk) }
+        (set_trigger_at (I.front (I.kept iio.old)) m desk (option_copied name.entry) dev) (reply_by result) (I.told iio.new) desk) }
 {
     if !iio.plugged(dev) {
         return Err(No::Errno(Errno::ENODEV));
@@ -50,9 +50,9 @@ fn set_trigger_at<I: Iio>(iio: &mut I, dev: u32, name: Option<&[u8]>) -> Result<
 
 // SETTRIG's answer.
 fn set_trigger_of<I: Iio>(iio: &mut I, device: &[u8], name: Option<&[u8]>) -> Result<(), No>
-    ensures front { I.front iio.new ≡ I.front iio.old }
+    ensures kept { I.kept iio.new ≡ I.kept iio.old }
     ensures told { (desk : DeskRecord) → IfSome (I.told iio.old) (λ m. Comes m desk
-        (at_device m desk (set_trigger_at (I.front iio.old) m desk (option_copied name.entry)) (find_device (I.front iio.old) device.now))
+        (at_device m desk (set_trigger_at (I.front (I.kept iio.old)) m desk (option_copied name.entry)) (find_device (I.front (I.kept iio.old)) device.now))
         (reply_by result) (I.told iio.new) desk) }
 {
     match iio.find(device) {
@@ -70,8 +70,8 @@ pub(crate) fn set_trigger<I: Iio>(
     name: Option<&[u8]>,
     out: &mut Vec<u8>,
 ) -> Result<Performed, Mem>
-    ensures front { I.front iio.new ≡ I.front iio.old }
-    ensures served { IfOk result (Performs manner (I.front iio.old) (I.told iio.old) (I.told iio.new)
+    ensures kept { I.kept iio.new ≡ I.kept iio.old }
+    ensures served { IfOk result (Performs manner (I.front (I.kept iio.old)) (I.told iio.old) (I.told iio.new)
         (desk_of I.seen desk.now) (tales_of I.seen desk.now.held.items) (Said (Ok (SetTrig device.now (option_copied name.entry))))
         (desk_of I.seen desk.now) (tales_of I.seen desk.now.held.items) out.old.items out.new.items) }
 {
@@ -82,8 +82,8 @@ pub(crate) fn set_trigger<I: Iio>(
 // The device's trigger, as GETTRIG asks for it.
 fn trigger_of<I: Iio>(iio: &I, device: &[u8]) -> Result<Option<u32>, Errno>
     ensures { (desk : DeskRecord) → IfSome (I.told iio.now) (λ m. Comes m desk
-        (at_device m desk (get_trigger_at (I.front iio.now) m desk) (find_device (I.front iio.now) device.now))
-        (trigger_by (I.front iio.now) result) (I.told iio.now) desk) }
+        (at_device m desk (get_trigger_at (I.front (I.kept iio.now)) m desk) (find_device (I.front (I.kept iio.now)) device.now))
+        (trigger_by (I.front (I.kept iio.now)) result) (I.told iio.now) desk) }
 {
     match iio.find(device) {
         None => Err(Errno::ENODEV),
@@ -93,9 +93,9 @@ fn trigger_of<I: Iio>(iio: &I, device: &[u8]) -> Result<Option<u32>, Errno>
 
 // The same, the device's number known.
 fn trigger_at<I: Iio>(iio: &I, dev: u32) -> Result<Option<u32>, Errno>
-    requires { dev < length (I.front iio.now).devices }
+    requires { dev < length (I.front (I.kept iio.now)).devices }
     ensures { (desk : DeskRecord) → IfSome (I.told iio.now) (λ m. Comes m desk
-        (get_trigger_at (I.front iio.now) m desk dev) (trigger_by (I.front iio.now) result) (I.told iio.now) desk) }
+        (get_trigger_at (I.front (I.kept iio.now)) m desk dev) (trigger_by (I.front (I.kept iio.now)) result) (I.told iio.now) desk) }
 {
     if iio.plugged(dev) {
         Ok(iio.trigger(dev))
@@ -110,7 +110,7 @@ fn push_trigger<I: Iio>(
     trigger: Result<Option<u32>, Errno>,
     out: &mut Vec<u8>,
 ) -> Result<(), Mem>
-    ensures { Appends (text_of (trigger_by (I.front iio.now) trigger)) out.old.items result out.new.items }
+    ensures { Appends (text_of (trigger_by (I.front (I.kept iio.now)) trigger)) out.old.items result out.new.items }
 {
     match trigger {
         Ok(None) => number(0, out),
@@ -127,7 +127,7 @@ pub(crate) fn get_trigger<I: Iio>(
     device: &[u8],
     out: &mut Vec<u8>,
 ) -> Result<Performed, Mem>
-    ensures served { IfOk result (Performs manner (I.front iio.now) (I.told iio.now) (I.told iio.now)
+    ensures served { IfOk result (Performs manner (I.front (I.kept iio.now)) (I.told iio.now) (I.told iio.now)
         (desk_of I.seen desk.now) (tales_of I.seen desk.now.held.items) (Said (Ok (GetTrig device.now)))
         (desk_of I.seen desk.now) (tales_of I.seen desk.now.held.items) out.old.items out.new.items) }
 {

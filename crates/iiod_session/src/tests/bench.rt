@@ -279,14 +279,19 @@ impl Bench {
 
 impl Iio for Bench {
     ghost use Rattle.std.specs.Prelude.{None, Some, [], ◌∷◌, codes, map};
+    ghost use Rattle.iiod_session.specs.Front.{Front};
 
     type Seat = Seat;
 
-    ghost front = { λ b. record {
+    ghost Kept = { Front };
+
+    ghost kept = { λ b. record {
       context = codes "<context/>";
       triggers = b.trigger ∷ [];
       devices = record { name = b.name; shape = b.shape } ∷ [];
     } };
+
+    ghost front = { λ front. front };
 
     ghost told = { λ b. None };
 

@@ -43,8 +43,8 @@ fn hear(
     answers: &[u8],
     going: Going,
 ) -> Result<(), Fail>
-    requires { IsDesk ⟦<Bench as Iio>⟧.seen (⟦<Bench as Iio>⟧.front bench.old) session.old.desk }
-    ensures { IsDesk ⟦<Bench as Iio>⟧.seen (⟦<Bench as Iio>⟧.front bench.new) session.new.desk }
+    requires { IsDesk ⟦<Bench as Iio>⟧.seen (⟦<Bench as Iio>⟧.front (⟦<Bench as Iio>⟧.kept bench.old)) session.old.desk }
+    ensures { IsDesk ⟦<Bench as Iio>⟧.seen (⟦<Bench as Iio>⟧.front (⟦<Bench as Iio>⟧.kept bench.new)) session.new.desk }
 {
     let now = session.feed(alloc, bench, bytes, out)?;
     assert_eq!(rt; out.as_slice(), answers, "after {bytes:?}");
@@ -65,8 +65,8 @@ fn hear_late(
     bytes: &[u8],
     block: &[u8],
 ) -> Result<(), Fail>
-    requires { IsDesk ⟦<Bench as Iio>⟧.seen (⟦<Bench as Iio>⟧.front bench.old) session.old.desk }
-    ensures { IsDesk ⟦<Bench as Iio>⟧.seen (⟦<Bench as Iio>⟧.front bench.new) session.new.desk }
+    requires { IsDesk ⟦<Bench as Iio>⟧.seen (⟦<Bench as Iio>⟧.front (⟦<Bench as Iio>⟧.kept bench.old)) session.old.desk }
+    ensures { IsDesk ⟦<Bench as Iio>⟧.seen (⟦<Bench as Iio>⟧.front (⟦<Bench as Iio>⟧.kept bench.new)) session.new.desk }
 {
     let (answer, going, again) = match manner {
         Manner::Script => (b"-11\n".as_slice(), Going::On, bytes),
@@ -86,8 +86,8 @@ fn carry_one(
     out: &mut Vec<u8>,
     step: Step,
 ) -> Result<(), Fail>
-    requires { IsDesk ⟦<Bench as Iio>⟧.seen (⟦<Bench as Iio>⟧.front bench.old) session.old.desk }
-    ensures { IsDesk ⟦<Bench as Iio>⟧.seen (⟦<Bench as Iio>⟧.front bench.new) session.new.desk }
+    requires { IsDesk ⟦<Bench as Iio>⟧.seen (⟦<Bench as Iio>⟧.front (⟦<Bench as Iio>⟧.kept bench.old)) session.old.desk }
+    ensures { IsDesk ⟦<Bench as Iio>⟧.seen (⟦<Bench as Iio>⟧.front (⟦<Bench as Iio>⟧.kept bench.new)) session.new.desk }
 {
     match step {
         Step::Feed(bytes, answers) => {
@@ -134,8 +134,8 @@ fn carry_on(
     out: &mut Vec<u8>,
     steps: &[Step],
 ) -> Result<(), Fail>
-    requires { IsDesk ⟦<Bench as Iio>⟧.seen (⟦<Bench as Iio>⟧.front bench.old) session.old.desk }
-    ensures { IsDesk ⟦<Bench as Iio>⟧.seen (⟦<Bench as Iio>⟧.front bench.new) session.new.desk }
+    requires { IsDesk ⟦<Bench as Iio>⟧.seen (⟦<Bench as Iio>⟧.front (⟦<Bench as Iio>⟧.kept bench.old)) session.old.desk }
+    ensures { IsDesk ⟦<Bench as Iio>⟧.seen (⟦<Bench as Iio>⟧.front (⟦<Bench as Iio>⟧.kept bench.new)) session.new.desk }
 {
     let [step, rest @ ..] = steps else {
         return Ok(());
@@ -153,8 +153,8 @@ pub(super) fn carry(
     bench: &mut Bench,
     steps: &[Step],
 ) -> Result<(), Fail>
-    requires { IsDesk ⟦<Bench as Iio>⟧.seen (⟦<Bench as Iio>⟧.front bench.old) session.old.desk }
-    ensures { IsDesk ⟦<Bench as Iio>⟧.seen (⟦<Bench as Iio>⟧.front bench.new) session.new.desk }
+    requires { IsDesk ⟦<Bench as Iio>⟧.seen (⟦<Bench as Iio>⟧.front (⟦<Bench as Iio>⟧.kept bench.old)) session.old.desk }
+    ensures { IsDesk ⟦<Bench as Iio>⟧.seen (⟦<Bench as Iio>⟧.front (⟦<Bench as Iio>⟧.kept bench.new)) session.new.desk }
 {
     let mut out = Vec::new(alloc);
     carry_on(rt, alloc, manner, session, bench, &mut out, steps)

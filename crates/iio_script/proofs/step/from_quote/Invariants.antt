@@ -1,5 +1,5 @@
 use Rattle.std.proofs.Common.{◌≡◌, drop}
-use Rattle.iio_script.specs.Step.{from_quote}
+use Rattle.iio_history.specs.Script.{from_quote}
 use Rattle.iio_script.proofs.step.from_quote.Given as goal
 
 abbrev pub invariant-loop-i : goal.invariant-loop-i

@@ -1,24 +1,30 @@
-use Rattle.std.proofs.Common.{IfSome}
+use Rattle.std.proofs.Common.{◌≡◌, ℕ, length, IfSome, subst, ◌∙◌}
+use Rattle.iio_history.specs.Outcome.{outcome_of}
 use Rattle.iio_script.specs.Ends.{Writes}
-use Rattle.iio_script.specs.Outcome.{outcome_of}
 use Rattle.iiod_main.specs.Layout.{layout_of}
 use Rattle.iiod_main.proofs.EndLaws.{completes_told, named}
 use Rattle.iiod_main.proofs.command.run.Goals as goal
 
 pub returns-then-is_play-clause-complete : goal.returns-then-is_play-clause-complete
 returns-then-is_play-clause-complete g c = λ words reads writes.
-    completes_told outcome_of _ _ _ _ _ _ _ _ c.play.ensures.transcript c.play.ensures.faults.read_fault c.play.ensures.faults.write_fault reads writes
+    completes_told (outcome_of _) _ _ _ _ _ _ _ _ c.play.ensures.transcript c.play.ensures.faults.read_fault c.play.ensures.faults.write_fault reads writes
 
 pub returns-in-Some-clause-layout : goal.returns-in-Some-clause-layout
 returns-in-Some-clause-layout g c = λ device mask words.
+    let many : c.len.result ≡ length c.args.drivers.items = c.len.ensures ∙ c.args.drivers.ok.0 in
     named (λ device mask. IfSome (g.S.Source.left c.args.input.now) (λ left. IfSome (g.K.Sink.written c.args.output.now)
-    (λ written. Writes (layout_of left device mask) written c.layout.result (g.K.Sink.written c.layout.new.output))))
-    c.args.words.now c.in-Some.device.now c.in-Some.mask.now device mask c.in-Some.ensures.found words c.layout.ensures.lines
+    (λ written. Writes (layout_of (length c.args.drivers.items) left device mask) written c.layout.result (g.K.Sink.written c.layout.new.output))))
+    c.args.words.now c.in-Some.device.now c.in-Some.mask.now device mask c.in-Some.ensures.found words
+    (subst (λ (drivers : ℕ). IfSome (g.S.Source.left c.args.input.now) (λ left. IfSome (g.K.Sink.written c.args.output.now)
+    (λ written. Writes (layout_of drivers left c.in-Some.device.now c.in-Some.mask.now) written c.layout.result (g.K.Sink.written c.layout.new.output)))) many c.layout.ensures.lines)
 
 pub returns-in-Some-clause-layout_complete : goal.returns-in-Some-clause-layout_complete
 returns-in-Some-clause-layout_complete g c = λ device mask words reads writes.
-    completes_told (λ left. layout_of left device mask) _ _ _ _ _ _ _ _
+    let many : c.len.result ≡ length c.args.drivers.items = c.len.ensures ∙ c.args.drivers.ok.0 in
+    completes_told (λ left. layout_of (length c.args.drivers.items) left device mask) _ _ _ _ _ _ _ _
     (named (λ device mask. IfSome (g.S.Source.left c.args.input.now) (λ left. IfSome (g.K.Sink.written c.args.output.now)
-    (λ written. Writes (layout_of left device mask) written c.layout.result (g.K.Sink.written c.layout.new.output))))
-    c.args.words.now c.in-Some.device.now c.in-Some.mask.now device mask c.in-Some.ensures.found words c.layout.ensures.lines)
+    (λ written. Writes (layout_of (length c.args.drivers.items) left device mask) written c.layout.result (g.K.Sink.written c.layout.new.output))))
+    c.args.words.now c.in-Some.device.now c.in-Some.mask.now device mask c.in-Some.ensures.found words
+    (subst (λ (drivers : ℕ). IfSome (g.S.Source.left c.args.input.now) (λ left. IfSome (g.K.Sink.written c.args.output.now)
+    (λ written. Writes (layout_of drivers left c.in-Some.device.now c.in-Some.mask.now) written c.layout.result (g.K.Sink.written c.layout.new.output)))) many c.layout.ensures.lines))
     c.layout.ensures.faults.read_fault c.layout.ensures.faults.write_fault reads writes

@@ -11,7 +11,7 @@ use Rattle.iiod_session.proofs.attributes.read_attribute_at.Goals as goal
 pub read_device-requires-clause-may_read : goal.read_device-requires-clause-may_read
 read_device-requires-clause-may_read g c =
     may_read _ _ (place_view c.args.place) (option_copied c.args.name) (named_of_code c.in-Ok.target)
-    (found_named (shape_at (g.I.Iio.front c.args.iio.now) c.args.dev) c.plugged-plugged.result c.is_some-is_open.result (place_view c.args.place) (option_copied c.args.name) (named_of_code c.in-Ok.target) (sym (rw c.shape.ensures at c.in-Ok.ensures)))
+    (found_named (shape_at (g.I.Iio.front (g.I.Iio.kept c.args.iio.now)) c.args.dev) c.plugged-plugged.result c.is_some-is_open.result (place_view c.args.place) (option_copied c.args.name) (named_of_code c.in-Ok.target) (sym (rw c.shape.ensures at c.in-Ok.ensures)))
     (sym c.is_of_buffer-of_buffer.ensures ∙ c.if-of_buffer.false)
 
 pub returns-in-Err-clause-told : goal.returns-in-Err-clause-told

@@ -6,4 +6,4 @@ use Rattle.iiod_session.proofs.buffers.write_buffer_refusal.Goals as goal
 
 pub returns-in-Some : goal.returns-in-Some
 returns-in-Some g c = λ desk.
-    somewhere (g.I.Iio.front c.args.iio.now) (g.I.Iio.told c.args.iio.now) (g.I.Iio.told c.args.iio.now) desk desk c.args.device.now c.in-Some.dev (λ m. write_buffer_at m desk) (Refusal c.write_buffer_refusal_at.result) (search rules) (c.write_buffer_refusal_at.ensures desk)
+    somewhere (g.I.Iio.front (g.I.Iio.kept c.args.iio.now)) (g.I.Iio.told c.args.iio.now) (g.I.Iio.told c.args.iio.now) desk desk c.args.device.now c.in-Some.dev (λ m. write_buffer_at m desk) (Refusal c.write_buffer_refusal_at.result) (search rules) (c.write_buffer_refusal_at.ensures desk)

@@ -25,8 +25,8 @@ returns-in-More-clause-all g c on = (
 
 pub loop-desk-preserved : goal.loop-desk-preserved
 loop-desk-preserved g c = record {
-  front = search rules;
-  desk = rw (c.hear_piece.ensures.front ∙ c.loop-desk.invariant.front) at c.hear_piece.ensures.desk;
+  kept = search rules;
+  desk = rw (c.hear_piece.ensures.kept ∙ c.loop-desk.invariant.kept) at c.hear_piece.ensures.desk;
   within =
       let n : c.feed-taken.result.0 ≤ length (drop c.loop-desk.at c.args.bytes.now) = rw (take_rest c.args.bytes.now c.loop-desk.at) at c.feed-taken.ensures.within in
       omega (arith, length-drop c.loop-desk.at c.args.bytes.now, c.loop-desk.invariant.within);
@@ -35,7 +35,7 @@ loop-desk-preserved g c = record {
       (ap (λ bs. scan_on (stream_by On c.loop-desk.lines c.loop-desk.write_line.items) bs) (sym (take_rest c.args.bytes.now c.loop-desk.at))
       ∙ piece_scans c.cut_anywhere.ensures.items c.cut_anywhere.ensures.scanner c.loop-desk.lines c.feed-taken.new.self c.loop-desk.write_line.items _ c.feed-taken.result.0 c.feed-taken.result.1
       c.in_default.not-More c.loop-desk.invariant.ready (c.feed-taken.ensures.items _ _))
-      (rest_after c.loop-desk.at c.feed-taken.result.0 c.args.bytes.now) c.loop-desk.invariant.fed (rw (c.in-On.is, c.loop-desk.invariant.front) at c.in_ok-going.ensures.feeds);
+      (rest_after c.loop-desk.at c.feed-taken.result.0 c.args.bytes.now) c.loop-desk.invariant.fed (rw (c.in-On.is, c.loop-desk.invariant.kept) at c.in_ok-going.ensures.feeds);
 }
 
 pub returns-in_default-2-clause-feeds : goal.returns-in_default-2-clause-feeds
@@ -44,4 +44,4 @@ returns-in_default-2-clause-feeds g c =
     (ap (λ bs. scan_on (stream_by On c.loop-desk.lines c.loop-desk.write_line.items) bs) (sym (take_rest c.args.bytes.now c.loop-desk.at))
     ∙ piece_scans c.cut_anywhere.ensures.items c.cut_anywhere.ensures.scanner c.loop-desk.lines c.feed-taken.new.self c.loop-desk.write_line.items _ c.feed-taken.result.0 c.feed-taken.result.1
     c.in_default.not-More c.loop-desk.invariant.ready (c.feed-taken.ensures.items _ _))
-    (rest_after c.loop-desk.at c.feed-taken.result.0 c.args.bytes.now) c.loop-desk.invariant.fed (rw c.loop-desk.invariant.front at c.in_ok-going.ensures.feeds)
+    (rest_after c.loop-desk.at c.feed-taken.result.0 c.args.bytes.now) c.loop-desk.invariant.fed (rw c.loop-desk.invariant.kept at c.in_ok-going.ensures.feeds)

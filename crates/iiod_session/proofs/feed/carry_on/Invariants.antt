@@ -9,11 +9,11 @@ use Rattle.iiod_session.proofs.feed.carry_on.Given as goal
 
 abbrev pub invariant-loop-desk : goal.invariant-loop-desk
 invariant-loop-desk g l = let iio = g.I.Iio in record {
-  front : iio.front l.iio ≡ iio.front l.fn.iio;
-  desk : IsDesk iio.seen (iio.front l.fn.iio) l.desk;
+  kept : iio.kept l.iio ≡ iio.kept l.fn.iio;
+  desk : IsDesk iio.seen (iio.front (iio.kept l.fn.iio)) l.desk;
   within : l.at ≤ length l.bytes;
   ready : IsReady On l.lines;
-  fed : Fed l.manner (iio.front l.fn.iio) (state_of iio.seen (iio.told l.fn.iio) l.fn.desk) (scan_on (stream_by On l.fn.lines l.fn.write_line.items) l.bytes)
+  fed : Fed l.manner (iio.front (iio.kept l.fn.iio)) (state_of iio.seen (iio.told l.fn.iio) l.fn.desk) (scan_on (stream_by On l.fn.lines l.fn.write_line.items) l.bytes)
       l.fn.out.items l.out.items (state_of iio.seen (iio.told l.iio) l.desk) (scan_on (stream_by On l.lines l.write_line.items) (drop l.at l.bytes));
 }
 

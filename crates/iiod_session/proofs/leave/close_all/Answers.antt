@@ -5,7 +5,7 @@ use Rattle.iiod_session.proofs.leave.close_all.Goals as goal
 
 pub loop-h-preserved : goal.loop-h-preserved
 loop-h-preserved g c = record {
-  front = search rules;
+  kept = search rules;
   held = grind (arith, common_steps);
   told = closing_more g.I.Iio.seen _ _ _ _ _ _ c.in-Some.h c.in-Some.ensures.items c.loop-h.invariant.told c.close.ensures.told;
 }

@@ -5,7 +5,7 @@ use Rattle.iiod_session.proofs.leave.release_all.Goals as goal
 
 pub loop-dev-preserved : goal.loop-dev-preserved
 loop-dev-preserved g c = record {
-  front = search rules;
+  kept = search rules;
   known = grind (arith, common_steps);
   told = releasing_more _ _ _ _ _ _ _ c.in-Some.dev _ c.in-Some.ensures.items c.loop-dev.invariant.told c.ev_close.ensures.no_memory c.ev_close.ensures.told;
 }

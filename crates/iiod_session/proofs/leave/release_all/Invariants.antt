@@ -5,8 +5,8 @@ use Rattle.iiod_session.proofs.leave.release_all.Given as goal
 
 abbrev pub invariant-loop-dev : goal.invariant-loop-dev
 invariant-loop-dev g l = let iio = g.I.Iio in record {
-  front : iio.front l.iio ≡ iio.front l.fn.iio;
-  known : All (λ dev. dev < length (iio.front l.fn.iio).devices) l.holdings.items;
+  kept : iio.kept l.iio ≡ iio.kept l.fn.iio;
+  known : All (λ dev. dev < length (iio.front (iio.kept l.fn.iio)).devices) l.holdings.items;
   told : IfSome (iio.told l.fn.iio) (λ m. (n : Machine) × (iio.told l.iio ≡ Some n) × (all_released n l.who l.holdings.items ≡ all_released m l.who l.fn.holdings.items));
 }
 

@@ -4,7 +4,7 @@ use Rattle.iiod_session.proofs.reading.take_scans.Given as goal
 
 abbrev pub invariant-loop-left : goal.invariant-loop-left
 invariant-loop-left g l = let iio = g.I.Iio in record {
-  front : iio.front l.iio ≡ iio.front l.fn.iio;
+  kept : iio.kept l.iio ≡ iio.kept l.fn.iio;
   size : l.size ≡ (iio.seen l.seat).size;
   reading : Reading l.dev l.want (iio.told l.fn.iio) (iio.told l.iio) (iio.seen l.fn.seat) (iio.seen l.seat) l.left l.end l.room;
 }

@@ -7,7 +7,7 @@ use Rattle.iiod_session.proofs.triggers.get_trigger.Goals as goal
 
 pub returns : goal.returns
 returns g c = record {
-  served = pushed _ _ _ _ _ _ _ _ _ _ _ _ (trigger_by (g.I.Iio.front c.args.iio.now) c.trigger_of-trigger.result) _ _
+  served = pushed _ _ _ _ _ _ _ _ _ _ _ _ (trigger_by (g.I.Iio.front (g.I.Iio.kept c.args.iio.now)) c.trigger_of-trigger.result) _ _
       (serves_get_trigger _ _ _ _ _ _ (c.trigger_of-trigger.ensures (desk_of g.I.Iio.seen c.args.desk.now)))
       (trigger_allowed _ _ _) tt (serves_short _ _ _ _ _ tt (refl, refl))
       c.push_trigger-pushed.ensures c.finish_push.ensures;

@@ -6,5 +6,5 @@ use Rattle.iiod_session.proofs.triggers.set_trigger_of.Goals as goal
 
 pub returns-in-Some-clause-told : goal.returns-in-Some-clause-told
 returns-in-Some-clause-told g c = λ desk.
-    somewhere _ _ _ desk desk c.args.device.now c.in-Some.dev (λ m. set_trigger_at (g.I.Iio.front c.args.iio.now) m desk (option_copied c.args.name)) _ (search rules)
+    somewhere _ _ _ desk desk c.args.device.now c.in-Some.dev (λ m. set_trigger_at (g.I.Iio.front (g.I.Iio.kept c.args.iio.now)) m desk (option_copied c.args.name)) _ (search rules)
     (c.set_trigger_at.ensures.told desk)

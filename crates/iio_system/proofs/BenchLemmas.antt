@@ -1,0 +1,200 @@
+-- What holds of a bench, where one device has changed.
+use Rattle.std.proofs.Common.{◌≡◌, ◌⊎◌, ℕ, ◌<◌, Bool, true, false, List, [], ◌∷◌, map, length, set, slice_get, Option, Some, None, Result, Ok, Err, inl, inr, refl, sym, ap, subst, ◌∙◌, arith, cond}
+use Rattle.std.specs.Prelude.{◌==◌, ◌||◌, ⊤}
+use Rattle.std.proofs.lemmas.Bool.Decides.{nat_tests}
+use Rattle.std.proofs.lemmas.List.{map-set}
+use Rattle.iio_text.specs.declared.errors.Errno.{Errno}
+use Rattle.iio_text.specs.declared.values.Fixed.{Fixed}
+use Rattle.iio_attr.specs.declared.attributes.Attr.{Attr}
+use Rattle.iio_attr.specs.declared.attributes.Attr.TheVariants as attr
+use Rattle.iio_desc.specs.declared.description.TriggerDesc.{TriggerDesc}
+use Rattle.iio_trigger.specs.Trigger.{State}
+use Rattle.iio_device.specs.Site.{is_empty, site_written, with_monitor}
+use Rattle.iio_event.specs.Monitor.{MonitorRecord}
+use Rattle.iiod_session.specs.declared.iio.No.{No}
+use Rattle.iiod_session.specs.declared.iio.No.TheVariants.{Errno as NoErrno, Mem as NoMem}
+use Rattle.iiod_session.specs.declared.iio.Took.{Took}
+use Rattle.iiod_session.specs.declared.iio.Took.TheVariants.{Scan, Empty, Gone}
+use Rattle.iiod_session.specs.Machine.{Member, MemberId, Station, is_id_of, with_scans, with_site}
+use Rattle.iiod_session.specs.Calls.{is_attached, trigger_answer}
+use Rattle.iio_system.specs.Acting.{Acts, TakesAt}
+use Rattle.iio_system.specs.Places.{IsBench, IsTrigger, has_in_hand, has_trigger, is_hosted, places_from}
+use Rattle.iio_trigger.specs.Trigger.{with_place, without_place}
+use Rattle.iio_system.proofs.ListLemmas.{after_set, length_after, map_same, set_same}
+use Rattle.iio_system.proofs.PlaceLemmas.{places_attached, places_detached, places_kept, places_none}
+
+-- a device that keeps its place
+pub record KeepsPlace (st st' : Station) : Type 0 where
+  pub attached : (t : ℕ) → is_attached t st' ≡ is_attached t st
+  pub attachment : st'.site.attachment ≡ st.site.attachment
+  pub hosted : (n : ℕ) → is_hosted n st ≡ true → is_hosted n st' ≡ true
+
+pub kept_same : (st st' : Station) → st' ≡ st → KeepsPlace st st'
+kept_same st st' e = record {
+  attached = λ t. ap (λ (x : Station). is_attached t x) e;
+  attachment = ap (λ (x : Station). x.site.attachment) e;
+  hosted = λ n h. ap (λ (x : Station). is_hosted n x) e ∙ h;
+}
+
+pub kept_along : (st x st' : Station) → KeepsPlace st x → st' ≡ x → KeepsPlace st st'
+kept_along st x st' k e = rw e k
+
+module _ (triggers : List TriggerDesc) (states : List State) (sts : List Station) (k : ℕ) (st st' : Station) (bench : IsBench triggers states sts) (at : slice_get sts k ≡ Some st) where
+  pub hosted_after : is_hosted (length triggers) st' ≡ true → (dev : ℕ) (x : Station) → slice_get (set sts k st') dev ≡ Some x → is_hosted (length triggers) x ≡ true
+  hosted_after h dev x e = by (after_set sts k dev st' x e)
+    where
+      by : ((dev ≡ k) × (x ≡ st')) ⊎ ((dev ≡ k → ⊥) × (slice_get sts dev ≡ Some x)) → is_hosted (length triggers) x ≡ true
+      by (inl p) = ap (λ (y : Station). is_hosted (length triggers) y) p.1 ∙ h
+      by (inr p) = bench.hosted dev x p.1
+
+  pub bench_kept : KeepsPlace st st' → IsBench triggers states (set sts k st')
+  bench_kept kept = record {
+    few = bench.few;
+    devices = rw (length_after sts k st') bench.devices;
+    places = bench.places;
+    each = λ t s e. record {
+      attached = (bench.each t s e).attached ∙ sym (places_kept t 0 sts k st st' at (kept.attached t) kept.attachment);
+      idle = (bench.each t s e).idle;
+    };
+    hosted = hosted_after (kept.hosted (length triggers) (bench.hosted k st at));
+  }
+
+-- the same, over devices
+pub bench_by : {D : Type 0} (f : D → Station) (triggers : List TriggerDesc) (states : List State) (ds : List D) (k : ℕ) (d' : D)
+    → IsBench triggers states (set (map f ds) k (f d')) → IsBench triggers states (map f (set ds k d'))
+bench_by f triggers states ds k d' b = rw (map-set f ds k d') b
+
+-- ---- which calls keep a place
+
+module _ {A : Type 0} (change : Station → Station) (st st' : Station) where
+  acts_kept_by : (answer : Result A Errno) (r : Result A No) → ((x : A) → answer ≡ Ok x → KeepsPlace st (change st)) → Acts change answer r st st' → KeepsPlace st st'
+  acts_kept_by (Ok x) (Ok y) kept t = kept_along st (change st) st' (kept x refl) t.1
+  acts_kept_by (Ok x) (Err (NoErrno e)) kept t = kept_along st (change st) st' (kept x refl) t.1
+  acts_kept_by (Ok x) (Err NoMem) kept t = kept_same st st' t
+  acts_kept_by (Err e) (Ok y) kept t = kept_same st st' t.1
+  acts_kept_by (Err e) (Err (NoErrno o)) kept t = kept_same st st' t.1
+  acts_kept_by (Err e) (Err NoMem) kept t = kept_same st st' t
+
+  pub acts_kept : (answer : Result A Errno) (r : Result A No) → ((x : A) → answer ≡ Ok x → KeepsPlace st (change st)) → Acts change answer r st st' → KeepsPlace st st'
+  acts_kept answer r kept t = acts_kept_by answer r kept t
+
+pub written_kept : (channel : Option ℕ) (a : Attr) (v : Fixed) (st : Station) → KeepsPlace st (with_site (site_written channel a v) st)
+written_kept None attr.SamplingFrequency v st = record { attached = λ t. refl; attachment = refl; hosted = λ n h. h }
+written_kept None a v st = record { attached = λ t. refl; attachment = refl; hosted = λ n h. h }
+written_kept (Some c) attr.Calibbias v st = record { attached = λ t. refl; attachment = refl; hosted = λ n h. h }
+written_kept (Some c) a v st = record { attached = λ t. refl; attachment = refl; hosted = λ n h. h }
+
+pub monitor_kept : (change : MonitorRecord ℕ → MonitorRecord ℕ) (st : Station) → KeepsPlace st (with_site (with_monitor change) st)
+monitor_kept change st = record { attached = λ t. refl; attachment = refl; hosted = λ n h. h }
+
+-- without a member a device isn't attached
+pub none_attached : (t : ℕ) (st : Station) → is_empty st.members ≡ true → is_attached t st ≡ false
+none_attached t st e = rw e (grind arith)
+
+idle_answer : (plugged empty : Bool) (x : ⊤) → cond plugged empty false ≡ true → empty ≡ true
+idle_answer true empty x e = e
+idle_answer false empty x e = absurd (cc)
+
+answered_empty : (st : Station) (x : ⊤) → trigger_answer st ≡ Ok x → is_empty st.members ≡ true
+answered_empty st x e = by st.site.plugged (is_empty st.members) refl refl e
+  where
+    by : (p b : Bool) → st.site.plugged ≡ p → is_empty st.members ≡ b → trigger_answer st ≡ Ok x → is_empty st.members ≡ true
+    by p true i j e = j
+    by true false i j e = absurd (let h = rw (i, j) at e in cc)
+    by false false i j e = absurd (let h = rw i at e in cc)
+
+pub trigger_kept : (trigger : Option ℕ) (st : Station) (x : ⊤) → trigger_answer st ≡ Ok x → KeepsPlace st (with_site (λ site. record site { trigger = trigger }) st)
+trigger_kept trigger st x e =
+    let empty = answered_empty st x e in
+    let st' : Station = with_site (λ site. record site { trigger = trigger }) st in
+    record {
+      attached = λ t. none_attached t st' empty ∙ sym (none_attached t st empty);
+      attachment = refl;
+      hosted = λ n h. ap (λ (b : Bool). b || has_trigger n trigger) empty;
+    }
+
+empty_with_scans : (id : MemberId) (scans : List (List ℕ)) (ms : List Member) → is_empty (with_scans id scans ms) ≡ is_empty ms
+empty_with_scans id scans [] = refl
+empty_with_scans id scans (m ∷ ms) = by (is_id_of id m)
+  where
+    by : (b : Bool) → is_empty (cond b (record m { scans = scans } ∷ ms) (m ∷ with_scans id scans ms)) ≡ false
+    by true = refl
+    by false = refl
+
+pub scans_kept : (id : MemberId) (scans : List (List ℕ)) (st : Station) → KeepsPlace st (record st { members = with_scans id scans st.members })
+scans_kept id scans st =
+    let same = empty_with_scans id scans st.members in
+    record {
+      attached = λ t. rw same refl;
+      attachment = refl;
+      hosted = λ n h. rw same h;
+    }
+
+pub take_kept : (id : MemberId) (took : Took) (scan : List ℕ) (st st' : Station) → TakesAt id took scan st st' → KeepsPlace st st'
+take_kept id Scan scan st st' t = kept_along st _ st' (scans_kept id _ st) t.1
+take_kept id Empty scan st st' t = kept_same st st' t.2
+take_kept id Gone scan st st' t = kept_same st st' t.2
+
+-- ---- a device and its trigger
+
+-- a device isn't attached to another trigger than its own
+other_attached : (t u : ℕ) (st : Station) → st.site.trigger ≡ Some t → (u ≡ t → ⊥) → is_attached u st ≡ false
+other_attached t u st e ne = let other : (t == u) ≡ false = grind (arith, nat_tests) in rw (e, other) refl
+
+own_attached : (t : ℕ) (st : Station) → st.site.trigger ≡ Some t → is_empty st.members ≡ false → is_attached t st ≡ true
+own_attached t st e some = let own : (t == t) ≡ true = grind (arith, nat_tests) in rw (e, own, some) refl
+
+pub has_trigger_is : (t n : ℕ) (trigger : Option ℕ) → trigger ≡ Some t → t < n → has_trigger n trigger ≡ true
+has_trigger_is t n trigger e h = rw e (grind (arith, nat_tests))
+
+or_true : (b c : Bool) → c ≡ true → (b || c) ≡ true
+or_true true c e = refl
+or_true false c e = e
+
+pub hosted_is : (t n : ℕ) (st : Station) → st.site.trigger ≡ Some t → t < n → is_hosted n st ≡ true
+hosted_is t n st e h = or_true (is_empty st.members) (has_trigger n st.site.trigger) (has_trigger_is t n st.site.trigger e h)
+
+module _ (triggers : List TriggerDesc) (states : List State) (sts : List Station) (k t : ℕ) (st st' : Station) (s s' : State) (bench : IsBench triggers states sts) (at : slice_get sts k ≡ Some st) (there : slice_get states t ≡ Some s) where
+  placed : s'.places ≡ s.places → s'.outstanding ≡ s.outstanding → s'.attached ≡ places_from 0 t (set sts k st')
+      → ((u : ℕ) → (u ≡ t → ⊥) → places_from 0 u (set sts k st') ≡ places_from 0 u sts) → is_hosted (length triggers) st' ≡ true → IsBench triggers (set states t s') (set sts k st')
+  placed places outstanding own others hosted = record {
+    few = bench.few;
+    devices = rw (length_after sts k st') bench.devices;
+    places = map_same (λ (x : State). x.places) states t s s' there places ∙ bench.places;
+    each = λ u x e. by u x (after_set states t u s' x e);
+    hosted = hosted_after triggers states sts k st st' bench at hosted;
+  }
+    where
+      by : (u : ℕ) (x : State) → ((u ≡ t) × (x ≡ s')) ⊎ ((u ≡ t → ⊥) × (slice_get states u ≡ Some x)) → IsTrigger u (set sts k st') x
+      by u x (inl p) = record {
+        attached = ap (λ (y : State). y.attached) p.1 ∙ own ∙ ap (λ (v : ℕ). places_from 0 v (set sts k st')) (sym p.0);
+        idle = ap (λ (y : State). has_in_hand y.outstanding) p.1 ∙ ap (λ es. has_in_hand es) outstanding ∙ (bench.each t s there).idle;
+      }
+      by u x (inr p) = record {
+        attached = (bench.each u x p.1).attached ∙ sym (others u p.0);
+        idle = (bench.each u x p.1).idle;
+      }
+
+  -- it takes a place
+  pub bench_attached : (a : ℕ) → t < length triggers → is_empty st.members ≡ true → st'.site.trigger ≡ Some t → is_empty st'.members ≡ false → st'.site.attachment ≡ a
+      → s' ≡ record s { attached = with_place k a s.attached } → IsBench triggers (set states t s') (set sts k st')
+  bench_attached a within empty own some same after =
+      placed (ap (λ (x : State). x.places) after) (ap (λ (x : State). x.outstanding) after)
+      (ap (λ (x : State). x.attached) after ∙ ap (λ ps. with_place k a ps) (bench.each t s there).attached
+      ∙ places_attached t 0 sts k k a st st' at (omega arith) (none_attached t st empty) (own_attached t st' own some) same)
+      (λ u ne. places_none u 0 sts k st st' at (none_attached u st empty) (other_attached t u st' own ne))
+      (hosted_is t (length triggers) st' own within)
+
+  -- it leaves its place
+  pub bench_detached : t < length triggers → st.site.trigger ≡ Some t → st'.site.trigger ≡ Some t → is_empty st'.members ≡ true
+      → s' ≡ record s { attached = without_place k s.attached } → IsBench triggers (set states t s') (set sts k st')
+  bench_detached within was own empty after =
+      placed (ap (λ (x : State). x.places) after) (ap (λ (x : State). x.outstanding) after)
+      (ap (λ (x : State). x.attached) after ∙ ap (λ ps. without_place k ps) (bench.each t s there).attached
+      ∙ places_detached t 0 sts k k st st' at (omega arith) (none_attached t st' empty))
+      (λ u ne. places_none u 0 sts k st st' at (other_attached t u st was ne) (other_attached t u st' own ne))
+      (hosted_is t (length triggers) st' own within)
+
+  -- it keeps its place
+  pub bench_stays : KeepsPlace st st' → s' ≡ s → IsBench triggers (set states t s') (set sts k st')
+  bench_stays kept same = subst (λ (xs : List State). IsBench triggers xs (set sts k st')) (sym (ap (λ (x : State). set states t x) same ∙ set_same states t s there)) (bench_kept triggers states sts k st st' bench at kept)

@@ -1,0 +1,319 @@
+-- Handlings one after another, and a poll that they follow.
+use Rattle.std.proofs.Common.{◌≡◌, ℕ, zero, suc, ◌+◌, ◌^◌, ◌<◌, ◌≤◌, ℤ, Bool, true, false, cond, List, [], ◌∷◌, ◌++◌, map, length, codes, slice_get, Option, Some, None, option_map, refl, sym, ap, ◌∙◌, subst, append-nil, arith}
+use Rattle.std.specs.Prelude.{◌==◌, unwrap_or}
+use Rattle.std.proofs.lemmas.Bool.Decides.{nat_tests}
+use Rattle.std.proofs.lemmas.List.{append_assoc}
+use Rattle.std.proofs.lemmas.Option.{slice_get-map}
+use Rattle.iio_sensor.specs.Driver.{Driver}
+use Rattle.iio_trigger.specs.declared.Polled.{Polled as Answer}
+use Rattle.iio_trigger.specs.declared.Polled.TheVariants.{Accepted, Missed}
+use Rattle.iio_trigger.specs.Trigger.{Handed, poll_made}
+use Rattle.iio_device.specs.declared.handling.Handled.{Handled as Handling}
+use Rattle.iio_device.specs.declared.plug.Plug.{Plug}
+use Rattle.iio_device.specs.Site.{at_place, is_empty}
+use Rattle.iiod_session.specs.Calls.{is_attached}
+use Rattle.iiod_session.specs.Front.{Front, device_name, shape_at, trigger_name}
+use Rattle.iiod_session.specs.Machine.{Machine, Station, station_at}
+use Rattle.iio_history.specs.Event.{Handled, Polled}
+use Rattle.iio_history.specs.Registry.{Entry, Setup, Trigger, entries_at, entries_from as told_entries, entry_of as told_entry, outlines_of, without_entry as told_without}
+use Rattle.iio_history.specs.Fold.{handled as told_handled}
+use Rattle.iio_history.specs.Told.{Told, registry_of}
+use Rattle.iio_history.specs.Machine.{step}
+use Rattle.iio_history.specs.Played.{state_after, step_lines, steps, texts}
+use Rattle.iio_history.specs.Transcript.{Fire, event_text, poll_entries, printed}
+use Rattle.iio_history.specs.Bench.{machine_of}
+use Rattle.iio_history.specs.BenchMoves.{bench_entries, polled_by}
+use Rattle.iio_history.proofs.BenchMoves.{poll_is, triggers_are}
+use Rattle.iio_system.specs.declared.bench.Bench.{Bench}
+use Rattle.iio_system.specs.declared.connection.Connection.{Connection}
+use Rattle.iio_system.specs.declared.seat.Seat.{Seat}
+use Rattle.iio_system.specs.Bench.{front_of as bench_front, machine_of as bench_machine, trigger_in, triggers_of}
+use Rattle.iio_system.specs.Handling.{entry_answer, entry_machine}
+use Rattle.iio_system.specs.Lines.{handled_word, polled_words}
+use Rattle.iio_system.specs.Moves.{CanGoOn, HandlesAll, HandlesOne, InOrder, Plays, handling_of, handlings}
+use Rattle.iio_system.specs.Places.{TriggerRecord, entries_from, entry_of, first_trigger, handled, poll_answer, polled, trigger_of}
+use Rattle.iio_system.specs.Seat.{seen_of}
+use Rattle.iio_system.specs.Standing.{CanCapture, Holds, RiseBy, handed_by, trigger_by}
+use Rattle.iio_system.specs.Station.{front_by, station_by}
+use Rattle.iio_system.specs.System.{AreLines}
+use Rattle.iio_system.proofs.ListLemmas.{length_map_is}
+use Rattle.iio_system.proofs.MoveLaws.{entry_here, handle_holds, handle_line, handled_told, machine_told, place_map, poll_holds, poll_line}
+
+-- ---- one handling
+
+-- nothing is taken off where the device has no entry
+without_none : (dev : ℕ) (es : List Entry) → told_entry dev es ≡ None → told_without dev es ≡ es
+without_none dev [] none = refl
+without_none dev (e ∷ es) none = by (e.device == dev) none (without_none dev es)
+  where
+    by : (b : Bool) → cond b (Some e) (told_entry dev es) ≡ None → (told_entry dev es ≡ None → told_without dev es ≡ es) → cond b (told_without dev es) (e ∷ told_without dev es) ≡ e ∷ es
+    by true none rest = absurd (cc)
+    by false none rest = ap (λ (xs : List Entry). e ∷ xs) (rest none)
+
+handled_none : (dev trigger : ℕ) (ts : List Trigger) → told_entry dev (entries_at ts trigger) ≡ None → at_place trigger (told_handled dev) ts ≡ ts
+handled_none dev trigger [] none = refl
+handled_none dev zero (t ∷ ts) none = ap (λ (es : List Entry). (let x : Trigger = record t { entries = es } in x) ∷ ts) (without_none dev t.entries none)
+handled_none dev (suc trigger) (t ∷ ts) none = ap (λ (xs : List Trigger). t ∷ xs) (handled_none dev trigger ts none)
+
+module _ {X : Type 0} {V : X → Type 0} (driver : Plug X V → Driver) where
+  module _ (trigger dev : ℕ) (b b' : Bench X V) (cs : List (Connection Seat)) (less : dev < length (bench_front b).devices) (front : bench_front b' ≡ bench_front b)
+      (told : bench_machine driver b' ≡ entry_machine (entry_of dev (trigger_in (triggers_of b) trigger).entries) false (shape_at (bench_front b) dev) dev (bench_machine driver b))
+      (triggers : triggers_of b' ≡ at_place trigger (handled dev) (triggers_of b)) (s : Setup) (m : Told) (h : Holds driver s m b cs) where
+    own : entry_of dev (trigger_in (triggers_of b) trigger).entries ≡ option_map handed_by (told_entry dev (entries_at m.triggers trigger))
+    own = entry_here driver trigger dev b b' cs less front told triggers s m h
+
+    -- where it has none, nothing changes
+    stays : told_entry dev (entries_at m.triggers trigger) ≡ None → Holds driver s m b' cs
+    stays none = record {
+      stands = record {
+        front_is = front ∙ h.stands.front_is;
+        told_is =
+            ap (λ (x : Machine). Some x) (told ∙ ap (λ (o : Option Handed). entry_machine o false (shape_at (bench_front b) dev) dev (bench_machine driver b)) (own ∙ ap (λ (o : Option Entry). option_map handed_by o) none))
+            ∙ h.stands.told_is;
+        bench = h.stands.bench;
+        lines = subst (λ (f : Front). AreLines seen_of f m m.lines cs) (sym front) h.stands.lines;
+      };
+      triggers =
+          triggers ∙ ap (λ (ts : List TriggerRecord). at_place trigger (handled dev) ts) h.triggers ∙ sym (place_map trigger_by trigger (told_handled dev) (handled dev) m.triggers (handled_told dev))
+          ∙ ap (λ (ts : List Trigger). map trigger_by ts) (handled_none dev trigger m.triggers none);
+    }
+
+    pub plays_none : (before : List ℕ) → None ≡ entry_answer (entry_of dev (trigger_in (triggers_of b) trigger).entries) false (station_at (bench_machine driver b) dev)
+        → Plays driver (handling_of trigger dev) s m trigger b' cs before before
+    plays_none before answered = by (told_entry dev (entries_at m.triggers trigger)) refl
+      where
+        by : (o : Option Entry) → told_entry dev (entries_at m.triggers trigger) ≡ o
+            → (before ≡ before ++ texts s m (elim o [ None ↦ [] | Some e ↦ Handled trigger dev ∷ [] ])) × Holds driver s (steps s m (elim o [ None ↦ [] | Some e ↦ Handled trigger dev ∷ [] ])) b' cs
+        by None is = (sym (append-nil before), stays is)
+        by (Some e) is =
+            absurd (let h = answered ∙ ap (λ (o : Option Handed). entry_answer o false (station_at (bench_machine driver b) dev)) (own ∙ ap (λ (o : Option Entry). option_map handed_by o) is) in cc)
+
+    pub plays_some : (before after name device : List ℕ) (answer : Handling) → name ≡ trigger_name (bench_front b') trigger → device ≡ device_name (bench_front b') dev
+        → Some answer ≡ entry_answer (entry_of dev (trigger_in (triggers_of b) trigger).entries) false (station_at (bench_machine driver b) dev)
+        → after ≡ before ++ printed (codes "handle" ∷ name ∷ device ∷ handled_word (Some answer) ∷ [])
+        → Plays driver (handling_of trigger dev) s m trigger b' cs before after
+    plays_some before after name device answer named called answered line = by (told_entry dev (entries_at m.triggers trigger)) refl
+      where
+        by : (o : Option Entry) → told_entry dev (entries_at m.triggers trigger) ≡ o
+            → (after ≡ before ++ texts s m (elim o [ None ↦ [] | Some e ↦ Handled trigger dev ∷ [] ])) × Holds driver s (steps s m (elim o [ None ↦ [] | Some e ↦ Handled trigger dev ∷ [] ])) b' cs
+        by None is =
+            absurd (let h = answered ∙ ap (λ (o : Option Handed). entry_answer o false (station_at (bench_machine driver b) dev)) (own ∙ ap (λ (o : Option Entry). option_map handed_by o) is) in cc)
+        by (Some e) is = (
+          handle_line driver trigger dev b b' cs less front told triggers s m h before after name device (Some answer) named called answered line,
+          handle_holds driver trigger dev b b' cs less front told triggers s m h,
+        )
+
+-- ---- entries in order
+
+order_from : (low' low high : ℕ) (es : List Entry) → low' ≤ low → InOrder low high es → InOrder low' high es
+order_from low' low high [] less order = omega (arith, less, order)
+order_from low' low high (e ∷ es) less order = let h = order.0 in (omega (arith, less, h), order.1)
+
+order_bound : (low high : ℕ) (es : List Entry) → InOrder low high es → low ≤ high
+order_bound low high [] order = order
+order_bound low high (e ∷ es) order = let h = order_bound (suc e.device) high es order.1 in let k = order.0 in omega (arith, h, k)
+
+-- at the end there is none
+order_none : (low high : ℕ) (es : List Entry) → high ≤ low → InOrder low high es → es ≡ []
+order_none low high [] past order = refl
+order_none low high (e ∷ es) past order = absurd (let h = order_bound (suc e.device) high es order.1 in let k = order.0 in omega (arith, h, k, past))
+
+-- a device that comes before them has none
+entry_none : (dev low high : ℕ) (es : List Entry) → dev < low → InOrder low high es → told_entry dev es ≡ None
+entry_none dev low high [] less order = refl
+entry_none dev low high (e ∷ es) less order =
+    let h = order.0 in
+    let other : (e.device == dev) ≡ false = grind (arith, nat_tests) in
+    ap (λ (b : Bool). cond b (Some e) (told_entry dev es)) other ∙ entry_none dev (suc e.device) high es (omega (arith, less, h)) order.1
+
+entries_placed : (f : Trigger → Trigger) (g : List Entry → List Entry) → ((t : Trigger) → (f t).entries ≡ g t.entries) → (k : ℕ) (ts : List Trigger) → (length ts ≤ k → g [] ≡ [])
+    → entries_at (at_place k f ts) k ≡ g (entries_at ts k)
+entries_placed f g same k [] past = sym (past (omega arith))
+entries_placed f g same zero (t ∷ ts) past = same t
+entries_placed f g same (suc k) (t ∷ ts) past = entries_placed f g same k ts (λ h. past (omega (arith, h)))
+
+-- ---- handlings one after another
+
+module _ {X : Type 0} {V : X → Type 0} (driver : Plug X V → Driver) where
+  -- the handlings of the devices below `low` are done: those of the entries that are left make up the rest
+  pub record IsLeft (s : Setup) (m : Told) (trigger low high : ℕ) (b : Bench X V) (cs : List (Connection Seat)) (before now : List ℕ) : Type 0 where
+    pub state : Told
+    pub entries : List Entry
+    pub there : entries_at state.triggers trigger ≡ entries
+    pub holds : Holds driver s state b cs
+    pub order : InOrder low high entries
+    pub text : before ++ texts s m (handlings trigger (entries_at m.triggers trigger)) ≡ now ++ texts s state (handlings trigger entries)
+    pub last : steps s m (handlings trigger (entries_at m.triggers trigger)) ≡ steps s state (handlings trigger entries)
+
+  pub left_first : (s : Setup) (m : Told) (trigger high : ℕ) (b : Bench X V) (cs : List (Connection Seat)) (before : List ℕ) → Holds driver s m b cs → InOrder 0 high (entries_at m.triggers trigger)
+      → IsLeft s m trigger 0 high b cs before before
+  left_first s m trigger high b cs before h order = record { state = m; entries = entries_at m.triggers trigger; there = refl; holds = h; order = order; text = refl; last = refl }
+
+  pub left_last : (s : Setup) (m : Told) (trigger low high : ℕ) (b : Bench X V) (cs : List (Connection Seat)) (before now : List ℕ) → high ≤ low → IsLeft s m trigger low high b cs before now
+      → Plays driver (handlings trigger) s m trigger b cs before now
+  left_last s m trigger low high b cs before now past x =
+      let none : x.entries ≡ [] = order_none low high x.entries past x.order in (
+        sym (x.text ∙ ap (λ (es : List Entry). now ++ texts s x.state (handlings trigger es)) none ∙ append-nil now),
+        subst (λ (n : Told). Holds driver s n b cs) (sym (x.last ∙ ap (λ (es : List Entry). steps s x.state (handlings trigger es)) none)) x.holds,
+      )
+
+  -- what the handling of an entry, or of none, makes
+  abbrev Took : Setup → Told → (trigger dev : ℕ) → Bench X V → List (Connection Seat) → (before after : List ℕ) → Option Entry → Type 0
+  Took s n trigger dev b' cs before after o =
+      (after ≡ before ++ texts s n (elim o [ None ↦ [] | Some e ↦ Handled trigger dev ∷ [] ])) × Holds driver s (steps s n (elim o [ None ↦ [] | Some e ↦ Handled trigger dev ∷ [] ])) b' cs
+
+  module _ (s : Setup) (m n : Told) (trigger dev high : ℕ) (b' : Bench X V) (cs : List (Connection Seat)) (before now after : List ℕ) where
+    next_by : (es : List Entry) → entries_at n.triggers trigger ≡ es → dev < high → InOrder dev high es
+        → before ++ texts s m (handlings trigger (entries_at m.triggers trigger)) ≡ now ++ texts s n (handlings trigger es)
+        → steps s m (handlings trigger (entries_at m.triggers trigger)) ≡ steps s n (handlings trigger es)
+        → Took s n trigger dev b' cs now after (told_entry dev es) → IsLeft s m trigger (suc dev) high b' cs before after
+    next_by [] at less order text last took = record {
+      state = n;
+      entries = [];
+      there = at;
+      holds = took.1;
+      order = omega (arith, less);
+      text = text ∙ ap (λ (t : List ℕ). t ++ []) (sym (took.0 ∙ append-nil now));
+      last = last;
+    }
+    next_by (e ∷ es) at less order text last took = by (e.device == dev) refl
+      where
+        by : (c : Bool) → (e.device == dev) ≡ c → IsLeft s m trigger (suc dev) high b' cs before after
+        by true own =
+            let same : e.device ≡ dev = grind (arith, nat_tests) in
+            let took' = subst (λ (o : Option Entry). Took s n trigger dev b' cs now after o) (ap (λ (c : Bool). cond c (Some e) (told_entry dev es)) own) took in
+            let ev = event_text s n (Handled trigger dev) in
+            record {
+              state = step s n (Handled trigger dev);
+              entries = es;
+              there =
+                  ap (λ (ts : List Trigger). entries_at ts trigger) (triggers_are s n (Handled trigger dev)) ∙ entries_placed (told_handled dev) (told_without dev) (λ t. refl) trigger n.triggers (λ past. refl)
+                  ∙ ap (λ (xs : List Entry). told_without dev xs) at ∙ ap (λ (c : Bool). cond c (told_without dev es) (e ∷ told_without dev es)) own
+                  ∙ without_none dev es (entry_none dev (suc e.device) high es (omega (arith, same)) order.1);
+              holds = took'.1;
+              order = subst (λ (d : ℕ). InOrder (suc d) high es) same order.1;
+              text =
+                  text ∙ ap (λ (d : ℕ). now ++ (event_text s n (Handled trigger d) ++ texts s (step s n (Handled trigger d)) (handlings trigger es))) same
+                  ∙ sym (append_assoc now ev (texts s (step s n (Handled trigger dev)) (handlings trigger es)))
+                  ∙ ap (λ (t : List ℕ). t ++ texts s (step s n (Handled trigger dev)) (handlings trigger es)) (ap (λ (t : List ℕ). now ++ t) (sym (append-nil ev)) ∙ sym took'.0);
+              last = last ∙ ap (λ (d : ℕ). steps s (step s n (Handled trigger d)) (handlings trigger es)) same;
+            }
+        by false other =
+            let h = order.0 in
+            let apart : e.device ≡ dev → ⊥ = λ same. absurd (grind (arith, nat_tests)) in
+            let later : InOrder (suc dev) high (e ∷ es) = (grind (arith, nat_tests), order.1) in
+            let took' = subst (λ (o : Option Entry). Took s n trigger dev b' cs now after o) (entry_none dev (suc dev) high (e ∷ es) (omega arith) later) took in
+            record {
+              state = n;
+              entries = e ∷ es;
+              there = at;
+              holds = took'.1;
+              order = later;
+              text = text ∙ ap (λ (t : List ℕ). t ++ texts s n (handlings trigger (e ∷ es))) (sym (took'.0 ∙ append-nil now));
+              last = last;
+            }
+
+  pub left_next : (s : Setup) (m : Told) (trigger dev high : ℕ) (b b' : Bench X V) (cs : List (Connection Seat)) (before now after : List ℕ) → dev < high → IsLeft s m trigger dev high b cs before now
+      → HandlesOne driver trigger dev b b' cs now after → IsLeft s m trigger (dev + 1) high b' cs before after
+  left_next s m trigger dev high b b' cs before now after less x one =
+      let one_more : suc dev ≡ dev + 1 = omega arith in
+      subst (λ (d : ℕ). IsLeft s m trigger d high b' cs before after) one_more
+      (next_by s m x.state trigger dev high b' cs before now after x.entries x.there less x.order x.text x.last
+      (subst (λ (es : List Entry). Took s x.state trigger dev b' cs now after (told_entry dev es)) x.there (one s x.state x.holds)))
+
+-- ---- captures
+
+pub rise_on : (j k : ℕ) (old mid new : List ℕ) → RiseBy j old mid → RiseBy k mid new → RiseBy (j + k) old new
+rise_on j k old mid new first then = λ n all i d less. let h = then (n + j) (first n all) i d less in omega (arith, h)
+
+pub still_go : (k : ℕ) (old new : List ℕ) → k ≤ 32 → CanCapture old → RiseBy k old new → CanGoOn new
+still_go k old new less can rise = λ i d within. let h = rise (2 ^ 63) (λ j e l. let g = can j e l in omega (arith, g)) i d within in omega (arith, h, less)
+
+-- ---- a poll, and the handlings that follow it
+
+-- the entries of a poll are of devices in their order
+bench_order : (dev trigger : ℕ) (t : ℤ) (sts : List Station) → InOrder dev (dev + length sts) (bench_entries dev trigger t sts)
+bench_order dev trigger t [] = omega arith
+bench_order dev trigger t (st ∷ sts) =
+    let on : suc dev + length sts ≡ dev + suc (length sts) = omega arith in
+    by (is_attached trigger st) (subst (λ (n : ℕ). InOrder (suc dev) n (bench_entries (suc dev) trigger t sts)) on (bench_order (suc dev) trigger t sts))
+  where
+    by : (c : Bool) → InOrder (suc dev) (dev + suc (length sts)) (bench_entries (suc dev) trigger t sts)
+        → InOrder dev (dev + suc (length sts)) (cond c (record { device = dev; attachment = st.site.attachment; moment = t } ∷ bench_entries (suc dev) trigger t sts) (bench_entries (suc dev) trigger t sts))
+    by true rest = (omega arith, rest)
+    by false rest = order_from dev (suc dev) (dev + suc (length sts)) (bench_entries (suc dev) trigger t sts) (omega arith) rest
+
+entries_in : (ts : List Trigger) (trigger : ℕ) → (trigger_in (map trigger_by ts) trigger).entries ≡ map handed_by (entries_at ts trigger)
+entries_in ts trigger = ap (λ (o : Option TriggerRecord). (unwrap_or o first_trigger).entries) (slice_get-map trigger_by ts trigger) ∙ by (slice_get ts trigger)
+  where
+    by : (o : Option Trigger) → (unwrap_or (option_map trigger_by o) first_trigger).entries ≡ map handed_by (elim o [ None ↦ [] | Some t ↦ t.entries ])
+    by None = refl
+    by (Some t) = refl
+
+accepts : (made : List Handed) (es : List Entry) (n missed : ℕ) → Accepted n ≡ poll_answer made (map handed_by es) missed → es ≡ []
+accepts made [] n missed answered = refl
+accepts made (e ∷ es) n missed answered = absurd (cc)
+
+misses : (made : List Handed) (es : List Entry) (n missed : ℕ) → Missed n ≡ poll_answer made (map handed_by es) missed → is_empty es ≡ false
+misses made [] n missed answered = absurd (cc)
+misses made (e ∷ es) n missed answered = refl
+
+module _ {X : Type 0} {V : X → Type 0} (driver : Plug X V → Driver) where
+  module _ (trigger : ℕ) (t : ℤ) (b b' : Bench X V) (cs : List (Connection Seat)) (front : bench_front b' ≡ bench_front b) (told : bench_machine driver b' ≡ bench_machine driver b)
+      (triggers : triggers_of b' ≡ at_place trigger (polled (bench_machine driver b).stations trigger t) (triggers_of b)) (s : Setup) (m : Told) (h : Holds driver s m b cs) where
+    outstanding_told : (answer : Answer) → answer ≡ poll_answer (entries_from 0 trigger t (bench_machine driver b).stations) (trigger_in (triggers_of b) trigger).entries (trigger_in (triggers_of b) trigger).missed
+        → answer ≡ poll_answer (entries_from 0 trigger t (bench_machine driver b).stations) (map handed_by (entries_at m.triggers trigger)) (trigger_in (triggers_of b) trigger).missed
+    outstanding_told answer answered =
+        answered
+        ∙ ap (λ (hs : List Handed). poll_answer (entries_from 0 trigger t (bench_machine driver b).stations) hs (trigger_in (triggers_of b) trigger).missed)
+        (ap (λ (ts : List TriggerRecord). (trigger_in ts trigger).entries) h.triggers ∙ entries_in m.triggers trigger)
+
+    -- a missed poll is all
+    pub fire_missed : (before after name : List ℕ) (answer : Answer) (n : ℕ) → answer ≡ Missed n → name ≡ trigger_name (bench_front b') trigger
+        → answer ≡ poll_answer (entries_from 0 trigger t (bench_machine driver b).stations) (trigger_in (triggers_of b) trigger).entries (trigger_in (triggers_of b) trigger).missed
+        → after ≡ before ++ printed (codes "poll" ∷ name ∷ polled_words answer)
+        → (after ≡ before ++ step_lines s m (Fire trigger t)) × Holds driver s (state_after s m (Fire trigger t)) b' cs
+    fire_missed before after name answer n is named answered line =
+        let busy = misses (entries_from 0 trigger t (bench_machine driver b).stations) (entries_at m.triggers trigger) n (trigger_in (triggers_of b) trigger).missed (outstanding_told (Missed n) (sym is ∙ answered)) in
+        let none : poll_entries m trigger t ≡ [] = ap (λ (c : Bool). cond c (told_entries 0 trigger t (outlines_of (registry_of m))) []) busy in
+        subst (λ (es : List Entry). (after ≡ before ++ texts s m (Polled trigger t ∷ handlings trigger es)) × Holds driver s (steps s m (Polled trigger t ∷ handlings trigger es)) b' cs) (sym none) (
+          poll_line driver trigger t b b' cs front told triggers s m h before after name answer named answered line,
+          poll_holds driver trigger t b b' cs front told triggers s m h,
+        )
+
+    -- one that is accepted
+    module _ (many : length b.triggers.items ≡ length b.described.items) (within : trigger < length (bench_front b).triggers) where
+      polled_entries : entries_at (step s m (Polled trigger t)).triggers trigger ≡ poll_made (bench_entries 0 trigger t (machine_of m).stations) (entries_at m.triggers trigger)
+      polled_entries =
+          let long : length m.triggers ≡ length b.described.items
+          = sym (length_map_is trigger_by m.triggers) ∙ ap (λ (ts : List TriggerRecord). length ts) (sym h.triggers) ∙ length_map_is trigger_of b.triggers.items ∙ many in
+          ap (λ (ts : List Trigger). entries_at ts trigger) (triggers_are s m (Polled trigger t))
+          ∙ entries_placed (polled_by (machine_of m) trigger t) (λ es. poll_made (bench_entries 0 trigger t (machine_of m).stations) es) (λ x. refl) trigger m.triggers (λ past. absurd (omega (arith, past, long, within)))
+
+      in_order : InOrder 0 (length (bench_front b').devices) (bench_entries 0 trigger t (machine_of m).stations)
+      in_order =
+          let whole : 0 + length (machine_of m).stations ≡ length (machine_of m).stations = omega arith in
+          let long : 0 + length (machine_of m).stations ≡ length (bench_front b').devices
+          = whole ∙ ap (λ (x : Machine). length x.stations) (sym (machine_told driver s m b cs h)) ∙ length_map_is (station_by driver) b.devices.items ∙ sym (length_map_is front_by b.devices.items) ∙ ap (λ (f : Front). length f.devices) (sym front) in
+          subst (λ (n : ℕ). InOrder 0 n (bench_entries 0 trigger t (machine_of m).stations)) long (bench_order 0 trigger t (machine_of m).stations)
+
+      pub fire_accepted : (b'' : Bench X V) (before mid after name : List ℕ) (answer : Answer) (n : ℕ) → answer ≡ Accepted n → name ≡ trigger_name (bench_front b') trigger
+          → answer ≡ poll_answer (entries_from 0 trigger t (bench_machine driver b).stations) (trigger_in (triggers_of b) trigger).entries (trigger_in (triggers_of b) trigger).missed
+          → mid ≡ before ++ printed (codes "poll" ∷ name ∷ polled_words answer) → HandlesAll driver trigger (length (bench_front b').devices) b' b'' cs mid after
+          → (after ≡ before ++ step_lines s m (Fire trigger t)) × Holds driver s (state_after s m (Fire trigger t)) b'' cs
+      fire_accepted b'' before mid after name answer n is named answered line all =
+          let idle = accepts (entries_from 0 trigger t (bench_machine driver b).stations) (entries_at m.triggers trigger) n (trigger_in (triggers_of b) trigger).missed (outstanding_told (Accepted n) (sym is ∙ answered)) in
+          let made : entries_at (step s m (Polled trigger t)).triggers trigger ≡ bench_entries 0 trigger t (machine_of m).stations
+          = polled_entries ∙ ap (λ (es : List Entry). poll_made (bench_entries 0 trigger t (machine_of m).stations) es) idle in
+          let entries : entries_at (step s m (Polled trigger t)).triggers trigger ≡ poll_entries m trigger t
+          = made ∙ sym (poll_is s m trigger t).1 ∙ ap (λ (es : List Entry). cond (is_empty es) (told_entries 0 trigger t (outlines_of (registry_of m))) []) (sym idle) in
+          let ev = event_text s m (Polled trigger t) in
+          let rest = texts s (step s m (Polled trigger t)) (handlings trigger (poll_entries m trigger t)) in
+          let played =
+          subst (λ (es : List Entry). (after ≡ mid ++ texts s (step s m (Polled trigger t)) (handlings trigger es)) × Holds driver s (steps s (step s m (Polled trigger t)) (handlings trigger es)) b'' cs) entries
+          (all s (step s m (Polled trigger t)) (poll_holds driver trigger t b b' cs front told triggers s m h) (subst (λ (es : List Entry). InOrder 0 (length (bench_front b').devices) es) (sym made) in_order)) in (
+            played.0
+                ∙ ap (λ (text : List ℕ). text ++ rest) (poll_line driver trigger t b b' cs front told triggers s m h before mid name answer named answered line ∙ ap (λ (text : List ℕ). before ++ text) (append-nil ev))
+                ∙ append_assoc before ev rest,
+            played.1,
+          )

@@ -1,0 +1,115 @@
+-- Polls, looks at thresholds and unpluggings at a bench.
+use Rattle.std.proofs.Common.{◌≡◌, ◌⊎◌, ℕ, Bool, true, false, List, map, set, slice_get, Option, Some, None, inl, inr, refl, sym, ap, ◌∙◌, cond}
+use Rattle.std.specs.Prelude.{ℤ, unwrap_or}
+use Rattle.std.specs.Option.{option_map_or}
+use Rattle.iio_layout.specs.Shape.{ShapeRecord}
+use Rattle.iio_desc.specs.declared.description.TriggerDesc.{TriggerDesc}
+use Rattle.iio_kfifo.specs.Queue.{Queue}
+use Rattle.iio_trigger.specs.declared.Polled.{Polled}
+use Rattle.iio_trigger.specs.Trigger.{Handed, Polls, State}
+use Rattle.iio_device.specs.declared.handling.Handled.{Handled}
+use Rattle.iio_device.specs.Device.{DeviceView, after_sense, at_site}
+use Rattle.iio_device.specs.Site.{at_place, unplugged}
+use Rattle.iiod_session.specs.Machine.{Station}
+use Rattle.iio_system.specs.Acting.{Keeps}
+use Rattle.iio_system.specs.Bench.{trigger_in}
+use Rattle.iio_system.specs.Handling.{entry_answer, entry_machine, entry_station, handled_station, is_last, sensed_station, unplugged_station}
+use Rattle.iio_system.specs.Places.{IsBench, IsTrigger, TriggerRecord, entries_from, entry_of, first_trigger, handled, poll_answer, polled, trigger_of}
+use Rattle.iio_system.specs.Station.{station_of}
+use Rattle.iio_system.proofs.ListLemmas.{after_set, map_at, map_changed, map_same}
+use Rattle.iio_system.proofs.BenchLemmas.{KeepsPlace, kept_along}
+use Rattle.iio_system.proofs.TriggerLemmas.{off_sound, off_told, poll_answers, poll_places, poll_sound, poll_told, without}
+use Rattle.iio_system.proofs.ToldLemmas.{machine_by, told_changed, told_same}
+
+-- one trigger has changed
+pub bench_triggered : (triggers : List TriggerDesc) (states : List State) (sts : List Station) (t : ℕ) (s s' : State) → IsBench triggers states sts → slice_get states t ≡ Some s → s'.places ≡ s.places → IsTrigger t sts s'
+    → IsBench triggers (set states t s') sts
+bench_triggered triggers states sts t s s' bench there places sound = record {
+  few = bench.few;
+  devices = bench.devices;
+  places = map_same (λ (x : State). x.places) states t s s' there places ∙ bench.places;
+  each = λ u x e. by u x (after_set states t u s' x e);
+  hosted = bench.hosted;
+}
+  where
+    by : (u : ℕ) (x : State) → ((u ≡ t) × (x ≡ s')) ⊎ ((u ≡ t → ⊥) × (slice_get states u ≡ Some x)) → IsTrigger u sts x
+    by u x (inl p) = rw (p.0, p.1) sound
+    by u x (inr p) = bench.each u x p.1
+
+module _ (triggers : List TriggerDesc) (states : List State) (sts : List Station) (t : ℕ) (moment : ℤ) (s s' : State) (answer : Polled) (bench : IsBench triggers states sts) (there : slice_get states t ≡ Some s) (p : Polls s moment answer s') where
+  pub poll_bench : IsBench triggers (set states t s') sts
+  poll_bench = bench_triggered triggers states sts t s s' bench there (poll_places t sts moment s (bench.each t s there) answer s' p) (poll_sound t sts moment s (bench.each t s there) answer s' p)
+
+  pub poll_triggers : map trigger_of (set states t s') ≡ at_place t (polled sts t moment) (map trigger_of states)
+  poll_triggers = map_changed trigger_of states t s s' (polled sts t moment) there (poll_told t sts moment s (bench.each t s there) answer s' p)
+
+  pub poll_answer_is : answer ≡ poll_answer (entries_from 0 t moment sts) (trigger_in (map trigger_of states) t).entries (trigger_in (map trigger_of states) t).missed
+  poll_answer_is =
+      let at : trigger_in (map trigger_of states) t ≡ trigger_of s = ap (λ (o : Option TriggerRecord). unwrap_or o first_trigger) (map_at trigger_of states t s there) in
+      poll_answers t sts moment s (bench.each t s there) answer s' p ∙ ap (λ (x : TriggerRecord). poll_answer (entries_from 0 t moment sts) x.entries x.missed) (sym at)
+
+-- ---- thresholds
+
+sense_by : (b : Bool) (v v' w : DeviceView Queue) → v' ≡ cond b w v → station_of v' ≡ cond b (station_of w) (station_of v)
+sense_by true v v' w e = ap station_of e
+sense_by false v v' w e = ap station_of e
+
+pub sense_station : (t : ℤ) (v v' : DeviceView Queue) → v' ≡ after_sense t v → station_of v' ≡ sensed_station v.standing.shape t (station_of v)
+sense_station t v v' e = sense_by v.site.plugged v v' _ e
+
+sense_keeps_by : (b : Bool) (v v' w : DeviceView Queue) → w.name ≡ v.name → w.number ≡ v.number → w.standing.shape ≡ v.standing.shape → v' ≡ cond b w v → Keeps v v'
+sense_keeps_by true v v' w name number shape e = record { name = ap (λ (x : DeviceView Queue). x.name) e ∙ name; number = ap (λ (x : DeviceView Queue). x.number) e ∙ number; shape = ap (λ (x : DeviceView Queue). x.standing.shape) e ∙ shape }
+sense_keeps_by false v v' w name number shape e = record { name = ap (λ (x : DeviceView Queue). x.name) e; number = ap (λ (x : DeviceView Queue). x.number) e; shape = ap (λ (x : DeviceView Queue). x.standing.shape) e }
+
+pub sense_keeps : (t : ℤ) (v v' : DeviceView Queue) → v' ≡ after_sense t v → Keeps v v'
+sense_keeps t v v' e = sense_keeps_by v.site.plugged v v' _ refl refl refl e
+
+sense_captures_by : (b : Bool) (v v' w : DeviceView Queue) → w.standing.captures ≡ v.standing.captures → v' ≡ cond b w v → v'.standing.captures ≡ v.standing.captures
+sense_captures_by true v v' w same e = ap (λ (x : DeviceView Queue). x.standing.captures) e ∙ same
+sense_captures_by false v v' w same e = ap (λ (x : DeviceView Queue). x.standing.captures) e
+
+pub sense_captures : (t : ℤ) (v v' : DeviceView Queue) → v' ≡ after_sense t v → v'.standing.captures ≡ v.standing.captures
+sense_captures t v v' e = sense_captures_by v.site.plugged v v' _ refl e
+
+sensed_kept_by : (b : Bool) (shape : ShapeRecord) (t : ℤ) (st w : Station) → KeepsPlace st w → KeepsPlace st (cond b w st)
+sensed_kept_by true shape t st w k = k
+sensed_kept_by false shape t st w k = record { attached = λ u. refl; attachment = refl; hosted = λ n h. h }
+
+pub sense_kept : (shape : ShapeRecord) (t : ℤ) (st st' : Station) → st' ≡ sensed_station shape t st → KeepsPlace st st'
+sense_kept shape t st st' e = kept_along st (sensed_station shape t st) st' (sensed_kept_by st.site.plugged shape t st _ (record { attached = λ u. refl; attachment = refl; hosted = λ n h. h })) e
+
+-- ---- unplugging
+
+pub unplug_keeps : (v v' : DeviceView Queue) → v' ≡ at_site (unplugged v.site) v → Keeps v v'
+unplug_keeps v v' e = record { name = ap (λ (x : DeviceView Queue). x.name) e; number = ap (λ (x : DeviceView Queue). x.number) e; shape = ap (λ (x : DeviceView Queue). x.standing.shape) e }
+
+pub unplug_kept : (st st' : Station) → st' ≡ unplugged_station st → KeepsPlace st st'
+unplug_kept st st' e = kept_along st (unplugged_station st) st' (record { attached = λ u. refl; attachment = refl; hosted = λ n h. h }) e
+
+-- ---- entries
+
+module _ (triggers : List TriggerDesc) (states : List State) (sts : List Station) (t dev : ℕ) (s s' : State) (bench : IsBench triggers states sts) (there : slice_get states t ≡ Some s) where
+  pub entry_bench : s' ≡ without dev s → IsBench triggers (set states t s') sts
+  entry_bench off = bench_triggered triggers states sts t s s' bench there (ap (λ (x : State). x.places) off) (off_sound t dev sts s s' (bench.each t s there) off)
+
+pub entry_triggers : (states : List State) (t dev : ℕ) (s s' : State) → slice_get states t ≡ Some s → s' ≡ without dev s → map trigger_of (set states t s') ≡ at_place t (handled dev) (map trigger_of states)
+entry_triggers states t dev s s' there off = map_changed trigger_of states t s s' (handled dev) there (off_told dev s s' off)
+
+pub entry_here : (states : List State) (t dev : ℕ) (s : State) → slice_get states t ≡ Some s → entry_of dev (trigger_in (map trigger_of states) t).entries ≡ entry_of dev (trigger_of s).entries
+entry_here states t dev s there = ap (λ (o : Option TriggerRecord). entry_of dev (unwrap_or o first_trigger).entries) (map_at trigger_of states t s there)
+
+module _ {D : Type 0} (f : D → Station) (clock : ℤ) (ds : List D) (k : ℕ) (d d' : D) (at : slice_get ds k ≡ Some d) where
+  entry_by : (o : Option Handed) (ended : Bool) (shape : ShapeRecord) → f d' ≡ entry_station o ended shape (f d) → machine_by f clock (set ds k d') ≡ entry_machine o ended shape k (machine_by f clock ds)
+  entry_by None ended shape e = told_same f clock ds k d d' at e
+  entry_by (Some h) true shape e = told_same f clock ds k d d' at e
+  entry_by (Some h) false shape e = told_changed f clock ds k d d' at (handled_station shape h) e
+
+  pub entry_told : (o o' : Option Handed) (ended ended' : Bool) (shape shape' : ShapeRecord) → o' ≡ o → ended' ≡ ended → shape' ≡ shape → f d' ≡ entry_station o ended shape (f d)
+      → machine_by f clock (set ds k d') ≡ entry_machine o' ended' shape' k (machine_by f clock ds)
+  entry_told o o' ended ended' shape shape' same sameE sameS e = rw (same, sameE, sameS) (entry_by o ended shape e)
+
+pub entry_answer_is : (o o' : Option Handed) (ended ended' : Bool) (st st' : Station) (r : Option Handled) → o' ≡ o → ended' ≡ ended → st' ≡ st → r ≡ entry_answer o ended st → r ≡ entry_answer o' ended' st'
+entry_answer_is o o' ended ended' st st' r same sameE sameS e = rw (same, sameE, sameS) e
+
+pub ended_here : {D : Type 0} (f : D → ℕ) (ds : List D) (k : ℕ) (d : D) → slice_get ds k ≡ Some d → option_map_or is_last (slice_get (map f ds) k) false ≡ is_last (f d)
+ended_here f ds k d at = ap (λ (o : Option ℕ). option_map_or is_last o false) (map_at f ds k d at)

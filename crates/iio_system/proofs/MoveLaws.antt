@@ -1,0 +1,438 @@
+-- What happens to a bench beside its connections' calls is what the history says.
+use Rattle.std.proofs.Common.{◌≡◌, ℕ, zero, suc, ◌+◌, ◌-◌, ◌^◌, ◌<◌, ◌≤◌, ℤ, Bool, true, false, cond, not, List, [], ◌∷◌, ◌++◌, map, length, codes, slice_get, slice_index_or, Option, Some, None, option_map, refl, sym, ap, ◌∙◌, subst, append-nil, arith}
+use Rattle.std.specs.Prelude.{◌==◌, All, unwrap_or}
+use Rattle.std.specs.Option.{option_map_or}
+use Rattle.std.specs.Fmt.{decimal, signed_decimal}
+use Rattle.std.proofs.lemmas.Bool.Decides.{nat_tests}
+use Rattle.std.proofs.lemmas.Option.{slice_get-map}
+use Rattle.iio_sensor.specs.Driver.{Driver, ask_fails, next_count}
+use Rattle.iio_layout.specs.Shape.{ShapeRecord}
+use Rattle.iio_trigger.specs.declared.Polled.{Polled as Answer}
+use Rattle.iio_trigger.specs.Trigger.{Handed, missed_after, poll_made}
+use Rattle.iio_desc.specs.Description.{DeviceRecord, device_name as desc_device_name, trigger_name as desc_trigger_name}
+use Rattle.iio_device.specs.declared.handling.Handled.{Handled as Handling}
+use Rattle.iio_device.specs.declared.handling.Handled.TheVariants.{Captured, Fault, Idle}
+use Rattle.iio_device.specs.declared.handling.Sensed.{Sensed as Look}
+use Rattle.iio_device.specs.declared.handling.Sensed.TheVariants as sense
+use Rattle.iio_device.specs.declared.plug.Plug.{Plug}
+use Rattle.iio_device.specs.Sensing.{sensed}
+use Rattle.iio_device.specs.Site.{at_place, is_current, is_empty}
+use Rattle.iiod_session.specs.Desk.{DeskRecord}
+use Rattle.iiod_session.specs.Calls.{is_attached}
+use Rattle.iiod_session.specs.Front.{DeviceFront, Front, device_name, shape_at, trigger_name}
+use Rattle.iiod_session.specs.Machine.{Machine, Station, is_plugged, no_station, station_at, with_station}
+use Rattle.iiod_session.specs.Seat.{SeatRecord}
+use Rattle.iio_history.specs.Event.{Event, Arrived, Clock, Dropped, Handled, Heard, Polled, Remasked, Sensed, Unplugged}
+use Rattle.iio_history.specs.Registry.{Entry, Registry, Setup, Trigger, User, entries_at, entry_of as told_entry, without_entry as told_without}
+use Rattle.iio_history.specs.Fold.{handled as told_handled, newcomers}
+use Rattle.iio_history.specs.Told.{Line, Told, registry_of}
+use Rattle.iio_history.specs.Machine.{line_after, new_line, step}
+use Rattle.iio_history.specs.Transcript.{Sense, SetClock, Unplug, event_text, missed_at, printed}
+use Rattle.iio_history.specs.Bench.{Every, IsBench, IsDeskOf, IsStep, front_device, front_of, is_in, machine_of, names_of}
+use Rattle.iio_history.specs.BenchLaw.{IsOthers}
+use Rattle.iio_history.specs.BenchMoves.{IsMove, bench_entries, capture_made, entry_made, entry_word, look_words, moved_text, plug_word, polled_by, triggers_made}
+use Rattle.iio_history.proofs.BenchKept.{bench_kept}
+use Rattle.iio_history.proofs.BenchMoves.{clock_is, handling_is, look_is, moves_print, poll_is, triggers_are, unplugging_is}
+use Rattle.iio_history.proofs.BenchOthers.{desks_are_kept}
+use Rattle.iio_system.specs.declared.bench.Bench.{Bench}
+use Rattle.iio_system.specs.declared.connection.Connection.{Connection}
+use Rattle.iio_system.specs.declared.seat.Seat.{Seat}
+use Rattle.iio_system.specs.Bench.{front_of as bench_front, machine_of as bench_machine, trigger_in, triggers_of}
+use Rattle.iio_system.specs.Handling.{counted, entry_answer, entry_machine, handled_station, is_last, sensed_answer, sensed_station, unplugged_station}
+use Rattle.iio_system.specs.Lines.{handled_word, polled_words, sensed_words, unplugged_word}
+use Rattle.iio_system.specs.Places.{TriggerRecord, entries_from, entry_of, first_trigger, handled, poll_answer, polled, without_entry}
+use Rattle.iio_system.specs.Seat.{seen_of}
+use Rattle.iio_system.specs.Standing.{CanCapture, Holds, Makes, RiseBy, handed_by, trigger_by}
+use Rattle.iio_system.specs.Station.{front_by, station_by}
+use Rattle.iio_system.specs.System.{AreLines}
+use Rattle.iio_system.proofs.LineLaws.{SameLine, every_line_there, served_moves}
+use Rattle.iio_system.proofs.ListLemmas.{length_map_is}
+
+-- ---- events that are no connection's
+
+abbrev pub IsOfBench : Event → Type 0
+IsOfBench (Polled trigger moment) = Unit {0}
+IsOfBench (Handled trigger device) = Unit {0}
+IsOfBench (Sensed device moment) = Unit {0}
+IsOfBench (Clock moment) = Unit {0}
+IsOfBench (Unplugged device) = Unit {0}
+IsOfBench e = ⊥
+
+is_move : (e : Event) → IsOfBench e → IsMove e
+is_move (Heard name item) is = absurd is
+is_move (Dropped name) is = absurd is
+is_move e is = tt
+
+is_others : (name : List ℕ) (e : Event) → IsOfBench e → IsOthers name e
+is_others name (Heard speaker item) is = absurd is
+is_others name (Dropped speaker) is = absurd is
+is_others name (Remasked speaker device mask) is = absurd is
+is_others name e is = tt
+
+is_step : (names : List (List ℕ)) (e : Event) → IsOfBench e → IsStep names e
+is_step names (Heard speaker item) is = absurd is
+is_step names (Remasked speaker device mask) is = absurd is
+is_step names e is = tt
+
+none_new : (s : Setup) (e : Event) (us : List User) → IsOfBench e → newcomers s e us ≡ []
+none_new s (Arrived name bytes) us is = absurd is
+none_new s e us is = refl
+
+same_line : (s : Setup) (r : Registry) (e : Event) (l : Line) → IsOfBench e → SameLine l (line_after s r e l)
+same_line s r (Arrived name bytes) l is = absurd is
+same_line s r (Heard name item) l is = absurd is
+same_line s r (Dropped name) l is = absurd is
+same_line s r e l is = record { who = refl; ended = refl; begun = refl }
+
+desks_stay : (s : Setup) (m : Told) (e : Event) (ls : List Line) → IsOfBench e → Every (λ (l : Line). is_in (names_of m) l.user.who ≡ true) ls
+    → Every (λ (l : Line). (desk : DeskRecord) → IsDeskOf m l.user.who desk → IsDeskOf (step s m e) l.user.who desk) ls
+desks_stay s m e [] is there = tt
+desks_stay s m e (l ∷ ls) is there = (λ desk d. desks_are_kept s m e l.user.who desk (is_others l.user.who e is) there.0 d, desks_stay s m e ls is there.1)
+
+module _ {S : Type 0} (seen : S → SeatRecord) where
+  -- one step of all lines
+  all_move : (front : Front) (m m' : Told) (f : Line → Line) (ls : List Line) (cs : List (Connection S)) → ((l : Line) → SameLine l (f l))
+      → Every (λ (l : Line). (desk : DeskRecord) → IsDeskOf m l.user.who desk → IsDeskOf m' l.user.who desk) ls
+      → AreLines seen front m ls cs → AreLines seen front m' (map f ls) cs
+  all_move front m m' f [] [] same desks are = tt
+  all_move front m m' f [] (c ∷ cs) same desks are = absurd are
+  all_move front m m' f (l ∷ ls) [] same desks are = absurd are
+  all_move front m m' f (l ∷ ls) (c ∷ cs) same desks are = (
+    record { name = are.0.name ∙ sym (same l).who; served = served_moves seen front m m' l (f l) c.session (same l) desks.0 are.0.served },
+    all_move front m m' f ls cs same desks.1 are.1,
+  )
+
+  pub lines_move : (s : Setup) (m : Told) (front : Front) (e : Event) (cs : List (Connection S)) → IsOfBench e → AreLines seen front m m.lines cs → AreLines seen front (step s m e) (step s m e).lines cs
+  lines_move s m front e cs is are =
+      let lines : (step s m e).lines ≡ map (line_after s (registry_of m) e) m.lines
+      = ap (λ (us : List User). map (line_after s (registry_of m) e) m.lines ++ map (new_line e) us) (none_new s e (registry_of m).users is) ∙ append-nil (map (line_after s (registry_of m) e) m.lines) in
+      subst (λ (ls : List Line). AreLines seen front (step s m e) ls cs) (sym lines)
+      (all_move front m (step s m e) (line_after s (registry_of m) e) m.lines cs (λ l. same_line s (registry_of m) e l is) (desks_stay s m e m.lines is (every_line_there m)) are)
+
+-- ---- lists
+
+there_is : {A : Type 0} (xs : List A) (i : ℕ) (d : A) → i < length xs → slice_get xs i ≡ Some (unwrap_or (slice_get xs i) d)
+there_is [] i d less = absurd (omega (arith, less))
+there_is (x ∷ xs) zero d less = refl
+there_is (x ∷ xs) (suc i) d less = there_is xs i d (omega (arith, less))
+
+place_same : {A : Type 0} (k : ℕ) (f : A → A) (xs : List A) → ((x : A) → f x ≡ x) → at_place k f xs ≡ xs
+place_same {A = A} k f [] same = refl
+place_same {A = A} zero f (x ∷ xs) same = ap (λ (y : A). y ∷ xs) (same x)
+place_same {A = A} (suc k) f (x ∷ xs) same = ap (λ (ys : List A). x ∷ ys) (place_same k f xs same)
+
+place_as : {A : Type 0} (k : ℕ) (f g : A → A) (xs : List A) → ((x : A) → f x ≡ g x) → at_place k f xs ≡ at_place k g xs
+place_as {A = A} k f g [] same = refl
+place_as {A = A} zero f g (x ∷ xs) same = ap (λ (y : A). y ∷ xs) (same x)
+place_as {A = A} (suc k) f g (x ∷ xs) same = ap (λ (ys : List A). x ∷ ys) (place_as k f g xs same)
+
+pub place_map : {A B : Type 0} (v : A → B) (k : ℕ) (f : A → A) (g : B → B) (xs : List A) → ((x : A) → v (f x) ≡ g (v x)) → map v (at_place k f xs) ≡ at_place k g (map v xs)
+place_map {A = A} {B = B} v k f g [] same = refl
+place_map {A = A} {B = B} v zero f g (x ∷ xs) same = ap (λ (y : B). y ∷ map v xs) (same x)
+place_map {A = A} {B = B} v (suc k) f g (x ∷ xs) same = ap (λ (ys : List B). v x ∷ ys) (place_map v k f g xs same)
+
+-- ---- names
+
+pub trigger_told : (s : Setup) (front : Front) (trigger : ℕ) → front ≡ front_of s → trigger_name front trigger ≡ desc_trigger_name s.desc trigger
+unfolding trigger_name
+trigger_told s front trigger same = ap (λ (x : Front). trigger_name x trigger) same
+
+pub device_told : (s : Setup) (front : Front) (dev : ℕ) → front ≡ front_of s → device_name front dev ≡ desc_device_name s.desc dev
+unfolding device_name
+device_told s front dev same =
+    ap (λ (x : Front). device_name x dev) same
+    ∙ ap (λ (o : Option DeviceFront). option_map_or (λ (d : DeviceFront). d.name) o []) (slice_get-map front_device s.desc.devices dev)
+    ∙ by (slice_get s.desc.devices dev)
+  where
+    by : (o : Option DeviceRecord) → option_map_or (λ (d : DeviceFront). d.name) (option_map front_device o) [] ≡ option_map_or (λ (d : DeviceRecord). d.name) o []
+    by None = refl
+    by (Some d) = refl
+
+-- ---- words
+
+-- of a look
+look_word : (shape : ShapeRecord) (t : ℤ) (st : Station) → sensed_words (sensed_answer shape t st) ≡ look_words shape t (Some st)
+look_word shape t st = by st.site.plugged (sensed shape t st.site).fault (sensed shape t st.site).count
+  where
+    by : (p f : Bool) (n : ℕ) → sensed_words (cond (not p) sense.Gone (cond f sense.Fault (sense.Fired n))) ≡ cond p (cond f (codes "fault" ∷ []) (codes "sensed" ∷ decimal n ∷ [])) (codes "gone" ∷ [])
+    by false f n = refl
+    by true true n = refl
+    by true false n = refl
+
+-- of a poll
+poll_word_at : (made : List Handed) (n : ℕ) (es : List Entry) (missed : ℕ) → length made ≡ n
+    → polled_words (poll_answer made (map handed_by es) missed) ≡ cond (is_empty es) (codes "accepted" ∷ decimal n ∷ []) (codes "missed" ∷ decimal (next_count missed) ∷ [])
+poll_word_at made n [] missed many = ap (λ (k : ℕ). codes "accepted" ∷ decimal k ∷ []) many
+poll_word_at made n (e ∷ es) missed many = refl
+
+poll_word : (made : List Handed) (n : ℕ) (ts : List Trigger) (trigger : ℕ) → length made ≡ n
+    → polled_words (poll_answer made (trigger_in (map trigger_by ts) trigger).entries (trigger_in (map trigger_by ts) trigger).missed)
+    ≡ cond (is_empty (entries_at ts trigger)) (codes "accepted" ∷ decimal n ∷ []) (codes "missed" ∷ decimal (next_count (missed_at ts trigger)) ∷ [])
+poll_word made n ts trigger many =
+    ap (λ (o : Option TriggerRecord). polled_words (poll_answer made (unwrap_or o first_trigger).entries (unwrap_or o first_trigger).missed)) (slice_get-map trigger_by ts trigger) ∙ by (slice_get ts trigger)
+  where
+    by : (o : Option Trigger) → polled_words (poll_answer made (unwrap_or (option_map trigger_by o) first_trigger).entries (unwrap_or (option_map trigger_by o) first_trigger).missed)
+        ≡ cond (is_empty (elim o [ None ↦ [] | Some t ↦ t.entries ])) (codes "accepted" ∷ decimal n ∷ []) (codes "missed" ∷ decimal (next_count (elim o [ None ↦ 0 | Some t ↦ t.missed ])) ∷ [])
+    by None = poll_word_at made n [] 0 many
+    by (Some t) = poll_word_at made n t.entries t.missed many
+
+-- of a handling
+entry_words : (o : Option Entry) (st : Station) → handled_word (entry_answer (option_map handed_by o) false st) ≡ entry_word (Some st) o
+entry_words None st = refl
+entry_words (Some e) st = by (is_current e.attachment st.site.attachment st.members st.site.plugged) (ask_fails st.site.driver) (length st.members)
+  where
+    by : (a b : Bool) (n : ℕ) → handled_word (Some (cond (not a) Idle (cond b Fault (Captured n)))) ≡ cond a (cond b (codes "fault") (codes "captured")) (codes "idle")
+    by false b n = refl
+    by true true n = refl
+    by true false n = refl
+
+-- ---- entries
+
+entries_told : (dev trigger : ℕ) (t : ℤ) (sts : List Station) → map handed_by (bench_entries dev trigger t sts) ≡ entries_from dev trigger t sts
+entries_told dev trigger t [] = refl
+entries_told dev trigger t (st ∷ sts) = by (is_attached trigger st) (entries_told (suc dev) trigger t sts)
+  where
+    by : (b : Bool) → map handed_by (bench_entries (suc dev) trigger t sts) ≡ entries_from (suc dev) trigger t sts
+        → map handed_by (cond b (record { device = dev; attachment = st.site.attachment; moment = t } ∷ bench_entries (suc dev) trigger t sts) (bench_entries (suc dev) trigger t sts))
+        ≡ cond b (record { dev = dev; attachment = st.site.attachment; t = t } ∷ entries_from (suc dev) trigger t sts) (entries_from (suc dev) trigger t sts)
+    by true rest = ap (λ (es : List Handed). record { dev = dev; attachment = st.site.attachment; t = t } ∷ es) rest
+    by false rest = rest
+
+entry_told : (dev : ℕ) (es : List Entry) → entry_of dev (map handed_by es) ≡ option_map handed_by (told_entry dev es)
+entry_told dev [] = refl
+entry_told dev (e ∷ es) = by (e.device == dev) (entry_told dev es)
+  where
+    by : (b : Bool) → entry_of dev (map handed_by es) ≡ option_map handed_by (told_entry dev es)
+        → cond b (Some (handed_by e)) (entry_of dev (map handed_by es)) ≡ option_map handed_by (cond b (Some e) (told_entry dev es))
+    by true rest = refl
+    by false rest = rest
+
+without_told : (dev : ℕ) (es : List Entry) → map handed_by (told_without dev es) ≡ without_entry dev (map handed_by es)
+without_told dev [] = refl
+without_told dev (e ∷ es) = by (e.device == dev) (without_told dev es)
+  where
+    by : (b : Bool) → map handed_by (told_without dev es) ≡ without_entry dev (map handed_by es)
+        → map handed_by (cond b (told_without dev es) (e ∷ told_without dev es)) ≡ cond (not b) (handed_by e ∷ without_entry dev (map handed_by es)) (without_entry dev (map handed_by es))
+    by true rest = rest
+    by false rest = ap (λ (hs : List Handed). handed_by e ∷ hs) rest
+
+-- the entry that a bench has
+entry_at : (ts : List Trigger) (trigger dev : ℕ) → entry_of dev (trigger_in (map trigger_by ts) trigger).entries ≡ option_map handed_by (told_entry dev (entries_at ts trigger))
+entry_at ts trigger dev = ap (λ (o : Option TriggerRecord). entry_of dev (unwrap_or o first_trigger).entries) (slice_get-map trigger_by ts trigger) ∙ by (slice_get ts trigger)
+  where
+    by : (o : Option Trigger) → entry_of dev (unwrap_or (option_map trigger_by o) first_trigger).entries ≡ option_map handed_by (told_entry dev (elim o [ None ↦ [] | Some t ↦ t.entries ]))
+    by None = refl
+    by (Some t) = entry_told dev t.entries
+
+-- ---- triggers
+
+polled_told : (m : Machine) (trigger : ℕ) (t : ℤ) (x : Trigger) → trigger_by (polled_by m trigger t x) ≡ polled m.stations trigger t (trigger_by x)
+polled_told m trigger t x = by x.entries
+  where
+    by : (es : List Entry) → trigger_by (record { entries = poll_made (bench_entries 0 trigger t m.stations) es; missed = missed_after es x.missed })
+        ≡ (let r : TriggerRecord = record { entries = poll_made (entries_from 0 trigger t m.stations) (map handed_by es); missed = missed_after (map handed_by es) x.missed } in r)
+    by [] = ap (λ (hs : List Handed). (let r : TriggerRecord = record { entries = hs; missed = x.missed } in r)) (entries_told 0 trigger t m.stations)
+    by (e ∷ es) = refl
+
+pub handled_told : (dev : ℕ) (x : Trigger) → trigger_by (told_handled dev x) ≡ handled dev (trigger_by x)
+handled_told dev x = ap (λ (hs : List Handed). (let r : TriggerRecord = record { entries = hs; missed = x.missed } in r)) (without_told dev x.entries)
+
+-- ---- devices
+
+handled_made : (shape : ShapeRecord) (e : Entry) (st : Station) → handled_station shape (handed_by e) st ≡ entry_made shape (Some e) st
+handled_made shape e st = by (is_current e.attachment st.site.attachment st.members st.site.plugged) (capture_made shape e.moment st)
+  where
+    by : (a : Bool) (x : Station) → cond (not a) st x ≡ cond a x st
+    by true x = refl
+    by false x = refl
+
+entry_machine_told : (o : Option Entry) (shape : ShapeRecord) (dev : ℕ) (m : Machine) → entry_machine (option_map handed_by o) false shape dev m ≡ with_station (entry_made shape o) dev m
+unfolding with_station
+entry_machine_told None shape dev m = ap (λ (sts : List Station). record m { stations = sts }) (sym (place_same dev (entry_made shape None) m.stations (λ x. refl)))
+entry_machine_told (Some e) shape dev m = ap (λ (sts : List Station). record m { stations = sts }) (place_as dev (handled_station shape (handed_by e)) (entry_made shape (Some e)) m.stations (handled_made shape e))
+
+-- ---- captures
+
+pub rise_same : (k : ℕ) (old new : List ℕ) → new ≡ old → RiseBy k old new
+rise_same k old new same = λ n all i d less. let h = all i d (subst (λ (ns : List ℕ). i < length ns) same less) in rw same (omega (arith, h))
+
+-- captures that have not come to their end
+pub not_ended : (captures : List ℕ) (dev : ℕ) → All (λ n. n < 2 ^ 64 - 1) captures → option_map_or is_last (slice_get captures dev) false ≡ false
+not_ended [] dev all = refl
+not_ended (n ∷ ns) zero all = let h = all 0 0 (omega arith) in grind (arith, nat_tests)
+not_ended (n ∷ ns) (suc dev) all = not_ended ns dev (λ i d less. all (suc i) d (omega (arith, less)))
+
+pub no_end : (captures : List ℕ) (dev : ℕ) → CanCapture captures → option_map_or is_last (slice_get captures dev) false ≡ false
+no_end captures dev can = not_ended captures dev (λ i d less. let h = can i d less in omega (arith, h))
+
+counted_most : (o : Option Handling) (n : ℕ) → counted o n ≤ n + 1
+counted_most None n = omega arith
+counted_most (Some (Captured k)) n = omega arith
+counted_most (Some Fault) n = omega arith
+counted_most (Some Idle) n = omega arith
+
+place_most : (f : ℕ → ℕ) (dev n : ℕ) (ns : List ℕ) → ((c : ℕ) → f c ≤ c + 1) → All (λ c. c ≤ n) ns → (i d : ℕ) → i < length (at_place dev f ns) → slice_index_or (at_place dev f ns) i d ≤ n + 1
+place_most f dev n [] most all i d less = absurd (omega (arith, less))
+place_most f zero n (c ∷ ns) most all zero d less = let h = all 0 d (omega arith) in let k = most c in omega (arith, h, k)
+place_most f zero n (c ∷ ns) most all (suc i) d less = let h = all (suc i) d less in omega (arith, h)
+place_most f (suc dev) n (c ∷ ns) most all zero d less = let h = all 0 d (omega arith) in omega (arith, h)
+place_most f (suc dev) n (c ∷ ns) most all (suc i) d less = place_most f dev n ns most (λ j e l. all (suc j) e (omega (arith, l))) i d (omega (arith, less))
+
+pub rise_counted : (o : Option Handling) (dev : ℕ) (old new : List ℕ) → new ≡ at_place dev (counted o) old → RiseBy 1 old new
+rise_counted o dev old new same = λ n all i d less. rw same (place_most (counted o) dev n old (counted_most o) all i d (subst (λ (ns : List ℕ). i < length ns) same less))
+
+pub rise_more : (j k : ℕ) (old new : List ℕ) → j ≤ k → RiseBy j old new → RiseBy k old new
+rise_more j k old new less rise = λ n all i d within. let h = rise n all i d within in omega (arith, h, less)
+
+-- ---- one event
+
+module _ (s : Setup) (m : Told) (e : Event) where
+  -- its line
+  one_line : (text before after : List ℕ) → IsBench s m → IsOfBench e → text ≡ moved_text s m.triggers (machine_of m) e → after ≡ before ++ text → after ≡ before ++ (event_text s m e ++ [])
+  one_line text before after bench is words line =
+      line ∙ ap (λ (t : List ℕ). before ++ t) (words ∙ sym (moves_print s m e bench (is_move e is)) ∙ sym (append-nil (event_text s m e)))
+
+module _ {X : Type 0} {V : X → Type 0} (driver : Plug X V → Driver) where
+  -- the devices as the told state has them
+  pub machine_told : (s : Setup) (m : Told) (b : Bench X V) (cs : List (Connection Seat)) → Holds driver s m b cs → bench_machine driver b ≡ machine_of m
+  machine_told s m b cs h = let same : Some (bench_machine driver b) ≡ Some (machine_of m) = h.stands.told_is in cc
+
+  pub holds_then : (s : Setup) (m : Told) (e : Event) (b b' : Bench X V) (cs : List (Connection Seat)) → IsOfBench e → Holds driver s m b cs → bench_front b' ≡ bench_front b
+      → bench_machine driver b' ≡ machine_of (step s m e) → triggers_of b' ≡ map trigger_by (triggers_made (machine_of m) e m.triggers) → Holds driver s (step s m e) b' cs
+  holds_then s m e b b' cs is h front told triggers = record {
+    stands = record {
+      front_is = front ∙ h.stands.front_is;
+      told_is = ap (λ (x : Machine). Some x) told;
+      bench = bench_kept s m e (is_step (names_of m) e is) h.stands.bench;
+      lines = subst (λ (f : Front). AreLines seen_of f (step s m e) (step s m e).lines cs) (sym front) (lines_move seen_of s m (bench_front b) e cs is h.stands.lines);
+    };
+    triggers = triggers ∙ ap (λ (ts : List Trigger). map trigger_by ts) (sym (triggers_are s m e));
+  }
+
+  -- ---- the clock
+
+  pub clock_makes : (t : ℤ) (b b' : Bench X V) (cs : List (Connection Seat)) (before after : List ℕ) → bench_front b' ≡ bench_front b
+      → bench_machine driver b' ≡ record (bench_machine driver b) { clock = t } → triggers_of b' ≡ triggers_of b
+      → after ≡ before ++ printed (codes "clock" ∷ signed_decimal t ∷ []) → Makes driver (SetClock t) b b' cs cs before after
+  clock_makes t b b' cs before after front told triggers line = λ s m h. (
+    one_line s m (Clock t) _ before after h.stands.bench tt refl line,
+    holds_then s m (Clock t) b b' cs tt h front (told ∙ ap (λ (x : Machine). record x { clock = t }) (machine_told s m b cs h) ∙ sym (clock_is s m t)) (triggers ∙ h.triggers),
+  )
+
+  -- ---- one device
+
+  here : (b : Bench X V) (dev : ℕ) → dev < length (bench_front b).devices → slice_get (bench_machine driver b).stations dev ≡ Some (station_at (bench_machine driver b) dev)
+  unfolding station_at
+  here b dev less =
+      there_is (bench_machine driver b).stations dev no_station (subst (λ (n : ℕ). dev < n) (length_map_is front_by b.devices.items ∙ sym (length_map_is (station_by driver) b.devices.items)) less)
+
+  -- what is said of a device by its number is said of it as it stands in the told state
+  told_here : {A : Type 0} (word : Option Station → A) (s : Setup) (m : Told) (b : Bench X V) (cs : List (Connection Seat)) (dev : ℕ) → dev < length (bench_front b).devices → Holds driver s m b cs
+      → word (Some (station_at (bench_machine driver b) dev)) ≡ word (slice_get (machine_of m).stations dev)
+  told_here word s m b cs dev less h = ap word (sym (here b dev less)) ∙ ap (λ (x : Machine). word (slice_get x.stations dev)) (machine_told s m b cs h)
+
+  named_here : (s : Setup) (m : Told) (b b' : Bench X V) (cs : List (Connection Seat)) (dev : ℕ) → bench_front b' ≡ bench_front b → Holds driver s m b cs → device_name (bench_front b') dev ≡ desc_device_name s.desc dev
+  named_here s m b b' cs dev front h = device_told s (bench_front b') dev (front ∙ h.stands.front_is)
+
+  trigger_named : (s : Setup) (m : Told) (b b' : Bench X V) (cs : List (Connection Seat)) (trigger : ℕ) → bench_front b' ≡ bench_front b → Holds driver s m b cs → trigger_name (bench_front b') trigger ≡ desc_trigger_name s.desc trigger
+  trigger_named s m b b' cs trigger front h = trigger_told s (bench_front b') trigger (front ∙ h.stands.front_is)
+
+  -- ---- unplugging
+
+  plugged_word : (s : Setup) (m : Told) (b : Bench X V) (cs : List (Connection Seat)) (dev : ℕ) → dev < length (bench_front b).devices → Holds driver s m b cs
+      → unplugged_word (is_plugged (bench_machine driver b) dev) ≡ plug_word (slice_get (machine_of m).stations dev)
+  unfolding is_plugged
+  plugged_word s m b cs dev less h = told_here plug_word s m b cs dev less h
+
+  pub unplug_makes : (dev : ℕ) (b b' : Bench X V) (cs : List (Connection Seat)) (before after name : List ℕ) (was : Bool) → dev < length (bench_front b).devices → bench_front b' ≡ bench_front b
+      → bench_machine driver b' ≡ with_station unplugged_station dev (bench_machine driver b) → triggers_of b' ≡ triggers_of b
+      → name ≡ device_name (bench_front b') dev → was ≡ is_plugged (bench_machine driver b) dev
+      → after ≡ before ++ printed (name ∷ unplugged_word was ∷ []) → Makes driver (Unplug dev) b b' cs cs before after
+  unplug_makes dev b b' cs before after name was less front told triggers named answered line = λ s m h. (
+    one_line s m (Unplugged dev) _ before after h.stands.bench tt
+        (ap (λ (n : List ℕ). printed (n ∷ unplugged_word was ∷ [])) (named ∙ named_here s m b b' cs dev front h)
+        ∙ ap (λ (w : List ℕ). printed (desc_device_name s.desc dev ∷ w ∷ [])) (ap unplugged_word answered ∙ plugged_word s m b cs dev less h)) line,
+    holds_then s m (Unplugged dev) b b' cs tt h front (told ∙ ap (λ (x : Machine). with_station unplugged_station dev x) (machine_told s m b cs h) ∙ sym (unplugging_is s m dev)) (triggers ∙ h.triggers),
+  )
+
+  -- ---- looks at thresholds
+
+  sensed_told : (dev : ℕ) (t : ℤ) (s : Setup) (m : Told) (b : Bench X V) (cs : List (Connection Seat)) → dev < length (bench_front b).devices → Holds driver s m b cs
+      → sensed_words (sensed_answer (shape_at (bench_front b) dev) t (station_at (bench_machine driver b) dev)) ≡ look_words (shape_at (front_of s) dev) t (slice_get (machine_of m).stations dev)
+  sensed_told dev t s m b cs less h =
+      ap (λ (f : Front). sensed_words (sensed_answer (shape_at f dev) t (station_at (bench_machine driver b) dev))) h.stands.front_is
+      ∙ look_word (shape_at (front_of s) dev) t (station_at (bench_machine driver b) dev) ∙ told_here (look_words (shape_at (front_of s) dev) t) s m b cs dev less h
+
+  pub sense_makes : (dev : ℕ) (t : ℤ) (b b' : Bench X V) (cs : List (Connection Seat)) (before after name : List ℕ) (answer : Look) → dev < length (bench_front b).devices → bench_front b' ≡ bench_front b
+      → bench_machine driver b' ≡ with_station (sensed_station (shape_at (bench_front b) dev) t) dev (bench_machine driver b) → triggers_of b' ≡ triggers_of b
+      → name ≡ device_name (bench_front b') dev → answer ≡ sensed_answer (shape_at (bench_front b) dev) t (station_at (bench_machine driver b) dev)
+      → after ≡ before ++ printed (name ∷ sensed_words answer) → Makes driver (Sense dev t) b b' cs cs before after
+  sense_makes dev t b b' cs before after name answer less front told triggers named answered line = λ s m h. (
+    one_line s m (Sensed dev t) _ before after h.stands.bench tt
+        (ap (λ (n : List ℕ). printed (n ∷ sensed_words answer)) (named ∙ named_here s m b b' cs dev front h)
+        ∙ ap (λ (ws : List (List ℕ)). printed (desc_device_name s.desc dev ∷ ws)) (ap sensed_words answered ∙ sensed_told dev t s m b cs less h)) line,
+    holds_then s m (Sensed dev t) b b' cs tt h front
+        (told ∙ ap (λ (f : Front). with_station (sensed_station (shape_at f dev) t) dev (bench_machine driver b)) h.stands.front_is
+        ∙ ap (λ (x : Machine). with_station (sensed_station (shape_at (front_of s) dev) t) dev x) (machine_told s m b cs h) ∙ sym (look_is s m dev t h.stands.bench)) (triggers ∙ h.triggers),
+  )
+
+  -- ---- polls
+
+  module _ (trigger : ℕ) (t : ℤ) (b b' : Bench X V) (cs : List (Connection Seat)) (front : bench_front b' ≡ bench_front b) (told : bench_machine driver b' ≡ bench_machine driver b)
+      (triggers : triggers_of b' ≡ at_place trigger (polled (bench_machine driver b).stations trigger t) (triggers_of b)) (s : Setup) (m : Told) (h : Holds driver s m b cs) where
+    pub poll_holds : Holds driver s (step s m (Polled trigger t)) b' cs
+    poll_holds =
+        holds_then s m (Polled trigger t) b b' cs tt h front (told ∙ machine_told s m b cs h ∙ sym (poll_is s m trigger t).0)
+        (triggers ∙ ap (λ (ts : List TriggerRecord). at_place trigger (polled (bench_machine driver b).stations trigger t) ts) h.triggers
+        ∙ ap (λ (x : Machine). at_place trigger (polled x.stations trigger t) (map trigger_by m.triggers)) (machine_told s m b cs h)
+        ∙ sym (place_map trigger_by trigger (polled_by (machine_of m) trigger t) (polled (machine_of m).stations trigger t) m.triggers (polled_told (machine_of m) trigger t)))
+
+    answer_told : poll_answer (entries_from 0 trigger t (bench_machine driver b).stations) (trigger_in (triggers_of b) trigger).entries (trigger_in (triggers_of b) trigger).missed
+        ≡ poll_answer (entries_from 0 trigger t (machine_of m).stations) (trigger_in (map trigger_by m.triggers) trigger).entries (trigger_in (map trigger_by m.triggers) trigger).missed
+    answer_told =
+        ap (λ (ts : List TriggerRecord). poll_answer (entries_from 0 trigger t (bench_machine driver b).stations) (trigger_in ts trigger).entries (trigger_in ts trigger).missed) h.triggers
+        ∙ ap (λ (x : Machine). poll_answer (entries_from 0 trigger t x.stations) (trigger_in (map trigger_by m.triggers) trigger).entries (trigger_in (map trigger_by m.triggers) trigger).missed) (machine_told s m b cs h)
+
+    pub poll_line : (before after name : List ℕ) (answer : Answer) → name ≡ trigger_name (bench_front b') trigger
+        → answer ≡ poll_answer (entries_from 0 trigger t (bench_machine driver b).stations) (trigger_in (triggers_of b) trigger).entries (trigger_in (triggers_of b) trigger).missed
+        → after ≡ before ++ printed (codes "poll" ∷ name ∷ polled_words answer) → after ≡ before ++ (event_text s m (Polled trigger t) ++ [])
+    poll_line before after name answer named answered line =
+        one_line s m (Polled trigger t) _ before after h.stands.bench tt
+        (ap (λ (n : List ℕ). printed (codes "poll" ∷ n ∷ polled_words answer)) (named ∙ trigger_named s m b b' cs trigger front h)
+        ∙ ap (λ (ws : List (List ℕ)). printed (codes "poll" ∷ desc_trigger_name s.desc trigger ∷ ws))
+        (ap polled_words (answered ∙ answer_told)
+        ∙ poll_word (entries_from 0 trigger t (machine_of m).stations) (length (bench_entries 0 trigger t (machine_of m).stations)) m.triggers trigger
+        (ap (λ (hs : List Handed). length hs) (sym (entries_told 0 trigger t (machine_of m).stations)) ∙ length_map_is handed_by (bench_entries 0 trigger t (machine_of m).stations)))) line
+
+  -- ---- handlings
+
+  module _ (trigger dev : ℕ) (b b' : Bench X V) (cs : List (Connection Seat)) (less : dev < length (bench_front b).devices) (front : bench_front b' ≡ bench_front b)
+      (told : bench_machine driver b' ≡ entry_machine (entry_of dev (trigger_in (triggers_of b) trigger).entries) false (shape_at (bench_front b) dev) dev (bench_machine driver b))
+      (triggers : triggers_of b' ≡ at_place trigger (handled dev) (triggers_of b)) (s : Setup) (m : Told) (h : Holds driver s m b cs) where
+    pub entry_here : entry_of dev (trigger_in (triggers_of b) trigger).entries ≡ option_map handed_by (told_entry dev (entries_at m.triggers trigger))
+    entry_here = ap (λ (ts : List TriggerRecord). entry_of dev (trigger_in ts trigger).entries) h.triggers ∙ entry_at m.triggers trigger dev
+
+    pub handle_holds : Holds driver s (step s m (Handled trigger dev)) b' cs
+    handle_holds =
+        holds_then s m (Handled trigger dev) b b' cs tt h front
+        (told ∙ ap (λ (o : Option Handed). entry_machine o false (shape_at (bench_front b) dev) dev (bench_machine driver b)) entry_here
+        ∙ ap (λ (f : Front). entry_machine (option_map handed_by (told_entry dev (entries_at m.triggers trigger))) false (shape_at f dev) dev (bench_machine driver b)) h.stands.front_is
+        ∙ ap (λ (x : Machine). entry_machine (option_map handed_by (told_entry dev (entries_at m.triggers trigger))) false (shape_at (front_of s) dev) dev x) (machine_told s m b cs h)
+        ∙ entry_machine_told (told_entry dev (entries_at m.triggers trigger)) (shape_at (front_of s) dev) dev (machine_of m) ∙ sym (handling_is s m trigger dev h.stands.bench))
+        (triggers ∙ ap (λ (ts : List TriggerRecord). at_place trigger (handled dev) ts) h.triggers ∙ sym (place_map trigger_by trigger (told_handled dev) (handled dev) m.triggers (handled_told dev)))
+
+    word_told : handled_word (entry_answer (entry_of dev (trigger_in (triggers_of b) trigger).entries) false (station_at (bench_machine driver b) dev))
+        ≡ entry_word (slice_get (machine_of m).stations dev) (told_entry dev (entries_at m.triggers trigger))
+    word_told =
+        ap (λ (o : Option Handed). handled_word (entry_answer o false (station_at (bench_machine driver b) dev))) entry_here
+        ∙ entry_words (told_entry dev (entries_at m.triggers trigger)) (station_at (bench_machine driver b) dev)
+        ∙ told_here (λ (o : Option Station). entry_word o (told_entry dev (entries_at m.triggers trigger))) s m b cs dev less h
+
+    pub handle_line : (before after name device : List ℕ) (answer : Option Handling) → name ≡ trigger_name (bench_front b') trigger → device ≡ device_name (bench_front b') dev
+        → answer ≡ entry_answer (entry_of dev (trigger_in (triggers_of b) trigger).entries) false (station_at (bench_machine driver b) dev)
+        → after ≡ before ++ printed (codes "handle" ∷ name ∷ device ∷ handled_word answer ∷ []) → after ≡ before ++ (event_text s m (Handled trigger dev) ++ [])
+    handle_line before after name device answer named called answered line =
+        one_line s m (Handled trigger dev) _ before after h.stands.bench tt
+        (ap (λ (n : List ℕ). printed (codes "handle" ∷ n ∷ device ∷ handled_word answer ∷ [])) (named ∙ trigger_named s m b b' cs trigger front h)
+        ∙ ap (λ (n : List ℕ). printed (codes "handle" ∷ desc_trigger_name s.desc trigger ∷ n ∷ handled_word answer ∷ [])) (called ∙ named_here s m b b' cs dev front h)
+        ∙ ap (λ (w : List ℕ). printed (codes "handle" ∷ desc_trigger_name s.desc trigger ∷ desc_device_name s.desc dev ∷ w ∷ [])) (ap handled_word answered ∙ word_told)) line

@@ -1,0 +1,118 @@
+-- A step of a system, by the history.
+use Rattle.std.proofs.Common.{◌≡◌, ℕ, suc, ◌+◌, ◌*◌, ◌-◌, ◌^◌, ◌<◌, ◌≤◌, ℤ, Bool, true, false, cond, List, [], ◌∷◌, ◌++◌, length, map, All, OnOk, Result, Ok, Err, sym, ap, ◌∙◌, subst, arith}
+use Rattle.std.proofs.lemmas.List.{length-map}
+use Rattle.iiod_grammar.specs.Stream.{Item, items_from}
+use Rattle.iiod_session.specs.Machine.{Machine}
+use Rattle.iio_base.specs.declared.Mem.{Mem}
+use Rattle.iio_sensor.specs.Driver.{Driver}
+use Rattle.iio_desc.specs.declared.limits.TheConstants.{MAX_DEVICES}
+use Rattle.iio_device.specs.declared.plug.Plug.{Plug}
+use Rattle.iio_device.specs.Site.{is_empty, no_driver}
+use Rattle.iio_history.specs.Event.{Event, Arrived, Handled, Heard, Polled}
+use Rattle.iio_history.specs.Registry.{Entry, Outline, Setup, entries_at, entries_from, has_ended, is_attached, outline_of, outlines_of}
+use Rattle.iio_history.specs.Told.{Told, device_of, registry_of, told}
+use Rattle.iio_history.specs.Machine.{step}
+use Rattle.iio_history.specs.Played.{state_after, steps}
+use Rattle.iio_history.specs.Transcript.{begun_by, events_of_step, lines_of_step, with_step}
+use Rattle.iio_history.specs.Bench.{Every, bench_by, names_of}
+use Rattle.iio_history.specs.BenchLaw.{CanJoinMore}
+use Rattle.iio_history.proofs.BenchKept.{room_after}
+use Rattle.iio_history.proofs.TranscriptLaws.{lines_are, state_is}
+use Rattle.iio_system.specs.declared.bench.Bench.{Bench}
+use Rattle.iio_system.specs.declared.connection.Connection.{Connection}
+use Rattle.iio_system.specs.declared.seat.Seat.{Seat}
+use Rattle.iio_system.specs.declared.step.Step.{Step as CodeStep}
+use Rattle.iio_system.specs.declared.step.Step.TheVariants as code
+use Rattle.iio_system.specs.declared.system.System.{System}
+use Rattle.iio_system.specs.Standing.{Holds, MakesStep, RiseBy, StandsFor}
+use Rattle.iio_system.specs.Station.{station_by}
+use Rattle.iio_system.specs.Step.{cost_of, step_view}
+use Rattle.iio_system.proofs.ItemLemmas.{items_few, room_less}
+use Rattle.iio_system.proofs.MoveLaws.{machine_told as same_machine}
+
+-- ---- the events of a step are few
+
+entries_few : (k trigger : ℕ) (t : ℤ) (os : List Outline) → length (entries_from k trigger t os) ≤ length os
+entries_few k trigger t [] = omega arith
+entries_few k trigger t (o ∷ os) = by (is_attached trigger o) (entries_few (suc k) trigger t os)
+  where
+    by : (b : Bool) → length (entries_from (suc k) trigger t os) ≤ length os
+        → length (cond b (record { device = k; attachment = o.site.attachment; moment = t } ∷ entries_from (suc k) trigger t os) (entries_from (suc k) trigger t os)) ≤ suc (length os)
+    by true rest = omega (arith, rest)
+    by false rest = omega (arith, rest)
+
+room_steps : (s : Setup) (es : List Event) (m : Told) (a b : ℕ) → length es + b ≤ a → Every (CanJoinMore a) m.stations → Every (CanJoinMore b) (steps s m es).stations
+room_steps s [] m a b less room = room_less b a m.stations (omega (arith, less)) room
+room_steps s (e ∷ es) m a b less room =
+    room_steps s es (step s m e) (length es + b) b (omega arith) (room_after s m e (length es + b) (room_less (suc (length es + b)) a m.stations (omega (arith, less)) room))
+
+heard_few : (m : Told) (name bytes : List ℕ) → length (map (λ (item : Item). Heard name item) (items_from (begun_by name m.lines) bytes)) ≤ length bytes
+heard_few m name bytes =
+    let same = length-map (items_from (begun_by name m.lines) bytes) (λ (item : Item). Heard name item) in
+    let few = items_few (begun_by name m.lines) bytes in
+    omega (arith, same, few)
+
+events_few : (m : Told) (t : CodeStep) → length m.stations ≤ MAX_DEVICES → length (events_of_step m (step_view t)) ≤ 32 * cost_of t
+events_few m (code.Feed name bytes) devices = by (has_ended name (registry_of m).users) (heard_few m name bytes)
+  where
+    by : (b : Bool) → length (map (λ (item : Item). Heard name item) (items_from (begun_by name m.lines) bytes)) ≤ length bytes
+        → length (cond b [] (Arrived name bytes ∷ map (λ (item : Item). Heard name item) (items_from (begun_by name m.lines) bytes))) ≤ 32 * (1 + length bytes)
+    by true few = omega arith
+    by false few = omega (arith, few)
+events_few m (code.Fire trigger t) devices = by (is_empty (entries_at m.triggers trigger))
+  where
+    outlines : length (outlines_of (registry_of m)) ≡ length m.stations
+    outlines = length-map (registry_of m).devices outline_of ∙ length-map m.stations device_of
+
+    by : (b : Bool) → length (Polled trigger t ∷ map (λ (e : Entry). Handled trigger e.device) (cond b (entries_from 0 trigger t (outlines_of (registry_of m))) [])) ≤ 32 * 1
+    by true =
+        let same = length-map (entries_from 0 trigger t (outlines_of (registry_of m))) (λ (e : Entry). Handled trigger e.device) in
+        let few = entries_few 0 trigger t (outlines_of (registry_of m)) in
+        omega (arith, same, few, outlines, devices)
+    by false = omega arith
+events_few m t devices = omega arith
+
+-- ---- the step
+
+module _ {X : Type 0} {V : X → Type 0} (driver : Plug X V → Driver) where
+  stations_few : (s : Setup) (m : Told) (b : Bench X V) (cs : List (Connection Seat)) → Holds driver s m b cs → length m.stations ≤ MAX_DEVICES
+  stations_few s m b cs holds =
+      let there = length-map b.devices.items (station_by driver) in
+      let counted = length-map b.devices.items (station_by (λ p. no_driver)) in
+      let told = length-map m.stations (bench_by (names_of m)) in
+      let same = ap (λ (machine : Machine). length machine.stations) (same_machine driver s m b cs holds) in
+      let few = b.sound.devices in
+      omega (arith, there, counted, told, same, few)
+
+  pub stands_step : (s : Setup) (h : List Event) (x x' : System X V) (t : CodeStep) (before after : List ℕ) → x.used + cost_of t < 2 ^ 56 → x'.used ≡ x.used + cost_of t
+      → MakesStep driver t x.bench x'.bench x.connections.items x'.connections.items before after → StandsFor driver s h x
+      → (after ≡ before ++ lines_of_step s h (step_view t)) × StandsFor driver s (with_step s h (step_view t)) x'
+  stands_step s h x x' t before after few used makes stands =
+      let m : Told = told s h in
+      let made = makes s m (room_less (cost_of t) (2 ^ 64 - 1 - 32 * x.used) m.stations (omega (arith, few)) stands.room) stands.holds in
+      let events = events_few m t (stations_few s m x.bench x.connections.items stands.holds) in
+      let room : Every (CanJoinMore (2 ^ 64 - 1 - 32 * x'.used)) (state_after s m (step_view t)).stations =
+      room_steps s (events_of_step m (step_view t)) m (2 ^ 64 - 1 - 32 * x.used) (2 ^ 64 - 1 - 32 * x'.used) (omega (arith, few, used, events)) stands.room in (
+        made.0 ∙ ap (λ (ls : List ℕ). before ++ ls) (sym (lines_are s h (step_view t))),
+        record {
+          holds = subst (λ (n : Told). Holds driver s n x'.bench x'.connections.items) (sym (state_is s h (step_view t))) made.1;
+          room = subst (λ (n : Told). Every (CanJoinMore (2 ^ 64 - 1 - 32 * x'.used)) n.stations) (sym (state_is s h (step_view t))) room;
+        },
+      )
+
+  pub steps_ok : (x x' : System X V) (t : CodeStep) (before after : List ℕ) (r : Result (Unit {0}) Mem) → x.used + cost_of t < 2 ^ 56 → x'.used ≡ x.used + cost_of t
+      → OnOk r (MakesStep driver t x.bench x'.bench x.connections.items x'.connections.items before after)
+      → OnOk r ((s : Setup) (h : List Event) → StandsFor driver s h x → (after ≡ before ++ lines_of_step s h (step_view t)) × StandsFor driver s (with_step s h (step_view t)) x')
+  steps_ok x x' t before after (Err e) few used makes = tt
+  steps_ok x x' t before after (Ok u) few used makes = λ s h stands. stands_step s h x x' t before after few used makes stands
+
+-- captures stay within what was used
+cost_some : (t : CodeStep) → 1 ≤ cost_of t
+cost_some (code.Feed name bytes) = omega arith
+cost_some t = omega arith
+
+pub counted_more : (t : CodeStep) (used cost : ℕ) (old new : List ℕ) → cost ≡ cost_of t → RiseBy 32 old new → All (λ (n : ℕ). n ≤ 32 * used) old → All (λ (n : ℕ). n ≤ 32 * (used + cost)) new
+counted_more t used cost old new is rise all i d within =
+    let less = rise (32 * used) all i d within in
+    let some = cost_some t in
+    omega (arith, is, less, some)

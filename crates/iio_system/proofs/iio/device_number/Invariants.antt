@@ -1,0 +1,6 @@
+use Rattle.std.proofs.Common.{◌≡◌, ℕ, ◌<◌, false, get_or}
+use Rattle.std.specs.Str.{bytes_eq}
+use Rattle.iio_system.proofs.iio.device_number.Given as goal
+
+abbrev pub invariant-loop-i : goal.invariant-loop-i
+invariant-loop-i g l = (k : ℕ) (d : _) → k < l.i → bytes_eq (get_or l.devices k d).core.name l.name ≡ false

@@ -1,0 +1,20 @@
+use Rattle.std.proofs.Common.{arith}
+use Rattle.std.proofs.lemmas.Result.{on_ok_weaker}
+use Rattle.iio_device.specs.Plug.{driver_of}
+use Rattle.iio_system.specs.Bench.{captures_of}
+use Rattle.iio_system.proofs.MoveLaws.{handle_holds, handle_line, no_end, rise_counted, rise_more}
+use Rattle.iio_system.proofs.moves.handle.Goals as goal
+
+pub returns-clause-makes : goal.returns-clause-makes
+returns-clause-makes g c =
+    let last = no_end (captures_of c.args.bench.now) c.args.dev c.requires.captures in
+    let told = rw last at c.handle-handled.ensures.told in
+    on_ok_weaker c.push_handle.result
+    (λ line cs s m h. (
+      handle_line (driver_of (λ b. (g.dyn-1.0.entry b.vtable).1.driver b.value)) c.args.trigger c.args.dev c.args.bench.now c.handle-handled.new.self cs c.requires.dev c.handle-handled.ensures.front told c.handle-handled.ensures.triggers s m h
+          c.args.out.now.items c.push_handle.new.out.items c.trigger_name.result.now c.device_name.result.now c.handle-handled.result c.trigger_name.ensures c.device_name.ensures (rw last at c.handle-handled.ensures.answer) line,
+      handle_holds (driver_of (λ b. (g.dyn-1.0.entry b.vtable).1.driver b.value)) c.args.trigger c.args.dev c.args.bench.now c.handle-handled.new.self cs c.requires.dev c.handle-handled.ensures.front told c.handle-handled.ensures.triggers s m h,
+    )) c.push_handle.ensures
+
+pub returns-clause-captures : goal.returns-clause-captures
+returns-clause-captures g c = rise_more 1 32 _ _ (omega arith) (rise_counted c.handle-handled.result c.args.dev _ _ c.handle-handled.ensures.captures)

@@ -1,0 +1,26 @@
+use Rattle.std.proofs.Common.{rules, refl, subst, List, map}
+use Rattle.iio_desc.specs.Description.{Description, DeviceRecord}
+use Rattle.iio_device.specs.declared.plug.Plug.TheVariants.{Given}
+use Rattle.iio_device.specs.Plug.{driver_of}
+use Rattle.iio_history.specs.Bench.{Every, HasDeviceSizes}
+use Rattle.iio_system.specs.Station.{captures_by}
+use Rattle.iio_system.proofs.StartLaws.{holds_first, none_within, room_first}
+use Rattle.iio_system.proofs.system.System.new.Goals as goal
+
+pub invariant_of-result : goal.invariant_of-result
+invariant_of-result g c = record {
+  owned = search rules;
+  counted = none_within captures_by 0 c.in_ok-bench.bench.devices.items c.in_ok-bench.ensures.captures;
+  few = search rules;
+}
+
+pub returns-clause-stands : goal.returns-clause-stands
+returns-clause-stands g c = record {
+  holds =
+      rw c.new-2.ensures.items
+      (holds_first (driver_of (λ b. (g.dyn-1.0.entry b.vtable).1.driver b.value))
+      (record { desc = c.args.desc; drivers = map (λ d. driver_of (λ b. (g.dyn-1.0.entry b.vtable).1.driver b.value) (Given d)) c.args.drivers.items })
+      c.in_ok-bench.bench c.in_ok-bench.ensures.front c.in_ok-bench.ensures.told c.in_ok-bench.ensures.triggers
+      (subst (λ (d : Description). Every HasDeviceSizes d.devices) c.desc.view_is (subst (λ (ds : List DeviceRecord). Every HasDeviceSizes ds) c.deref.ensures.value c.look_at_sizes.ensures)));
+  room = room_first (record { desc = c.args.desc; drivers = map (λ d. driver_of (λ b. (g.dyn-1.0.entry b.vtable).1.driver b.value) (Given d)) c.args.drivers.items }) 0 refl;
+}

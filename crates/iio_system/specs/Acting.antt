@@ -1,0 +1,79 @@
+-- What a connection's call makes of one device. Cited by this crate's private functions alone.
+use Rattle.std.specs.Prelude.{◌≡◌, ℕ, ℤ, ◌==◌, ◌&&◌, Bool, true, false, List, [], ◌∷◌, drop, Option, Result, Ok, Err, if◌then◌else◌}
+use Rattle.std.specs.List.{list_any}
+use Rattle.std.specs.Option.{option_map_or}
+use Rattle.iio_text.specs.declared.errors.Errno.{Errno}
+use Rattle.iio_attr.specs.declared.attributes.Attr.{Attr}
+use Rattle.iio_attr.specs.declared.values.Value.{Value}
+use Rattle.iio_kfifo.specs.Queue.{Queue}
+use Rattle.iio_mask.specs.declared.Mask.{Mask}
+use Rattle.iio_device.specs.declared.membership.Membership.{Membership}
+use Rattle.iio_device.specs.Device.{DeviceView}
+use Rattle.iio_device.specs.Site.{sampled}
+use Rattle.iiod_session.specs.declared.iio.No.{No}
+use Rattle.iiod_session.specs.declared.iio.No.TheVariants.{Errno as NoErrno, Mem as NoMem}
+use Rattle.iiod_session.specs.declared.iio.Took.{Took}
+use Rattle.iiod_session.specs.declared.iio.Took.TheVariants.{Scan, Empty, Gone}
+use Rattle.iiod_session.specs.Calls.{is_asking, read_answer}
+use Rattle.iiod_session.specs.Machine.{Member, MemberId, Station, member_in, scans_in, with_scans, with_site}
+use Rattle.iio_system.specs.Station.{station_of}
+
+-- the answer is that one, and the device is left so; want of memory changes nothing
+abbrev pub Turns : {A : Type 0} → Result A Errno → (after : Station) → Result A No → (old new : Station) → Type 0
+Turns answer after (Ok x) old new = (answer ≡ Ok x) × (new ≡ after)
+Turns answer after (Err (NoErrno e)) old new = (answer ≡ Err e) × (new ≡ after)
+Turns answer after (Err NoMem) old new = new ≡ old
+
+-- a device after a call that changes it so, where it isn't refused
+abbrev pub turned : {A : Type 0} → (Station → Station) → Result A Errno → Station → Station
+turned change (Ok x) st = change st
+turned change (Err e) st = st
+
+abbrev pub Acts : {A : Type 0} → (Station → Station) → Result A Errno → Result A No → (old new : Station) → Type 0
+Acts change answer result old new = Turns answer (turned change answer old) result old new
+
+-- a read of an attribute at a moment
+abbrev pub Reads : ℤ → Option ℕ → Attr → DeviceView Queue → Result Value No → Station → Type 0
+Reads t channel a d result new =
+    Turns (read_answer d.name d.standing.shape t channel a (station_of d))
+    (if is_asking channel a (station_of d) then with_site sampled (station_of d) else station_of d)
+    result (station_of d) new
+
+-- a member, by its number and its mask
+abbrev pub id_of : ℕ → Mask → MemberId
+id_of number mask = record { number = number; mask = mask.bits }
+
+-- whether it is that member
+abbrev pub is_member : MemberId → Membership Queue → Bool
+is_member id m = m.number == id.number && m.mask.bits == id.mask
+
+-- whether that member is there
+abbrev pub has_member : MemberId → List (Membership Queue) → Bool
+has_member id members = list_any (is_member id) members
+
+-- a take from a member's queue
+abbrev pub TakesAt : MemberId → Took → List ℕ → (old new : Station) → Type 0
+TakesAt id Scan scan old new =
+    (scans_in id old.members ≡ scan ∷ drop 1 (scans_in id old.members))
+    × (new ≡ record old { members = with_scans id (drop 1 (scans_in id old.members)) old.members })
+TakesAt id Empty scan old new = (scans_in id old.members ≡ []) × (old.site.plugged ≡ true) × (new ≡ old)
+TakesAt id Gone scan old new = (scans_in id old.members ≡ []) × (old.site.plugged ≡ false) × (new ≡ old)
+
+-- the answer of a take that finds no scan
+abbrev pub nothing_at : Station → Took
+nothing_at st = if st.site.plugged then Empty else Gone
+
+-- how many scans of a member were lost
+abbrev pub lost_in : MemberId → List Member → ℕ
+lost_in id members = option_map_or (λ (x : Member). x.lost) (member_in id members) 0
+
+-- what no call changes of a device
+pub record Keeps (old new : DeviceView Queue) : Type 0 where
+  pub name : new.name ≡ old.name
+  pub number : new.number ≡ old.number
+  pub shape : new.standing.shape ≡ old.standing.shape
+
+-- what no connection's call changes of it: such a call makes no capture
+pub record KeepsCaptures (old new : DeviceView Queue) : Type 0 where
+  pub device : Keeps old new
+  pub captures : new.standing.captures ≡ old.standing.captures

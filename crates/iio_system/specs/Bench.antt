@@ -1,0 +1,46 @@
+-- A bench, as contracts see it.
+use Rattle.std.specs.Prelude.{ℕ, Bool, false, List, map, slice_get, unwrap_or}
+use Rattle.std.specs.Option.{option_map_or}
+use Rattle.iio_sensor.specs.Driver.{Driver}
+use Rattle.iio_device.specs.declared.plug.Plug.{Plug}
+use Rattle.iiod_session.specs.Front.{Front}
+use Rattle.iiod_session.specs.Machine.{Machine}
+use Rattle.iio_system.specs.declared.bench.Bench.{Bench}
+use Rattle.iio_system.specs.Handling.{is_last}
+use Rattle.iio_system.specs.Places.{TriggerRecord, first_trigger, trigger_of}
+use Rattle.iio_system.specs.Station.{captures_by, front_by, stations_by}
+
+-- the front, the outstanding entries and missed polls, and how many captures each device has made
+pub record Kept : Type 0 where
+  pub front : Front
+  pub triggers : List TriggerRecord
+  pub captures : List ℕ
+
+module _ {X : Type 0} {V : X → Type 0} where
+  -- what no call changes
+  abbrev pub front_of : Bench X V → Front
+  front_of b = record { context = b.context.items; triggers = b.described.items; devices = map front_by b.devices.items }
+
+  -- the clock and the devices, by what they sample
+  abbrev pub machine_of : (Plug X V → Driver) → Bench X V → Machine
+  machine_of driver b = record { clock = b.clock; stations = stations_by driver b.devices.items }
+
+  -- how many captures each device has made
+  abbrev pub captures_of : Bench X V → List ℕ
+  captures_of b = map captures_by b.devices.items
+
+  -- whether the captures of the device of that number have come to their end: then it makes none more
+  abbrev pub has_ended : Bench X V → ℕ → Bool
+  has_ended b dev = option_map_or is_last (slice_get (captures_of b) dev) false
+
+  -- the triggers
+  abbrev pub triggers_of : Bench X V → List TriggerRecord
+  triggers_of b = map trigger_of b.triggers.items
+
+  -- what no connection's call changes
+  abbrev pub kept_of : Bench X V → Kept
+  kept_of b = record { front = front_of b; triggers = triggers_of b; captures = captures_of b }
+
+-- the trigger of that number
+abbrev pub trigger_in : List TriggerRecord → ℕ → TriggerRecord
+trigger_in triggers trigger = unwrap_or (slice_get triggers trigger) first_trigger

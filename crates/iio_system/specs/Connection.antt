@@ -1,0 +1,37 @@
+-- A connection of a script over the told state.
+use Rattle.std.specs.Prelude.{◌≡◌, ℕ, true, List, ◌++◌, length, Option, Some}
+use Rattle.iiod_grammar.specs.Stream.{Scanner, items_from, no_item, scanner_after}
+use Rattle.iiod_session.specs.declared.manner.Manner.TheVariants.{Script}
+use Rattle.iiod_session.specs.Desk.{desk_of}
+use Rattle.iiod_session.specs.Front.{Front}
+use Rattle.iiod_session.specs.Machine.{Machine}
+use Rattle.iiod_session.specs.Seat.{SeatRecord}
+use Rattle.iiod_session.specs.Session.{SessionRecord}
+use Rattle.iio_history.specs.Registry.{Setup}
+use Rattle.iio_history.specs.Told.{Told}
+use Rattle.iio_history.specs.Played.{steps, texts}
+use Rattle.iio_history.specs.Bench.{Every, IsBench, IsDeskOf, front_of, is_in, machine_of, names_of}
+use Rattle.iio_history.specs.BenchLaw.{CanJoinMore, heard}
+
+module _ {S : Type 0} (seen : S → SeatRecord) where
+  -- a session is the one of this connection, of whose stream that much is begun
+  pub record IsSessionOf (m : Told) (name : List ℕ) (begun : Scanner) (x : SessionRecord S) : Type 0 where
+    pub manner : x.manner ≡ Script
+    pub stream : x.stream ≡ no_item begun
+    pub desk : IsDeskOf m name (desk_of seen x.desk)
+
+  -- the devices and the connection's session as they stand, where bytes of it have arrived: it is there, and numbers last
+  pub record IsHearing (s : Setup) (m : Told) (front : Front) (told : Option Machine) (name : List ℕ) (begun : Scanner) (bytes : List ℕ) (x : SessionRecord S) : Type 0 where
+    pub front_is : front ≡ front_of s
+    pub told_is : told ≡ Some (machine_of m)
+    pub bench : IsBench s m
+    pub there : is_in (names_of m) name ≡ true
+    pub session : IsSessionOf m name begun x
+    pub room : Every (CanJoinMore (length (items_from begun bytes))) m.stations
+
+  -- the items that bytes make whole were heard
+  pub record HasHeard (s : Setup) (m : Told) (told : Option Machine) (name : List ℕ) (begun : Scanner) (bytes : List ℕ) (before after : List ℕ) (x : SessionRecord S) : Type 0 where
+    pub said : after ≡ before ++ texts s m (heard name (items_from begun bytes))
+    pub told_is : told ≡ Some (machine_of (steps s m (heard name (items_from begun bytes))))
+    pub bench : IsBench s (steps s m (heard name (items_from begun bytes)))
+    pub session : IsSessionOf (steps s m (heard name (items_from begun bytes))) name (scanner_after begun bytes) x

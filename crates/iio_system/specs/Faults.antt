@@ -1,0 +1,62 @@
+-- Why a member can't join a device beside these triggers. Cited by this crate's private functions alone.
+use Rattle.std.specs.Prelude.{◌≡◌, ℕ, ◌<◌, ◌-◌, ◌^◌, ◌==◌, ◌&&◌, ◌||◌, not, Bool, true, false, List, [], ◌∷◌, length, slice_get, Option, Some, None, is_none, Result, Ok, Err}
+use Rattle.std.specs.Option.{option_map_or}
+use Rattle.iio_base.specs.Refusals.{first_refusal}
+use Rattle.iio_text.specs.declared.errors.Errno.TheVariants.{ENODEV, EINVAL, ENOSPC}
+use Rattle.iio_mask.specs.declared.Mask.{Mask}
+use Rattle.iio_layout.specs.Layout.{scan_size}
+use Rattle.iio_layout.specs.Shape.{ShapeRecord}
+use Rattle.iio_kfifo.specs.Queue.{Queue}
+use Rattle.iio_trigger.specs.Trigger.{State}
+use Rattle.iio_device.specs.declared.roster.JoinFault.{JoinFault}
+use Rattle.iio_device.specs.declared.roster.JoinFault.TheVariants as fault
+use Rattle.iio_device.specs.Active.{is_without_union}
+use Rattle.iio_device.specs.Device.{DeviceView, device_joined, has_no_place, is_bad_mask, trigger_joined}
+use Rattle.iio_device.specs.Joining.{member_faults}
+use Rattle.iio_device.specs.Members.{masks_of}
+use Rattle.iio_device.specs.Site.{is_empty}
+use Rattle.iiod_session.specs.declared.iio.No.{No}
+use Rattle.iiod_session.specs.declared.iio.No.TheVariants.{Errno as NoErrno, Mem as NoMem}
+use Rattle.iio_system.specs.declared.seat.Seat.{Seat}
+
+-- whether there is no place at the device's trigger; at one that isn't there, there is none
+abbrev pub lacks_place : ℕ → List State → Option ℕ → Bool
+lacks_place number states None = false
+lacks_place number states (Some trigger) = option_map_or (has_no_place number) (slice_get states trigger) true
+
+abbrev pub is_full : List State → DeviceView Queue → Bool
+is_full states d = is_empty d.standing.members && lacks_place d.number states d.site.trigger || d.standing.next == 2 ^ 64 - 1
+
+-- the refusals in their order
+abbrev pub faults_at : List State → DeviceView Queue → ℕ → List (Bool × JoinFault)
+faults_at states d mask =
+    (not d.site.plugged, fault.Gone)
+    ∷ (is_bad_mask d.standing.shape mask, fault.BadMask)
+    ∷ member_faults (is_none d.site.trigger) (is_without_union d.standing.shape (masks_of d.standing.members) mask) (is_full states d)
+
+-- the number of the device's trigger, which is there, or why there is none to join by
+abbrev pub Hosts : List State → DeviceView Queue → ℕ → Result ℕ JoinFault → Type 0
+Hosts states d mask (Ok trigger) =
+    (d.site.trigger ≡ Some trigger) × (trigger < length states) × (first_refusal (faults_at states d mask) ≡ None)
+Hosts states d mask (Err fault) = first_refusal (faults_at states d mask) ≡ Some fault
+
+-- what a fault is answered with
+abbrev pub no_of : JoinFault → No
+no_of fault.Gone = NoErrno ENODEV
+no_of fault.BadMask = NoErrno EINVAL
+no_of fault.NoTrigger = NoErrno EINVAL
+no_of fault.NoUnion = NoErrno EINVAL
+no_of fault.NoPlace = NoErrno ENOSPC
+no_of fault.Mem = NoMem
+
+-- a new queue
+abbrev pub first_queue : ShapeRecord → Mask → ℕ → Queue
+first_queue shape mask capacity = record { scans = []; taken = 0; lost = 0; size = scan_size shape mask.bits; capacity = capacity }
+
+-- a member more by a place that it has; want of memory changes nothing
+abbrev pub JoinsBy : Mask → ℕ → Result Seat No → (old new : DeviceView Queue) → (trigger trigger' : State) → Type 0
+JoinsBy mask capacity (Ok seat) old new trigger trigger' =
+    (seat ≡ record { number = old.standing.next; mask = mask; size = scan_size old.standing.shape mask.bits; capacity = capacity })
+    × (new ≡ device_joined mask (first_queue old.standing.shape mask capacity) old)
+    × (trigger' ≡ trigger_joined old trigger)
+JoinsBy mask capacity (Err refusal) old new trigger trigger' = (refusal ≡ NoMem) × (new ≡ old) × (trigger' ≡ trigger)

@@ -1,0 +1,54 @@
+-- A connection that is fed.
+use Rattle.std.specs.Prelude.{◌≡◌, ℕ, All, Bool, true, false, List, [], ◌∷◌, ◌++◌, Option, Some, None, IfSome, if◌then◌else◌}
+use Rattle.iio_text.specs.Escape.{quoted}
+use Rattle.iiod_grammar.specs.Stream.{AtEnd, Scanner, items_from, scanner_after}
+use Rattle.iiod_session.specs.Acts.{left_machine}
+use Rattle.iiod_session.specs.Desk.{IsDesk, desk_of}
+use Rattle.iiod_session.specs.Front.{Front}
+use Rattle.iiod_session.specs.Machine.{Machine}
+use Rattle.iiod_session.specs.Seat.{SeatRecord}
+use Rattle.iiod_session.specs.Session.{SessionRecord}
+use Rattle.iio_history.specs.Registry.{Setup}
+use Rattle.iio_history.specs.Told.{Told}
+use Rattle.iio_history.specs.Played.{texts}
+use Rattle.iio_history.specs.Transcript.{closed_line, printed}
+use Rattle.iio_history.specs.BenchLaw.{heard}
+use Rattle.iio_system.specs.declared.connection.Connection.{Connection}
+use Rattle.iio_system.specs.Connection.{HasHeard, IsHearing}
+
+-- whether further bytes mean nothing
+abbrev pub is_at_end : Scanner → Bool
+is_at_end AtEnd = true
+is_at_end s = false
+
+-- the lines of a feed: what was answered, and whether the connection has ended with it
+abbrev pub feed_lines : Setup → Told → (name : List ℕ) → Scanner → (bytes : List ℕ) → List ℕ
+feed_lines s n name begun bytes =
+    printed (name ∷ quoted (texts s n (heard name (items_from begun bytes))) ∷ []) ++ (if is_at_end (scanner_after begun bytes) then closed_line name else [])
+
+module _ {S : Type 0} (seen : S → SeatRecord) where
+  -- what a connection's session holds is owned
+  abbrev pub IsOwning : Front → Option (SessionRecord S) → Type 0
+  IsOwning front session = IfSome session (λ x. IsDesk seen front x.desk)
+
+  -- and what all of them hold
+  abbrev pub AreOwning : Front → List (Connection S) → Type 0
+  AreOwning front connections = All (λ c. IsOwning front c.session) connections
+
+  -- the devices once it is lost, where it has a session
+  abbrev pub left_by : Machine → Option (SessionRecord S) → Machine
+  left_by m None = m
+  left_by m (Some x) = left_machine m (desk_of seen x.desk)
+
+  -- a connection that hasn't ended was fed: it is left without a session where it has ended then
+  pub record HasFed (s : Setup) (n : Told) (told : Option Machine) (name : List ℕ) (begun : Scanner) (bytes : List ℕ) (before after : List ℕ) (session : Option (SessionRecord S)) : Type 0 where
+    pub spoken : SessionRecord S
+    pub heard_by : HasHeard seen s n told name begun bytes [] (texts s n (heard name (items_from begun bytes))) spoken
+    pub left : session ≡ (if is_at_end (scanner_after begun bytes) then None else Some spoken)
+    pub lines : after ≡ before ++ feed_lines s n name begun bytes
+
+  -- one that has ended is told so again
+  abbrev pub Feeds : (name bytes : List ℕ) → Front → (told told' : Option Machine) → (before after : List ℕ) → (old new : Option (SessionRecord S)) → Type 0
+  Feeds name bytes front told told' before after None new = (new ≡ None) × (told' ≡ told) × (after ≡ before ++ closed_line name)
+  Feeds name bytes front told told' before after (Some x) new =
+      (s : Setup) (n : Told) (begun : Scanner) → IsHearing seen s n front told name begun bytes x → HasFed s n told' name begun bytes before after new

@@ -1,0 +1,15 @@
+pub mod Station
+pub mod Places
+pub mod Faults
+pub mod Acting
+pub mod Handling
+pub mod Seat
+pub mod Bench
+pub mod First
+pub mod Connection
+pub mod Lines
+pub mod Step
+pub mod System
+pub mod Feeding
+pub mod Standing
+pub mod Moves

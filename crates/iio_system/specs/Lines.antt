@@ -1,0 +1,31 @@
+-- The words of the lines that steps print.
+use Rattle.std.specs.Prelude.{ℕ, Bool, List, [], ◌∷◌, codes, Option, Some, None, if◌then◌else◌}
+use Rattle.std.specs.Fmt.{decimal}
+use Rattle.iio_trigger.specs.declared.Polled.{Polled}
+use Rattle.iio_trigger.specs.declared.Polled.TheVariants.{Accepted, Missed}
+use Rattle.iio_device.specs.declared.handling.Handled.{Handled}
+use Rattle.iio_device.specs.declared.handling.Handled.TheVariants.{Captured, Fault, Idle}
+use Rattle.iio_device.specs.declared.handling.Sensed.{Sensed}
+use Rattle.iio_device.specs.declared.handling.Sensed.TheVariants as sense
+
+abbrev pub polled_words : Polled → List (List ℕ)
+polled_words (Accepted n) = codes "accepted" ∷ decimal n ∷ []
+polled_words (Missed n) = codes "missed" ∷ decimal n ∷ []
+
+-- where there was no entry, none
+abbrev pub handled_word : Option Handled → List ℕ
+handled_word None = codes "none"
+handled_word (Some (Captured n)) = codes "captured"
+handled_word (Some Fault) = codes "fault"
+handled_word (Some Idle) = codes "idle"
+
+abbrev pub sensed_words : Sensed → List (List ℕ)
+sensed_words (sense.Fired n) = codes "sensed" ∷ decimal n ∷ []
+sensed_words sense.Fault = codes "fault" ∷ []
+sensed_words sense.Gone = codes "gone" ∷ []
+
+abbrev pub dropped_word : Bool → List ℕ
+dropped_word live = if live then codes "dropped" else codes "closed"
+
+abbrev pub unplugged_word : Bool → List ℕ
+unplugged_word plugged = if plugged then codes "unplugged" else codes "gone"

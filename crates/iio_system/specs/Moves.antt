@@ -1,0 +1,44 @@
+-- The handlings that a poll is followed by, one after another. Cited by this crate's private functions alone.
+use Rattle.std.specs.Prelude.{◌≡◌, ℕ, suc, ◌<◌, ◌≤◌, ◌-◌, ◌^◌, All, List, [], ◌∷◌, ◌++◌, map, None, Some}
+use Rattle.iio_sensor.specs.Driver.{Driver}
+use Rattle.iio_device.specs.declared.plug.Plug.{Plug}
+use Rattle.iio_history.specs.Event.{Event, Handled}
+use Rattle.iio_history.specs.Registry.{Entry, Setup, entries_at, entry_of}
+use Rattle.iio_history.specs.Told.{Told}
+use Rattle.iio_history.specs.Played.{steps, texts}
+use Rattle.iio_system.specs.declared.bench.Bench.{Bench}
+use Rattle.iio_system.specs.declared.connection.Connection.{Connection}
+use Rattle.iio_system.specs.declared.seat.Seat.{Seat}
+use Rattle.iio_system.specs.Standing.{Holds}
+
+-- no capture is a device's last
+abbrev pub CanGoOn : List ℕ → Type 0
+CanGoOn captures = All (λ n. n < 2 ^ 64 - 1) captures
+
+-- the handling of the entry that a device has, where it has one
+abbrev pub handling_of : (trigger dev : ℕ) → List Entry → List Event
+handling_of trigger dev entries = elim (entry_of dev entries) [ None ↦ [] | Some e ↦ Handled trigger dev ∷ [] ]
+
+-- the handling of each entry
+abbrev pub handlings : (trigger : ℕ) → List Entry → List Event
+handlings trigger entries = map (λ (e : Entry). Handled trigger e.device) entries
+
+-- entries of devices from `low` on and below `high`, in the order of devices, one of each device at most
+abbrev pub InOrder : (low high : ℕ) → List Entry → Type 0
+InOrder low high [] = low ≤ high
+InOrder low high (e ∷ es) = (low ≤ e.device) × InOrder (suc e.device) high es
+
+module _ {X : Type 0} {V : X → Type 0} (driver : Plug X V → Driver) where
+  -- events of a bench, by the entries that its trigger has: their lines, and what it and the connections hold then
+  abbrev pub Plays : (events : List Entry → List Event) → Setup → Told → (trigger : ℕ) → (b' : Bench X V) (cs : List (Connection Seat)) (before after : List ℕ) → Type 0
+  Plays events s m trigger b' cs before after =
+      (after ≡ before ++ texts s m (events (entries_at m.triggers trigger))) × Holds driver s (steps s m (events (entries_at m.triggers trigger))) b' cs
+
+  -- the handling of a device's entry at a trigger
+  abbrev pub HandlesOne : (trigger dev : ℕ) → (b b' : Bench X V) (cs : List (Connection Seat)) (before after : List ℕ) → Type 0
+  HandlesOne trigger dev b b' cs before after = (s : Setup) (m : Told) → Holds driver s m b cs → Plays (handling_of trigger dev) s m trigger b' cs before after
+
+  -- the handling of all entries at a trigger, which are of devices below `high` and in their order
+  abbrev pub HandlesAll : (trigger high : ℕ) → (b b' : Bench X V) (cs : List (Connection Seat)) (before after : List ℕ) → Type 0
+  HandlesAll trigger high b b' cs before after =
+      (s : Setup) (m : Told) → Holds driver s m b cs → InOrder 0 high (entries_at m.triggers trigger) → Plays (handlings trigger) s m trigger b' cs before after

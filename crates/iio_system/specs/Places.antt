@@ -1,0 +1,102 @@
+-- The triggers beside the devices. (Kernel, driver-api/iio: a device is attached to its trigger while its buffer is enabled,
+-- and a poll calls each attached device once. Places and the count of missed polls are this project's own.)
+use Rattle.std.specs.Prelude.{◌≡◌, ℕ, suc, ◌≤◌, ◌||◌, ◌==◌, not, nat_lt, ℤ, Bool, true, false, List, [], ◌∷◌, map, length, find, filter, slice_get, Option, Some, None, if◌then◌else◌}
+use Rattle.std.specs.List.{list_any}
+use Rattle.iio_trigger.specs.declared.rows.Place.{Place}
+use Rattle.iio_trigger.specs.declared.rows.Entry.{Entry}
+use Rattle.iio_trigger.specs.declared.Polled.{Polled}
+use Rattle.iio_trigger.specs.declared.Polled.TheVariants.{Accepted, Missed}
+use Rattle.iio_trigger.specs.Trigger.{Handed, State, poll_made, missed_after}
+use Rattle.iio_desc.specs.declared.description.TriggerDesc.{TriggerDesc}
+use Rattle.iio_desc.specs.declared.limits.TheConstants.{MAX_TRIGGERS, MAX_DEVICES}
+use Rattle.iio_device.specs.Site.{is_empty}
+use Rattle.iiod_session.specs.Machine.{Station}
+use Rattle.iiod_session.specs.Calls.{is_attached}
+
+-- a trigger: its outstanding entries in the order of devices, and how many of its polls were missed
+pub record TriggerRecord : Type 0 where
+  pub entries : List Handed
+  pub missed : ℕ
+
+abbrev pub handed_of : Entry → Handed
+handed_of e = record { dev = e.dev; attachment = e.attachment; t = e.t }
+
+abbrev pub trigger_of : State → TriggerRecord
+trigger_of s = record { entries = map handed_of s.outstanding; missed = s.missed }
+
+-- before the first poll
+abbrev pub first_trigger : TriggerRecord
+first_trigger = record { entries = []; missed = 0 }
+
+-- the places of the devices that are attached to a trigger, in their order; `dev` is the first device's number
+abbrev pub places_from : ℕ → ℕ → List Station → List Place
+places_from dev trigger [] = []
+places_from dev trigger (st ∷ sts) =
+    if is_attached trigger st
+    then record { dev = dev; attachment = st.site.attachment } ∷ places_from (suc dev) trigger sts
+    else places_from (suc dev) trigger sts
+
+-- an entry for each of them
+abbrev pub entries_from : ℕ → ℕ → ℤ → List Station → List Handed
+entries_from dev trigger moment [] = []
+entries_from dev trigger moment (st ∷ sts) =
+    if is_attached trigger st
+    then record { dev = dev; attachment = st.site.attachment; t = moment } ∷ entries_from (suc dev) trigger moment sts
+    else entries_from (suc dev) trigger moment sts
+
+-- ---- polls
+
+-- a poll makes an entry for each attached device, where nothing is outstanding; else it is missed
+abbrev pub polled : List Station → ℕ → ℤ → TriggerRecord → TriggerRecord
+polled stations trigger moment t =
+    record { entries = poll_made (entries_from 0 trigger moment stations) t.entries; missed = missed_after t.entries t.missed }
+
+-- its answer: how many entries it made, or how many polls were missed with it
+abbrev pub poll_answer : (made outstanding : List Handed) → (missed : ℕ) → Polled
+poll_answer made [] missed = Accepted (length made)
+poll_answer made (e ∷ es) missed = Missed (missed_after (e ∷ es) missed)
+
+-- ---- entries
+
+-- the device's entry
+abbrev pub entry_of : ℕ → List Handed → Option Handed
+entry_of dev entries = find (λ (e : Handed). e.dev == dev) entries
+
+-- the entries without the device's
+abbrev pub without_entry : ℕ → List Handed → List Handed
+without_entry dev entries = filter (λ (e : Handed). not (e.dev == dev)) entries
+
+abbrev pub handled : ℕ → TriggerRecord → TriggerRecord
+handled dev t = record t { entries = without_entry dev t.entries }
+
+-- ---- what holds after every call
+
+-- whether a device's trigger is one of so many
+abbrev pub has_trigger : ℕ → Option ℕ → Bool
+has_trigger count None = false
+has_trigger count (Some trigger) = nat_lt trigger count
+
+-- whether the device is hosted: it is on a trigger that is there, or has no member
+abbrev pub is_hosted : ℕ → Station → Bool
+is_hosted count st = is_empty st.members || has_trigger count st.site.trigger
+
+-- whether an entry is in somebody's hand
+abbrev pub has_in_hand : List Entry → Bool
+has_in_hand entries = list_any (λ (e : Entry). e.in_hand) entries
+
+-- the places at a trigger are those of the devices that are attached to it, and no entry is in hand
+pub record IsTrigger (trigger : ℕ) (stations : List Station) (s : State) : Type 0 where
+  pub attached : s.attached ≡ places_from 0 trigger stations
+  pub idle : has_in_hand s.outstanding ≡ false
+
+-- there is a trigger for each that is described, with its places; each device with a member is on one of them
+pub record IsBench (triggers : List TriggerDesc) (states : List State) (stations : List Station) : Type 0 where
+  pub few : length triggers ≤ MAX_TRIGGERS
+  pub devices : length stations ≤ MAX_DEVICES
+  pub places : map (λ (s : State). s.places) states ≡ map (λ (t : TriggerDesc). t.places) triggers
+  pub each : (trigger : ℕ) (s : State) → slice_get states trigger ≡ Some s → IsTrigger trigger stations s
+  pub hosted : (dev : ℕ) (st : Station) → slice_get stations dev ≡ Some st → is_hosted (length triggers) st ≡ true
+
+-- each device's number is its place
+abbrev pub IsNumbered : {D : Type 0} → (D → ℕ) → List D → Type 0
+IsNumbered {D} number devices = (dev : ℕ) (d : D) → slice_get devices dev ≡ Some d → number d ≡ dev

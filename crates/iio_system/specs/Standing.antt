@@ -1,0 +1,105 @@
+-- What a system holds, and the steps that it stands for.
+use Rattle.std.specs.Prelude.{◌≡◌, ℕ, suc, ◌+◌, ◌*◌, ◌-◌, ◌^◌, ◌<◌, ◌≤◌, nat_lt, ◌||◌, All, Bool, true, List, [], ◌∷◌, ◌++◌, map, length, Some, if◌then◌else◌}
+use Rattle.iio_sensor.specs.Driver.{Driver}
+use Rattle.iio_trigger.specs.Trigger.{Handed}
+use Rattle.iio_device.specs.declared.plug.Plug.{Plug}
+use Rattle.iiod_session.specs.declared.manner.Manner.TheVariants.{Script}
+use Rattle.iiod_session.specs.Session.{IsFresh, SessionRecord}
+use Rattle.iio_history.specs.Event.{Event}
+use Rattle.iio_history.specs.Registry.{Entry, Setup, Trigger}
+use Rattle.iio_history.specs.Script.{is_known, max_names}
+use Rattle.iio_history.specs.Told.{Told, told}
+use Rattle.iio_history.specs.Transcript.{Step, Feed}
+use Rattle.iio_history.specs.Bench.{Every}
+use Rattle.iio_history.specs.BenchLaw.{CanJoinMore}
+use Rattle.iio_history.specs.Played.{state_after, step_lines}
+use Rattle.iio_system.specs.declared.bench.Bench.{Bench}
+use Rattle.iio_system.specs.declared.connection.Connection.{Connection}
+use Rattle.iio_system.specs.declared.seat.Seat.{Seat}
+use Rattle.iio_system.specs.declared.step.Step.{Step as CodeStep}
+use Rattle.iio_system.specs.declared.step.Step.TheVariants as code
+use Rattle.iio_system.specs.declared.system.System.{System}
+use Rattle.iio_system.specs.Bench.{front_of, machine_of, triggers_of}
+use Rattle.iio_system.specs.Places.{TriggerRecord}
+use Rattle.iio_system.specs.Seat.{seen_of}
+use Rattle.iio_system.specs.Step.{cost_of, step_view}
+use Rattle.iio_system.specs.System.{Stands}
+
+-- ---- the names that were fed
+
+abbrev pub name_by : {S : Type 0} → Connection S → List ℕ
+name_by c = c.name
+
+abbrev pub names_by : {X : Type 0} {V : X → Type 0} → System X V → List (List ℕ)
+names_by x = map name_by x.connections.items
+
+-- whether a connection of that name can be fed: it was fed before, or there is room for one more name
+abbrev pub has_room : List (List ℕ) → List ℕ → Bool
+has_room names name = is_known names name || nat_lt (length names) max_names
+
+-- the names once a step was made, the newest last
+abbrev pub names_with : List (List ℕ) → Step → List (List ℕ)
+names_with names (Feed name bytes) = if is_known names name then names else names ++ name ∷ []
+names_with names step = names
+
+-- a feed is of a connection that can be fed
+abbrev pub IsTaken : List (List ℕ) → CodeStep → Type 0
+IsTaken names (code.Feed name bytes) = has_room names name ≡ true
+IsTaken names step = Unit {0}
+
+-- a connection that sent nothing yet
+pub record IsNew (name : List ℕ) (who : ℕ) (c : Connection Seat) : Type 0 where
+  pub name_is : c.name ≡ name
+  pub fresh : SessionRecord Seat
+  pub session_is : c.session ≡ Some fresh
+  pub is_fresh : IsFresh who Script fresh
+
+-- ---- the history
+
+-- an outstanding entry and a trigger, as a bench tells them
+abbrev pub handed_by : Entry → Handed
+handed_by e = record { dev = e.device; attachment = e.attachment; t = e.moment }
+
+abbrev pub trigger_by : Trigger → TriggerRecord
+trigger_by t = record { entries = map handed_by t.entries; missed = t.missed }
+
+-- ---- captures
+
+-- their numbers can go on
+abbrev pub CanCapture : List ℕ → Type 0
+CanCapture captures = All (λ n. n < 2 ^ 63) captures
+
+-- no device made more than so many more
+abbrev pub RiseBy : ℕ → (old new : List ℕ) → Type 0
+RiseBy k old new = (n : ℕ) → All (λ c. c ≤ n) old → All (λ c. c ≤ n + k) new
+
+-- ---- the whole
+
+module _ {X : Type 0} {V : X → Type 0} (driver : Plug X V → Driver) where
+  -- what a bench and its connections hold is the told state
+  pub record Holds (s : Setup) (m : Told) (b : Bench X V) (connections : List (Connection Seat)) : Type 0 where
+    pub stands : Stands seen_of s m (front_of b) (Some (machine_of driver b)) connections
+    pub triggers : triggers_of b ≡ map trigger_by m.triggers
+
+  -- a step of a bench and its connections: its lines, and what they hold then
+  abbrev pub Makes : Step → (b b' : Bench X V) (cs cs' : List (Connection Seat)) (before after : List ℕ) → Type 0
+  Makes t b b' cs cs' before after =
+      (s : Setup) (m : Told) → Holds s m b cs → (after ≡ before ++ step_lines s m t) × Holds s (state_after s m t) b' cs'
+
+  -- a feed, where members can still be numbered
+  abbrev pub MakesFeed : (name bytes : List ℕ) → (b b' : Bench X V) (cs cs' : List (Connection Seat)) (before after : List ℕ) → Type 0
+  MakesFeed name bytes b b' cs cs' before after =
+      (s : Setup) (m : Told) → Every (CanJoinMore (suc (length bytes))) m.stations → Holds s m b cs
+      → (after ≡ before ++ step_lines s m (Feed name bytes)) × Holds s (state_after s m (Feed name bytes)) b' cs'
+
+  -- a step, where as many members can still be numbered as it and its bytes are
+  abbrev pub MakesStep : CodeStep → (b b' : Bench X V) (cs cs' : List (Connection Seat)) (before after : List ℕ) → Type 0
+  MakesStep t b b' cs cs' before after =
+      (s : Setup) (m : Told) → Every (CanJoinMore (cost_of t)) m.stations → Holds s m b cs
+      → (after ≡ before ++ step_lines s m (step_view t)) × Holds s (state_after s m (step_view t)) b' cs'
+
+  -- a system stands for these events: it holds what they tell, and members can still be numbered. (A step has at most 32
+  -- events for itself and for each of its bytes.)
+  pub record StandsFor (s : Setup) (h : List Event) (x : System X V) : Type 0 where
+    pub holds : Holds s (told s h) x.bench x.connections.items
+    pub room : Every (CanJoinMore (2 ^ 64 - 1 - 32 * x.used)) (told s h).stations

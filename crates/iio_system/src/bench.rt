@@ -1,0 +1,41 @@
+//! A bench: the devices and triggers of a description.
+
+ghost use Rattle.std.proofs.Props.{props};
+ghost use Rattle.iio_device.specs.Site.{no_driver};
+ghost use Rattle.iio_system.specs.Places.{IsBench, IsNumbered};
+ghost use Rattle.iio_system.specs.Station.{number_by, stations_by};
+
+use iio_desc::TriggerDesc;
+use iio_device::Device;
+use iio_kfifo::Kfifo;
+use iio_sensor::Sensor;
+use iio_trigger::Trigger;
+use std::alloc::Global;
+use std::marker::PhantomData;
+
+/// The devices and triggers of a description, with one clock. A device's number is its place among the description's
+/// devices, a trigger's its place among the description's triggers.
+#[derive(Drop)]
+pub struct Bench {
+    pub(crate) alloc: Global,
+    pub(crate) context: Vec<u8>,
+    pub(crate) described: Vec<TriggerDesc>,
+    pub(crate) triggers: Vec<Trigger>,
+    pub(crate) devices: Vec<Device<Kfifo>>,
+    pub(crate) clock: i64,
+    // Brings the meaning of a boxed driver into the reach of ghost members here.
+    pub(crate) of: PhantomData<Box<dyn Sensor + Send>>,
+    ghost sound: { IsBench described.items triggers.items (stations_by (λ p. no_driver) devices.items) } by { Prim.hlevel props },
+    ghost numbered: { IsNumbered number_by devices.items } by { Prim.hlevel props },
+}
+
+impl Bench {
+    ghost use Rattle.std.specs.Prelude.{◌≡◌};
+
+    /// The moment that its clock shows.
+    pub fn clock(&self) -> i64
+        ensures { result ≡ self.now.clock }
+    {
+        self.clock
+    }
+}

@@ -1,0 +1,73 @@
+//! The connections of a script.
+ghost use Rattle.std.specs.Prelude.{◌≡◌, ◌↔◌, ℕ, List, IfOk, IsTrue, OnOk, position};
+ghost use Rattle.std.specs.Str.{bytes_eq};
+ghost use Rattle.iiod_grammar.specs.Stream.{AtEnd, Scanner, no_item};
+ghost use Rattle.iiod_session.specs.Desk.{IsDesk};
+ghost use Rattle.iio_history.specs.Registry.{Setup};
+ghost use Rattle.iio_history.specs.Told.{Told};
+ghost use Rattle.iio_system.specs.Connection.{HasHeard, IsHearing};
+ghost use Rattle.iio_system.specs.Feeding.{Feeds, IsOwning};
+
+use crate::lines::{push_closed, push_feed};
+use iio_attr::Name;
+use iio_base::Mem;
+use iiod_session::{Iio, Session};
+use std::alloc::Global;
+
+/// A connection: its name, and its session until it has ended; `S` is the type of its seats.
+#[derive(Drop)]
+pub struct Connection<S> {
+    pub name: Name,
+    pub session: Option<Session<S>>,
+}
+
+// The items that these bytes make whole, and whether the connection has ended with them.
+fn hear<I: Iio>(
+    alloc: Global,
+    iio: &mut I,
+    session: &mut Session<I::Seat>,
+    bytes: &[u8],
+    answers: &mut Vec<u8>,
+) -> Result<bool, Mem>
+    requires { IsDesk I.seen (I.front (I.kept iio.old)) session.old.desk }
+    ensures kept { I.kept iio.new ≡ I.kept iio.old }
+    ensures desk { IsDesk I.seen (I.front (I.kept iio.new)) session.new.desk }
+    ensures heard { IfOk result (λ ended. (s : Setup) (m : Told) (name : List ℕ) (begun : Scanner)
+        → IsHearing I.seen s m (I.front (I.kept iio.old)) (I.told iio.old) name begun bytes.now session.old
+        → HasHeard I.seen s m (I.told iio.new) name begun bytes.now answers.old.items answers.new.items session.new) }
+    ensures ended { IfOk result (λ ended. IsTrue ended ↔ (session.new.stream ≡ no_item AtEnd)) }
+{
+    session.feed(alloc, iio, bytes, answers)?;
+    Ok(session.ended())
+}
+
+// The lines of a feed, and what is left of the connection.
+pub(crate) fn feed_at<I: Iio>(
+    alloc: Global,
+    iio: &mut I,
+    connection: &mut Connection<I::Seat>,
+    bytes: &[u8],
+    answers: &mut Vec<u8>,
+    out: &mut Vec<u8>,
+) -> Result<(), Mem>
+where
+    I::Seat: Drop,
+    requires { IsOwning I.seen (I.front (I.kept iio.old)) connection.old.session }
+    ensures kept { I.kept iio.new ≡ I.kept iio.old }
+    ensures name { connection.new.name ≡ connection.old.name }
+    ensures desk { IsOwning I.seen (I.front (I.kept iio.new)) connection.new.session }
+    ensures fed { OnOk result (Feeds I.seen connection.old.name bytes.now (I.front (I.kept iio.old)) (I.told iio.old) (I.told iio.new)
+        out.old.items out.new.items connection.old.session connection.new.session) }
+{
+    let Some(session) = &mut connection.session else {
+        return push_closed(out, &connection.name);
+    };
+    answers.clear();
+    let ended = hear(alloc, iio, session, bytes, answers)?;
+    push_feed(out, &connection.name, answers)?;
+    if ended {
+        connection.session = None;
+        push_closed(out, &connection.name)?;
+    }
+    Ok(())
+}

@@ -1,0 +1,128 @@
+//! The connections of a script at the bench.
+ghost use Rattle.std.specs.Prelude.{◌≡◌, ◌<◌, ◌≤◌, true, None, IfOk, OnOk, is_some, length, map, position};
+ghost use Rattle.std.specs.Str.{bytes_eq};
+ghost use Rattle.iio_history.specs.Script.{max_names};
+ghost use Rattle.iio_history.specs.Transcript.{Drop, Feed};
+ghost use Rattle.iio_system.specs.Bench.{front_of, kept_of, machine_of};
+ghost use Rattle.iiod_session.specs.Acts.{left_machine};
+ghost use Rattle.iiod_session.specs.Desk.{IsDesk, desk_of};
+ghost use Rattle.iio_system.specs.Feeding.{AreOwning, IsOwning, left_by};
+ghost use Rattle.iio_system.specs.Standing.{IsNew, Makes, MakesFeed, has_room, name_by, names_with};
+ghost use Rattle.iio_system.specs.Seat.{seen_of};
+
+use crate::bench::Bench;
+use crate::connection::{Connection, feed_at};
+use crate::lines::push_drop;
+use crate::seat::Seat;
+use iio_attr::Name;
+use iio_base::Mem;
+use iio_device::Plug;
+use iio_sensor::Sensor;
+use iiod_session::{Manner, Session};
+use std::alloc::Global;
+
+/// The most names of connections that a script may feed.
+pub const MAX_NAMES: usize = 64;
+
+/// The place of the connection of that name.
+pub(crate) fn place(connections: &[Connection<Seat>], name: &Name) -> Option<usize>
+    ensures { result ≡ position (λ c. bytes_eq c.name name.now) connections.now }
+{
+    connections
+        .iter()
+        .position(|c| c.name.bytes() == name.bytes())
+}
+
+// A connection that sent nothing yet. By its number the devices know whose their events are.
+fn connect(alloc: Global, who: usize, name: &Name) -> Result<Connection<Seat>, Mem>
+    requires { who ≤ max_names }
+    ensures { IfOk result (IsNew name.now who) }
+{
+    let session = Session::new(alloc, who as u32, Manner::Script)?;
+    Ok(Connection {
+        name: name.copy(),
+        session: Some(session),
+    })
+}
+
+/// Feeds the connection of that name, which comes with its first feed, and appends the lines of the feed. `answers` is
+/// room for the answers.
+pub(crate) fn feed(
+    alloc: Global,
+    bench: &mut Bench,
+    connections: &mut Vec<Connection<Seat>>,
+    name: &Name,
+    bytes: &[u8],
+    answers: &mut Vec<u8>,
+    out: &mut Vec<u8>,
+) -> Result<(), Mem>
+    requires owned { AreOwning seen_of (front_of bench.old) connections.old.items }
+    requires few { length connections.old.items ≤ max_names }
+    requires taken { has_room (map name_by connections.old.items) name.now ≡ true }
+    ensures kept { kept_of bench.new ≡ kept_of bench.old }
+    ensures owned { AreOwning seen_of (front_of bench.new) connections.new.items }
+    ensures few { length connections.new.items ≤ max_names }
+    ensures names { OnOk result (map name_by connections.new.items ≡ names_with (map name_by connections.old.items) (Feed name.now bytes.now)) }
+    ensures makes { OnOk result (MakesFeed ⟦<Plug as Sensor>⟧.driver name.now bytes.now bench.old bench.new connections.old.items connections.new.items out.old.items out.new.items) }
+{
+    match place(connections, name) {
+        Some(at) => feed_at(alloc, bench, &mut connections[at], bytes, answers, out),
+        None => {
+            connections.reserve(1)?;
+            let mut connection = connect(alloc, connections.len(), name)?;
+            let fed = feed_at(alloc, bench, &mut connection, bytes, answers, out);
+            connections.push_reserved(connection);
+            fed
+        }
+    }
+}
+
+// Closes a session's seats, and ends its holdings of events.
+fn leave(bench: &mut Bench, session: Session<Seat>)
+    requires { IsDesk seen_of (front_of bench.old) session.desk }
+    ensures kept { kept_of bench.new ≡ kept_of bench.old }
+    ensures told { machine_of ⟦<Plug as Sensor>⟧.driver bench.new ≡ left_machine (machine_of ⟦<Plug as Sensor>⟧.driver bench.old) (desk_of seen_of session.desk) }
+{
+    session.end(bench);
+}
+
+// The connection of that place is lost, where it hasn't ended before. Answers whether it hadn't.
+fn lose(bench: &mut Bench, connection: &mut Connection<Seat>) -> bool
+    requires { IsOwning seen_of (front_of bench.old) connection.old.session }
+    ensures kept { kept_of bench.new ≡ kept_of bench.old }
+    ensures name { connection.new.name ≡ connection.old.name }
+    ensures ended { connection.new.session ≡ None }
+    ensures live { result ≡ is_some connection.old.session }
+    ensures told { machine_of ⟦<Plug as Sensor>⟧.driver bench.new ≡ left_by seen_of (machine_of ⟦<Plug as Sensor>⟧.driver bench.old) connection.old.session }
+{
+    match connection.session.take() {
+        None => false,
+        Some(session) => {
+            leave(bench, session);
+            true
+        }
+    }
+}
+
+/// The connection of that name is lost: its seats are closed and its holdings of events end. Appends the line of it.
+pub(crate) fn drop_named(
+    bench: &mut Bench,
+    connections: &mut Vec<Connection<Seat>>,
+    name: &Name,
+    out: &mut Vec<u8>,
+) -> Result<(), Mem>
+    requires owned { AreOwning seen_of (front_of bench.old) connections.old.items }
+    ensures kept { kept_of bench.new ≡ kept_of bench.old }
+    ensures owned { AreOwning seen_of (front_of bench.new) connections.new.items }
+    ensures names { map name_by connections.new.items ≡ map name_by connections.old.items }
+    ensures count { length connections.new.items ≡ length connections.old.items }
+    ensures makes { OnOk result (Makes ⟦<Plug as Sensor>⟧.driver (Drop name.now) bench.old bench.new connections.old.items connections.new.items out.old.items out.new.items) }
+{
+    match place(connections, name) {
+        Some(at) => {
+            let was_live = lose(bench, &mut connections[at]);
+            push_drop(out, name.bytes(), was_live)
+        }
+        None => push_drop(out, name.bytes(), false),
+    }
+}

@@ -1,0 +1,83 @@
+//! What happens at a bench beside its connections' calls: polls, the clock, looks at thresholds, unplugged devices.
+
+ghost use Rattle.std.specs.Prelude.{◌≡◌, ◌<◌, ⊤, length};
+ghost use Rattle.iio_device.specs.Site.{at_place};
+ghost use Rattle.iiod_session.specs.Front.{shape_at};
+ghost use Rattle.iiod_session.specs.Machine.{is_plugged, station_at, with_station};
+ghost use Rattle.iio_system.specs.Bench.{captures_of, front_of, has_ended, machine_of, trigger_in, triggers_of};
+ghost use Rattle.iio_system.specs.Handling.{counted, entry_answer, entry_machine, sensed_answer, sensed_station, unplugged_station};
+ghost use Rattle.iio_system.specs.Places.{entries_from, entry_of, handled, poll_answer, polled};
+
+use crate::bench::Bench;
+use crate::calls;
+use iio_device::{Handled, Plug, Sensed};
+use iio_sensor::Sensor;
+use iio_trigger::Polled;
+
+impl Bench {
+    /// Sets the clock.
+    pub fn set_clock(&mut self, t: i64)
+        requires { ⊤ }
+        ensures front { front_of self.new ≡ front_of self.old }
+        ensures told { machine_of ⟦<Plug as Sensor>⟧.driver self.new ≡ record (machine_of ⟦<Plug as Sensor>⟧.driver self.old) { clock = t } }
+        ensures triggers { triggers_of self.new ≡ triggers_of self.old }
+        ensures captures { captures_of self.new ≡ captures_of self.old }
+    {
+        self.clock = t;
+    }
+
+    /// Polls a trigger at a moment: an entry for each attached device, where none is outstanding; else the poll is missed.
+    pub fn poll(&mut self, trigger: u32, t: i64) -> Polled
+        requires { trigger < length (front_of self.old).triggers }
+        ensures front { front_of self.new ≡ front_of self.old }
+        ensures told { machine_of ⟦<Plug as Sensor>⟧.driver self.new ≡ machine_of ⟦<Plug as Sensor>⟧.driver self.old }
+        ensures triggers { triggers_of self.new ≡ at_place trigger (polled (machine_of ⟦<Plug as Sensor>⟧.driver self.old).stations trigger t) (triggers_of self.old) }
+        ensures captures { captures_of self.new ≡ captures_of self.old }
+        ensures answer { result ≡ poll_answer (entries_from 0 trigger t (machine_of ⟦<Plug as Sensor>⟧.driver self.old).stations) (trigger_in (triggers_of self.old) trigger).entries (trigger_in (triggers_of self.old) trigger).missed }
+    {
+        self.triggers[trigger as usize].poll(t)
+    }
+
+    /// Handles the entry that a device has at a trigger: the device is asked where the entry is current, and the entry is
+    /// taken off. `None` comes exactly where it has none, and then nothing changes. A device that has made 2^64 - 1
+    /// captures is asked nothing.
+    pub fn handle(&mut self, trigger: u32, dev: u32) -> Option<Handled>
+        requires trigger { trigger < length (front_of self.old).triggers }
+        requires dev { dev < length (front_of self.old).devices }
+        ensures front { front_of self.new ≡ front_of self.old }
+        ensures told { machine_of ⟦<Plug as Sensor>⟧.driver self.new ≡ entry_machine (entry_of dev (trigger_in (triggers_of self.old) trigger).entries) (has_ended self.old dev) (shape_at (front_of self.old) dev) dev (machine_of ⟦<Plug as Sensor>⟧.driver self.old) }
+        ensures triggers { triggers_of self.new ≡ at_place trigger (handled dev) (triggers_of self.old) }
+        ensures captures { captures_of self.new ≡ at_place dev (counted result) (captures_of self.old) }
+        ensures answer { result ≡ entry_answer (entry_of dev (trigger_in (triggers_of self.old) trigger).entries) (has_ended self.old dev) (station_at (machine_of ⟦<Plug as Sensor>⟧.driver self.old) dev) }
+    {
+        calls::handle(
+            &mut self.devices[dev as usize],
+            &mut self.triggers[trigger as usize],
+            dev,
+        )
+    }
+
+    /// Looks at a device's thresholds at a moment.
+    pub fn sense(&mut self, dev: u32, t: i64) -> Sensed
+        requires { dev < length (front_of self.old).devices }
+        ensures front { front_of self.new ≡ front_of self.old }
+        ensures told { machine_of ⟦<Plug as Sensor>⟧.driver self.new ≡ with_station (sensed_station (shape_at (front_of self.old) dev) t) dev (machine_of ⟦<Plug as Sensor>⟧.driver self.old) }
+        ensures triggers { triggers_of self.new ≡ triggers_of self.old }
+        ensures captures { captures_of self.new ≡ captures_of self.old }
+        ensures answer { result ≡ sensed_answer (shape_at (front_of self.old) dev) t (station_at (machine_of ⟦<Plug as Sensor>⟧.driver self.old) dev) }
+    {
+        self.devices[dev as usize].sense(t)
+    }
+
+    /// Unplugs a device. It says whether the device was plugged.
+    pub fn unplug(&mut self, dev: u32) -> bool
+        requires { dev < length (front_of self.old).devices }
+        ensures front { front_of self.new ≡ front_of self.old }
+        ensures told { machine_of ⟦<Plug as Sensor>⟧.driver self.new ≡ with_station unplugged_station dev (machine_of ⟦<Plug as Sensor>⟧.driver self.old) }
+        ensures triggers { triggers_of self.new ≡ triggers_of self.old }
+        ensures captures { captures_of self.new ≡ captures_of self.old }
+        ensures answer { result ≡ is_plugged (machine_of ⟦<Plug as Sensor>⟧.driver self.old) dev }
+    {
+        self.devices[dev as usize].unplug()
+    }
+}

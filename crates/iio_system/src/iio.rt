@@ -1,0 +1,182 @@
+//! A bench as a connection uses it.
+
+ghost use Rattle.std.specs.Prelude.{◌≡◌, ◌<◌, IfSome, length, map};
+ghost use Rattle.std.specs.List.{position};
+ghost use Rattle.std.specs.Str.{bytes_eq};
+ghost use Rattle.iio_desc.specs.Description.{trigger_number};
+ghost use Rattle.iio_system.specs.Station.{front_by};
+
+use crate::bench::Bench;
+use crate::calls;
+use crate::joining::{host, join, no_of};
+use crate::seat::Seat;
+use iio_attr::{Attr, Name, Value};
+use iio_desc::TriggerDesc;
+use iio_device::{Device, Fitted, IioDev, Member, Plug};
+use iio_event::EventData;
+use iio_kfifo::Kfifo;
+use iio_layout::Shape;
+use iio_mask::Mask;
+use iio_sensor::Sensor;
+use iio_text::Fixed;
+use iiod_session::{Counts, Iio, No, Took};
+
+// Whether a device has that name.
+fn is_named(device: &Device<Kfifo>, name: &[u8]) -> bool
+    ensures { result ≡ bytes_eq device.now.core.name name.now }
+{
+    device.core.name.bytes() == name
+}
+
+// The number of the device of that name.
+fn device_number(devices: &[Device<Kfifo>], name: &[u8]) -> Option<usize>
+    ensures value { result ≡ position (λ d. bytes_eq d.core.name name.now) devices.now }
+    ensures within { IfSome result (λ number. number < length devices.now) }
+{
+    for i in 0..devices.len() {
+        if is_named(&devices[i], name) {
+            return Some(i);
+        }
+    }
+    None
+}
+
+// The number of the trigger of that name.
+fn trigger_number(triggers: &[TriggerDesc], name: &[u8]) -> Option<usize>
+    ensures value { result ≡ trigger_number triggers.now name.now }
+    ensures within { IfSome result (λ number. number < length triggers.now) }
+{
+    triggers.iter().position(|t| t.name.bytes() == name)
+}
+
+impl Iio for Bench {
+    ghost use Rattle.std.specs.Prelude.{Some};
+    ghost use Rattle.iio_device.specs.Plug.{driver_of};
+    ghost use Rattle.iio_system.specs.Bench.{Kept, kept_of, machine_of};
+    ghost use Rattle.iio_system.specs.Seat.{seen_of};
+
+    type Seat = Seat;
+
+    ghost Kept = { Kept };
+
+    ghost kept = { kept_of };
+
+    ghost front = { λ kept. kept.front };
+
+    ghost told = { λ b. Some (machine_of (driver_of (λ d. (Sensor-box d).driver d.value)) b) };
+
+    ghost seen = { seen_of };
+
+    fn find(&self, device: &[u8]) -> Option<u32> {
+        match device_number(&self.devices, device) {
+            None => None,
+            Some(number) => Some(number as u32),
+        }
+    }
+
+    fn shape(&self, dev: u32) -> &Shape {
+        self.devices[dev as usize].shape()
+    }
+
+    fn plugged(&self, dev: u32) -> bool {
+        self.devices[dev as usize].plugged()
+    }
+
+    fn open(&mut self, dev: u32, mask: Mask, capacity: u32) -> Result<Seat, No> {
+        let at = dev as usize;
+        match host(&self.devices[at], &self.triggers, mask) {
+            Err(fault) => Err(no_of(fault)),
+            Ok(trigger) => join(
+                self.alloc,
+                &mut self.devices[at],
+                &mut self.triggers[trigger],
+                mask,
+                capacity,
+            ),
+        }
+    }
+
+    fn close(&mut self, dev: u32, seat: Seat) {
+        let Seat {
+            number,
+            mask: _,
+            size: _,
+            capacity: _,
+        } = seat;
+        let at = dev as usize;
+        match self.devices[at].trigger() {
+            None => {}
+            Some(trigger) => {
+                let trigger = trigger as usize;
+                if trigger < self.triggers.len() {
+                    let _tail = self.devices[at].leave(
+                        Member { number },
+                        &mut self.triggers[trigger],
+                    );
+                }
+            }
+        }
+    }
+
+    fn take(&mut self, dev: u32, seat: &mut Seat, out: &mut [u8]) -> Took {
+        calls::take(&mut self.devices[dev as usize], seat.number, seat.mask, out)
+    }
+
+    fn counts(&mut self, dev: u32, seat: &mut Seat) -> Counts {
+        calls::counts(&self.devices[dev as usize], seat.number, seat.mask)
+    }
+
+    fn read_attr(&mut self, dev: u32, channel: Option<u32>, attr: Attr) -> Result<Value, No> {
+        let t = self.clock();
+        calls::read_attr(&mut self.devices[dev as usize], t, channel, attr)
+    }
+
+    fn write_attr(
+        &mut self,
+        dev: u32,
+        channel: Option<u32>,
+        attr: Attr,
+        value: Fixed,
+    ) -> Result<(), No> {
+        calls::write_attr(&mut self.devices[dev as usize], channel, attr, value)
+    }
+
+    fn trigger(&self, dev: u32) -> Option<u32> {
+        self.devices[dev as usize].trigger()
+    }
+
+    fn trigger_name(&self, trigger: u32) -> &[u8] {
+        let at = trigger as usize;
+        if at < self.described.len() {
+            self.described[at].name.bytes()
+        } else {
+            &[]
+        }
+    }
+
+    #[tactic(auto, unfolding(iiod_session::specs::Front::find_trigger))]
+    fn find_trigger(&self, name: &[u8]) -> Option<u32> {
+        let number = trigger_number(&self.described, name)?;
+        Some(number as u32)
+    }
+
+    fn set_trigger(&mut self, dev: u32, trigger: Option<u32>) -> Result<(), No> {
+        calls::set_trigger(&mut self.devices[dev as usize], trigger)
+    }
+
+    fn context(&self) -> &[u8] {
+        &self.context
+    }
+
+    fn ev_open(&mut self, dev: u32, who: u32) -> Result<(), No> {
+        calls::ev_open(&mut self.devices[dev as usize], who)
+    }
+
+    fn ev_read(&mut self, dev: u32, who: u32) -> Result<Option<EventData>, No> {
+        calls::ev_read(&mut self.devices[dev as usize], who)
+    }
+
+    fn ev_close(&mut self, dev: u32, who: u32) -> Result<(), No> {
+        calls::ev_close(&mut self.devices[dev as usize], who)
+    }
+}

@@ -1,0 +1,132 @@
+//! Members that come to a device and go.
+
+ghost use Rattle.std.specs.Prelude.{◌≡◌, ◌*◌, ◌^◌, ◌<◌, ◌≤◌, true, None, Some, is_some, length};
+ghost use Rattle.iio_base.specs.Refusals.{first_refusal};
+ghost use Rattle.iio_layout.specs.Active.{has_data};
+ghost use Rattle.iio_layout.specs.Layout.{scan_size};
+ghost use Rattle.iio_layout.specs.Shape.{count_of};
+ghost use Rattle.iiod_session.specs.declared.limits.TheConstants.{MAX_BYTES};
+ghost use Rattle.iio_device.specs.Device.{join_faults};
+ghost use Rattle.iio_system.specs.Faults.{Hosts, JoinsBy, no_of};
+ghost use Rattle.iio_system.specs.Places.{is_hosted};
+ghost use Rattle.iio_system.specs.Station.{station_by, view_by};
+
+use crate::seat::Seat;
+use iio_device::{Device, JoinFault, JoinRefused, Plug};
+use iio_kfifo::Kfifo;
+use iio_layout::{Shape, scan_size};
+use iio_mask::Mask;
+use iio_sensor::Sensor;
+use iio_text::Errno;
+use iio_trigger::Trigger;
+use iiod_session::No;
+use std::alloc::Global;
+
+/// What a fault of joining is answered with.
+pub(crate) fn no_of(fault: JoinFault) -> No
+    ensures { result ≡ no_of fault }
+{
+    match fault {
+        JoinFault::Gone => No::Errno(Errno::ENODEV),
+        JoinFault::BadMask | JoinFault::NoTrigger | JoinFault::NoUnion => No::Errno(Errno::EINVAL),
+        JoinFault::NoPlace => No::Errno(Errno::ENOSPC),
+        JoinFault::Mem => No::Mem,
+    }
+}
+
+// The bytes of a scan under a mask with a data channel.
+fn data_scan_size(shape: &Shape, mask: Mask) -> u32
+    requires below { mask.bits < 2 ^ count_of shape.now }
+    requires channel { has_data shape.now mask.bits ≡ true }
+    ensures value { result ≡ scan_size shape.now mask.bits }
+    ensures some { 1 ≤ result }
+{
+    scan_size(shape, mask)
+}
+
+// The same, where the trigger is there.
+fn host_at(
+    device: &Device<Kfifo>,
+    triggers: &[Trigger],
+    trigger: usize,
+    mask: Mask,
+) -> Result<usize, JoinFault>
+    requires own { device.now.core.trigger ≡ Some trigger }
+    requires within { trigger < length triggers.now }
+    ensures { Hosts triggers.now (view_by ⟦<Plug as Sensor>⟧.driver device.now) mask.bits result }
+{
+    match device.may_join(mask, Some(&triggers[trigger])) {
+        Err(fault) => Err(fault),
+        Ok(()) => Ok(trigger),
+    }
+}
+
+// The same, where the trigger isn't there: it is as one without a free place.
+fn host_nowhere(
+    device: &Device<Kfifo>,
+    _triggers: &[Trigger],
+    _trigger: usize,
+    mask: Mask,
+) -> Result<usize, JoinFault>
+    requires own { device.now.core.trigger ≡ Some _trigger }
+    requires past { length _triggers.now ≤ _trigger }
+    requires hosted { is_hosted (length _triggers.now) (station_by ⟦<Plug as Sensor>⟧.driver device.now) ≡ true }
+    ensures { Hosts _triggers.now (view_by ⟦<Plug as Sensor>⟧.driver device.now) mask.bits result }
+{
+    match device.may_join(mask, Some(&Trigger::new(1))) {
+        Err(fault) => Err(fault),
+        Ok(()) => Err(JoinFault::NoPlace),
+    }
+}
+
+/// The number of the device's trigger, where a member of that mask may join by it.
+pub(crate) fn host(
+    device: &Device<Kfifo>,
+    triggers: &[Trigger],
+    mask: Mask,
+) -> Result<usize, JoinFault>
+    requires { is_hosted (length triggers.now) (station_by ⟦<Plug as Sensor>⟧.driver device.now) ≡ true }
+    ensures { Hosts triggers.now (view_by ⟦<Plug as Sensor>⟧.driver device.now) mask.bits result }
+{
+    let Some(number) = device.trigger() else {
+        device.may_join(mask, None)?;
+        return Err(JoinFault::NoTrigger);
+    };
+    let trigger = number as usize;
+    if trigger < triggers.len() {
+        host_at(device, triggers, trigger, mask)
+    } else {
+        host_nowhere(device, triggers, trigger, mask)
+    }
+}
+
+/// A member more at a device, which may join.
+pub(crate) fn join(
+    alloc: Global,
+    device: &mut Device<Kfifo>,
+    trigger: &mut Trigger,
+    mask: Mask,
+    capacity: u32,
+) -> Result<Seat, No>
+    requires trigger { is_some device.old.core.trigger ≡ true }
+    requires may { first_refusal (join_faults (view_by ⟦<Plug as Sensor>⟧.driver device.old) mask.bits (Some trigger.old)) ≡ None }
+    requires below { mask.bits < 2 ^ count_of device.old.core.roster.shape }
+    requires channel { has_data device.old.core.roster.shape mask.bits ≡ true }
+    requires some { 1 ≤ capacity }
+    requires bytes { capacity * scan_size device.old.core.roster.shape mask.bits ≤ MAX_BYTES }
+    ensures { JoinsBy mask capacity result (view_by ⟦<Plug as Sensor>⟧.driver device.old) (view_by ⟦<Plug as Sensor>⟧.driver device.new) trigger.old trigger.new }
+{
+    let size = data_scan_size(device.shape(), mask);
+    let Ok(tail) = Kfifo::new(alloc, capacity, size) else {
+        return Err(No::Mem);
+    };
+    match device.join(mask, tail, trigger) {
+        Ok(member) => Ok(Seat {
+            number: member.number,
+            mask,
+            size,
+            capacity,
+        }),
+        Err(JoinRefused { fault: _, tail: _ }) => Err(No::Mem),
+    }
+}

@@ -1,0 +1,30 @@
+//! The core: the devices and triggers of a description, and the connections of a script.
+#![tactic(auto)]
+
+mod bench;
+mod calls;
+mod connection;
+mod connections;
+mod firing;
+mod first;
+mod iio;
+mod joining;
+mod lines;
+mod moves;
+mod quoted;
+mod seat;
+mod step;
+mod steps;
+mod system;
+
+pub use bench::Bench;
+pub use connection::Connection;
+pub use connections::MAX_NAMES;
+pub use iio_base::Mem;
+pub use quoted::Quoted;
+pub use seat::Seat;
+pub use step::Step;
+pub use system::System;
+
+#[cfg(test)]
+mod tests;

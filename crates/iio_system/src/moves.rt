@@ -1,0 +1,160 @@
+//! The steps of a script that no connection makes: what they make of a bench, and the lines that they print.
+
+ghost use Rattle.std.specs.Prelude.{◌≡◌, ◌<◌, ◌≤◌, List, OnOk, length};
+ghost use Rattle.iio_desc.specs.declared.limits.TheConstants.{MAX_DEVICES};
+ghost use Rattle.iiod_session.specs.Front.{device_name, trigger_name};
+ghost use Rattle.iio_history.specs.Transcript.{Fire, Handle, Poll, Sense, SetClock, Unplug};
+ghost use Rattle.iio_system.specs.declared.connection.Connection.{Connection};
+ghost use Rattle.iio_system.specs.declared.seat.Seat.{Seat};
+ghost use Rattle.iio_system.specs.Bench.{captures_of, front_of};
+ghost use Rattle.iio_system.specs.Moves.{CanGoOn, HandlesAll, HandlesOne};
+ghost use Rattle.iio_system.specs.Standing.{CanCapture, Makes, RiseBy};
+
+use crate::bench::Bench;
+use crate::lines::{push_clock, push_handle, push_poll, push_sense, push_unplug};
+use iio_base::Mem;
+use iio_device::Plug;
+use iio_sensor::Sensor;
+use iio_trigger::Polled;
+
+// The name of a trigger.
+fn trigger_name(bench: &Bench, trigger: u32) -> &[u8]
+    requires { trigger < length (front_of bench.now).triggers }
+    ensures { result.now ≡ trigger_name (front_of bench.now) trigger }
+{
+    bench.described[trigger as usize].name.bytes()
+}
+
+// The name of a device.
+fn device_name(bench: &Bench, dev: u32) -> &[u8]
+    requires { dev < length (front_of bench.now).devices }
+    ensures { result.now ≡ device_name (front_of bench.now) dev }
+{
+    bench.devices[dev as usize].core.name.bytes()
+}
+
+// How many devices there are.
+fn device_count(bench: &Bench) -> u32
+    ensures value { result ≡ length (front_of bench.now).devices }
+    ensures most { result ≤ MAX_DEVICES }
+{
+    bench.devices.len() as u32
+}
+
+/// `clock T`: sets the clock.
+pub(crate) fn set_clock(bench: &mut Bench, t: i64, out: &mut Vec<u8>) -> Result<(), Mem>
+    ensures front { front_of bench.new ≡ front_of bench.old }
+    ensures makes { OnOk result ((cs : List (Connection Seat)) → Makes ⟦<Plug as Sensor>⟧.driver (SetClock t) bench.old bench.new cs cs out.old.items out.new.items) }
+    ensures captures { RiseBy 32 (captures_of bench.old) (captures_of bench.new) }
+{
+    bench.set_clock(t);
+    push_clock(out, t)
+}
+
+/// `unplug DEVICE`: unplugs a device.
+pub(crate) fn unplug(bench: &mut Bench, dev: u32, out: &mut Vec<u8>) -> Result<(), Mem>
+    requires { dev < length (front_of bench.old).devices }
+    ensures front { front_of bench.new ≡ front_of bench.old }
+    ensures makes { OnOk result ((cs : List (Connection Seat)) → Makes ⟦<Plug as Sensor>⟧.driver (Unplug dev) bench.old bench.new cs cs out.old.items out.new.items) }
+    ensures captures { RiseBy 32 (captures_of bench.old) (captures_of bench.new) }
+{
+    let was_plugged = bench.unplug(dev);
+    push_unplug(out, device_name(bench, dev), was_plugged)
+}
+
+/// `sense DEVICE T`: looks at a device's thresholds.
+pub(crate) fn sense(bench: &mut Bench, dev: u32, t: i64, out: &mut Vec<u8>) -> Result<(), Mem>
+    requires { dev < length (front_of bench.old).devices }
+    ensures front { front_of bench.new ≡ front_of bench.old }
+    ensures makes { OnOk result ((cs : List (Connection Seat)) → Makes ⟦<Plug as Sensor>⟧.driver (Sense dev t) bench.old bench.new cs cs out.old.items out.new.items) }
+    ensures captures { RiseBy 32 (captures_of bench.old) (captures_of bench.new) }
+{
+    let sensed = bench.sense(dev, t);
+    push_sense(out, device_name(bench, dev), sensed)
+}
+
+/// `poll TRIGGER T`: polls a trigger.
+pub(crate) fn poll(bench: &mut Bench, trigger: u32, t: i64, out: &mut Vec<u8>) -> Result<(), Mem>
+    requires { trigger < length (front_of bench.old).triggers }
+    ensures front { front_of bench.new ≡ front_of bench.old }
+    ensures makes { OnOk result ((cs : List (Connection Seat)) → Makes ⟦<Plug as Sensor>⟧.driver (Poll trigger t) bench.old bench.new cs cs out.old.items out.new.items) }
+    ensures captures { RiseBy 32 (captures_of bench.old) (captures_of bench.new) }
+{
+    let polled = bench.poll(trigger, t);
+    push_poll(out, trigger_name(bench, trigger), polled)
+}
+
+/// `handle TRIGGER DEVICE`: handles the entry that a device has at a trigger.
+pub(crate) fn handle(
+    bench: &mut Bench,
+    trigger: u32,
+    dev: u32,
+    out: &mut Vec<u8>,
+) -> Result<(), Mem>
+    requires trigger { trigger < length (front_of bench.old).triggers }
+    requires dev { dev < length (front_of bench.old).devices }
+    requires captures { CanCapture (captures_of bench.old) }
+    ensures front { front_of bench.new ≡ front_of bench.old }
+    ensures makes { OnOk result ((cs : List (Connection Seat)) → Makes ⟦<Plug as Sensor>⟧.driver (Handle trigger dev) bench.old bench.new cs cs out.old.items out.new.items) }
+    ensures captures { RiseBy 32 (captures_of bench.old) (captures_of bench.new) }
+{
+    let handled = bench.handle(trigger, dev);
+    push_handle(
+        out,
+        trigger_name(bench, trigger),
+        device_name(bench, dev),
+        handled,
+    )
+}
+
+// Handles the entry that a device has at a trigger, where it has one.
+fn handle_one(bench: &mut Bench, trigger: u32, dev: u32, out: &mut Vec<u8>) -> Result<(), Mem>
+    requires trigger { trigger < length (front_of bench.old).triggers }
+    requires dev { dev < length (front_of bench.old).devices }
+    requires captures { CanGoOn (captures_of bench.old) }
+    ensures front { front_of bench.new ≡ front_of bench.old }
+    ensures makes { OnOk result ((cs : List (Connection Seat)) → HandlesOne ⟦<Plug as Sensor>⟧.driver trigger dev bench.old bench.new cs out.old.items out.new.items) }
+    ensures captures { RiseBy 1 (captures_of bench.old) (captures_of bench.new) }
+{
+    match bench.handle(trigger, dev) {
+        None => Ok(()),
+        Some(handled) => push_handle(
+            out,
+            trigger_name(bench, trigger),
+            device_name(bench, dev),
+            Some(handled),
+        ),
+    }
+}
+
+// Handles each entry at a trigger, in the order of devices.
+fn handle_all(bench: &mut Bench, trigger: u32, out: &mut Vec<u8>) -> Result<(), Mem>
+    requires trigger { trigger < length (front_of bench.old).triggers }
+    requires captures { CanCapture (captures_of bench.old) }
+    ensures front { front_of bench.new ≡ front_of bench.old }
+    ensures makes { OnOk result ((cs : List (Connection Seat)) → HandlesAll ⟦<Plug as Sensor>⟧.driver trigger (length (front_of bench.old).devices) bench.old bench.new cs out.old.items out.new.items) }
+    ensures captures { RiseBy 32 (captures_of bench.old) (captures_of bench.new) }
+{
+    let devices = device_count(bench);
+    for dev in 0..devices {
+        handle_one(bench, trigger, dev, out)?;
+    }
+    Ok(())
+}
+
+/// `fire TRIGGER T`: polls a trigger, and where the poll is accepted handles each entry that it made, in the order of
+/// devices.
+pub(crate) fn fire(bench: &mut Bench, trigger: u32, t: i64, out: &mut Vec<u8>) -> Result<(), Mem>
+    requires trigger { trigger < length (front_of bench.old).triggers }
+    requires captures { CanCapture (captures_of bench.old) }
+    ensures front { front_of bench.new ≡ front_of bench.old }
+    ensures makes { OnOk result ((cs : List (Connection Seat)) → Makes ⟦<Plug as Sensor>⟧.driver (Fire trigger t) bench.old bench.new cs cs out.old.items out.new.items) }
+    ensures captures { RiseBy 32 (captures_of bench.old) (captures_of bench.new) }
+{
+    let polled = bench.poll(trigger, t);
+    push_poll(out, trigger_name(bench, trigger), polled)?;
+    match polled {
+        Polled::Missed(_) => Ok(()),
+        Polled::Accepted(_) => handle_all(bench, trigger, out),
+    }
+}

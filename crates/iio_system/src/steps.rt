@@ -1,0 +1,154 @@
+//! The steps of a script at the core.
+ghost use Rattle.std.specs.Prelude.{◌≡◌, ◌+◌, ◌++◌, ◌<◌, ◌≤◌, ◌^◌, [], All, IfOk, List, OnOk, length, map};
+ghost use Rattle.iio_scan_type.specs.Format.{size_of};
+ghost use Rattle.iio_desc.specs.WellFormed.{IsWellFormed};
+ghost use Rattle.iio_device.specs.declared.plug.Plug.TheVariants.{Given};
+ghost use Rattle.iio_history.specs.Bench.{Every, HasDeviceSizes};
+ghost use Rattle.iio_history.specs.Event.{Event};
+ghost use Rattle.iio_history.specs.Registry.{Setup};
+ghost use Rattle.iio_history.specs.Script.{max_names};
+ghost use Rattle.iio_history.specs.Transcript.{lines_of_step, with_step};
+ghost use Rattle.iio_system.specs.Bench.{captures_of, front_of};
+ghost use Rattle.iio_system.specs.Feeding.{AreOwning};
+ghost use Rattle.iio_system.specs.First.{first_front};
+ghost use Rattle.iio_system.specs.Standing.{CanCapture, IsTaken, MakesStep, RiseBy, StandsFor, has_room, name_by, names_by, names_with};
+ghost use Rattle.iio_system.specs.Seat.{seen_of};
+ghost use Rattle.iio_system.specs.Step.{IsValid, cost_of, step_view};
+
+use crate::bench::Bench;
+use crate::connection::Connection;
+use crate::connections::{MAX_NAMES, drop_named, feed, place};
+use crate::moves;
+use crate::seat::Seat;
+use crate::step::Step;
+use crate::system::System;
+use iio_attr::Name;
+use iio_base::Mem;
+use iio_desc::{Desc, DeviceDesc};
+use iio_device::Plug;
+use iio_layout::Shape;
+use iio_sensor::Sensor;
+use std::alloc::Global;
+
+// Looks at each channel's size: its type says that it has a byte.
+fn look_at_channels(shape: &Shape)
+    ensures { All (λ channel. 1 ≤ size_of channel.ty) shape.now.channels }
+{
+    for c in 0..shape.inputs() {
+        shape.channel(c).ty.size();
+    }
+}
+
+// So each scan with a channel's data has one.
+fn look_at_sizes(devices: &[DeviceDesc])
+    ensures { Every HasDeviceSizes devices.now }
+{
+    for device in devices {
+        look_at_channels(&device.shape);
+    }
+}
+
+// A step and the bytes that it feeds.
+fn cost_of(step: &Step) -> u64
+    ensures { result ≡ cost_of step.now }
+{
+    match step {
+        Step::Feed(_, bytes) => 1 + bytes.bytes().len() as u64,
+        _ => 1,
+    }
+}
+
+// A step at a bench and its connections. `answers` is room for the answers to a feed.
+fn perform(
+    alloc: Global,
+    bench: &mut Bench,
+    connections: &mut Vec<Connection<Seat>>,
+    answers: &mut Vec<u8>,
+    step: &Step,
+    out: &mut Vec<u8>,
+) -> Result<(), Mem>
+    requires valid { IsValid (length (front_of bench.old).triggers) (length (front_of bench.old).devices) step.now }
+    requires taken { IsTaken (map name_by connections.old.items) step.now }
+    requires owned { AreOwning seen_of (front_of bench.old) connections.old.items }
+    requires few { length connections.old.items ≤ max_names }
+    requires captures { CanCapture (captures_of bench.old) }
+    ensures front { front_of bench.new ≡ front_of bench.old }
+    ensures owned { AreOwning seen_of (front_of bench.new) connections.new.items }
+    ensures few { length connections.new.items ≤ max_names }
+    ensures names { OnOk result (map name_by connections.new.items ≡ names_with (map name_by connections.old.items) (step_view step.now)) }
+    ensures captures { RiseBy 32 (captures_of bench.old) (captures_of bench.new) }
+    ensures makes { OnOk result (MakesStep ⟦<Plug as Sensor>⟧.driver step.now bench.old bench.new connections.old.items connections.new.items out.old.items out.new.items) }
+{
+    match step {
+        Step::Feed(name, bytes) => feed(
+            alloc,
+            bench,
+            connections,
+            name,
+            bytes.bytes(),
+            answers,
+            out,
+        ),
+        Step::Fire(trigger, t) => moves::fire(bench, *trigger, *t, out),
+        Step::Poll(trigger, t) => moves::poll(bench, *trigger, *t, out),
+        Step::Handle(trigger, dev) => moves::handle(bench, *trigger, *dev, out),
+        Step::Sense(dev, t) => moves::sense(bench, *dev, *t, out),
+        Step::Clock(t) => moves::set_clock(bench, *t, out),
+        Step::Drop(name) => drop_named(bench, connections, name, out),
+        Step::Unplug(dev) => moves::unplug(bench, *dev, out),
+    }
+}
+
+impl System {
+    /// The core before the first step: no connection was fed, and the devices are those of a new [`Bench`].
+    pub fn new(
+        alloc: Global,
+        desc: Desc,
+        drivers: Vec<Box<dyn Sensor + Send>>,
+    ) -> Result<System, Mem>
+        requires { IsWellFormed (length drivers.items) desc }
+        ensures stands { IfOk result (StandsFor ⟦<Plug as Sensor>⟧.driver (record { desc = desc; drivers = map (λ d. ⟦<Plug as Sensor>⟧.driver (Given d)) drivers.items }) []) }
+        ensures front { IfOk result (λ x. front_of x.bench ≡ first_front desc) }
+        ensures names { IfOk result (λ x. names_by x ≡ []) }
+        ensures used { IfOk result (λ x. x.used ≡ 0) }
+    {
+        look_at_sizes(&desc.devices);
+        let bench = Bench::new(alloc, desc, drivers)?;
+        Ok(System {
+            alloc,
+            bench,
+            connections: Vec::new(alloc),
+            answers: Vec::new(alloc),
+            used: 0,
+        })
+    }
+
+    /// Whether a connection of that name can be fed: it was fed before, or fewer than 64 names were.
+    pub fn takes(&self, name: &Name) -> bool
+        ensures { result ≡ has_room (names_by self.now) name.now }
+    {
+        place(&self.connections, name).is_some() || self.connections.len() < MAX_NAMES
+    }
+
+    /// Makes a step, and appends the lines that it prints. After `Mem` the system is only dropped.
+    pub fn step(&mut self, step: &Step, out: &mut Vec<u8>) -> Result<(), Mem>
+        requires valid { IsValid (length (front_of self.old.bench).triggers) (length (front_of self.old.bench).devices) step.now }
+        requires taken { IsTaken (names_by self.old) step.now }
+        requires few { self.old.used + cost_of step.now < 2 ^ 56 }
+        ensures lines { OnOk result ((s : Setup) (h : List Event) → StandsFor ⟦<Plug as Sensor>⟧.driver s h self.old
+            → (out.new.items ≡ out.old.items ++ lines_of_step s h (step_view step.now)) × StandsFor ⟦<Plug as Sensor>⟧.driver s (with_step s h (step_view step.now)) self.new) }
+        ensures front { front_of self.new.bench ≡ front_of self.old.bench }
+        ensures names { OnOk result (names_by self.new ≡ names_with (names_by self.old) (step_view step.now)) }
+        ensures used { self.new.used ≡ self.old.used + cost_of step.now }
+    {
+        self.used += cost_of(step);
+        perform(
+            self.alloc,
+            &mut self.bench,
+            &mut self.connections,
+            &mut self.answers,
+            step,
+            out,
+        )
+    }
+}

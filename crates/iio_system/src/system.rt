@@ -1,0 +1,38 @@
+//! The core: a bench, and the connections of a script.
+ghost use Rattle.std.proofs.Props.{props};
+ghost use Rattle.std.specs.Prelude.{◌*◌, ◌≤◌, All, length};
+ghost use Rattle.iio_history.specs.Script.{max_names};
+ghost use Rattle.iio_system.specs.Bench.{captures_of, front_of};
+ghost use Rattle.iio_system.specs.Feeding.{AreOwning};
+ghost use Rattle.iio_system.specs.Seat.{seen_of};
+
+use crate::bench::Bench;
+use crate::connection::Connection;
+use crate::seat::Seat;
+use std::alloc::Global;
+
+/// The devices of a description, and the connections of a script that use them, in the order of their first feeds.
+#[derive(Drop)]
+pub struct System {
+    pub(crate) alloc: Global,
+    pub(crate) bench: Bench,
+    pub(crate) connections: Vec<Connection<Seat>>,
+    // Room for the answers to a feed.
+    pub(crate) answers: Vec<u8>,
+    pub(crate) used: u64,
+    ghost owned: { AreOwning seen_of (front_of bench) connections.items } by { Prim.hlevel props },
+    // A step makes fewer captures of a device than 32.
+    ghost counted: { All (λ n. n ≤ 32 * used) (captures_of bench) } by { Prim.hlevel props },
+    ghost few: { length connections.items ≤ max_names } by { Prim.hlevel props },
+}
+
+impl System {
+    ghost use Rattle.std.specs.Prelude.{◌≡◌};
+
+    /// How many steps were made, and how many bytes were fed, in one number.
+    pub fn used(&self) -> u64
+        ensures { result ≡ self.now.used }
+    {
+        self.used
+    }
+}

@@ -1,0 +1,146 @@
+ghost use Rattle.std.specs.Prelude.{◌≡◌, ℕ, ◌+◌, ◌≤◌, ◌<◌, ◌^◌, true, IfOk, length};
+ghost use Rattle.iio_system.specs.Bench.{front_of};
+ghost use Rattle.iio_system.specs.Standing.{IsTaken, names_by};
+ghost use Rattle.iio_system.specs.Step.{IsValid, cost_of};
+
+use super::*;
+use iio_attr::Name;
+use iio_desc::read_desc;
+use std::alloc::Global;
+use std::process::Abort;
+use std::test::Fail;
+
+// Two devices on one trigger: one of 16 bits, one of 8.
+const TEXT: &[u8] =
+    b"trigger t 2\ndevice a t\nchannel voltage0 le:u16/16>>0\nrow 0 513\ndevice b t\nchannel temp le:s8/8>>0\nrow 0 -1\n";
+
+fn started(alloc: Global) -> Result<System, Fail>
+    ensures triggers { IfOk result (λ x. 1 ≤ length (front_of x.bench).triggers) }
+    ensures devices { IfOk result (λ x. 2 ≤ length (front_of x.bench).devices) }
+{
+    let desc = read_desc(alloc, TEXT, 0)?;
+    if desc.triggers.is_empty() || desc.devices.len() < 2 {
+        return Err(Fail::from("another description"));
+    }
+    Ok(System::new(alloc, desc, Vec::new(alloc))?)
+}
+
+fn feed(alloc: Global, name: &[u8], bytes: &[u8]) -> Result<Step, Fail>
+    ensures { IfOk result (λ step. (triggers devices : ℕ) → IsValid triggers devices step) }
+{
+    let name = Name::new(name).ok_or("no name")?;
+    Ok(Step::Feed(name, Quoted::new(bytes.to_vec(alloc)?)))
+}
+
+// Whether it can be made next.
+fn can_make(system: &System, step: &Step) -> bool
+    ensures taken { result ≡ true → IsTaken (names_by system.now) step.now }
+    ensures few { result ≡ true → system.now.used + cost_of step.now < 2 ^ 56 }
+{
+    system.used() < 1_000_000
+        && match step {
+            Step::Feed(name, bytes) => system.takes(name) && bytes.bytes().len() < 1_000_000,
+            _ => true,
+        }
+}
+
+// What a step prints.
+fn printed(alloc: Global, system: &mut System, step: &Step) -> Result<Vec<u8>, Fail>
+    requires { IsValid (length (front_of system.old.bench).triggers) (length (front_of system.old.bench).devices) step.now }
+    ensures { front_of system.new.bench ≡ front_of system.old.bench }
+{
+    if !can_make(system, step) {
+        return Err(Fail::from("a step too many"));
+    }
+    let mut out = Vec::new(alloc);
+    system.step(step, &mut out)?;
+    Ok(out)
+}
+
+// It prints these lines.
+fn check(
+    rt: &impl Abort,
+    alloc: Global,
+    system: &mut System,
+    step: &Step,
+    lines: &[u8],
+) -> Result<(), Fail>
+    requires { IsValid (length (front_of system.old.bench).triggers) (length (front_of system.old.bench).devices) step.now }
+    ensures { front_of system.new.bench ≡ front_of system.old.bench }
+{
+    let out = printed(alloc, system, step)?;
+    assert_eq!(rt; out.as_slice(), lines);
+    Ok(())
+}
+
+#[test]
+fn steps_print_their_lines(rt: HostRuntime) -> Result<(), Fail> {
+    let alloc = rt.alloc();
+    let mut system = started(alloc)?;
+    let open = feed(alloc, b"A", b"OPEN a 1 00000001\nOPEN b 1 00000001\n")?;
+    check(&rt, alloc, &mut system, &open, b"A \"0\\n0\\n\"\n")?;
+    check(
+        &rt,
+        alloc,
+        &mut system,
+        &Step::Fire(0, 7),
+        b"poll t accepted 2\nhandle t a captured\nhandle t b captured\n",
+    )?;
+    check(
+        &rt,
+        alloc,
+        &mut system,
+        &Step::Poll(0, 8),
+        b"poll t accepted 2\n",
+    )?;
+    check(
+        &rt,
+        alloc,
+        &mut system,
+        &Step::Poll(0, 9),
+        b"poll t missed 1\n",
+    )?;
+    check(
+        &rt,
+        alloc,
+        &mut system,
+        &Step::Handle(0, 1),
+        b"handle t b captured\n",
+    )?;
+    check(
+        &rt,
+        alloc,
+        &mut system,
+        &Step::Handle(0, 1),
+        b"handle t b none\n",
+    )?;
+    check(&rt, alloc, &mut system, &Step::Sense(0, 9), b"a sensed 0\n")?;
+    check(&rt, alloc, &mut system, &Step::Clock(-3), b"clock -3\n")?;
+    let read = feed(alloc, b"A", b"READBUF a 2\nREADBUF b 8\nEXIT\n")?;
+    check(
+        &rt,
+        alloc,
+        &mut system,
+        &read,
+        b"A \"2\\n00000001\\n\\x01\\x022\\n00000001\\n\\xff\\xff0\\n\"\nA closed\n",
+    )?;
+    let lost = Step::Drop(Name::new(b"A").ok_or("no name")?);
+    check(&rt, alloc, &mut system, &lost, b"A closed\n")?;
+    check(&rt, alloc, &mut system, &Step::Unplug(1), b"b unplugged\n")?;
+    check(&rt, alloc, &mut system, &Step::Unplug(1), b"b gone\n")
+}
+
+// 64 names are taken, and what was used is counted.
+#[test]
+fn names_are_taken(rt: HostRuntime) -> Result<(), Fail> {
+    let alloc = rt.alloc();
+    let mut system = started(alloc)?;
+    for n in 0..64u8 {
+        let step = feed(alloc, &[b'n', b'0' + n / 8, b'0' + n % 8], b"x")?;
+        assert!(rt; !printed(alloc, &mut system, &step)?.is_empty());
+    }
+    assert_eq!(rt; system.used(), 128);
+    assert!(rt; system.takes(&Name::new(b"n77").ok_or("no name")?));
+    assert!(rt; !system.takes(&Name::new(b"m").ok_or("no name")?));
+    Ok(())
+}
