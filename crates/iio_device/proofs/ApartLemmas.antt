@@ -1,6 +1,7 @@
 -- Lists no two of whose elements have one key: groups by their masks, members by their numbers.
-use Rattle.std.proofs.Common.{◌≡◌, ◌==◌, ◌||◌, ℕ, zero, suc, ◌+◌, ◌<◌, Bool, true, false, not, List, [], ◌∷◌, ◌++◌, length, take, drop, get_or, map, filter, if◌then◌else◌, subst, refl, sym, ap, ◌∙◌, arith}
+use Rattle.std.proofs.Common.{◌≡◌, ◌==◌, ◌||◌, ◌&&◌, ℕ, zero, suc, ◌+◌, ◌<◌, Bool, true, false, not, List, [], ◌∷◌, ◌++◌, length, find, Some, take, drop, get_or, map, filter, if◌then◌else◌, subst, refl, sym, ap, ◌∙◌, arith}
 use Rattle.std.specs.Bool.{⊤}
+use Rattle.std.proofs.lemmas.Bool.{false≢true}
 use Rattle.std.specs.List.{AllByRecursion, IsDistinct, list_any}
 use Rattle.std.proofs.lemmas.List.Folds.{list_any-append}
 
@@ -23,6 +24,14 @@ or_left false b none = refl
 or_right : (a b : Bool) → (a || b) ≡ false → b ≡ false
 or_right true b none = absurd (cc)
 or_right false b none = none
+
+or_true : (b : Bool) → (b || true) ≡ true
+or_true true = refl
+or_true false = refl
+
+or_false : (b : Bool) → (b || false) ≡ b
+or_false true = refl
+or_false false = refl
 
 module _ {A : Type 0} (key : A → ℕ) where
   abbrev pub has_key : List A → ℕ → Bool
@@ -146,3 +155,57 @@ module _ {A : Type 0} (key : A → ℕ) where
   -- what stays are those of other keys
   pub removed_is : (xs : List A) (k : ℕ) (x : A) → AreDistinct xs → k < length xs → x ≡ get_or xs k x → take k xs ++ drop (k + 1) xs ≡ filter (λ y. not (key y == key x)) xs
   removed_is xs k x distinct within at = removed_apart xs k x (to_apart xs distinct) within at
+
+  -- ---- what stands at a place
+
+  there_at : (xs : List A) (k : ℕ) (d : A) → k < length xs → has_key xs (key (get_or xs k d)) ≡ true
+  there_at [] k d within = absurd (omega arith)
+  there_at (x ∷ xs) zero d within = let same = eq_same (key x) (key x) refl in rw same refl
+  there_at (x ∷ xs) (suc k) d within = let later = there_at xs k d (omega arith) in rw later (or_true (key x == key (get_or xs k d)))
+
+  pub has_at : (xs : List A) (k n : ℕ) → k < length xs → ((d : A) → key (get_or xs k d) ≡ n) → has_key xs n ≡ true
+  has_at [] k n within at = absurd (omega arith)
+  has_at (x ∷ xs) k n within at = subst (λ q. has_key (x ∷ xs) q ≡ true) (at x) (there_at (x ∷ xs) k x within)
+
+  other_key : (x : A) (xs : List A) (k : ℕ) (d : A) → has_key xs (key x) ≡ false → k < length xs → (key x == key (get_or xs k d)) ≡ false
+  other_key x xs k d none within = by (key x == key (get_or xs k d)) refl
+    where
+      by : (b : Bool) → (key x == key (get_or xs k d)) ≡ b → b ≡ false
+      by true e =
+          let same : key x ≡ key (get_or xs k d) = grind (arith, e) in
+          absurd (false≢true (sym none ∙ ap (has_key xs) same ∙ there_at xs k d within))
+      by false e = refl
+
+  found_apart : (xs : List A) (k : ℕ) (d : A) → AreApart xs → k < length xs → find (λ x. key x == key (get_or xs k d)) xs ≡ Some (get_or xs k d)
+  found_apart [] k d apart within = absurd (omega arith)
+  found_apart (x ∷ xs) zero d apart within = let same = eq_same (key x) (key x) refl in rw same refl
+  found_apart (x ∷ xs) (suc k) d apart within =
+      let other = other_key x xs k d apart.0 (omega arith) in
+      rw other (found_apart xs k d apart.1 (omega arith))
+
+  -- it is what is found by its key
+  pub found_at : (xs : List A) (k : ℕ) (d : A) → AreDistinct xs → k < length xs → find (λ x. key x == key (get_or xs k d)) xs ≡ Some (get_or xs k d)
+  found_at xs k d distinct within = found_apart xs k d (to_apart xs distinct) within
+
+  -- ---- a further test of the element of a key
+
+  pub none_passes : (test : A → Bool) (xs : List A) (k : ℕ) → has_key xs k ≡ false → list_any (λ x. key x == k && test x) xs ≡ false
+  none_passes test [] k none = refl
+  none_passes test (x ∷ xs) k none =
+      let first = or_left (key x == k) (has_key xs k) none in
+      let rest = none_passes test xs k (or_right (key x == k) (has_key xs k) none) in
+      rw (first, rest) refl
+
+  passes_apart : (test : A → Bool) (xs : List A) (k : ℕ) (d : A) → AreApart xs → k < length xs → list_any (λ x. key x == key (get_or xs k d) && test x) xs ≡ test (get_or xs k d)
+  passes_apart test [] k d apart within = absurd (omega arith)
+  passes_apart test (x ∷ xs) zero d apart within =
+      let same = eq_same (key x) (key x) refl in
+      let rest = none_passes test xs (key x) apart.0 in
+      rw (same, rest) (or_false (test x))
+  passes_apart test (x ∷ xs) (suc k) d apart within =
+      let other = other_key x xs k d apart.0 (omega arith) in
+      rw other (passes_apart test xs k d apart.1 (omega arith))
+
+  -- it alone is asked
+  pub passes_at : (test : A → Bool) (xs : List A) (k : ℕ) (d : A) → AreDistinct xs → k < length xs → list_any (λ x. key x == key (get_or xs k d) && test x) xs ≡ test (get_or xs k d)
+  passes_at test xs k d distinct within = passes_apart test xs k d (to_apart xs distinct) within

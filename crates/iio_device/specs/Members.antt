@@ -1,5 +1,5 @@
 -- The members of a device, in the order of their joining.
-use Rattle.std.specs.Prelude.{◌≡◌, ℕ, ◌+◌, ◌==◌, Bool, not, List, [], ◌∷◌, map, filter, find, Option, None, Some, MatchBool}
+use Rattle.std.specs.Prelude.{◌≡◌, ℕ, ◌+◌, ◌==◌, ◌&&◌, Bool, not, List, [], ◌∷◌, map, filter, find, Option, None, Some, MatchBool}
 use Rattle.std.specs.List.{list_any}
 use Rattle.std.specs.Set.{distinct_count}
 use Rattle.iio_kfifo.specs.declared.tail.Offered.{Offered}
@@ -20,6 +20,10 @@ module _ {Q : Type 0} where
   -- whether a member has that number
   abbrev pub is_live : ℕ → List (Membership Q) → Bool
   is_live number members = list_any (λ (m : Membership Q). m.number == number) members
+
+  -- whether a member has that number, and that mask
+  abbrev pub is_live_under : ℕ → ℕ → List (Membership Q) → Bool
+  is_live_under number mask members = list_any (λ (m : Membership Q). m.number == number && m.mask.bits == mask) members
 
   -- the member of that number
   abbrev pub member_of : ℕ → List (Membership Q) → Option (Membership Q)

@@ -17,6 +17,11 @@ is_nil (x ∷ xs) = false
 abbrev pub bits_of : Option Mask → Option ℕ
 bits_of mask = option_map (λ m. m.bits) mask
 
+-- the bytes of a scan under the mask that the sensor is asked under; of the empty one without a member
+pub record IsSize (shape : ShapeRecord) (active : Option Mask) (size : ℕ) : Type 0 where
+  pub is : size ≡ scan_size shape (unwrap_or (bits_of active) 0)
+  pub few : size ≤ MAX_CHANNEL_SIZE * count_of shape
+
 -- room for the scan under any mask of the shape
 abbrev pub HasRoom : ShapeRecord → List ℕ → Type 0
 HasRoom shape room = MAX_CHANNEL_SIZE * count_of shape ≤ length room

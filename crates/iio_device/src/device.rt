@@ -5,7 +5,7 @@ ghost use Rattle.iio_desc.specs.WellFormed.{IsWrite};
 ghost use Rattle.iio_kfifo.specs.Queue.{Queue};
 ghost use Rattle.iio_device.specs.declared.membership.Member.{Member};
 ghost use Rattle.iio_device.specs.declared.membership.Membership.{Membership};
-ghost use Rattle.iio_device.specs.Members.{first_number, mask_count, member_of};
+ghost use Rattle.iio_device.specs.Members.{first_number, is_live_under, mask_count, member_of};
 ghost use Rattle.iio_device.specs.Roster.{Takes};
 ghost use Rattle.iio_device.specs.Device.{new_view, view_of};
 
@@ -119,6 +119,13 @@ impl<Q: Tail> Fitted<IioDev<Q>> {
     {
         let number = self.core.roster.first_member()?;
         Some(Member { number })
+    }
+
+    /// Whether the member is live, and joined with that mask.
+    pub fn is_live_under(&self, member: &Member, mask: Mask) -> bool
+        ensures { result ≡ is_live_under member.now.number mask.bits self.now.core.roster.members.items }
+    {
+        self.core.roster.is_live_under(member.number, mask)
     }
 
     /// How many scans the member has lost since its joining. None exactly where it isn't live.

@@ -1,7 +1,7 @@
 //! What is made of all members, one after another.
 
-ghost use Rattle.std.specs.Prelude.{◌≡◌, ◌==◌, ℕ, ◌+◌, ◌-◌, ◌^◌, ◌<◌, true, All, IfNone, IfSome, None, Some, is_some, length, slice_index_or, slice_set};
-ghost use Rattle.std.specs.List.{AllZip};
+ghost use Rattle.std.specs.Prelude.{◌≡◌, ◌==◌, ℕ, ◌+◌, ◌-◌, ◌^◌, ◌<◌, true, All, IfNone, IfSome, None, Some, is_some, length, map, slice_index_or, slice_set};
+ghost use Rattle.std.specs.List.{AllZip, IsDistinct};
 ghost use Rattle.iio_mask.specs.Mask.{union_of_all};
 ghost use Rattle.iio_kfifo.specs.Queue.{Queue};
 ghost use Rattle.iio_device.specs.declared.membership.Membership.{Membership};
@@ -31,8 +31,8 @@ pub(crate) fn is_wanted<Q>(members: &[Membership<Q>], mask: Mask) -> bool
     members.iter().any(|member| member.mask.bits == mask.bits)
 }
 
-/// Where the member of that number stands.
-pub(crate) fn position_of<Q>(members: &[Membership<Q>], number: u64) -> Option<usize>
+// Where the member of that number stands, by a walk over all members.
+fn walk_to<Q>(members: &[Membership<Q>], number: u64) -> Option<usize>
     ensures live { is_some result ≡ is_live number members.now }
     ensures none { IfNone result (member_of number members.now ≡ None) }
     ensures within { IfSome result (λ at. at < length members.now) }
@@ -45,6 +45,39 @@ pub(crate) fn position_of<Q>(members: &[Membership<Q>], number: u64) -> Option<u
         }
     }
     None
+}
+
+// Whether the member of that number stands there.
+fn stands_at<Q>(members: &[Membership<Q>], at: usize, number: u64) -> bool
+    ensures within { result ≡ true → at < length members.now }
+    ensures number { result ≡ true → (d : Membership Q) → (slice_index_or members.now at d).number ≡ number }
+{
+    at < members.len() && members[at].number == number
+}
+
+// Where a member of that number stands if none left between the first member's joining and its own. Members stand in the
+// order of their joining, which their numbers count.
+fn likely_place<Q>(members: &[Membership<Q>], number: u64) -> usize {
+    if members.is_empty() {
+        return 0;
+    }
+    number.wrapping_sub(members[0].number) as usize
+}
+
+/// Where the member of that number stands.
+pub(crate) fn position_of<Q>(members: &[Membership<Q>], number: u64) -> Option<usize>
+    requires apart { IsDistinct (λ a b. a == b) (map (λ (m : Membership Q). m.number) members.now) }
+    ensures live { is_some result ≡ is_live number members.now }
+    ensures none { IfNone result (member_of number members.now ≡ None) }
+    ensures within { IfSome result (λ at. at < length members.now) }
+    ensures at { IfSome result (λ at. (d : Membership Q) → (slice_index_or members.now at d).number ≡ number) }
+    ensures member { IfSome result (λ at. (d : Membership Q) → member_of number members.now ≡ Some (slice_index_or members.now at d)) }
+{
+    let at = likely_place(members, number);
+    if stands_at(members, at, number) {
+        return Some(at);
+    }
+    walk_to(members, number)
 }
 
 // Offers a member the scan of its group.

@@ -1,6 +1,6 @@
 //! A device's members, with their groups and the active mask.
 
-ghost use Rattle.std.specs.Prelude.{◌≡◌, ◌==◌, ◌&&◌, ℕ, ℤ, ◌+◌, ◌-◌, ◌*◌, ◌^◌, ◌<◌, ◌≤◌, true, false, All, IfOk, IfErr, IfSome, IfNone, filter, is_err, is_none, length, take, List, unwrap_or, vec_len, vec_capacity, option_map, Some, None};
+ghost use Rattle.std.specs.Prelude.{◌≡◌, ◌==◌, ◌&&◌, ℕ, ℤ, ◌+◌, ◌-◌, ◌*◌, ◌^◌, ◌<◌, ◌≤◌, true, false, All, IfOk, IfErr, OnOk, IfSome, IfNone, filter, is_err, is_none, length, take, List, unwrap_or, vec_len, vec_capacity, option_map, Some, None};
 ghost use Rattle.std.specs.List.{AllZip};
 ghost use Rattle.std.proofs.Props.{props};
 ghost use Rattle.iio_mask.specs.Mask.{is_within, union_of, union_of_all};
@@ -13,9 +13,9 @@ ghost use Rattle.iio_sensor.specs.Driver.{after_capture, ask_fails, values_of};
 ghost use Rattle.iio_device.specs.declared.membership.Membership.{Membership};
 ghost use Rattle.iio_device.specs.Groups.{GroupRecord, IsGroup, has_group};
 ghost use Rattle.iio_device.specs.Active.{active_for};
-ghost use Rattle.iio_device.specs.Members.{WasOffered, first_number, is_wanted, mask_count, masks_of, member_of};
+ghost use Rattle.iio_device.specs.Members.{WasOffered, first_number, is_live_under, is_wanted, mask_count, masks_of, member_of};
 ghost use Rattle.iio_device.specs.Roster.{Captures, IsRefusal, Joins, Leaves, Takes, active_with, join_fault, nobody, remade_for, with_capture, with_group};
-ghost use Rattle.iio_device.specs.Sound.{HasRoom, IsSound, bits_of};
+ghost use Rattle.iio_device.specs.Sound.{HasRoom, IsSize, IsSound, bits_of};
 
 use crate::group::{Group, has_group, lay_out_all, remake_all};
 use crate::members::{is_wanted, offer_all, position_of, take_at, union_mask};
@@ -40,9 +40,11 @@ pub struct Roster<Q: Tail> {
     pub next: u64,
     pub members: Vec<Membership<Q>>,
     groups: Vec<Group>,
-    // Room for the scan under the active mask.
+    // The bytes of a scan under the active mask, and room for it.
+    size: u32,
     room: Vec<u8>,
     ghost sound: { IsSound Q.taken Q.lost Q.size shape active captures next members.items groups.items } by { Prim.hlevel props },
+    ghost sized: { IsSize shape active size } by { Prim.hlevel props },
     ghost roomy: { HasRoom shape room.items },
 }
 
@@ -110,24 +112,32 @@ fn remake_for(groups: &mut Vec<Group>, shape: &Shape, active: Option<Mask>)
     }
 }
 
-// Asks a driver for a capture's scan, into the first bytes of the room, and answers how many.
+// The bytes of a scan under the mask that the sensor is asked under; of the empty one without a member.
+fn asked_size(shape: &Shape, active: Option<Mask>) -> u32
+    requires { IfSome active (λ m. m.bits < 2 ^ count_of shape.now) }
+    ensures { IsSize shape.now active result }
+{
+    scan_size(shape, active.unwrap_or(Mask { bits: 0 }))
+}
+
+// Asks a driver for a capture's scan of `size` bytes, into the first bytes of the room.
 fn ask<P: Sensor>(
     plug: &mut P,
     shape: &Shape,
     t: i64,
     active: Mask,
+    size: usize,
     room: &mut [u8],
-) -> Result<usize, Fault>
+) -> Result<(), Fault>
     requires below { active.bits < 2 ^ count_of shape.now }
+    requires size { IsSize shape.now (Some active) size }
     requires room { HasRoom shape.now room.old }
     ensures asked { P.driver plug.new ≡ after_capture (P.driver plug.old) t active.bits }
     ensures fault { is_err result ≡ ask_fails (P.driver plug.old) }
-    ensures size { IfOk result (λ size. (size ≡ scan_size shape.now active.bits) × (size ≤ length room.new)) }
-    ensures scan { IfOk result (λ size. take size room.new ≡ scan_of shape.now active.bits (values_of (P.driver plug.old) shape.now t) t) }
+    ensures within { size ≤ length room.new }
+    ensures scan { OnOk result (take size room.new ≡ scan_of shape.now active.bits (values_of (P.driver plug.old) shape.now t) t) }
 {
-    let size = scan_size(shape, active) as usize;
-    plug.capture(shape, t, active, &mut room[..size])?;
-    Ok(size)
+    plug.capture(shape, t, active, &mut room[..size])
 }
 
 impl<Q: Tail> Roster<Q> {
@@ -138,6 +148,7 @@ impl<Q: Tail> Roster<Q> {
         ensures { IfOk result (λ r. standing_of r ≡ nobody shape) }
     {
         let room = vec![in alloc; 0u8; (MAX_CHANNEL_SIZE * shape.count()) as usize]?;
+        let size = asked_size(&shape, None);
         Ok(Roster {
             alloc,
             shape,
@@ -146,6 +157,7 @@ impl<Q: Tail> Roster<Q> {
             next: 0,
             members: Vec::new(alloc),
             groups: Vec::new(alloc),
+            size,
             room,
         })
     }
@@ -228,6 +240,7 @@ impl<Q: Tail> Roster<Q> {
             tail,
         });
         self.next += 1;
+        self.size = asked_size(&self.shape, Some(active));
         self.active = Some(active);
         Ok(number)
     }
@@ -247,6 +260,7 @@ impl<Q: Tail> Roster<Q> {
         let active = active_for(&self.shape, &self.members);
         keep_wanted(&mut self.groups, &self.members);
         remake_for(&mut self.groups, &self.shape, active);
+        self.size = asked_size(&self.shape, active);
         self.active = active;
         Some(tail)
     }
@@ -283,7 +297,8 @@ impl<Q: Tail> Roster<Q> {
         ensures captures { Captures Q.taken Q.lost Q.size Q.capacity Q.offer_gives (values_of (P.driver plug.old) self.old.shape t) t result (standing_of self.old) (standing_of self.new) }
     {
         let active = self.asked();
-        let size = ask(plug, &self.shape, t, active, &mut self.room)?;
+        let size = self.size as usize;
+        ask(plug, &self.shape, t, active, size, &mut self.room)?;
         self.capture(size);
         Ok(self.len() as usize)
     }
@@ -310,6 +325,16 @@ impl<Q: Tail> Roster<Q> {
         ensures { result ≡ mask_count self.now.members.items }
     {
         self.groups.len() as u32
+    }
+
+    /// Whether the member of that number is there, and of that mask.
+    pub(crate) fn is_live_under(&self, number: u64, mask: Mask) -> bool
+        ensures { result ≡ is_live_under number mask.bits self.now.members.items }
+    {
+        match position_of(&self.members, number) {
+            None => false,
+            Some(at) => self.members[at].mask.bits == mask.bits,
+        }
     }
 
     /// How many scans the member of that number has lost. `None` comes exactly where no member has it.

@@ -1,16 +1,15 @@
 //! Devices whose members have queues in memory. Expected values by hand.
 
 mod bench;
+mod steps;
 
 use self::bench::{ADC, Asked, Bench, DETACHED, FIVE, LISTED, Telling};
+use self::steps::Step;
 use super::*;
 use iio_attr::{Attr, Fixed, Form, Name, Value};
-use iio_event::{EventData, Held, NotHolder};
-use iio_mask::Mask;
-use iio_sensor::Failing;
+use iio_event::{Held, NotHolder};
 use iio_text::Errno;
-use iio_trigger::{Polled, Trigger};
-use std::mem;
+use iio_trigger::Trigger;
 use std::process::Abort;
 use std::sync::Arc;
 use std::test::Fail;
@@ -22,41 +21,57 @@ const SECOND_AND_FOURTH: &[u8] = b"\x02\0\x04\0";
 
 const ALL_FIVE: &[u8] = b"\x01\0\x02\0\x03\0\x04\0\x05\0\0\0\0\0\0\0\x02\x01\0\0\0\0\0\0";
 
-fn some_mask(bits: u64) -> Option<Mask> {
-    Some(Mask { bits })
-}
+/// After the leaving the device is asked for less, and who stays is given the same from other places.
+const LEAVE_NARROWS_UNION: &[Step] = &[
+    Step::Join("00000005", Ok(0)),
+    Step::Join("00000003", Ok(1)),
+    Step::Join("00000004", Ok(2)),
+    Step::Under(Some(7), 3),
+    Step::Fire(1000, Handled::Captured(3)),
+    Step::Leave(1, true),
+    Step::Leave(1, false),
+    Step::Live(1, 3, false),
+    Step::Live(2, 4, true),
+    Step::Live(2, 5, false),
+    Step::Under(Some(5), 2),
+    Step::Fire(2000, Handled::Captured(2)),
+    Step::Scans(0, &[b"\x10\0\xff\xfd", b"\x10\0\xff\xfd"]),
+    Step::Scans(2, &[b"\xff\xfd", b"\xff\xfd"]),
+];
 
-// After the leaving the device is asked for less, and who stays is given the same from other places.
 #[test]
 fn leave_narrows_union(rt: HostRuntime) -> Result<(), Fail> {
-    let mut bench = Bench::new(rt.alloc(), ADC)?;
-    let a = bench.join(&rt, "00000005")?;
-    let b = bench.join(&rt, "00000003")?;
-    let c = bench.join(&rt, "00000004")?;
-    assert_eq!(rt; bench.device.active(), some_mask(7));
-    assert_eq!(rt; bench.fire(&rt, 1000), Some(Handled::Captured(3)));
-    assert!(rt; bench.leave(&rt, b));
-    assert!(rt; !bench.leave(&rt, b));
-    assert_eq!(rt; bench.device.active(), some_mask(5));
-    assert_eq!(rt; bench.fire(&rt, 2000), Some(Handled::Captured(2)));
-    bench.drain(&rt, a, &[b"\x10\0\xff\xfd", b"\x10\0\xff\xfd"])?;
-    bench.drain(&rt, c, &[b"\xff\xfd", b"\xff\xfd"])
+    Bench::new(rt.alloc(), ADC)?.play(&rt, LEAVE_NARROWS_UNION)
 }
 
+/// Members of the same mask share a table until the last of them leaves. The timestamp moves with the mask.
+const MERGED_TABLES: &[Step] = &[
+    Step::Under(None, 0),
+    Step::Join("00000021", Ok(0)),
+    Step::Join("00000021", Ok(1)),
+    Step::Join("0000003f", Ok(2)),
+    Step::Under(Some(0x3f), 2),
+    Step::Fire(258, Handled::Captured(3)),
+    Step::Scans(0, &[FIRST_AND_STAMP]),
+    Step::Scans(1, &[FIRST_AND_STAMP]),
+    Step::Scans(2, &[ALL_FIVE]),
+    Step::Leave(0, true),
+    Step::Under(Some(0x3f), 2),
+    Step::Fire(258, Handled::Captured(2)),
+    Step::Leave(2, true),
+    Step::Under(Some(0x21), 1),
+    Step::Fire(258, Handled::Captured(1)),
+    Step::Scans(1, &[FIRST_AND_STAMP, FIRST_AND_STAMP]),
+    Step::Leave(1, true),
+    Step::Under(None, 0),
+];
+
 #[test]
-fn timestamp_moves_with_mask(rt: HostRuntime) -> Result<(), Fail> {
-    let mut bench = Bench::new(rt.alloc(), FIVE)?;
-    let a = bench.join(&rt, "00000021")?;
-    let b = bench.join(&rt, "0000003f")?;
-    assert_eq!(rt; bench.fire(&rt, 258), Some(Handled::Captured(2)));
-    bench.drain(&rt, a, &[FIRST_AND_STAMP])?;
-    bench.drain(&rt, b, &[ALL_FIVE])
+fn merged_tables(rt: HostRuntime) -> Result<(), Fail> {
+    Bench::new(rt.alloc(), FIVE)?.play(&rt, MERGED_TABLES)
 }
 
-// The sensor is asked under a listed mask, or the member is refused and nothing changes for the one that is there.
-#[test]
-fn listed_masks(rt: HostRuntime) -> Result<(), Fail> {
-    let text = "trigger t0 2
+const TWO_MASKS: &str = "trigger t0 2
 device adc0 t0
 channel voltage0 le:u12/16>>4
 channel voltage1 le:u12/16>>4
@@ -65,168 +80,139 @@ timestamp
 masks 00000003 00000007
 row 0 1 2 -3
 ";
-    let mut bench = Bench::new(rt.alloc(), text)?;
-    let a = bench.join(&rt, "00000004")?;
-    assert_eq!(rt; bench.device.active(), some_mask(7));
-    assert_eq!(rt; bench.fire(&rt, 1000), Some(Handled::Captured(1)));
-    bench.drain(&rt, a, &[b"\xff\xfd"])?;
-    let mut bench = Bench::new(rt.alloc(), LISTED)?;
-    let b = bench.join(&rt, "00000001")?;
-    assert_eq!(rt; bench.device.active(), some_mask(3));
-    assert_eq!(rt; bench.may_join(4), Err(JoinFault::NoUnion));
-    assert_eq!(rt; bench.try_join(&rt, "00000004")?, Err(JoinFault::NoUnion));
-    assert_eq!(rt;
-        (bench.device.active(), bench.device.groups()),
-        (some_mask(3), 1)
-    );
-    assert_eq!(rt; bench.fire(&rt, 1000), Some(Handled::Captured(1)));
-    bench.drain(&rt, b, &[b"\x10\0"])
-}
+
+/// The sensor is asked under a listed mask.
+const LISTED_MASKS: &[Step] = &[
+    Step::Join("00000004", Ok(0)),
+    Step::Under(Some(7), 1),
+    Step::Fire(1000, Handled::Captured(1)),
+    Step::Scans(0, &[b"\xff\xfd"]),
+];
+
+/// Or the member is refused, and nothing changes for the one that is there.
+const UNLISTED_MASKS: &[Step] = &[
+    Step::Join("00000001", Ok(0)),
+    Step::Under(Some(3), 1),
+    Step::Join("00000004", Err(JoinFault::NoUnion)),
+    Step::Under(Some(3), 1),
+    Step::Fire(1000, Handled::Captured(1)),
+    Step::Scans(0, &[b"\x10\0"]),
+];
 
 #[test]
-fn sixteen_byte_channel(rt: HostRuntime) -> Result<(), Fail> {
-    let text = "trigger t0 2
+fn listed_masks(rt: HostRuntime) -> Result<(), Fail> {
+    Bench::new(rt.alloc(), TWO_MASKS)?.play(&rt, LISTED_MASKS)?;
+    Bench::new(rt.alloc(), LISTED)?.play(&rt, UNLISTED_MASKS)
+}
+
+const QUATERNION: &str = "trigger t0 2
 device q t0
 channel accel_x le:s32/32X4>>0
 timestamp
 row 0 1 2 3 -1
 ";
-    let mut bench = Bench::new(rt.alloc(), text)?;
-    let a = bench.join(&rt, "00000003")?;
-    let b = bench.join(&rt, "00000001")?;
-    assert_eq!(rt; bench.fire(&rt, 258), Some(Handled::Captured(2)));
-    let scan =
-        b"\x01\0\0\0\x02\0\0\0\x03\0\0\0\xff\xff\xff\xff\x02\x01\0\0\0\0\0\0\0\0\0\0\0\0\0\0";
-    bench.drain(&rt, a, &[scan])?;
-    bench.drain(&rt, b, &[b"\x01\0\0\0\x02\0\0\0\x03\0\0\0\xff\xff\xff\xff"])
-}
 
-// Members of the same mask share a table until the last of them leaves.
+const SIXTEEN_BYTE_CHANNEL: &[Step] = &[
+    Step::Join("00000003", Ok(0)),
+    Step::Join("00000001", Ok(1)),
+    Step::Fire(258, Handled::Captured(2)),
+    Step::Scans(
+        0,
+        &[b"\x01\0\0\0\x02\0\0\0\x03\0\0\0\xff\xff\xff\xff\x02\x01\0\0\0\0\0\0\0\0\0\0\0\0\0\0"],
+    ),
+    Step::Scans(1, &[b"\x01\0\0\0\x02\0\0\0\x03\0\0\0\xff\xff\xff\xff"]),
+];
+
 #[test]
-fn merged_tables(rt: HostRuntime) -> Result<(), Fail> {
-    let mut bench = Bench::new(rt.alloc(), FIVE)?;
-    assert_eq!(rt; bench.device.groups(), 0);
-    let a = bench.join(&rt, "00000021")?;
-    let b = bench.join(&rt, "00000021")?;
-    let c = bench.join(&rt, "0000003f")?;
-    assert_eq!(rt; bench.device.groups(), 2);
-    assert_eq!(rt; bench.fire(&rt, 258), Some(Handled::Captured(3)));
-    for member in [a, b] {
-        bench.drain(&rt, member, &[FIRST_AND_STAMP])?;
-    }
-    bench.drain(&rt, c, &[ALL_FIVE])?;
-    for (member, members, groups) in [(a, 3, 2), (c, 2, 1), (b, 1, 0)] {
-        assert_eq!(rt; bench.fire(&rt, 258), Some(Handled::Captured(members)));
-        assert!(rt; bench.leave(&rt, member));
-        assert_eq!(rt; bench.device.groups(), groups, "{member:?}");
-    }
-    Ok(())
+fn sixteen_byte_channel(rt: HostRuntime) -> Result<(), Fail> {
+    Bench::new(rt.alloc(), QUATERNION)?.play(&rt, SIXTEEN_BYTE_CHANNEL)
 }
 
-// A failing ask offers nothing, isn't a capture, and the next one works.
+/// A failing ask offers nothing, isn't a capture, and the next one works. Both members are served by one ask.
+/// accel_x has 2001 and 2003, voltage1 1001 and 1003.
+const FAILING_DRIVER: &[Step] = &[
+    Step::Join("00000005", Ok(0)),
+    Step::Join("00000003", Ok(1)),
+    Step::Fire(1, Handled::Captured(2)),
+    Step::Asked(1, 1, 7),
+    Step::Fire(2, Handled::Fault),
+    Step::Asked(2, 2, 7),
+    Step::Queue(0, Some(1), Some(0)),
+    Step::Queue(1, Some(1), Some(0)),
+    Step::Fire(3, Handled::Captured(2)),
+    Step::Asked(3, 3, 7),
+    Step::Captures(2),
+    Step::Scans(0, &[b"\x10\0\x07\xd1", b"\x30\0\x07\xd3"]),
+    Step::Scans(1, &[b"\x10\0\x90\x3e", b"\x30\0\xb0\x3e"]),
+];
+
 #[test]
 fn failing_driver(rt: HostRuntime) -> Result<(), Fail> {
-    let text = "trigger t0 2
-device w t0
-channel voltage0 le:u16/16>>0
-driver 0
-";
-    let failing = Failing::new(Vec::from_slice(rt.alloc(), &[2])?);
-    let plug = Plug::Given(Box::new(rt.alloc(), failing)?);
-    let mut bench = Bench::with(rt.alloc(), text, plug)?;
-    let a = bench.join(&rt, "00000001")?;
-    assert_eq!(rt; bench.fire(&rt, 1), Some(Handled::Captured(1)));
-    assert_eq!(rt; bench.fire(&rt, 2), Some(Handled::Fault));
-    assert_eq!(rt; bench.fire(&rt, 3), Some(Handled::Captured(1)));
-    assert_eq!(rt; bench.device.captures(), 2);
-    assert_eq!(rt; bench.device.lost(&a), Some(0));
-    bench.drain(&rt, a, &[b"\x01\0", b"\x03\0"])
-}
-
-// The same for two members, whose device asks once for both.
-#[test]
-fn shared_failing_driver(rt: HostRuntime) -> Result<(), Fail> {
     let asked = Arc::new(rt.alloc(), Asked::new())?;
     let telling = Telling::new(rt.alloc(), &[2], &asked)?;
     let plug = Plug::Given(Box::new(rt.alloc(), telling)?);
-    let mut bench = Bench::with(rt.alloc(), ADC, plug)?;
-    let a = bench.join(&rt, "00000005")?;
-    let b = bench.join(&rt, "00000003")?;
-    for (t, handled, asks, waiting) in [
-        (1, Handled::Captured(2), 1, 1),
-        (2, Handled::Fault, 2, 1),
-        (3, Handled::Captured(2), 3, 2),
-    ] {
-        assert_eq!(rt; bench.fire(&rt, t), Some(handled), "at {t}");
-        assert_eq!(rt; asked.now(), (asks, (t.unsigned_abs(), 7)));
-        assert_eq!(rt; bench.device.waiting(&a), Some(waiting), "at {t}");
-        assert_eq!(rt; bench.device.waiting(&b), Some(waiting), "at {t}");
-    }
-    assert_eq!(rt; bench.device.captures(), 2);
-    // accel_x has 2001 and 2003, voltage1 1001 and 1003.
-    bench.drain(&rt, a, &[b"\x10\0\x07\xd1", b"\x30\0\x07\xd3"])?;
-    bench.drain(&rt, b, &[b"\x10\0\x90\x3e", b"\x30\0\xb0\x3e"])
+    Bench::with(rt.alloc(), ADC, plug, asked)?.play(&rt, FAILING_DRIVER)
 }
 
-// Each capture is one ask, under the active mask; what isn't due asks nothing.
+/// Each capture is one ask, under the active mask. An entry of a device without a member asks nothing, nor does one of an
+/// earlier attachment.
+const ONE_ASK_A_CAPTURE: &[Step] = &[
+    Step::Join("00000005", Ok(0)),
+    Step::Fire(1000, Handled::Captured(1)),
+    Step::Asked(1, 1000, 5),
+    Step::Join("00000002", Ok(1)),
+    Step::Fire(2000, Handled::Captured(2)),
+    Step::Asked(2, 2000, 7),
+    Step::Leave(0, true),
+    Step::Fire(3000, Handled::Captured(1)),
+    Step::Asked(3, 3000, 2),
+    Step::Poll(4000),
+    Step::Leave(1, true),
+    Step::Handle(Handled::Idle),
+    Step::Join("00000001", Ok(2)),
+    Step::Poll(5000),
+    Step::Leave(2, true),
+    Step::Join("00000001", Ok(3)),
+    Step::Handle(Handled::Idle),
+    Step::Asked(3, 3000, 2),
+    Step::Captures(3),
+];
+
 #[test]
 fn one_ask_a_capture(rt: HostRuntime) -> Result<(), Fail> {
     let asked = Arc::new(rt.alloc(), Asked::new())?;
     let telling = Telling::new(rt.alloc(), &[], &asked)?;
     let plug = Plug::Given(Box::new(rt.alloc(), telling)?);
-    let mut bench = Bench::with(rt.alloc(), ADC, plug)?;
-    let a = bench.join(&rt, "00000005")?;
-    assert_eq!(rt; bench.fire(&rt, 1000), Some(Handled::Captured(1)));
-    assert_eq!(rt; asked.now(), (1, (1000, 5)));
-    let b = bench.join(&rt, "00000002")?;
-    assert_eq!(rt; bench.fire(&rt, 2000), Some(Handled::Captured(2)));
-    assert_eq!(rt; asked.now(), (2, (2000, 7)));
-    assert!(rt; bench.leave(&rt, a));
-    assert_eq!(rt; bench.fire(&rt, 3000), Some(Handled::Captured(1)));
-    assert_eq!(rt; asked.now(), (3, (3000, 2)));
-    // An entry of a device without a member, and one of an earlier attachment.
-    assert_eq!(rt; bench.trigger.poll(4000), Polled::Accepted(1));
-    assert!(rt; bench.leave(&rt, b));
-    assert_eq!(rt; bench.handle(&rt), Some(Handled::Idle));
-    let c = bench.join(&rt, "00000001")?;
-    assert_eq!(rt; bench.trigger.poll(5000), Polled::Accepted(1));
-    assert!(rt; bench.leave(&rt, c));
-    bench.join(&rt, "00000001")?;
-    assert_eq!(rt; bench.handle(&rt), Some(Handled::Idle));
-    assert_eq!(rt; (asked.now(), bench.device.captures()), ((3, (3000, 2)), 3));
-    Ok(())
+    Bench::with(rt.alloc(), ADC, plug, asked)?.play(&rt, ONE_ASK_A_CAPTURE)
 }
 
-// An entry of another device isn't handled, and asks nothing; samples and looks at the thresholds ask once a channel.
+/// Samples and looks at the thresholds ask once a channel. An entry of another device asks nothing.
+const OTHER_ASKS: &[Step] = &[
+    Step::Raw(1, 7, Ok(1007)),
+    Step::Sense(8, Sensed::Fired(0)),
+    Step::Asked(1, 0, 0),
+    Step::Write(0, Attr::ThreshRisingEn, "1", Ok(())),
+    Step::Write(2, Attr::ThreshRisingEn, "1", Ok(())),
+    Step::Sense(9, Sensed::Fired(2)),
+    Step::Asked(3, 0, 0),
+    Step::Join("00000001", Ok(0)),
+    Step::Raw(1, 11, Err(RawFault::Busy)),
+    Step::Swap,
+    Step::Other(1),
+    Step::Poll(10),
+    Step::HandleOther(1, Handled::Idle),
+    Step::Swap,
+    Step::Unplug(true),
+    Step::Fire(12, Handled::Idle),
+    Step::Asked(3, 0, 0),
+];
+
 #[test]
 fn other_asks(rt: HostRuntime) -> Result<(), Fail> {
     let asked = Arc::new(rt.alloc(), Asked::new())?;
     let telling = Telling::new(rt.alloc(), &[], &asked)?;
     let plug = Plug::Given(Box::new(rt.alloc(), telling)?);
-    let mut bench = Bench::with(rt.alloc(), ADC, plug)?;
-    assert_eq!(rt; bench.raw(&rt, 1, 7), Ok(1007));
-    assert_eq!(rt; bench.device.sense(8), Sensed::Fired(0));
-    assert_eq!(rt; asked.now(), (1, (0, 0)));
-    for c in [0, 2] {
-        assert_eq!(rt;
-            bench.write(&rt, Some(c), Attr::ThreshRisingEn, "1"),
-            Ok(())
-        );
-    }
-    assert_eq!(rt; bench.device.sense(9), Sensed::Fired(2));
-    assert_eq!(rt; asked.now(), (3, (0, 0)));
-    bench.join(&rt, "00000001")?;
-    let mut others = Trigger::new(1);
-    assert_eq!(rt; others.attach(1, 1), Ok(()));
-    assert_eq!(rt; others.poll(10), Polled::Accepted(1));
-    let due = others.due(1).ok_or("no entry")?;
-    assert_eq!(rt; bench.device.handle(&due), Handled::Idle);
-    assert!(rt; others.done(due));
-    assert_eq!(rt; bench.raw(&rt, 1, 11), Err(RawFault::Busy));
-    assert!(rt; bench.device.unplug());
-    assert_eq!(rt; bench.fire(&rt, 12), Some(Handled::Idle));
-    assert_eq!(rt; asked.now(), (3, (0, 0)));
-    Ok(())
+    Bench::with(rt.alloc(), ADC, plug, asked)?.play(&rt, OTHER_ASKS)
 }
 
 /// One channel of one byte, which is another letter at each moment.
@@ -241,43 +227,36 @@ row 5 69
 row 6 70
 ";
 
-// Each queue fills on its own: who joins later has what came later, and what finds no room is counted.
+/// Each queue fills on its own: who joins later has what came later, and what finds no room is counted.
+const QUEUES: &[Step] = &[
+    Step::First(None),
+    Step::Join("00000001", Ok(0)),
+    Step::Fire(1, Handled::Captured(1)),
+    Step::Fire(2, Handled::Captured(1)),
+    Step::Fire(3, Handled::Captured(1)),
+    Step::Fire(4, Handled::Captured(1)),
+    Step::Join("00000001", Ok(1)),
+    Step::Fire(5, Handled::Captured(2)),
+    Step::Fire(6, Handled::Captured(2)),
+    Step::Queue(0, Some(4), Some(2)),
+    Step::Queue(1, Some(2), Some(0)),
+    Step::Captures(6),
+    Step::Take(1, 2, None),
+    Step::Take(1, 0, None),
+    Step::Queue(1, Some(2), Some(0)),
+    Step::Scans(0, &[b"A", b"B", b"C", b"D"]),
+    Step::Take(0, 1, Some(false)),
+    Step::First(Some(0)),
+    Step::Leave(0, true),
+    Step::First(Some(1)),
+    Step::Scans(1, &[b"E", b"F"]),
+    Step::Queue(0, None, None),
+    Step::Take(0, 1, None),
+];
+
 #[test]
 fn members_have_queues_of_their_own(rt: HostRuntime) -> Result<(), Fail> {
-    let mut bench = Bench::new(rt.alloc(), LETTERS)?;
-    assert_eq!(rt; bench.device.first_member(), None);
-    let a = bench.join(&rt, "00000001")?;
-    for t in 1..5i64 {
-        assert_eq!(rt; bench.fire(&rt, t), Some(Handled::Captured(1)));
-    }
-    let b = bench.join(&rt, "00000001")?;
-    for t in 5..7i64 {
-        assert_eq!(rt; bench.fire(&rt, t), Some(Handled::Captured(2)));
-    }
-    assert_eq!(rt;
-        (bench.device.waiting(&a), bench.device.lost(&a)),
-        (Some(4), Some(2))
-    );
-    assert_eq!(rt;
-        (bench.device.waiting(&b), bench.device.lost(&b)),
-        (Some(2), Some(0))
-    );
-    assert_eq!(rt; bench.device.captures(), 6);
-    let mut long = [7u8; 2];
-    assert_eq!(rt; bench.device.take(&b, &mut long), None);
-    assert_eq!(rt; (long, bench.device.waiting(&b)), ([7, 7], Some(2)));
-    bench.drain(&rt, a, &[b"A", b"B", b"C", b"D"])?;
-    assert_eq!(rt; bench.device.take(&a, &mut [7u8]), Some(false));
-    assert_eq!(rt; bench.device.first_member(), Some(a));
-    assert!(rt; bench.leave(&rt, a));
-    assert_eq!(rt; bench.device.first_member(), Some(b));
-    bench.drain(&rt, b, &[b"E", b"F"])?;
-    assert_eq!(rt;
-        (bench.device.waiting(&a), bench.device.lost(&a)),
-        (None, None)
-    );
-    assert_eq!(rt; bench.device.take(&a, &mut [7u8]), None);
-    Ok(())
+    Bench::new(rt.alloc(), LETTERS)?.play(&rt, QUEUES)
 }
 
 /// Masks of `FIVE`, and their scans at the moment 258.
@@ -287,77 +266,84 @@ const SHARED: [(&str, &[u8]); 3] = [
     ("0000003f", ALL_FIVE),
 ];
 
+/// What 64 members of these masks have in common.
+const SHARED_CAPTURES: &[Step] = &[
+    Step::Under(Some(0x3f), 3),
+    Step::Fire(258, Handled::Captured(64)),
+    Step::Fire(258, Handled::Captured(64)),
+    Step::Fire(258, Handled::Captured(64)),
+];
+
 #[test]
 fn sixty_four_members(rt: HostRuntime) -> Result<(), Fail> {
     let mut bench = Bench::new(rt.alloc(), FIVE)?;
-    let mut members = Vec::new(rt.alloc());
-    for i in 0..64usize {
-        let (text, scan) = SHARED[i % 3];
-        members.push((bench.join(&rt, text)?, scan))?;
+    for number in 0..64usize {
+        bench.try_join(&rt, SHARED[number % 3].0)??;
     }
-    assert_eq!(rt;
-        (bench.device.active(), bench.device.groups()),
-        (some_mask(0x3f), 3)
-    );
-    for _ in 0..3u32 {
-        assert_eq!(rt; bench.fire(&rt, 258), Some(Handled::Captured(64)));
+    bench.play(&rt, SHARED_CAPTURES)?;
+    for number in 0..64usize {
+        let scan = SHARED[number % 3].1;
+        assert!(rt;
+            bench.drain(number as u64, &[scan, scan, scan])?,
+            "of {number}"
+        );
     }
-    for (member, scan) in members.iter() {
-        bench.drain(&rt, *member, &[scan, scan, scan])?;
+    for number in 0..64u64 {
+        assert!(rt; bench.leave(&rt, number), "{number}");
     }
-    for (member, _) in members.iter() {
-        assert!(rt; bench.leave(&rt, *member), "{member:?}");
-    }
-    assert_eq!(rt; (bench.device.active(), bench.device.groups()), (None, 0));
-    assert!(rt; bench.device.members() == 0 && !bench.trigger.holds(0));
-    Ok(())
+    bench.play(&rt, &[Step::Under(None, 0), Step::Place(false)])
 }
 
-// A poll's entry stays good while members come and go, as long as one is there. The place is freed with the last.
+/// A poll's entry stays good while members come and go, as long as one is there. The place is freed with the last.
+const ATTACHMENTS: &[Step] = &[
+    Step::Place(false),
+    Step::Join("00000005", Ok(0)),
+    Step::Poll(1),
+    Step::Join("00000003", Ok(1)),
+    Step::Handle(Handled::Captured(2)),
+    Step::Poll(2),
+    Step::Leave(0, true),
+    Step::Place(true),
+    Step::Handle(Handled::Captured(1)),
+    Step::Poll(3),
+    Step::Leave(1, true),
+    Step::Place(false),
+    Step::Join("00000001", Ok(2)),
+    Step::Place(true),
+    Step::Handle(Handled::Idle),
+    Step::Queue(2, Some(0), Some(0)),
+    Step::Fire(4, Handled::Captured(1)),
+    Step::Scans(2, &[b"\x10\0"]),
+];
+
 #[test]
 fn attachments(rt: HostRuntime) -> Result<(), Fail> {
-    let mut bench = Bench::new(rt.alloc(), ADC)?;
-    assert!(rt; !bench.trigger.holds(0));
-    let a = bench.join(&rt, "00000005")?;
-    assert_eq!(rt; bench.trigger.poll(1), Polled::Accepted(1));
-    let b = bench.join(&rt, "00000003")?;
-    assert_eq!(rt; bench.handle(&rt), Some(Handled::Captured(2)));
-    assert_eq!(rt; bench.trigger.poll(2), Polled::Accepted(1));
-    assert!(rt; bench.leave(&rt, a) && bench.trigger.holds(0));
-    assert_eq!(rt; bench.handle(&rt), Some(Handled::Captured(1)));
-    assert_eq!(rt; bench.trigger.poll(3), Polled::Accepted(1));
-    assert!(rt; bench.leave(&rt, b) && !bench.trigger.holds(0));
-    let c = bench.join(&rt, "00000001")?;
-    assert!(rt; bench.trigger.holds(0));
-    assert_eq!(rt; bench.handle(&rt), Some(Handled::Idle));
-    assert_eq!(rt; bench.device.waiting(&c), Some(0));
-    assert_eq!(rt; bench.fire(&rt, 4), Some(Handled::Captured(1)));
-    bench.drain(&rt, c, &[b"\x10\0"])
+    Bench::new(rt.alloc(), ADC)?.play(&rt, ATTACHMENTS)
 }
 
-// A device that moves to another trigger: the entry of the first is idle, that of the second is captured.
+/// A device that moves to another trigger: the entry of the first is idle, that of the second is captured.
+const MOVES: &[Step] = &[
+    Step::Join("00000009", Ok(0)),
+    Step::Poll(1000),
+    Step::Move(Some(1), Err(Errno::EBUSY)),
+    Step::Attached(Some(0)),
+    Step::Leave(0, true),
+    Step::Move(None, Ok(())),
+    Step::Attached(None),
+    Step::Move(Some(1), Ok(())),
+    Step::Attached(Some(1)),
+    Step::Swap,
+    Step::Join("00000009", Ok(1)),
+    Step::Swap,
+    Step::Handle(Handled::Idle),
+    Step::Swap,
+    Step::Fire(2500, Handled::Captured(1)),
+    Step::Scans(1, &[b"\x10\0\0\0\0\0\0\0\xc4\x09\0\0\0\0\0\0"]),
+];
+
 #[test]
 fn reopened_on_another_trigger(rt: HostRuntime) -> Result<(), Fail> {
-    let mut bench = Bench::new(rt.alloc(), ADC)?;
-    let a = bench.join(&rt, "00000009")?;
-    assert_eq!(rt; bench.trigger.poll(1000), Polled::Accepted(1));
-    assert_eq!(rt; bench.device.set_trigger(Some(1)), Err(Errno::EBUSY));
-    assert_eq!(rt; bench.device.trigger(), Some(0));
-    assert!(rt; bench.leave(&rt, a));
-    assert_eq!(rt; bench.device.set_trigger(None), Ok(()));
-    assert_eq!(rt; bench.device.trigger(), None);
-    assert_eq!(rt; bench.may_join(9), Err(JoinFault::NoTrigger));
-    assert_eq!(rt; bench.device.set_trigger(Some(1)), Ok(()));
-    assert_eq!(rt; bench.device.trigger(), Some(1));
-    let mut first = mem::replace(&mut bench.trigger, Trigger::new(2));
-    let b = bench.join(&rt, "00000009")?;
-    assert_eq!(rt; first.poll(1500), Polled::Missed(1));
-    let due = first.due(0).ok_or("no entry")?;
-    assert_eq!(rt; bench.device.handle(&due), Handled::Idle);
-    assert!(rt; first.done(due));
-    assert_eq!(rt; first.poll(2000), Polled::Accepted(0));
-    assert_eq!(rt; bench.fire(&rt, 2500), Some(Handled::Captured(1)));
-    bench.drain(&rt, b, &[b"\x10\0\0\0\0\0\0\0\xc4\x09\0\0\0\0\0\0"])
+    Bench::new(rt.alloc(), ADC)?.play(&rt, MOVES)
 }
 
 /// A device, whether it is unplugged, whether its trigger is taken by another, the mask that is asked for, and the
@@ -402,65 +388,68 @@ fn refusals_in_their_order(rt: HostRuntime) -> Result<(), Fail> {
     Ok(())
 }
 
-// What is refused changes nothing, and the next one is taken where it may join.
+/// A device, whether it is unplugged, whether its trigger is taken by another, the mask that is refused, and why.
+const REFUSED: &[(&str, bool, bool, &str, JoinFault)] = &[
+    (ADC, true, true, "00000001", JoinFault::Gone),
+    (ADC, false, true, "00000008", JoinFault::BadMask),
+    (LISTED, false, true, "00000004", JoinFault::NoUnion),
+    (ADC, false, true, "00000001", JoinFault::NoPlace),
+];
+
+/// What is refused changes nothing.
+const NOTHING_JOINED: &[Step] = &[Step::First(None), Step::Under(None, 0), Step::Place(false)];
+
+/// The next one is taken where it may join.
+const NEXT_JOINS: &[Step] = &[Step::Join("00000001", Ok(0)), Step::Place(true)];
+
 #[test]
 fn refused_joins(rt: HostRuntime) -> Result<(), Fail> {
-    for (text, gone, taken, asked, want) in [
-        (ADC, true, true, "00000001", JoinFault::Gone),
-        (ADC, false, true, "00000008", JoinFault::BadMask),
-        (LISTED, false, true, "00000004", JoinFault::NoUnion),
-        (ADC, false, true, "00000001", JoinFault::NoPlace),
-    ] {
+    for (text, gone, taken, asked, want) in REFUSED.iter() {
         let mut bench = Bench::new(rt.alloc(), text)?;
-        bench.trigger = one_place(&rt, taken);
-        if gone {
-            assert!(rt; bench.device.unplug());
+        bench.trigger = one_place(&rt, *taken);
+        assert!(rt; !*gone || bench.device.unplug());
+        assert_eq!(rt; bench.try_join(&rt, asked)?, Err(*want), "at {text}");
+        bench.play(&rt, NOTHING_JOINED)?;
+        bench.trigger = one_place(&rt, false);
+        if !*gone {
+            bench.play(&rt, NEXT_JOINS)?;
         }
-        assert_eq!(rt; bench.try_join(&rt, asked)?, Err(want), "at {text}");
-        assert!(rt; bench.device.members() == 0 && !bench.trigger.holds(0));
-        assert_eq!(rt; (bench.device.active(), bench.device.groups()), (None, 0));
-        assert_eq!(rt; bench.trigger.detach(9), taken);
-        assert_eq!(rt;
-            bench.try_join(&rt, "00000001")?.is_ok(),
-            !gone,
-            "at {text}"
-        );
-        assert_eq!(rt; bench.trigger.holds(0), !gone);
         // The place that the device has serves its next member.
-        assert_eq!(rt; bench.may_join(1).is_ok(), !gone, "at {text}");
+        assert_eq!(rt; bench.may_join(1).is_ok(), !*gone, "at {text}");
     }
     Ok(())
 }
 
-// A device that goes away has nothing more to tell but what waits.
+/// A device that goes away has nothing more to tell but what waits.
+const UNPLUGGED: &[Step] = &[
+    Step::Open(7, Ok(())),
+    Step::Join("00000005", Ok(0)),
+    Step::Fire(1000, Handled::Captured(1)),
+    Step::Poll(2000),
+    Step::Unplug(true),
+    Step::Unplug(false),
+    Step::Handle(Handled::Idle),
+    Step::Raw(0, 2000, Err(RawFault::Gone)),
+    Step::Sense(2000, Sensed::Gone),
+    Step::Move(None, Err(Errno::ENODEV)),
+    Step::Write(0, Attr::Offset, "1", Err(Errno::ENODEV)),
+    Step::Join("00000005", Err(JoinFault::Gone)),
+    Step::Captures(1),
+    Step::Under(Some(5), 1),
+    Step::Scans(0, &[b"\x10\0\xff\xfd"]),
+    Step::Event(7, Ok(None)),
+    Step::Close(7, Ok(())),
+    Step::Leave(0, true),
+    Step::Place(false),
+    Step::Unplug(false),
+];
+
 #[test]
 fn unplugged_device(rt: HostRuntime) -> Result<(), Fail> {
     let mut bench = Bench::new(rt.alloc(), ADC)?;
-    assert_eq!(rt; bench.device.ev_open(7), Ok(()));
-    let a = bench.join(&rt, "00000005")?;
-    assert_eq!(rt; bench.fire(&rt, 1000), Some(Handled::Captured(1)));
-    assert_eq!(rt; bench.trigger.poll(2000), Polled::Accepted(1));
     assert!(rt; bench.device.plugged());
-    assert!(rt; bench.device.unplug());
-    assert!(rt; !bench.device.plugged() && !bench.device.unplug());
-    assert_eq!(rt; bench.handle(&rt), Some(Handled::Idle));
-    assert_eq!(rt; bench.raw(&rt, 0, 2000), Err(RawFault::Gone));
-    assert_eq!(rt; bench.device.sense(2000), Sensed::Gone);
-    assert_eq!(rt; bench.device.set_trigger(None), Err(Errno::ENODEV));
-    assert_eq!(rt;
-        bench.write(&rt, Some(0), Attr::Offset, "1"),
-        Err(Errno::ENODEV)
-    );
-    assert_eq!(rt; bench.try_join(&rt, "00000005")?, Err(JoinFault::Gone));
-    assert_eq!(rt;
-        (bench.device.captures(), bench.device.active()),
-        (1, some_mask(5))
-    );
-    bench.drain(&rt, a, &[b"\x10\0\xff\xfd"])?;
-    assert_eq!(rt; bench.device.ev_read(7), Ok(None));
-    assert_eq!(rt; bench.device.ev_close(7), Ok(()));
-    assert!(rt; bench.leave(&rt, a) && !bench.trigger.holds(0));
-    assert!(rt; !bench.device.unplug());
+    bench.play(&rt, UNPLUGGED)?;
+    assert!(rt; !bench.device.plugged());
     Ok(())
 }
 
@@ -553,41 +542,43 @@ fn values_are_read_back(rt: HostRuntime) -> Result<(), Fail> {
     Ok(())
 }
 
-// A sample with its bias stays within its type. With a member there is none.
+/// A sample with its bias stays within its type. With a member there is none.
+const SAMPLES: &[Step] = &[
+    Step::Raw(2, 1, Ok(-3)),
+    Step::Raw(2, -1, Ok(0)),
+    Step::Write(2, Attr::Calibbias, "-32768", Ok(())),
+    Step::Raw(2, 1, Ok(-32768)),
+    Step::Write(2, Attr::Calibbias, "-32764", Ok(())),
+    Step::Raw(2, 1, Ok(-32767)),
+    Step::Write(2, Attr::Calibbias, "5", Ok(())),
+    Step::Raw(2, 1, Ok(2)),
+    Step::Write(2, Attr::Calibbias, "2147483647", Ok(())),
+    Step::Raw(2, 1, Ok(32767)),
+    Step::Join("00000006", Ok(0)),
+    Step::Raw(2, 1, Err(RawFault::Busy)),
+    Step::Write(2, Attr::Calibbias, "1", Ok(())),
+    Step::Fire(1, Handled::Captured(1)),
+    Step::Scans(0, &[b"\x20\0\xff\xfe"]),
+    Step::Leave(0, true),
+    Step::Raw(1, 1, Ok(2)),
+];
+
+const FAILING_SAMPLE: &[Step] = &[
+    Step::Raw(1, 5, Err(RawFault::Fault)),
+    Step::Raw(1, 5, Ok(1005)),
+];
+
 #[test]
 fn samples(rt: HostRuntime) -> Result<(), Fail> {
-    let mut bench = Bench::new(rt.alloc(), ADC)?;
-    assert_eq!(rt; bench.raw(&rt, 2, 1), Ok(-3));
-    assert_eq!(rt; bench.raw(&rt, 2, -1), Ok(0));
-    for (text, want) in [
-        ("-32768", -32768),
-        ("-32765", -32768),
-        ("-32764", -32767),
-        ("5", 2),
-        ("2147483647", 32767),
-    ] {
-        assert_eq!(rt; bench.write(&rt, Some(2), Attr::Calibbias, text), Ok(()));
-        assert_eq!(rt; bench.raw(&rt, 2, 1), Ok(want), "with {text}");
-    }
-    let a = bench.join(&rt, "00000006")?;
-    assert_eq!(rt; bench.raw(&rt, 2, 1), Err(RawFault::Busy));
-    assert_eq!(rt; bench.write(&rt, Some(2), Attr::Calibbias, "1"), Ok(()));
-    assert_eq!(rt; bench.fire(&rt, 1), Some(Handled::Captured(1)));
-    bench.drain(&rt, a, &[b"\x20\0\xff\xfe"])?;
-    assert!(rt; bench.leave(&rt, a));
-    assert_eq!(rt; bench.raw(&rt, 1, 1), Ok(2));
-    let failing = Failing::new(Vec::from_slice(rt.alloc(), &[1])?);
-    let plug = Plug::Given(Box::new(rt.alloc(), failing)?);
-    let mut bench = Bench::with(rt.alloc(), ADC, plug)?;
-    assert_eq!(rt; bench.raw(&rt, 1, 5), Err(RawFault::Fault));
-    assert_eq!(rt; bench.raw(&rt, 1, 5), Ok(1005));
-    Ok(())
+    Bench::new(rt.alloc(), ADC)?.play(&rt, SAMPLES)?;
+    let asked = Arc::new(rt.alloc(), Asked::new())?;
+    let telling = Telling::new(rt.alloc(), &[1], &asked)?;
+    let plug = Plug::Given(Box::new(rt.alloc(), telling)?);
+    Bench::with(rt.alloc(), ADC, plug, asked)?.play(&rt, FAILING_SAMPLE)
 }
 
-// A description's writes come in their order, so the last of several for one attribute stands.
-#[test]
-fn described_values(rt: HostRuntime) -> Result<(), Fail> {
-    let text = "device adc0 -
+/// A device on no trigger, with writes of its attributes.
+const DESCRIBED: &str = "device adc0 -
 channel voltage0 le:u12/16>>4
 channel accel_x be:s16/16>>0
 row 0 1 -3
@@ -598,41 +589,46 @@ attr accel_x thresh_falling_value 1
 attr accel_x thresh_falling_en 1
 attr voltage0 scale 0.25
 ";
-    let mut bench = Bench::new(rt.alloc(), text)?;
-    for (channel, attr, want) in [
-        (
-            None,
-            Attr::SamplingFrequency,
-            number(false, 9, 0, Form::Int),
-        ),
-        (Some(0), Attr::Scale, number(false, 0, 250_000, Form::Micro)),
-        (Some(1), Attr::Scale, number(false, 1, 0, Form::Micro)),
-        (Some(1), Attr::Calibbias, Value::Int(3)),
-        (Some(1), Attr::ThreshFallingValue, Value::Int(1)),
-        (Some(1), Attr::ThreshFallingEn, Value::Int(1)),
-        (Some(0), Attr::ThreshFallingEn, Value::Int(0)),
-    ] {
-        check_value(&rt, &bench, channel, attr, &want);
+
+/// An attribute, and its integer.
+const DESCRIBED_INTEGERS: &[(u32, Attr, i64)] = &[
+    (1, Attr::Calibbias, 3),
+    (1, Attr::ThreshFallingValue, 1),
+    (1, Attr::ThreshFallingEn, 1),
+    (0, Attr::ThreshFallingEn, 0),
+];
+
+/// An attribute, and its number.
+const DESCRIBED_NUMBERS: &[(Option<u32>, Attr, Form, u32, u32)] = &[
+    (None, Attr::SamplingFrequency, Form::Int, 9, 0),
+    (Some(0), Attr::Scale, Form::Micro, 0, 250_000),
+    (Some(1), Attr::Scale, Form::Micro, 1, 0),
+];
+
+const DESCRIBED_STEPS: &[Step] = &[
+    Step::Captures(0),
+    Step::Under(None, 0),
+    Step::Raw(1, 0, Ok(0)),
+    Step::Sense(0, Sensed::Fired(1)),
+];
+
+// A description's writes come in their order, so the last of several for one attribute stands.
+#[test]
+fn described_values(rt: HostRuntime) -> Result<(), Fail> {
+    let mut bench = Bench::new(rt.alloc(), DESCRIBED)?;
+    for (channel, attr, want) in DESCRIBED_INTEGERS.iter() {
+        check_value(&rt, &bench, Some(*channel), *attr, &Value::Int(*want));
+    }
+    for (channel, attr, form, whole, part) in DESCRIBED_NUMBERS.iter() {
+        let want = number(false, *whole, *part, *form);
+        check_value(&rt, &bench, *channel, *attr, &want);
     }
     assert_eq!(rt; (bench.device.number(), bench.device.trigger()), (0, None));
-    assert_eq!(rt; (bench.device.captures(), bench.device.active()), (0, None));
-    assert_eq!(rt; bench.raw(&rt, 1, 0), Ok(0));
-    assert_eq!(rt; bench.device.sense(0), Sensed::Fired(1));
-    Ok(())
+    bench.play(&rt, DESCRIBED_STEPS)
 }
 
-// An event of voltage1 that rises.
-fn risen(t: i64) -> EventData {
-    EventData {
-        code: 0x0001_0000_0000_0001,
-        t,
-    }
-}
-
-// A threshold fires once at each crossing, with or without a member, and its holder reads the events.
-#[test]
-fn threshold_events(rt: HostRuntime) -> Result<(), Fail> {
-    let text = "trigger t0 2
+/// Two channels, of which the second one rises twice.
+const RISING: &str = "trigger t0 2
 device e t0
 channel voltage0 le:u8/8>>0
 channel voltage1 le:u8/8>>0
@@ -640,57 +636,64 @@ row 1 0 100
 row 3 0 0
 row 4 0 100
 ";
-    let mut bench = Bench::new(rt.alloc(), text)?;
-    assert_eq!(rt; bench.device.ev_read(7), Err(NotHolder));
-    assert_eq!(rt; bench.device.ev_open(7), Ok(()));
-    assert_eq!(rt; bench.device.ev_open(8), Err(Held));
-    assert_eq!(rt;
-        bench.write(&rt, Some(1), Attr::ThreshRisingValue, "50"),
-        Ok(())
-    );
-    assert_eq!(rt; bench.device.sense(0), Sensed::Fired(0));
-    assert_eq!(rt;
-        bench.write(&rt, Some(1), Attr::ThreshRisingEn, "1"),
-        Ok(())
-    );
-    bench.join(&rt, "00000001")?;
-    for (t, fired) in [(1, 1), (2, 0), (3, 0), (4, 1), (5, 0)] {
-        assert_eq!(rt; bench.device.sense(t), Sensed::Fired(fired), "at {t}");
-    }
-    assert_eq!(rt; bench.device.ev_read(8), Err(NotHolder));
-    assert_eq!(rt; bench.device.ev_read(7), Ok(Some(risen(1))));
-    assert_eq!(rt; bench.device.ev_read(7), Ok(Some(risen(4))));
-    assert_eq!(rt; bench.device.ev_read(7), Ok(None));
-    assert_eq!(rt; bench.device.ev_close(8), Err(NotHolder));
-    assert_eq!(rt; bench.device.ev_close(7), Ok(()));
-    assert_eq!(rt; bench.device.ev_close(7), Err(NotHolder));
-    assert_eq!(rt; bench.device.ev_open(8), Ok(()));
-    Ok(())
+
+/// Events of channels that rise.
+const FIRST_RISES: u64 = 0x0001_0000_0000_0001;
+
+const SECOND_RISES: u64 = 0x0001_0000_0000_0002;
+
+const FOURTH_RISES: u64 = 0x0001_0000_0000_0004;
+
+/// A threshold fires once at each crossing, with or without a member, and its holder reads the events.
+const EVENTS: &[Step] = &[
+    Step::Event(7, Err(NotHolder)),
+    Step::Open(7, Ok(())),
+    Step::Open(8, Err(Held)),
+    Step::Write(1, Attr::ThreshRisingValue, "50", Ok(())),
+    Step::Sense(0, Sensed::Fired(0)),
+    Step::Write(1, Attr::ThreshRisingEn, "1", Ok(())),
+    Step::Join("00000001", Ok(0)),
+    Step::Sense(1, Sensed::Fired(1)),
+    Step::Sense(2, Sensed::Fired(0)),
+    Step::Sense(3, Sensed::Fired(0)),
+    Step::Sense(4, Sensed::Fired(1)),
+    Step::Sense(5, Sensed::Fired(0)),
+    Step::Event(8, Err(NotHolder)),
+    Step::Event(7, Ok(Some((FIRST_RISES, 1)))),
+    Step::Event(7, Ok(Some((FIRST_RISES, 4)))),
+    Step::Event(7, Ok(None)),
+    Step::Close(8, Err(NotHolder)),
+    Step::Close(7, Ok(())),
+    Step::Close(7, Err(NotHolder)),
+    Step::Open(8, Ok(())),
+];
+
+#[test]
+fn threshold_events(rt: HostRuntime) -> Result<(), Fail> {
+    Bench::new(rt.alloc(), RISING)?.play(&rt, EVENTS)
 }
 
-// A look ends at the first ask that fails: channels after it aren't asked, and what fired before stays.
+/// A look ends at the first ask that fails: channels after it aren't asked, and what fired before stays. So they have no
+/// value before yet at the next look.
+const FAULT_AMONG_LOOKS: &[Step] = &[
+    Step::Open(7, Ok(())),
+    Step::Write(1, Attr::ThreshRisingEn, "1", Ok(())),
+    Step::Write(2, Attr::ThreshRisingEn, "1", Ok(())),
+    Step::Write(4, Attr::ThreshRisingEn, "1", Ok(())),
+    Step::Sense(5, Sensed::Fault),
+    Step::Asked(2, 0, 0),
+    Step::Sense(6, Sensed::Fired(2)),
+    Step::Asked(5, 0, 0),
+    Step::Event(7, Ok(Some((FIRST_RISES, 5)))),
+    Step::Event(7, Ok(Some((SECOND_RISES, 6)))),
+    Step::Event(7, Ok(Some((FOURTH_RISES, 6)))),
+    Step::Event(7, Ok(None)),
+];
+
 #[test]
 fn sense_ends_at_a_fault(rt: HostRuntime) -> Result<(), Fail> {
     let asked = Arc::new(rt.alloc(), Asked::new())?;
     let telling = Telling::new(rt.alloc(), &[2], &asked)?;
     let plug = Plug::Given(Box::new(rt.alloc(), telling)?);
-    let mut bench = Bench::with(rt.alloc(), FIVE, plug)?;
-    assert_eq!(rt; bench.device.ev_open(7), Ok(()));
-    for c in [1, 2, 4] {
-        assert_eq!(rt;
-            bench.write(&rt, Some(c), Attr::ThreshRisingEn, "1"),
-            Ok(())
-        );
-    }
-    assert_eq!(rt; bench.device.sense(5), Sensed::Fault);
-    assert_eq!(rt; asked.now(), (2, (0, 0)));
-    // The channels after the first have no value before yet.
-    assert_eq!(rt; bench.device.sense(6), Sensed::Fired(2));
-    assert_eq!(rt; asked.now(), (5, (0, 0)));
-    assert_eq!(rt; bench.device.ev_read(7), Ok(Some(risen(5))));
-    for code in [0x0001_0000_0000_0002, 0x0001_0000_0000_0004] {
-        assert_eq!(rt; bench.device.ev_read(7), Ok(Some(EventData { code, t: 6 })));
-    }
-    assert_eq!(rt; bench.device.ev_read(7), Ok(None));
-    Ok(())
+    Bench::with(rt.alloc(), FIVE, plug, asked)?.play(&rt, FAULT_AMONG_LOOKS)
 }

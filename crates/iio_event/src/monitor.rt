@@ -1,13 +1,14 @@
 //! The monitor of a device.
 
-ghost use Rattle.std.specs.Prelude.{◌≡◌, ◌<◌, nat_eq, length, fold, map, is_some, IfOk};
-ghost use Rattle.iio_event.specs.Monitor.{new_monitor, idle_channel, channel_at, with_channel, watch_at, set_threshold, switch_edge, fired_at, fired_events, queue_after, after_value, open_answer, after_open, is_holder, read_answer, after_read, close_answer, after_close};
+ghost use Rattle.std.specs.Prelude.{◌≡◌, ◌<◌, nat_eq, length, map, is_some, IfOk};
+ghost use Rattle.iio_event.specs.Code.{code_of};
+ghost use Rattle.iio_event.specs.Monitor.{new_monitor, idle_channel, channel_at, with_channel, watch_at, set_threshold, switch_edge, fired_events, queue_after, after_value, open_answer, after_open, is_holder, read_answer, after_read, close_answer, after_close};
 
 use crate::event::{Edge, EventData, code};
 use crate::watch::{Watch, Watched};
 use circular_buffer::HeapCircularBuffer;
 use iio_base::Mem;
-use iio_layout::Shape;
+use iio_layout::{Kind, Shape, Suffix};
 use std::alloc::Global;
 use std::marker::Model;
 
@@ -103,11 +104,20 @@ impl Monitor {
         ensures count { result ≡ length (fired_events value t (channel_at c self.old)) }
         ensures state { self.new ≡ after_value c value t self.old }
     {
-        let channel = self.channel(c);
-        self.put(c, channel.sensed(value));
-        let rising = self.fire(Edge::Rising, &channel, value, t);
-        let falling = self.fire(Edge::Falling, &channel, value, t);
-        rising + falling
+        let channel = &mut self.channels[c as usize];
+        let rises = channel.rising.sense(Edge::Rising, value);
+        let falls = channel.falling.sense(Edge::Falling, value);
+        if !rises && !falls {
+            return 0;
+        }
+        let (kind, suffix) = (channel.kind, channel.suffix);
+        if rises {
+            self.fire(kind, suffix, Edge::Rising, t);
+        }
+        if falls {
+            self.fire(kind, suffix, Edge::Falling, t);
+        }
+        u32::from(rises) + u32::from(falls)
     }
 
     /// Makes `who` the holder of the events, with none waiting. `Held` comes exactly where there is a holder, and then
@@ -170,26 +180,14 @@ impl Monitor {
         self.channels[c as usize] = channel;
     }
 
-    // Fires the event of an edge that a value crosses, and says how many there are.
-    fn fire(&mut self, edge: Edge, channel: &Watched, value: i64, t: i64) -> u32
-        ensures count { result ≡ length (fired_at edge value t channel.now) }
-        ensures state { self.new ≡ record self.old { events = fold (queue_after (is_some self.old.holder)) self.old.events (fired_at edge value t channel.now) } }
-    {
-        if !channel.watch(edge).crosses(edge, value) {
-            return 0;
-        }
-        let code = code(channel.kind, channel.suffix, edge);
-        self.store(EventData { code, t });
-        1
-    }
-
-    // Keeps an event, where there is a holder and room.
+    // Keeps the event of an edge, where there is a holder and room.
     #[tactic(auto, using(crate::proofs::QueueLemmas::keeps_all))]
-    fn store(&mut self, event: EventData)
-        ensures { self.new ≡ record self.old { events = queue_after (is_some self.old.holder) self.old.events event } }
+    fn fire(&mut self, kind: Kind, suffix: Suffix, edge: Edge, t: i64)
+        ensures { self.new ≡ record self.old { events = queue_after (is_some self.old.holder) self.old.events (record { code = code_of kind suffix edge; t = t }) } }
     {
         if self.holder.is_some() && self.events.len() < MAX_EVENTS {
-            self.events.push_back(event);
+            let code = code(kind, suffix, edge);
+            self.events.push_back(EventData { code, t });
         }
     }
 }

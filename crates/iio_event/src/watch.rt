@@ -1,7 +1,8 @@
 //! What is watched at a channel.
 
-ghost use Rattle.std.specs.Prelude.{◌≡◌};
-ghost use Rattle.iio_event.specs.Monitor.{idle_channel, watch_of, with_watch, is_past, crosses, sensed_watch, sensed_channel, switched_watch};
+ghost use Rattle.std.specs.Prelude.{◌≡◌, false};
+ghost use Rattle.std.specs.Option.{option_map_or};
+ghost use Rattle.iio_event.specs.Monitor.{idle_channel, watch_of, with_watch, is_past, crosses, sensed_watch, switched_watch};
 
 use crate::event::Edge;
 use iio_layout::{Channel, Kind, Suffix};
@@ -43,28 +44,28 @@ impl Watch {
         }
     }
 
-    /// Whether a value crosses the threshold.
-    pub(crate) fn crosses(&self, edge: Edge, value: i64) -> bool
-        ensures { result ≡ crosses edge self.now value }
+    // Whether the value before was past the threshold.
+    fn was_past(&self, edge: Edge) -> bool
+        ensures { result ≡ option_map_or (λ before. is_past edge self.now.threshold before) self.now.before false }
     {
-        let was_past = match self.before {
+        match self.before {
             None => false,
             Some(before) => self.is_past(edge, before),
-        };
-        self.enabled && self.is_past(edge, value) && !was_past
+        }
     }
 
-    /// The edge after a value.
-    pub(crate) fn sensed(self, value: i64) -> Watch
-        ensures { result ≡ sensed_watch value self }
+    /// Takes a value, and says whether it crosses the threshold.
+    #[inline]
+    pub(crate) fn sense(&mut self, edge: Edge, value: i64) -> bool
+        ensures crosses { result ≡ crosses edge self.old value }
+        ensures watch { self.new ≡ sensed_watch value self.old }
     {
         if !self.enabled {
-            return self;
+            return false;
         }
-        Watch {
-            before: Some(value),
-            ..self
-        }
+        let crosses = self.is_past(edge, value) && !self.was_past(edge);
+        self.before = Some(value);
+        crosses
     }
 
     /// The edge, switched on or off.
@@ -92,17 +93,6 @@ impl Watched {
             suffix: channel.suffix,
             rising: IDLE,
             falling: IDLE,
-        }
-    }
-
-    /// The channel after a value.
-    pub(crate) fn sensed(self, value: i64) -> Watched
-        ensures { result ≡ sensed_channel value self }
-    {
-        Watched {
-            rising: self.rising.sensed(value),
-            falling: self.falling.sensed(value),
-            ..self
         }
     }
 

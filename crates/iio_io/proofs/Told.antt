@@ -1,7 +1,7 @@
 -- What stays told over several reads or writes.
 use Rattle.std.proofs.Common.{◌≡◌, ℕ, ◌+◌, ◌-◌, ◌≤◌, List, [], ◌++◌, length, take, drop, Option, Some, None, IfSome, IfNone, sym, ap, ◌∙◌, subst, arith, append_assoc}
 use Rattle.std.proofs.Math.Seq.{take-add}
-use Rattle.std.proofs.lemmas.List.{drop-drop, length-drop, length-take-le, take-append-le, take_all, drop_all}
+use Rattle.std.proofs.lemmas.List.{drop-drop, length-drop, length-take-le, take-append-le, take-take, take_all, drop_all}
 use Rattle.iio_io.specs.Bytes.{Takes, TakesUpTo}
 
 -- where the bytes written are told, those after `before` are the first `done` of `bytes`
@@ -18,16 +18,16 @@ pub silent_more : (before mid after : Option (List ℕ)) → IfNone before (mid 
 silent_more None mid after h k = subst (λ (m : Option (List ℕ)). IfNone m (after ≡ None)) h k
 silent_more (Some xs) mid after h k = tt
 
--- a write more, of the bytes from `done` on
-pub WroteSoFar-more : (before mid after : Option (List ℕ)) (bytes : List ℕ) (done n : ℕ)
-    → WroteSoFar before bytes done mid
-    → IfSome mid (λ ys. after ≡ Some (ys ++ take n (take (length bytes - done) (drop done bytes))))
+-- a write more, of the `piece` bytes from `done` on
+pub WroteSoFar-more : (before mid after : Option (List ℕ)) (bytes : List ℕ) (done n piece : ℕ)
+    → WroteSoFar before bytes done mid → n ≤ piece
+    → IfSome mid (λ ys. after ≡ Some (ys ++ take n (take piece (drop done bytes))))
     → WroteSoFar before bytes (done + n) after
-WroteSoFar-more None mid after bytes done n h k = tt
-WroteSoFar-more (Some xs) mid after bytes done n h k =
-    let rest = take_all (length bytes - done) (drop done bytes) (omega (arith, length-drop done bytes)) in
-    let wrote = subst (λ (m : Option (List ℕ)). IfSome m (λ ys. after ≡ Some (ys ++ take n (take (length bytes - done) (drop done bytes))))) h k in
-    wrote ∙ ap Some (ap (λ ys. (xs ++ take done bytes) ++ take n ys) rest ∙ append_assoc xs (take done bytes) (take n (drop done bytes))
+WroteSoFar-more None mid after bytes done n piece h few k = tt
+WroteSoFar-more (Some xs) mid after bytes done n piece h few k =
+    let rest = take-take n piece (drop done bytes) few in
+    let wrote = subst (λ (m : Option (List ℕ)). IfSome m (λ ys. after ≡ Some (ys ++ take n (take piece (drop done bytes))))) h k in
+    wrote ∙ ap Some (ap (λ ys. (xs ++ take done bytes) ++ ys) rest ∙ append_assoc xs (take done bytes) (take n (drop done bytes))
     ∙ ap (λ ys. xs ++ ys) (sym (take-add done n bytes)))
 
 -- a read more, into the front `piece` of a longer one

@@ -58,6 +58,7 @@ pub trait Sink {
             (λ xs. written self.new ≡ Some (xs ++ take n bytes.now))) }
         ensures silent { IfNone (written self.old) (written self.new ≡ None) }
         ensures some { IfOk result (λ n. 0 < length bytes.now → 1 ≤ n) }
+        ensures steady { IfOk result (λ _. faults self.new ≡ faults self.old) }
         ensures counted { faults self.old ≤ faults self.new }
         ensures failed { OnErr result (Rose (faults self.old) (faults self.new)) }
         ensures kept { OnErr result (written self.new ≡ written self.old) };

@@ -9,7 +9,7 @@ use std::alloc::{AllocError, Global};
 use std::error::Error;
 use std::fmt;
 
-// Most bytes that one read asks for: what a pipe holds.
+// Most bytes that one read or one write asks for: what a pipe holds.
 const PIECE: usize = 65_536;
 
 /// Why `read_whole` gave no text.
@@ -52,7 +52,7 @@ impl From<AllocError> for ReadEnd {
     }
 }
 
-/// Writes all of `bytes`, in as many writes as it takes. Where a write fails, a front part was
+/// Writes all of `bytes`, in pieces of at most 65,536 bytes and in as many writes as it takes. Where a write fails, a front part was
 /// written.
 pub fn write_whole<K: Sink>(sink: &mut K, bytes: &[u8]) -> Result<(), Failed>
     ensures whole { OnOk result (IfSome (K.written sink.old)
@@ -62,10 +62,12 @@ pub fn write_whole<K: Sink>(sink: &mut K, bytes: &[u8]) -> Result<(), Failed>
     ensures silent { IfNone (K.written sink.old) (K.written sink.new ≡ None) }
     ensures counted { K.faults sink.old ≤ K.faults sink.new }
     ensures failed { OnErr result (Rose (K.faults sink.old) (K.faults sink.new)) }
+    ensures steady { OnOk result (K.faults sink.new ≡ K.faults sink.old) }
 {
     let mut done = 0;
     while done < bytes.len() {
-        done += sink.write(&bytes[done..])?;
+        let end = bytes.len().min(done.saturating_add(PIECE));
+        done += sink.write(&bytes[done..end])?;
     }
     Ok(())
 }

@@ -1,8 +1,8 @@
 -- Places, sizes and scans: bounds, one channel more, and the timestamp.
-use Rattle.std.proofs.Common.{◌≡◌, ℕ, ◌+◌, ◌-◌, ◌*◌, ◌/◌, ◌%◌, ◌^◌, ◌<◌, ◌≤◌, true, List, [], ◌∷◌, ◌++◌, length, map, take, replicate, sum_by, Option, Some, None, ℤ, refl, sym, ap, ◌∙◌, inl, inr, arith, add-one}
+use Rattle.std.proofs.Common.{◌≡◌, ℕ, ◌+◌, ◌-◌, ◌*◌, ◌/◌, ◌%◌, ◌^◌, ◌<◌, ◌≤◌, true, List, [], ◌∷◌, ◌++◌, length, map, take, sum_by, Option, Some, None, ℤ, refl, sym, ap, ◌∙◌, inl, inr, arith, add-one}
 use Rattle.std.specs.Int.{IsPowerOfTwo, next_multiple_of}
 use Rattle.std.proofs.lemmas.Bool.{cases_lt, cases_eq}
-use Rattle.std.proofs.lemmas.List.{length-append, length-replicate, length-take, take_all}
+use Rattle.std.proofs.lemmas.List.{length-take-le, take-append-le, take_all}
 use Rattle.std.proofs.Math.Nat.{mod-eq_of_lt, mod_self, mod-zero, mul-le-mul_left, mul-mod_right, mul_assoc, zero-mod}
 use Rattle.std.proofs.Math.Pow.{pow_mono, pow-add}
 use Rattle.iio_mask.specs.Mask.{has}
@@ -10,12 +10,11 @@ use Rattle.iio_scan_type.specs.Bytes.{channel_bytes}
 use Rattle.iio_scan_type.specs.Format.{Format, stamp_format}
 use Rattle.iio_scan_type.specs.declared.Endian.{Endian}
 use Rattle.iio_scan_type.specs.declared.TheConstants.{MAX_CHANNEL_SIZE}
-use Rattle.std.proofs.Math.Seq.{drop-append_seam}
-use Rattle.std.proofs.lemmas.Slice.{take-put_mid}
-use borrow.Rule.Slice.PartMut.{put_mid}
+use Rattle.std.proofs.Math.Seq.{drop-append_seam, take-append-add}
+use borrow.Rule.Slice.PartMut.{post_of, put_mid}
 use Rattle.iio_layout.specs.declared.channel.Channel.{Channel}
 use Rattle.iio_layout.specs.Layout.{end_below, format_at, scan_size, size_at}
-use Rattle.iio_layout.specs.Scan.{capture_values, field_of, first_value, padded, values_at}
+use Rattle.iio_layout.specs.Scan.{capture_values, field_of, first_value, values_at}
 use Rattle.iio_layout.specs.Shape.{ShapeRecord, count_of, formats_of, stamp_formats, width_of}
 use Rattle.iio_layout.specs.Laws.{count_is, end_grows, first_value_is}
 
@@ -139,17 +138,10 @@ stamp_field shape values t c wide after within = by_stamp shape.stamp refl
 
 -- ---- bytes
 
--- a channel that is written after zero bytes
-pub put_at_bytes : (end place size : ℕ) (out filled written : List ℕ) (k l m : ℕ) → place ≡ next_multiple_of end size → end ≤ place → place + size ≤ length out
-    → filled ≡ replicate m 0 → m ≡ place - end → length written ≡ size
-    → take (place + size) (put_mid place l (put_mid end k out filled) written) ≡ padded (take end out) size ++ written
-put_at_bytes end place size out filled written k l m is_place after room zeros many len =
-    let long = ap length zeros in
-    let count : length (replicate {A = ℕ} m 0) ≡ m = length-replicate m 0 in
-    let front : take place (put_mid end k out filled) ≡ take end out ++ filled = take-put_mid end k out filled place (omega arith) (omega arith) in
-    let both = length-append (take end out) filled in
-    let stands : length (take end out) ≡ end = omega (arith, length-take end out) in
-    let whole : place ≤ length (put_mid end k out filled) = omega (arith, ap length front, length-take place (put_mid end k out filled), both) in
-    let gap : m ≡ next_multiple_of (length (take end out)) size - length (take end out) = rw stands (many ∙ ap (λ p. p - end) is_place) in
-    take-put_mid place l (put_mid end k out filled) written (place + size) (omega arith) whole
-    ∙ ap (λ (bytes : List ℕ). bytes ++ written) (front ∙ ap (λ (zeros : List ℕ). take end out ++ zeros) (zeros ∙ ap (λ n. replicate n 0) gap))
+-- what is written at the front of the bytes from a place on
+pub take-put_front : (place size m : ℕ) (out part : List ℕ) → place ≤ length out → size ≤ length part
+    → take (place + size) (put_mid place m out part) ≡ take place out ++ take size part
+take-put_front place size m out part within room =
+    let rest : List ℕ = post_of place m out in
+    ap (λ n. take (n + size) (take place out ++ (part ++ rest))) (sym (length-take-le place out within))
+    ∙ take-append-add (take place out) (part ++ rest) size ∙ ap (λ bytes. take place out ++ bytes) (take-append-le size part rest room)

@@ -2,8 +2,9 @@
 use Rattle.std.proofs.Common.{◌≡◌, ℕ, zero, suc, ◌+◌, ◌*◌, ◌^◌, ◌<◌, ◌≤◌, List, [], ◌∷◌, ◌++◌, length, get_or, take, drop, refl, sym, ap, ◌∙◌, inl, inr, arith, ℤ, pos, add-one, append_assoc, append-nil}
 use Rattle.std.proofs.lemmas.Bool.{cases_lt}
 use Rattle.std.proofs.lemmas.List.{drop_at, get_or-drop, length-drop, take_all, take_at, take_more}
+use Rattle.std.proofs.Math.Nat.{mul-le-mul_left, mul_comm}
 use Rattle.std.proofs.Math.Seq.{take-add}
-use Rattle.std.proofs.lemmas.Slice.{take-put_mid}
+use Rattle.iio_layout.proofs.LayoutLemmas.{take-put_front}
 use borrow.Rule.Slice.PartMut.{put_mid}
 use Rattle.iio_scan_type.specs.Bytes.{channel_bytes, element_bytes, low_bits}
 use Rattle.iio_scan_type.specs.Format.{Format, element_size}
@@ -88,12 +89,16 @@ channel_bytes-more ty [] v = append-nil (element_bytes ty v)
 channel_bytes-more ty (x ∷ xs) v =
     ap (λ bytes. element_bytes ty x ++ bytes) (channel_bytes-more ty xs v) ∙ sym (append_assoc (element_bytes ty x) (channel_bytes ty xs) (element_bytes ty v))
 
-pub elements_more : (ty : Format) (value : ℕ → ℤ) (k n m : ℕ) (out part : List ℕ) → n ≡ element_size ty → part ≡ element_bytes ty (value k)
-    → (k + 1) * n ≤ length out → take (k * n) out ≡ channel_bytes ty (elements_below value k)
+pub row_within : (n k many : ℕ) → k < many → (k + 1) * n ≤ n * many
+row_within n k many below =
+    let more : k + 1 ≤ many = omega arith in
+    omega (arith, mul-le-mul_left n more, mul_comm (k + 1) n)
+
+pub elements_more : (ty : Format) (value : ℕ → ℤ) (k n m : ℕ) (out part : List ℕ) → n ≡ element_size ty → take n part ≡ element_bytes ty (value k)
+    → n ≤ length part → (k + 1) * n ≤ length out → take (k * n) out ≡ channel_bytes ty (elements_below value k)
     → take ((k + 1) * n) (put_mid (k * n) m out part) ≡ channel_bytes ty (elements_below value (k + 1))
-elements_more ty value k n m out part size is room so_far =
-    let len : length part ≡ n = ap length is ∙ length-element_bytes ty (value k) ∙ sym size in
+elements_more ty value k n m out part size is long room so_far =
     let next : (k + 1) * n ≡ k * n + n = grind arith in
-    take-put_mid (k * n) m out part ((k + 1) * n) (omega arith) (omega arith)
-    ∙ ap (λ bytes. bytes ++ part) so_far ∙ ap (λ bytes. channel_bytes ty (elements_below value k) ++ bytes) is
+    ap (λ j. take j (put_mid (k * n) m out part)) next ∙ take-put_front (k * n) n m out part (omega arith) long
+    ∙ ap (λ bytes. bytes ++ take n part) so_far ∙ ap (λ bytes. channel_bytes ty (elements_below value k) ++ bytes) is
     ∙ sym (channel_bytes-more ty (elements_below value k) (value k)) ∙ rw (add-one k) refl

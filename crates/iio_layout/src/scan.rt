@@ -1,9 +1,9 @@
 //! The scan of a capture.
 
-ghost use Rattle.std.specs.Prelude.{◌≡◌, ℕ, ◌+◌, ◌^◌, ◌<◌, ◌≤◌, ◌++◌, true, length, slice_index, take};
+ghost use Rattle.std.specs.Prelude.{◌≡◌, ℕ, ◌+◌, ◌^◌, ◌<◌, ◌≤◌, ◌++◌, replicate, true, length, slice_index, take};
 ghost use Rattle.std.specs.Int.{IsPowerOfTwo, next_multiple_of};
 ghost use Rattle.iio_mask.specs.Mask.{has};
-ghost use Rattle.iio_scan_type.specs.Bytes.{channel_bytes};
+ghost use Rattle.iio_scan_type.specs.Bytes.{channel_bytes, element_bytes};
 ghost use Rattle.iio_scan_type.specs.Format.{size_of};
 ghost use Rattle.iio_layout.specs.Layout.{Covers, end_below, format_at, place_of, scan_size, size_at};
 ghost use Rattle.iio_layout.specs.Scan.{capture_values, elements_below, field_of, front_below, padded, scan_of, values_by};
@@ -64,7 +64,8 @@ fn put_channels<V: Values>(shape: &Shape, mask: Mask, values: &V, t: i64, out: &
     end
 }
 
-// Writes channel `c` after those that end at `end`, with zero bytes up to its place, and answers where it ends.
+// Writes channel `c` after those that end at `end`, with zero bytes up to its place, and answers where it ends. Nothing
+// is said of the bytes behind that.
 #[inline]
 fn put_channel<V: Values>(
     shape: &Shape,
@@ -81,12 +82,68 @@ fn put_channel<V: Values>(
     ensures bytes { take result out.new ≡ padded (take end out.old) (size_at (formats_of shape.now) c)
         ++ field_of shape.now (values_by shape.now (V.value values.now)) t c }
 {
+    if c < shape.inputs() {
+        put_data(shape, c, values, end, out)
+    } else {
+        put_stamp(shape, c, t, end, out)
+    }
+}
+
+// Writes data channel `c` as `put_channel` does.
+#[inline]
+fn put_data<V: Values>(shape: &Shape, c: u32, values: &V, end: usize, out: &mut [u8]) -> usize
+    requires channel { c < length shape.now.channels }
+    requires inputs { length shape.now.channels ≤ V.inputs values.now }
+    requires room { next_multiple_of end (size_at (formats_of shape.now) c) + size_at (formats_of shape.now) c ≤ length out.old }
+    ensures end { result ≡ next_multiple_of end (size_at (formats_of shape.now) c) + size_at (formats_of shape.now) c }
+    ensures bytes { take result out.new ≡ padded (take end out.old) (size_at (formats_of shape.now) c)
+        ++ channel_bytes (format_at (formats_of shape.now) c) (elements_below (V.value values.now c) (format_at (formats_of shape.now) c).repeat) }
+{
+    let ty = shape.data_type(c);
+    let size = ty.size() as usize;
+    let place = padded_place(size, end, out);
+    put_values(ty, c, values, &mut out[place..]);
+    place + size
+}
+
+// Writes the moment as `put_channel` does; `c` is the timestamp's number.
+#[inline]
+fn put_stamp(shape: &Shape, c: u32, t: i64, end: usize, out: &mut [u8]) -> usize
+    requires channel { c < count_of shape.now }
+    requires stamp { (format_at (formats_of shape.now) c).repeat ≡ 1 }
+    requires room { next_multiple_of end (size_at (formats_of shape.now) c) + size_at (formats_of shape.now) c ≤ length out.old }
+    ensures end { result ≡ next_multiple_of end (size_at (formats_of shape.now) c) + size_at (formats_of shape.now) c }
+    ensures bytes { take result out.new ≡ padded (take end out.old) (size_at (formats_of shape.now) c)
+        ++ element_bytes (format_at (formats_of shape.now) c) t }
+{
     let ty = shape.scan_type(c);
     let size = ty.size() as usize;
-    let place = aligned(end, size);
-    out[end..place].fill(0);
-    put_field(shape, ty, c, values, t, &mut out[place..place + size]);
+    let place = padded_place(size, end, out);
+    ty.put_front(t, &mut out[place..]);
     place + size
+}
+
+// The place of a channel of that size after those that end at `end`, with zero bytes up to it.
+#[inline]
+fn padded_place(size: usize, end: usize, out: &mut [u8]) -> usize
+    requires power { IsPowerOfTwo size }
+    requires room { next_multiple_of end size ≤ length out.old }
+    ensures place { result ≡ next_multiple_of end size }
+    ensures bytes { take result out.new ≡ padded (take end out.old) size }
+{
+    let place = aligned(end, size);
+    if end < place {
+        put_zeros(&mut out[end..place]);
+    }
+    place
+}
+
+// Most channels follow the one before without a gap.
+#[cold]
+fn put_zeros(out: &mut [u8])
+    ensures { out.new ≡ replicate (length out.old) 0 }
+{
+    out.fill(0);
 }
 
 // The least multiple of a power of two that isn't below a number (kernel, `ALIGN`).
@@ -100,32 +157,30 @@ fn aligned(end: usize, size: usize) -> usize
     end + ((size - (end & mask)) & mask)
 }
 
-// Writes the bytes of channel `c`, which is of that type.
+// Writes the elements of data channel `c`, at the front of bytes of which there may be more. Nothing is said of those
+// behind them.
 #[inline]
-fn put_field<V: Values>(shape: &Shape, ty: ScanType, c: u32, values: &V, t: i64, out: &mut [u8])
-    requires channel { c < count_of shape.now }
-    requires inputs { length shape.now.channels ≤ V.inputs values.now }
-    requires ty { ty ≡ format_at (formats_of shape.now) c }
-    requires size { length out.old ≡ size_of ty }
-    ensures { out.new ≡ field_of shape.now (values_by shape.now (V.value values.now)) t c }
+fn put_values<V: Values>(ty: &ScanType, c: u32, values: &V, out: &mut [u8])
+    requires channel { c < V.inputs values.now }
+    requires size { size_of ty.now ≤ length out.old }
+    ensures { take (size_of ty.now) out.new ≡ channel_bytes ty.now (elements_below (V.value values.now c) ty.now.repeat) }
 {
-    if c < shape.inputs() {
-        put_values(ty, c, values, out);
+    if ty.repeat() == 1 {
+        ty.put_front(values.value(c, 0), out);
     } else {
-        ty.put(&[t], out);
+        put_several(ty, c, values, out);
     }
 }
 
-// Writes the elements of data channel `c`.
-#[inline]
-fn put_values<V: Values>(ty: ScanType, c: u32, values: &V, out: &mut [u8])
+// Writes the elements of a data channel as `put_values` does. Most channels have only one.
+#[cold]
+fn put_several<V: Values>(ty: &ScanType, c: u32, values: &V, out: &mut [u8])
     requires channel { c < V.inputs values.now }
-    requires size { length out.old ≡ size_of ty }
-    ensures { out.new ≡ channel_bytes ty (elements_below (V.value values.now c) ty.repeat) }
+    requires size { size_of ty.now ≤ length out.old }
+    ensures { take (size_of ty.now) out.new ≡ channel_bytes ty.now (elements_below (V.value values.now c) ty.now.repeat) }
 {
     let size = ty.element_size() as usize;
     for k in 0..u32::from(ty.repeat()) {
-        let start = k as usize * size;
-        ty.put_element(values.value(c, k), &mut out[start..start + size]);
+        ty.put_front(values.value(c, k), &mut out[k as usize * size..]);
     }
 }

@@ -107,6 +107,16 @@ impl Shape {
         }
     }
 
+    /// The type of data channel `c`.
+    #[inline]
+    pub fn data_type(&self, c: u32) -> &ScanType
+        requires { c < length self.now.channels }
+        ensures value { result.now ≡ format_at (formats_of self.now) c }
+        ensures sound { IsShape self.now }
+    {
+        &self.channels[c as usize].ty
+    }
+
     /// The byte order of the timestamp, where there is one.
     pub fn stamp(&self) -> Option<Endian>
         ensures { result ≡ self.now.stamp }

@@ -88,7 +88,8 @@ fn two_channels_and_padding_before_timestamp(rt: HostRuntime) -> Result<(), Fail
     check_scan(&rt, rt.alloc(), &shape, "00000000", row, b"")?;
     assert_eq!(rt; shape.stamp(), Some(Endian::Little));
     let copy = shape.copy(rt.alloc())?;
-    assert_eq!(rt; copy.inputs(), 3);
+    assert!(rt; copy.inputs() == 3);
+    assert_eq!(rt; copy.data_type(2).size(), 2);
     check_scan(&rt, rt.alloc(), &copy, "00000005", row, b"\x10\x00\xff\xfd")
 }
 

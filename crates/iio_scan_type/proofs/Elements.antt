@@ -1,5 +1,5 @@
 -- Elements of a channel, written and read.
-use Rattle.std.proofs.Common.{◌≡◌, ℕ, zero, suc, ◌+◌, ◌-◌, ◌*◌, ◌/◌, ◌%◌, ◌^◌, ◌<◌, ◌≤◌, List, [], ◌∷◌, ◌++◌, length, take, drop, reverse, get_or, refl, ap, sym, ◌∙◌, arith, ℤ, pos, negsuc, ◌≤ℤ◌, ◌-ℤ◌, lt-ltb, le-ltb, Bool, true, false, ltb, IsTrue, ◌⊎◌, inl, inr, append_assoc}
+use Rattle.std.proofs.Common.{◌≡◌, ℕ, zero, suc, ◌+◌, ◌-◌, ◌*◌, ◌/◌, ◌%◌, ◌^◌, ◌<◌, ◌≤◌, List, [], ◌∷◌, ◌++◌, length, take, drop, reverse, get_or, refl, ap, sym, ◌∙◌, arith, ℤ, pos, negsuc, ◌≤ℤ◌, ◌-ℤ◌, lt-ltb, le-ltb, Bool, true, false, ltb, IsTrue, ◌⊎◌, inl, inr, append_assoc, subst}
 use Rattle.std.proofs.Math.Nat.{pow-suc, pow-le-pow_right, mod-eq_of_lt, div-div-eq-div-mul, one-le-pow, zero-mul}
 use Rattle.std.proofs.Math.Arith.{mod-mul}
 use Rattle.std.proofs.lemmas.List.{reverse-append, take_at, drop_at, take_more, append-nil, drop-drop}
@@ -15,7 +15,7 @@ use Rattle.iio_scan_type.specs.declared.Sign.{Sign}
 use Rattle.iio_scan_type.specs.declared.Sign.TheVariants.{Signed, Unsigned}
 use Rattle.iio_scan_type.specs.declared.Endian.{Endian}
 use Rattle.iio_scan_type.specs.declared.Endian.TheVariants.{Big, Little}
-use Rattle.iio_scan_type.proofs.Numbers.{bounds_of, neg_is, storage_cases}
+use Rattle.iio_scan_type.proofs.Numbers.{bounds_of, high_below, neg_is, storage_cases}
 
 -- ---- a value of so many bits
 
@@ -68,7 +68,7 @@ byte_at_is : (i n : ℕ) → byte_at i n ≡ n / 256 ^ i % 256
 byte_at_is zero n = ap (λ m. m % 256) (omega arith)
 byte_at_is (suc i) n = refl
 
-length-number_bytes : (e : Endian) (k n : ℕ) → length (number_bytes e k n) ≡ k
+pub length-number_bytes : (e : Endian) (k n : ℕ) → length (number_bytes e k n) ≡ k
 length-number_bytes Little k n = low 0 k n
   where
     low : (i k n : ℕ) → length (bytes_low_first i k n) ≡ k
@@ -139,6 +139,19 @@ storage_bytes n h = by_cases (storage_cases n h)
     by_cases (inr (inr (inl e))) = rw e refl
     by_cases (inr (inr (inr e))) = rw e refl
 
+-- the number of an element fits its storage
+pub number_below : (f : Format) (v : ℤ) → IsInProfile f → low_bits f.realbits v * 2 ^ f.shift < 2 ^ f.storagebits
+number_below f v p =
+    let b = bounds_of f p in
+    let small : low_bits f.realbits v * 2 ^ f.shift < 2 ^ (f.realbits + f.shift) = shl_below (low_bits f.realbits v) f.realbits f.shift (low_bits_lt f.realbits v) in
+    let room : 2 ^ (f.realbits + f.shift) ≤ 2 ^ f.storagebits = pow-le-pow_right {n = 2} (omega arith) b.within in
+    omega arith
+
+-- a value that the highest bits of a word say lies in the range
+pub extended_in_range : (f : Format) (m : ℕ) (v : ℤ) → IsInProfile f → m < 2 ^ 64 → value_by f.sign f.realbits (m / 2 ^ (64 - f.realbits)) ≡ v → IsInRange f v
+extended_in_range f m v p small is =
+    subst (λ z. IsInRange f z) is (value_in_range f.sign f.realbits (m / 2 ^ (64 - f.realbits)) (bounds_of f p).some (high_below f m p small))
+
 -- a value in range is read back
 pub value_at-channel_bytes : (f : Format) (vs : List ℤ) (k : ℕ) (d : ℤ) → IsInProfile f → k < length vs → IsInRange f (get_or vs k d) → value_at f (channel_bytes f vs) k ≡ get_or vs k d
 value_at-channel_bytes f vs k d p h range =
@@ -146,8 +159,7 @@ value_at-channel_bytes f vs k d p h range =
     let v : ℤ = get_or vs k d in
     let low : low_bits f.realbits v < 2 ^ f.realbits = low_bits_lt f.realbits v in
     let number : ℕ = low_bits f.realbits v * 2 ^ f.shift in
-    let small : number < 2 ^ (f.realbits + f.shift) = shl_below (low_bits f.realbits v) f.realbits f.shift low in
-    let room : 2 ^ (f.realbits + f.shift) ≤ 2 ^ f.storagebits = pow-le-pow_right {n = 2} (omega arith) b.within in
+    let below = number_below f v p in
     let bytes = storage_bytes f.storagebits b.storage in
     let fits : number < 256 ^ element_size f = rw bytes (omega arith) in
     let field : number / 2 ^ f.shift % 2 ^ f.realbits ≡ low_bits f.realbits v = rw (shl-shr (low_bits f.realbits v) f.shift) (mod-eq_of_lt low) in

@@ -1,12 +1,13 @@
 -- Numbers of so many bits, their shifts, and values in two's complement.
-use Rattle.std.proofs.Common.{add-zero, lt-ltb, le-ltb, ◌≡◌, ℕ, zero, suc, ◌+◌, ◌-◌, ◌*◌, ◌/◌, ◌%◌, ◌^◌, ◌<◌, ◌≤◌, refl, ap, sym, ◌∙◌, arith, ℤ, pos, negsuc, neg_ℤ, FitsSigned, ◌≤ℤ◌, Bool, true, false, ltb, IsTrue, ◌⊎◌, inl, inr}
+use Rattle.std.proofs.Common.{add-zero, lt-ltb, le-ltb, ◌≡◌, ℕ, zero, suc, ◌+◌, ◌-◌, ◌*◌, ◌/◌, ◌%◌, ◌^◌, ◌<◌, ◌≤◌, refl, ap, sym, ◌∙◌, arith, ℤ, pos, negsuc, neg_ℤ, FitsSigned, ◌+ℤ◌, ◌≤ℤ◌, Bool, true, false, ltb, IsTrue, ◌⊎◌, inl, inr}
 use Rattle.std.proofs.Math.Nat.{mul_assoc, pow-le-pow_right}
 use Rattle.std.proofs.lemmas.Nat.{pow_pos, pow-add, shr_high, mod_low, shr_split, shl-shr, mod-pow-add, shr-shr, field_of, shr_below, le-div, mod_below}
 use Rattle.std.proofs.lemmas.Bool.Decides.{nat_tests}
 use Rattle.std.proofs.lemmas.Int.{ints, to_z_pos, to_z-of_z}
 use Rattle.std.specs.Int.{IsPowerOfTwo, w64, cast_unsigned, cast_signed, int_shr, saturate_signed, int_min, int_max}
-use Rattle.iio_scan_type.specs.Bytes.{low_bits, value_by, value_in}
-use Rattle.iio_scan_type.specs.Format.{Format, size_of, IsInProfile, max_realbits, is_storage, is_repeat, least_by, greatest_by}
+use Rattle.iio_scan_type.specs.Bytes.{low_bits, value_by}
+use Rattle.iio_scan_type.specs.Format.{Format, size_of, IsInProfile, IsInRange, max_realbits, is_storage, is_repeat, least_by, greatest_by, least_of, greatest_of, saturated}
+use Rattle.iio_scan_type.specs.declared.Sign.{Sign}
 use Rattle.iio_scan_type.specs.declared.Sign.TheVariants.{Signed, Unsigned}
 
 last_row : (x y : ℕ) → 0 < x → 0 < y → x * y - 1 ≡ (x - 1) * y + (y - 1)
@@ -165,23 +166,51 @@ number_field f n p =
     let b = bounds_of f p in
     lowered n f.realbits f.shift (64 - f.realbits) (64 - f.realbits - f.shift) 64 (omega arith) (omega arith)
 
-pub signed_value : (f : Format) (n : ℕ) → IsInProfile f → f.sign ≡ Signed
-    → int_shr (cast_signed w64 ((n * 2 ^ (64 - f.realbits - f.shift)) % 2 ^ 64)) (64 - f.realbits) ≡ value_in f n
-signed_value f n p e =
+-- a word's highest bits, lowered with the sign or without one
+pub high_signed : (f : Format) (m : ℕ) → IsInProfile f → f.sign ≡ Signed → m < 2 ^ 64
+    → int_shr (cast_signed w64 m) (64 - f.realbits) ≡ value_by f.sign f.realbits (m / 2 ^ (64 - f.realbits))
+high_signed f m p e small =
     let b = bounds_of f p in
-    let m : ℕ = (n * 2 ^ (64 - f.realbits - f.shift)) % 2 ^ 64 in
-    let small : m < 2 ^ 64 = mod_below (n * 2 ^ (64 - f.realbits - f.shift)) (2 ^ 64) (pow_pos 64) in
-    signed_high m f.realbits (64 - f.realbits) b.some (omega arith) small
-    ∙ rw (e, number_field f n p) refl
+    signed_high m f.realbits (64 - f.realbits) b.some (omega arith) small ∙ rw e refl
 
-pub unsigned_small : (f : Format) (n : ℕ) → IsInProfile f → f.sign ≡ Unsigned → (n * 2 ^ (64 - f.realbits - f.shift)) % 2 ^ 64 / 2 ^ (64 - f.realbits) < 2 ^ 63
-unsigned_small f n p e =
+pub high_below : (f : Format) (m : ℕ) → IsInProfile f → m < 2 ^ 64 → m / 2 ^ (64 - f.realbits) < 2 ^ f.realbits
+high_below f m p small =
+    let b = bounds_of f p in
+    let whole : f.realbits + (64 - f.realbits) ≡ 64 = omega arith in
+    shr_below m f.realbits (64 - f.realbits) (rw whole small)
+
+pub high_unsigned_small : (f : Format) (m : ℕ) → IsInProfile f → f.sign ≡ Unsigned → m < 2 ^ 64 → m / 2 ^ (64 - f.realbits) < 2 ^ 63
+high_unsigned_small f m p e small =
     let b = bounds_of f p in
     let most : f.realbits ≤ 63 = rw e at b.most in
-    let below : n / 2 ^ f.shift % 2 ^ f.realbits < 2 ^ f.realbits = mod_below (n / 2 ^ f.shift) (2 ^ f.realbits) (pow_pos f.realbits) in
+    let below = high_below f m p small in
     let room : 2 ^ f.realbits ≤ 2 ^ 63 = pow-le-pow_right {n = 2} (omega arith) most in
-    rw (number_field f n p) (omega arith)
+    omega arith
 
-pub unsigned_value : (f : Format) (n : ℕ) → IsInProfile f → f.sign ≡ Unsigned
-    → pos ((n * 2 ^ (64 - f.realbits - f.shift)) % 2 ^ 64 / 2 ^ (64 - f.realbits)) ≡ value_in f n
-unsigned_value f n p e = rw (e, number_field f n p) refl
+pub high_unsigned : (f : Format) (m : ℕ) → f.sign ≡ Unsigned → pos (m / 2 ^ (64 - f.realbits)) ≡ value_by f.sign f.realbits (m / 2 ^ (64 - f.realbits))
+high_unsigned f m e = rw e refl
+
+-- ---- sums
+
+ends_fit : (f : Format) → IsInProfile f → FitsSigned w64 (least_of f) × FitsSigned w64 (greatest_of f) × (least_of f ≤ℤ greatest_of f)
+ends_fit f p = by_sign f.sign f.realbits (bounds_of f p).some (bounds_of f p).most
+  where
+    by_sign : (s : Sign) (r : ℕ) → 1 ≤ r → r ≤ max_realbits s → FitsSigned w64 (least_by s r) × FitsSigned w64 (greatest_by s r) × (least_by s r ≤ℤ greatest_by s r)
+    by_sign Signed r some most =
+        let p = pow_pos (r - 1) in
+        let q : 2 ^ (r - 1) ≤ 2 ^ 63 = pow-le-pow_right {n = 2} (omega arith) {i = r - 1} {j = 63} (omega arith) in
+        rw (neg_is (2 ^ (r - 1)) p) (omega (arith, ints), omega (arith, ints), omega (arith, ints))
+    by_sign Unsigned r some most =
+        let p = pow_pos r in
+        let q : 2 ^ r ≤ 2 ^ 63 = pow-le-pow_right {n = 2} (omega arith) {i = r} {j = 63} most in
+        (omega (arith, ints), omega (arith, ints), omega (arith, ints))
+
+-- to set a sum to the end of its word first changes nothing
+pub saturated_first : (f : Format) (z : ℤ) → IsInProfile f → saturated f (saturate_signed w64 z) ≡ saturated f z
+saturated_first f z p = let (low, high, order) = ends_fit f p in saturate_first (least_of f) (greatest_of f) z low high order
+
+pub saturated_within : (f : Format) (z : ℤ) → IsInRange f z → saturated f z ≡ z
+saturated_within f z range = grind (arith, ints)
+
+pub saturate_zero : (v b : ℤ) → FitsSigned w64 v → b ≡ pos 0 → v ≡ saturate_signed w64 (v +ℤ b)
+saturate_zero v b fits none = grind (arith, ints)

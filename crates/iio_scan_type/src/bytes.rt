@@ -1,7 +1,8 @@
 //! Numbers as bytes in a byte order.
 #![tactic(auto)]
 
-ghost use Rattle.std.specs.Prelude.{◌≡◌, ◌^◌, ◌-◌, ◌<◌, ◌≤◌, ◌*◌, length, take, drop};
+ghost use Rattle.std.specs.Prelude.{◌≡◌, ◌^◌, ◌-◌, ◌<◌, ◌≤◌, ◌*◌, ◌/◌, IsTrue, length, take, drop};
+ghost use Rattle.iio_scan_type.specs.Format.{is_storage};
 ghost use Rattle.iio_scan_type.specs.Bytes.{number_bytes, number_of};
 
 use crate::Endian;
@@ -15,6 +16,20 @@ pub fn write_number(number: u64, endian: Endian, out: &mut [u8])
     match endian {
         Endian::Little => write_front(&number.to_le_bytes(), out),
         Endian::Big => write_back(&number.to_be_bytes(), out),
+    }
+}
+
+/// Writes a number of so many bits, whole bytes, at the front of eight bytes. Those behind them get any value.
+#[inline]
+pub fn write_word(number: u64, bits: u8, endian: Endian, out: &mut [u8])
+    requires storage { IsTrue (is_storage bits) }
+    requires fits { number < 2 ^ bits }
+    requires room { length out.old ≡ 8 }
+    ensures { take (bits / 8) out.new ≡ number_bytes endian (bits / 8) number }
+{
+    match endian {
+        Endian::Little => out.copy_from_slice(&number.to_le_bytes()),
+        Endian::Big => out.copy_from_slice(&(number << (64 - bits)).to_be_bytes()),
     }
 }
 

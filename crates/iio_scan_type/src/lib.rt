@@ -5,9 +5,9 @@
 //! sysfs-bus-iio).
 #![tactic(auto)]
 
-ghost use Rattle.std.specs.Prelude.{◌≡◌, ℕ, ◌+◌, ◌*◌, ◌/◌, ◌%◌, ◌^◌, ◌<◌, ◌≤◌, ◌+ℤ◌, ◌≤ℤ◌, length, pos, slice_index_or, Some, None};
-ghost use Rattle.std.specs.Int.{IsPowerOfTwo};
-ghost use Rattle.iio_scan_type.specs.Bytes.{channel_bytes, element_at, element_bytes, low_bits, number_of, value_at, value_in};
+ghost use Rattle.std.specs.Prelude.{◌≡◌, ℕ, ◌+◌, ◌*◌, ◌/◌, ◌%◌, ◌^◌, ◌<◌, ◌≤◌, ◌+ℤ◌, ◌-◌, ◌≤ℤ◌, IsTrue, length, pos, slice_index_or, take, Some, None};
+ghost use Rattle.std.specs.Int.{IsPowerOfTwo, saturate_signed, w64};
+ghost use Rattle.iio_scan_type.specs.Bytes.{channel_bytes, element_at, element_bytes, low_bits, number_of, value_at, value_by, value_in};
 ghost use Rattle.iio_scan_type.specs.Format.{IsInProfile, IsInRange, element_size, greatest_of, is_repeat, is_storage, least_of, max_realbits, saturated, size_of, stamp_format};
 ghost use Rattle.iio_scan_type.specs.Text.{profiled};
 
@@ -18,7 +18,7 @@ mod bytes;
 mod tests;
 mod text;
 
-use bytes::{read_number, write_number};
+use bytes::{read_number, write_number, write_word};
 pub use iio_base::Mem;
 pub use text::{print_type, read_type};
 
@@ -88,6 +88,17 @@ fn max_realbits(sign: Sign) -> u8
         Sign::Signed => 64,
         Sign::Unsigned => 63,
     }
+}
+
+// The sum, or the nearer end of 64 bits. Most biases are 0, and then nothing is to be reckoned.
+#[inline]
+fn saturating_add(value: i64, bias: i64) -> i64
+    ensures { result ≡ saturate_signed w64 (value +ℤ bias) }
+{
+    if bias == 0 {
+        return value;
+    }
+    value.saturating_add(bias)
 }
 
 impl ScanType {
@@ -234,8 +245,7 @@ impl ScanType {
         ensures value { result ≡ saturated self.now value }
         ensures in_range { IsInRange self.now result }
     {
-        let (least, greatest) = self.range();
-        value.clamp(least, greatest)
+        self.saturating_sum(value, 0)
     }
 
     /// The exact sum of both, or the nearer end of the range where it lies outside.
@@ -244,8 +254,22 @@ impl ScanType {
         ensures value { result ≡ saturated self.now (value +ℤ bias) }
         ensures in_range { IsInRange self.now result }
     {
+        let sum = saturating_add(value, bias);
+        if self.carries(sum) {
+            return sum;
+        }
         let (least, greatest) = self.range();
-        value.saturating_add(bias).clamp(least, greatest)
+        sum.clamp(least, greatest)
+    }
+
+    // Whether the lowest bits of a value say all of it; then it lies in the range.
+    #[inline]
+    fn carries(&self, value: i64) -> bool
+        ensures range { IsTrue result → IsInRange self.now value }
+        ensures profile { IsInProfile self.now }
+    {
+        let word = value.cast_unsigned() << (64 - self.realbits);
+        self.extended(word) == value
     }
 
     /// Writes a channel: its values as elements, the first one first. Bits that lie outside a shifted
@@ -271,9 +295,36 @@ impl ScanType {
         requires { length out.old ≡ element_size self.now }
         ensures { out.new ≡ element_bytes self.now value }
     {
+        write_number(self.number(value), self.endian, out);
+    }
+
+    /// Writes one element as `put_element` does, at the front of bytes of which there may be more. Nothing is said of
+    /// those behind the element.
+    #[inline(always)]
+    pub fn put_front(&self, value: i64, out: &mut [u8])
+        requires { element_size self.now ≤ length out.old }
+        ensures { take (element_size self.now) out.new ≡ element_bytes self.now value }
+    {
+        let number = self.number(value);
+        if out.len() < 8 {
+            write_number(
+                number,
+                self.endian,
+                &mut out[..(self.storagebits / 8) as usize],
+            );
+        } else {
+            write_word(number, self.storagebits, self.endian, &mut out[..8]);
+        }
+    }
+
+    // The number that stands in the storage of a value's element.
+    #[inline]
+    fn number(&self, value: i64) -> u64
+        ensures value { result ≡ low_bits self.now.realbits value * 2 ^ self.now.shift }
+        ensures below { result < 2 ^ self.now.storagebits }
+    {
         let above = 64 - self.realbits;
-        let number = value.cast_unsigned() << above >> (above - self.shift);
-        write_number(number, self.endian, out);
+        value.cast_unsigned() << above >> (above - self.shift)
     }
 
     /// The value of element `k` of a channel's bytes. Bits outside the shifted value are not looked at.
@@ -296,11 +347,18 @@ impl ScanType {
     fn value_of(&self, number: u64) -> i64
         ensures { result ≡ value_in self.now number }
     {
+        self.extended(number << (64 - self.realbits - self.shift))
+    }
+
+    /// The value whose bits are the highest ones of a word.
+    #[inline]
+    fn extended(&self, word: u64) -> i64
+        ensures { result ≡ value_by self.now.sign self.now.realbits (word / 2 ^ (64 - self.now.realbits)) }
+    {
         let above = 64 - self.realbits;
-        let raised = number << (above - self.shift);
         match self.sign {
-            Sign::Signed => raised.cast_signed() >> above,
-            Sign::Unsigned => (raised >> above) as i64,
+            Sign::Signed => word.cast_signed() >> above,
+            Sign::Unsigned => (word >> above) as i64,
         }
     }
 }

@@ -185,6 +185,12 @@ fn elements(rt: HostRuntime) {
     let mut element = [0xff; 2];
     ty.put_element(-2, &mut element);
     assert_eq!(rt; element, [0xff, 0xe0]);
+    let mut few = [0x55; 3];
+    ty.put_front(-2, &mut few);
+    assert_eq!(rt; &few[..2], [0xff, 0xe0].as_slice());
+    let mut many = [0x55; 9];
+    ty.put_front(-2, &mut many);
+    assert_eq!(rt; &many[..2], [0xff, 0xe0].as_slice());
     let ty = ScanType::new(Sign::Signed, 32, 32, 0, 4, Endian::Little).expect(&rt, "16 bytes");
     let mut out = [0x55; 16];
     ty.put(&[1, 2, 3, -1], &mut out);

@@ -1,5 +1,15 @@
 pub mod OutlineLemmas
 pub mod CostLemmas
+pub mod LineLaws
+pub mod LookedLaws
+pub mod HandLaws
+pub mod FollowLaws
+pub mod FrontLaws
+pub mod ToldLaws
+pub mod TakenLaws
 pub mod OpeningLaws
 pub mod PlayLaws
+pub mod EndLaws
+pub mod StepLaws
+pub mod RunLaws
 pub mod OutcomeLaws

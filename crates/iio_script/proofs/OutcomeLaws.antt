@@ -1,97 +1,239 @@
--- Of an input the bytes up to one past the limit say the same as all of them; and what a run has written that ended.
-use Rattle.std.proofs.Common.{◌≡◌, ℕ, ◌+◌, Bool, true, cond, List, [], length, take, drop, Option, Some, None, IfSome, nat_lt, refl, sym, ap, ◌∙◌, subst, arith, append-nil, inl, inr}
-use Rattle.std.proofs.lemmas.Bool.Decides.{nat_tests}
-use Rattle.std.proofs.lemmas.List.{take_all, take-take, length-take-le, take-append-drop}
-use Rattle.std.proofs.lemmas.Bool.{cases_lt}
+-- What a run over an input has printed, from what its parts did.
+use Rattle.std.proofs.Common.{◌≡◌, ℕ, ◌+◌, Bool, true, List, [], ◌++◌, length, take, Option, Some, None, IfSome, refl, sym, ap, ◌∙◌, subst, arith}
+use Rattle.iio_io.specs.Bytes.{TakesAtMost}
 use Rattle.iio_text.specs.Lines.{lines_of}
-use Rattle.iio_io.specs.Bytes.{TakesUpTo, WritesPart}
+use Rattle.iio_text.specs.declared.refusals.Why.{Why}
 use Rattle.iio_sensor.specs.Driver.{Driver}
+use Rattle.iio_desc.specs.declared.reader.DescFault.TheVariants.{Line}
+use Rattle.iio_desc.specs.Description.{Description}
 use Rattle.iio_desc.specs.DescReader.{new_reader}
-use Rattle.iio_history.specs.Input.{told_part, input_limit, is_overlong}
-use Rattle.iio_history.specs.Outcome.{Head, Outcome, head_from, head_of, outcome_of, outcome_of_head}
+use Rattle.iio_history.specs.Input.{ended_part, input_limit, is_overlong, looked_lines}
+use Rattle.iio_history.specs.Outcome.{Cut, Described, Faulty, Head, Outcome, head_from, head_of, last_ending, only_ending, outcome_of, outcome_of_head, outcome_of_script}
+use Rattle.iio_history.specs.Script.{script_from}
+use Rattle.iio_history.specs.Script as ending
+use Rattle.iio_script.specs.declared.opening.Opening.TheVariants as read
 use Rattle.iio_script.specs.declared.status.Status.{Status}
-use Rattle.iio_script.specs.declared.status.Status.TheVariants.{WriteFault, Memory}
-use Rattle.iio_script.specs.Ends.{Finishes, WritesFront, Writes}
+use Rattle.iio_script.specs.declared.status.Status.TheVariants.{Done, Memory, ReadFault, Refused, TooLong, Usage, WriteFault}
+use Rattle.iio_script.specs.Ends.{Finishes, HasStatus, Writes, WritesFront, WritesWhole, status_of}
+use Rattle.iio_script.specs.LineReader.{Follows, Hand, IsHand, TakesBlocks, TakesNear}
+use Rattle.iio_script.specs.Plays.{EndsScript, FinishesAt, IsFrontOf, IsRefusedOr, Prints, TakesFor, WritesText}
+use Rattle.iio_script.specs.Taken.{EndsRun, Runs, WritesLines, so_far}
+use Rattle.iio_script.specs.Told.{EndsAlone, EndsAt, FailsWithin, RefusesAt}
+use Rattle.iio_script.proofs.FollowLaws.{follows_begin}
+use Rattle.iio_script.proofs.RunLaws.{nothing_sent}
 
--- ---- an input of which no more is read than one byte past the limit
+-- ---- outcomes by their heads
 
-part_within : ℕ → List ℕ → List ℕ
-part_within limit input = cond (nat_lt limit (length input)) (told_part (take limit input)) input
+outcome_by : (drivers : List Driver) (count : ℕ) (input : List ℕ) (head : Head) → count ≡ length drivers → head_of count input ≡ head
+    → outcome_of drivers input ≡ outcome_of_head drivers (is_overlong input) head
+outcome_by drivers count input head many is =
+    ap (outcome_of_head drivers (is_overlong input)) (sym (ap (λ (n : ℕ). head_of n input) many) ∙ is)
 
-head_within : ℕ → ℕ → List ℕ → Head
-unfolding part_within
-head_within drivers limit input = head_from (nat_lt limit (length input)) (new_reader drivers) 1 (lines_of (part_within limit input))
+pub takes_of : (input : List ℕ) (left : Option (List ℕ)) → TakesBlocks input left → TakesAtMost input (input_limit + 1) left
+takes_of input left takes = record { count = takes.count; within = takes.within; rest = takes.rest }
 
--- whether it is too long is told by them, and so is the part that is looked at
-read_within : (limit : ℕ) (input : List ℕ) → (nat_lt limit (length (take (limit + 1) input)) ≡ nat_lt limit (length input)) × (part_within limit (take (limit + 1) input) ≡ part_within limit input)
-unfolding part_within
-read_within limit input = elim (cases_lt limit (length input)) [
-  | inl over ↦
-      let more : nat_lt limit (length input) ≡ true = grind (arith, nat_tests, over) in
-      let len : length (take (limit + 1) input) ≡ limit + 1 = length-take-le (limit + 1) input (omega (arith, over)) in
-      let still : nat_lt limit (limit + 1) ≡ true = grind (arith, nat_tests) in
-      let front : take limit (take (limit + 1) input) ≡ take limit input = take-take limit (limit + 1) input (omega arith) in (
-        rw (len, more, still) refl,
-        rw (len, more, still, front) refl,
-      )
-  | inr within ↦
-      let all : take (limit + 1) input ≡ input = take_all (limit + 1) input (omega (arith, within)) in (rw all refl, rw all refl)
-]
+-- ---- what was printed is told by the outcome
 
-head_by : (drivers limit : ℕ) (input : List ℕ) → head_within drivers limit (take (limit + 1) input) ≡ head_within drivers limit input
-unfolding head_within
-head_by drivers limit input =
-    let same = read_within limit input in
-    ap (λ (b : Bool). head_from b (new_reader drivers) 1 (lines_of (part_within limit (take (limit + 1) input)))) same.0
-    ∙ ap (λ (part : List ℕ). head_from (nat_lt limit (length input)) (new_reader drivers) 1 (lines_of part)) same.1
+front_as : (one other : Outcome) (text : List ℕ) → one ≡ other → IsFrontOf one text → IsFrontOf other text
+front_as one other text same front = subst (λ (o : Outcome). IsFrontOf o text) same front
 
-head_read : (drivers : ℕ) (input : List ℕ) → head_of drivers (take (input_limit + 1) input) ≡ head_of drivers input
-unfolding head_within part_within
-head_read drivers input = head_by drivers input_limit input
+finishes_as : (one other : Outcome) (status : Status) (input text : List ℕ) (left : Option (List ℕ)) → one ≡ other → FinishesAt one status input text left → FinishesAt other status input text left
+finishes_as one other status input text left same f = subst (λ (o : Outcome). FinishesAt o status input text left) same f
 
-pub head_front : (drivers : ℕ) (read : Head) (text whole : List ℕ) → read ≡ head_of drivers text → text ≡ take (input_limit + 1) whole → read ≡ head_of drivers whole
-head_front drivers read text whole is front = is ∙ ap (head_of drivers) front ∙ head_read drivers whole
+run_of_script : (drivers : List Driver) (count : ℕ) (desc : Description) (first : ℕ) (front more : List (List ℕ)) (input : List ℕ) (status : Status) (text : List ℕ) (left : Option (List ℕ))
+    → count ≡ length drivers → ((overlong : Bool) (lines : List (List ℕ)) → head_from overlong (new_reader count) 1 (front ++ lines) ≡ Described desc first lines)
+    → looked_lines input ≡ front ++ more
+    → EndsScript (record { desc = desc; drivers = drivers }) first front
+    (outcome_of_script (record { desc = desc; drivers = drivers }) (script_from desc (last_ending (is_overlong input)) [] first more)) input status text left
+    → EndsRun drivers input status text left
+run_of_script drivers count desc first front more input status text left many heads looked ends = by_status status ends
+  where
+    head : head_of count input ≡ Described desc first more
+    head = ap (head_from (is_overlong input) (new_reader count) 1) looked ∙ heads (is_overlong input) more
 
-outcome_read : (drivers : List Driver) (input : List ℕ) → outcome_of drivers (take (input_limit + 1) input) ≡ outcome_of drivers input
-unfolding part_within
-outcome_read drivers input =
-    ap (λ (b : Bool). outcome_of_head drivers b (head_of (length drivers) (take (input_limit + 1) input))) (read_within input_limit input).0
-    ∙ ap (outcome_of_head drivers (nat_lt input_limit (length input))) (head_read (length drivers) input)
+    same : outcome_of_script (record { desc = desc; drivers = drivers }) (script_from desc (last_ending (is_overlong input)) [] first more) ≡ outcome_of drivers input
+    same = sym (outcome_by drivers count input (Described desc first more) many head)
 
-pub finishes_as : (one other : Outcome) (status : Status) (before after : List ℕ) → one ≡ other → Finishes one status before after → Finishes other status before after
-finishes_as one other status before after same f = subst (λ (o : Outcome). Finishes o status before after) same f
+    by_status : (status : Status) → EndsScript (record { desc = desc; drivers = drivers }) first front
+        (outcome_of_script (record { desc = desc; drivers = drivers }) (script_from desc (last_ending (is_overlong input)) [] first more)) input status text left → EndsRun drivers input status text left
+    by_status Done f = finishes_as _ _ Done input text left same f
+    by_status (Refused line why) f = finishes_as _ _ (Refused line why) input text left same f
+    by_status Usage f = finishes_as _ _ Usage input text left same f
+    by_status TooLong f = finishes_as _ _ TooLong input text left same f
+    by_status WriteFault f = front_as _ _ text same f
+    by_status Memory f = front_as _ _ text same f
+    by_status ReadFault f = record {
+      begins = front_as _ _ text same f.begins;
+      count = f.count;
+      rest = f.rest;
+      lines = f.printed ∙ sym (ap (so_far drivers) (ap (λ (n : ℕ). head_from true (new_reader n) 1 (lines_of (ended_part (take f.count input)))) (sym many) ∙ ap (head_from true (new_reader count) 1) f.lines ∙ heads true f.given));
+    }
 
--- what was printed by the head of a text is what the text prints
-pub finished_head : (drivers : List Driver) (count : ℕ) (read : Head) (text : List ℕ) (overlong : Bool) (status : Status) (before after : List ℕ) → count ≡ length drivers
-    → read ≡ head_of count text → overlong ≡ is_overlong text → Finishes (outcome_of_head drivers overlong read) status before after → Finishes (outcome_of drivers text) status before after
-finished_head drivers count read text overlong status before after many is long f =
-    finishes_as (outcome_of_head drivers overlong read) (outcome_of drivers text) status before after
-    (ap (outcome_of_head drivers overlong) (is ∙ ap (λ (n : ℕ). head_of n text) many) ∙ ap (λ (b : Bool). outcome_of_head drivers b (head_of (length drivers) text)) long) f
+pub runs_described : (drivers : List Driver) (count : ℕ) (desc : Description) (first : ℕ) (input : List ℕ) (h : Hand) (left left' before after : Option (List ℕ)) (status : Status)
+    → count ≡ length drivers → IsHand h → (ends : EndsAt count desc first input h left)
+    → ((front more : List (List ℕ)) → Follows input front h left → first ≡ length front + 1 → looked_lines input ≡ front ++ more → (text : List ℕ) × WritesText before after text
+    × EndsScript (record { desc = desc; drivers = drivers }) first front
+    (outcome_of_script (record { desc = desc; drivers = drivers }) (script_from desc (last_ending (is_overlong input)) [] first more)) input status text left'
+    × TakesAtMost input (input_limit + 1) left') → Runs drivers input status left' before after
+runs_described drivers count desc first input h left left' before after status many is ends played =
+    let begins = follows_begin input ends.front h left is ends.follows in
+    let run = played ends.front begins.more ends.follows ends.next begins.parts in
+    record {
+      text = run.0;
+      writes = run.1;
+      ends = run_of_script drivers count desc first ends.front begins.more input status run.0 left' many ends.head begins.parts run.2;
+      takes = run.3;
+    }
 
--- what is so of each outcome that a run printed is so of that of what the source had left
-pub of_left : (P : Outcome → Type 0) (drivers : List Driver) (left after : Option (List ℕ)) (text out : List ℕ) (status : Status)
-    → IfSome left (λ xs. TakesUpTo xs (input_limit + 1) text after)
-    → Finishes (outcome_of drivers text) status [] out → ((outcome : Outcome) → Finishes outcome status [] out → P outcome) → IfSome left (λ xs. P (outcome_of drivers xs))
-of_left P drivers None after text out status taken f each = tt
-of_left P drivers (Some xs) after text out status taken f each =
-    each (outcome_of drivers xs) (finishes_as (outcome_of drivers text) (outcome_of drivers xs) status [] out (ap (outcome_of drivers) taken.bytes ∙ outcome_read drivers xs) f)
+pub runs_alone : (drivers : List Driver) (count : ℕ) (desc : Description) (input : List ℕ) (left before : Option (List ℕ)) → count ≡ length drivers → EndsAlone count desc input → TakesBlocks input left
+    → Runs drivers input Done left before before
+runs_alone drivers count desc input left before many alone takes =
+    let same = outcome_by drivers count input (Described desc alone.next []) many alone.head ∙ ap (λ (o : Bool). outcome_of_head drivers o (Described desc alone.next [])) alone.short in
+    record {
+      text = [];
+      writes = nothing_sent before;
+      ends = record {
+        finishes = record { end = tt; ends = ap status_of (sym (ap (λ (o : Outcome). o.ending) same)); printed = sym (ap (λ (o : Outcome). o.printed) same) };
+        near = tt;
+      };
+      takes = takes_of input left takes;
+    }
 
--- ---- what a run has written
+near_refused : (status : Status) (line : ℕ) (input : List ℕ) (left : Option (List ℕ)) → IsRefusedOr line status → TakesNear line input left → TakesFor status input left
+near_refused (Refused line why) number input left is near = subst (λ (n : ℕ). TakesNear n input left) (sym is) near
+near_refused Done number input left is near = tt
+near_refused Usage number input left is near = tt
+near_refused TooLong number input left is near = tt
+near_refused ReadFault number input left is near = tt
+near_refused WriteFault number input left is near = tt
+near_refused Memory number input left is near = tt
 
-pub wrote_part : (outcome : Outcome) (status : Status) (out : List ℕ) (written now : Option (List ℕ)) → Finishes outcome status [] out
-    → IfSome written (λ before. WritesPart before out now) → IfSome written (λ before. Writes outcome before WriteFault now)
-wrote_part outcome status out None now f wrote = tt
-wrote_part outcome status out (Some before) now f wrote = record {
-  front = take wrote.count out;
-  rest = drop wrote.count out;
-  parts = sym f.printed ∙ sym (take-append-drop wrote.count out);
-  written = wrote.appended;
+run_of_prints : (drivers : List Driver) (outcome : Outcome) (input : List ℕ) (status : Status) (text : List ℕ) (left : Option (List ℕ)) → outcome ≡ outcome_of drivers input → TakesFor status input left
+    → Prints outcome status text → EndsRun drivers input status text left
+run_of_prints drivers outcome input Done text left same near f = finishes_as outcome (outcome_of drivers input) Done input text left same (record { finishes = f; near = near })
+run_of_prints drivers outcome input (Refused line why) text left same near f = finishes_as outcome (outcome_of drivers input) (Refused line why) input text left same (record { finishes = f; near = near })
+run_of_prints drivers outcome input TooLong text left same near f = finishes_as outcome (outcome_of drivers input) TooLong input text left same (record { finishes = f; near = near })
+run_of_prints drivers outcome input Usage text left same near f = absurd f
+run_of_prints drivers outcome input ReadFault text left same near f = absurd f
+run_of_prints drivers outcome input WriteFault text left same near f = front_as outcome (outcome_of drivers input) text same f
+run_of_prints drivers outcome input Memory text left same near f = front_as outcome (outcome_of drivers input) text same f
+
+pub runs_refused : (drivers : List Driver) (count : ℕ) (line : ℕ) (why : Why) (input : List ℕ) (left before after : Option (List ℕ)) (status : Status) → count ≡ length drivers
+    → RefusesAt count (read.Refused line why) line input left → TakesBlocks input left → IsRefusedOr line status
+    → ((text : List ℕ) × WritesText before after text × Prints (only_ending (ending.Refused line why)) status text) → Runs drivers input status left before after
+runs_refused drivers count line why input left before after status many refuses takes at prints = record {
+  text = prints.0;
+  writes = prints.1;
+  ends = run_of_prints drivers (only_ending (ending.Refused line why)) input status prints.0 left (sym (outcome_by drivers count input (Faulty (Line line why)) many refuses.head))
+      (near_refused status line input left at refuses.near) prints.2;
+  takes = takes_of input left takes;
 }
 
-nothing_written : (text : List ℕ) (written : Option (List ℕ)) → IfSome written (λ before. WritesFront before text written)
-nothing_written text None = tt
-nothing_written text (Some before) = record { front = []; rest = text; parts = refl; written = ap Some (sym (append-nil before)) }
+cut_near : (status : Status) (input text : List ℕ) (left : Option (List ℕ)) → Prints (only_ending ending.TooLong) status text → TakesFor status input left
+cut_near (Refused line why) input text left f = subst (λ (x : Status). TakesFor x input left) (sym f.ends) tt
+cut_near Done input text left f = tt
+cut_near TooLong input text left f = tt
+cut_near Usage input text left f = tt
+cut_near ReadFault input text left f = tt
+cut_near WriteFault input text left f = tt
+cut_near Memory input text left f = tt
 
-pub wrote_none : (drivers : List Driver) (left written : Option (List ℕ)) → IfSome left (λ xs. IfSome written (λ before. Writes (outcome_of drivers xs) before Memory written))
-wrote_none drivers None written = tt
-wrote_none drivers (Some xs) written = nothing_written (outcome_of drivers xs).printed written
+pub runs_cut : (drivers : List Driver) (count : ℕ) (input : List ℕ) (left before after : Option (List ℕ)) (status : Status) → count ≡ length drivers → head_of count input ≡ Cut
+    → TakesBlocks input left → ((text : List ℕ) × WritesText before after text × Prints (only_ending ending.TooLong) status text) → Runs drivers input status left before after
+runs_cut drivers count input left before after status many cut takes prints = record {
+  text = prints.0;
+  writes = prints.1;
+  ends = run_of_prints drivers (only_ending ending.TooLong) input status prints.0 left (sym (outcome_by drivers count input Cut many cut)) (cut_near status input prints.0 left prints.2) prints.2;
+  takes = takes_of input left takes;
+}
+
+pub runs_failed : (drivers : List Driver) (count : ℕ) (input : List ℕ) (left before : Option (List ℕ)) → count ≡ length drivers → FailsWithin count input left → TakesBlocks input left
+    → Runs drivers input ReadFault left before before
+runs_failed drivers count input left before many fails takes = record {
+  text = [];
+  writes = nothing_sent before;
+  ends = record {
+    begins = record { rest = (outcome_of drivers input).printed; parts = refl };
+    count = fails.count;
+    rest = fails.rest;
+    lines = sym (ap (so_far drivers) (ap (λ (n : ℕ). head_from true (new_reader n) 1 (lines_of (ended_part (take fails.count input)))) (sym many) ∙ fails.head));
+  };
+  takes = takes_of input left takes;
+}
+
+pub runs_none : (drivers : List Driver) (input : List ℕ) (left before : Option (List ℕ)) → TakesAtMost input (input_limit + 1) left → Runs drivers input Memory left before before
+runs_none drivers input left before takes = record { text = []; writes = nothing_sent before; ends = record { rest = (outcome_of drivers input).printed; parts = refl }; takes = takes }
+
+-- nothing was taken
+pub takes_none : (input : List ℕ) → TakesAtMost input (input_limit + 1) (Some input)
+takes_none input = record { count = 0; within = omega arith; rest = refl }
+
+-- nothing was taken, and nothing written
+pub runs_nothing : (drivers : List Driver) (left before : Option (List ℕ)) → IfSome left (λ input. Runs drivers input Memory left before before)
+runs_nothing drivers None before = tt
+runs_nothing drivers (Some input) before = runs_none drivers input (Some input) before (takes_none input)
+
+-- ---- where the source tells
+
+-- what follows of two facts of the input
+pub both_told : (P Q R : List ℕ → Type 0) (left : Option (List ℕ)) → ((input : List ℕ) → P input → Q input → R input) → IfSome left P → IfSome left Q → IfSome left R
+both_told P Q R None each p q = tt
+both_told P Q R (Some input) each p q = each input p q
+
+pub each_told : (P R : List ℕ → Type 0) (left : Option (List ℕ)) → ((input : List ℕ) → P input → R input) → IfSome left P → IfSome left R
+each_told P R None each p = tt
+each_told P R (Some input) each p = each input p
+
+writes_whole : (outcome : Outcome) (status : Status) (xs text : List ℕ) (after : Option (List ℕ)) → Finishes outcome status [] text → after ≡ Some (xs ++ text) → WritesWhole xs outcome status after
+writes_whole outcome status xs text after f writes = record { ends = f.ends; written = writes ∙ ap (λ t. Some (xs ++ t)) f.printed }
+
+writes_front : (outcome : Outcome) (xs text : List ℕ) (after : Option (List ℕ)) → IsFrontOf outcome text → after ≡ Some (xs ++ text) → WritesFront xs outcome.printed after
+writes_front outcome xs text after front writes = record { front = text; rest = front.rest; parts = front.parts; written = writes }
+
+writes_by : (drivers : List Driver) (input : List ℕ) (status : Status) (text : List ℕ) (left : Option (List ℕ)) (xs : List ℕ) (after : Option (List ℕ)) → EndsRun drivers input status text left
+    → after ≡ Some (xs ++ text) → Writes (outcome_of drivers input) xs status after
+writes_by drivers input Done text left xs after f writes = writes_whole (outcome_of drivers input) Done xs text after f.finishes writes
+writes_by drivers input (Refused line why) text left xs after f writes = writes_whole (outcome_of drivers input) (Refused line why) xs text after f.finishes writes
+writes_by drivers input TooLong text left xs after f writes = writes_whole (outcome_of drivers input) TooLong xs text after f.finishes writes
+writes_by drivers input Usage text left xs after f writes = absurd f.finishes.end
+writes_by drivers input ReadFault text left xs after f writes = writes_front (outcome_of drivers input) xs text after f.begins writes
+writes_by drivers input WriteFault text left xs after f writes = writes_front (outcome_of drivers input) xs text after f writes
+writes_by drivers input Memory text left xs after f writes = writes_front (outcome_of drivers input) xs text after f writes
+
+pub run_writes : (drivers : List Driver) (input : List ℕ) (status : Status) (left before after : Option (List ℕ)) → Runs drivers input status left before after
+    → IfSome before (λ xs. Writes (outcome_of drivers input) xs status after)
+run_writes drivers input status left None after run = tt
+run_writes drivers input status left (Some xs) after run = writes_by drivers input status run.text left xs after run.ends run.writes
+
+status_by : (drivers : List Driver) (input : List ℕ) (status : Status) (text : List ℕ) (left : Option (List ℕ)) → EndsRun drivers input status text left → HasStatus (outcome_of drivers input) status
+status_by drivers input Done text left f = f.finishes.ends
+status_by drivers input (Refused line why) text left f = f.finishes.ends
+status_by drivers input TooLong text left f = f.finishes.ends
+status_by drivers input Usage text left f = f.finishes.ends
+status_by drivers input ReadFault text left f = tt
+status_by drivers input WriteFault text left f = tt
+status_by drivers input Memory text left f = tt
+
+pub run_status : (drivers : List Driver) (input : List ℕ) (status : Status) (left before after : Option (List ℕ)) → Runs drivers input status left before after → HasStatus (outcome_of drivers input) status
+run_status drivers input status left before after run = status_by drivers input status run.text left run.ends
+
+near_by : (drivers : List Driver) (input : List ℕ) (status : Status) (text : List ℕ) (left : Option (List ℕ)) → EndsRun drivers input status text left → TakesFor status input left
+near_by drivers input Done text left f = tt
+near_by drivers input (Refused line why) text left f = f.near
+near_by drivers input TooLong text left f = tt
+near_by drivers input Usage text left f = tt
+near_by drivers input ReadFault text left f = tt
+near_by drivers input WriteFault text left f = tt
+near_by drivers input Memory text left f = tt
+
+pub run_near : (drivers : List Driver) (input : List ℕ) (status : Status) (left before after : Option (List ℕ)) → Runs drivers input status left before after → TakesFor status input left
+run_near drivers input status left before after run = near_by drivers input status run.text left run.ends
+
+lines_by : (drivers : List Driver) (input : List ℕ) (left before after : Option (List ℕ)) → Runs drivers input ReadFault left before after → IfSome before (λ xs. WritesLines drivers input xs left after)
+lines_by drivers input left None after run = tt
+lines_by drivers input left (Some xs) after run =
+    record { count = run.ends.count; rest = run.ends.rest; written = run.writes ∙ ap (λ t. Some (xs ++ t)) run.ends.lines }
+
+pub run_lines : (drivers : List Driver) (input : List ℕ) (status : Status) (left before after : Option (List ℕ)) → status ≡ ReadFault → Runs drivers input status left before after
+    → IfSome before (λ xs. WritesLines drivers input xs left after)
+run_lines drivers input status left before after is run = lines_by drivers input left before after (subst (λ (x : Status). Runs drivers input x left before after) is run)

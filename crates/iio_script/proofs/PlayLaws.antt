@@ -1,29 +1,26 @@
 -- The lines of a script, one after another: what was printed so far, and what the lines behind print.
-use Rattle.std.proofs.Common.{◌≡◌, ℕ, ◌+◌, ◌||◌, Bool, true, false, cond, List, [], ◌∷◌, ◌++◌, length, Some, None, Ok, Err, nat_lt, refl, sym, ap, ◌∙◌, subst, arith, append_assoc}
+use Rattle.std.proofs.Common.{◌≡◌, ℕ, ◌+◌, ◌||◌, Bool, true, false, cond, List, [], ◌∷◌, ◌++◌, length, Some, None, Ok, Err, nat_lt, refl, sym, ap, ◌∙◌, subst, arith, append_assoc, append-nil}
 use Rattle.std.specs.Str.{bytes_eq}
 use Rattle.std.proofs.lemmas.List.{length-append}
 use Rattle.std.proofs.lemmas.List.Folds.{list_any-append}
 use Rattle.iio_text.specs.declared.refusals.Why.{Why}
-use Rattle.iio_text.specs.declared.refusals.Why.TheVariants.{Limit}
+use Rattle.iio_text.specs.declared.refusals.Why.TheVariants.{Limit, Long}
+use Rattle.iio_text.specs.Lines.{fits_line}
 use Rattle.iio_sensor.specs.Driver.{Driver}
 use Rattle.iio_desc.specs.Description.{Description}
 use Rattle.iio_device.specs.declared.plug.Plug.{Plug}
 use Rattle.iio_history.specs.Event.{Event}
 use Rattle.iio_history.specs.Outcome.{Outcome, only_ending, outcome_of_script}
 use Rattle.iio_history.specs.Registry.{Setup}
-use Rattle.iio_history.specs.Script.{Ending, Refused, Script, ending_text, first_step, is_known, keeps_names, max_names, names_after, script_from, step_of}
+use Rattle.iio_history.specs.Script.{Ending, Finished, Refused, Script, ending_text, first_step, is_known, keeps_names, max_names, names_after, script_from, script_text, step_of}
 use Rattle.iio_history.specs.Transcript.{Step, Feed, Fire, Poll, Handle, Sense, SetClock, Drop, Unplug, lines_of_step, transcript, with_step}
 use Rattle.iio_system.specs.declared.system.System.{System}
 use Rattle.iio_system.specs.Standing.{StandsFor, has_room, names_by, names_with}
 use Rattle.iio_script.specs.declared.status.Status.{Status}
 use Rattle.iio_script.specs.Ends.{Finishes, status_of}
+use Rattle.iio_script.specs.Plays.{AreSame, IsFrontOf, Plays, text_after}
 
 -- ---- names
-
--- the same names, in whatever order
-pub record AreSame (one other : List (List ℕ)) : Type 0 where
-  pub known : (name : List ℕ) → is_known one name ≡ is_known other name
-  pub count : length one ≡ length other
 
 same_room : (one other : List (List ℕ)) (name : List ℕ) → AreSame one other → has_room one name ≡ has_room other name
 same_room one other name same =
@@ -97,98 +94,119 @@ is_over desc ending names n line lines step said over = rw (said, over, script_f
 
 -- ---- a run that has come to a line
 
--- what a script prints after a history
-abbrev pub text_after : Setup → List Event → Script → List ℕ
-text_after s h script = transcript s h script.steps ++ ending_text script.ending
-
 module _ {X : Type 0} {V : X → Type 0} (driver : Plug X V → Driver) where
-  -- the system stands for the events so far, its names are those that were fed, and the lines from n on print what is left
-  -- of the whole
-  pub record Goes (s : Setup) (x : System X V) (out before : List ℕ) (whole : Outcome) (ending : Ending) (n : ℕ) (lines : List (List ℕ)) : Type 0 where
-    pub done : List Event
-    pub names : List (List ℕ)
-    pub stands : StandsFor driver s done x
-    pub same : AreSame names (names_by x)
-    pub printed : out ++ text_after s done (script_from s.desc ending names n lines) ≡ before ++ whole.printed
-    pub ends : (script_from s.desc ending names n lines).ending ≡ whole.ending
-
-  pub goes_first : (s : Setup) (x : System X V) (out : List ℕ) (ending : Ending) (n : ℕ) (lines : List (List ℕ)) → names_by x ≡ [] → StandsFor driver s [] x
-      → Goes s x out out (outcome_of_script s (script_from s.desc ending [] n lines)) ending n lines
-  goes_first s x out ending n lines none stands = record {
+  pub plays_first : (s : Setup) (x : System X V) (first : ℕ) → names_by x ≡ [] → StandsFor driver s [] x → Plays driver s x [] first first []
+  plays_first s x first none stands = record {
     done = [];
     names = [];
     stands = stands;
     same = subst (AreSame []) (sym none) (record { known = λ name. refl; count = refl });
-    printed = refl;
-    ends = refl;
+    printed = λ ending lines. refl;
+    ends = λ ending lines. refl;
   }
 
   -- a line that means nothing
-  pub goes_past : (s : Setup) (x : System X V) (out before : List ℕ) (whole : Outcome) (ending : Ending) (n : ℕ) (lines : List (List ℕ)) (line : List ℕ) (more : List (List ℕ))
-      → lines ≡ line ∷ more → step_of s.desc line ≡ Ok None → Goes s x out before whole ending n lines → Goes s x out before whole ending (n + 1) more
-  goes_past s x out before whole ending n lines line more is said goes =
-      let left : script_from s.desc ending goes.names n lines ≡ script_from s.desc ending goes.names (n + 1) more =
-      ap (script_from s.desc ending goes.names n) is ∙ means_nothing s.desc ending goes.names n line more said in
-      record {
-        done = goes.done;
-        names = goes.names;
-        stands = goes.stands;
-        same = goes.same;
-        printed = sym (ap (λ (script : Script). out ++ text_after s goes.done script) left) ∙ goes.printed;
-        ends = sym (ap (λ (script : Script). script.ending) left) ∙ goes.ends;
-      }
+  pub plays_past : (s : Setup) (x : System X V) (text : List ℕ) (first n : ℕ) (given : List (List ℕ)) (line : List ℕ) → step_of s.desc line ≡ Ok None
+      → Plays driver s x text first n given → Plays driver s x text first (n + 1) (given ++ line ∷ [])
+  plays_past s x text first n given line said plays = record {
+    done = plays.done;
+    names = plays.names;
+    stands = plays.stands;
+    same = plays.same;
+    printed = λ ending lines.
+        sym (ap (λ (script : Script). text ++ text_after s plays.done script) (means_nothing s.desc ending plays.names n line lines said)) ∙ plays.printed ending (line ∷ lines)
+        ∙ sym (ap (λ ls. script_text s (script_from s.desc ending [] first ls)) (append_assoc given (line ∷ []) lines));
+    ends = λ ending lines.
+        sym (ap (λ (script : Script). script.ending) (means_nothing s.desc ending plays.names n line lines said)) ∙ plays.ends ending (line ∷ lines)
+        ∙ sym (ap (λ ls. (script_from s.desc ending [] first ls).ending) (append_assoc given (line ∷ []) lines));
+  }
 
   -- a step that was made
-  pub goes_on : (s : Setup) (x x' : System X V) (out after before : List ℕ) (whole : Outcome) (ending : Ending) (n : ℕ) (lines : List (List ℕ)) (line : List ℕ) (more : List (List ℕ)) (step : Step)
-      → lines ≡ line ∷ more → step_of s.desc line ≡ Ok (Some step) → keeps_names (names_by x) (Some step) ≡ true
-      → ((h : List Event) → StandsFor driver s h x → (after ≡ out ++ lines_of_step s h step) × StandsFor driver s (with_step s h step) x')
+  pub plays_on : (s : Setup) (x x' : System X V) (text after : List ℕ) (first n : ℕ) (given : List (List ℕ)) (line : List ℕ) (step : Step)
+      → step_of s.desc line ≡ Ok (Some step) → keeps_names (names_by x) (Some step) ≡ true
+      → ((h : List Event) → StandsFor driver s h x → (after ≡ text ++ lines_of_step s h step) × StandsFor driver s (with_step s h step) x')
       → names_by x' ≡ names_with (names_by x) step
-      → Goes s x out before whole ending n lines → Goes s x' after before whole ending (n + 1) more
-  goes_on s x x' out after before whole ending n lines line more step is said kept makes fed goes =
-      let next : Script = script_from s.desc ending (names_after goes.names (Some step)) (n + 1) more in
-      let left : script_from s.desc ending goes.names n lines ≡ first_step (Some step) next =
-      ap (script_from s.desc ending goes.names n) is ∙ says_step s.desc ending goes.names n line more step said (same_kept goes.names (names_by x) step goes.same ∙ kept) in
-      let made = makes goes.done goes.stands in
-      let text : List ℕ = lines_of_step s goes.done step in
+      → Plays driver s x text first n given → Plays driver s x' after first (n + 1) (given ++ line ∷ [])
+  plays_on s x x' text after first n given line step said kept makes fed plays =
+      let made = makes plays.done plays.stands in
+      let lines_made : List ℕ = lines_of_step s plays.done step in
+      let keeps : keeps_names plays.names (Some step) ≡ true = same_kept plays.names (names_by x) step plays.same ∙ kept in
       record {
-        done = with_step s goes.done step;
-        names = names_after goes.names (Some step);
+        done = with_step s plays.done step;
+        names = names_after plays.names (Some step);
         stands = made.1;
-        same = subst (AreSame (names_after goes.names (Some step))) (sym fed) (same_after goes.names (names_by x) step goes.same);
-        printed = ap (λ (o : List ℕ). o ++ text_after s (with_step s goes.done step) next) made.0
-            ∙ append_assoc out text (text_after s (with_step s goes.done step) next)
-            ∙ ap (λ (ls : List ℕ). out ++ ls) (sym (append_assoc text (transcript s (with_step s goes.done step) next.steps) (ending_text next.ending)))
-            ∙ sym (ap (λ (script : Script). out ++ text_after s goes.done script) left)
-            ∙ goes.printed;
-        ends = sym (ap (λ (script : Script). script.ending) left) ∙ goes.ends;
+        same = subst (AreSame (names_after plays.names (Some step))) (sym fed) (same_after plays.names (names_by x) step plays.same);
+        printed = λ ending lines.
+            let next : Script = script_from s.desc ending (names_after plays.names (Some step)) (n + 1) lines in
+            ap (λ (o : List ℕ). o ++ text_after s (with_step s plays.done step) next) made.0
+            ∙ append_assoc text lines_made (text_after s (with_step s plays.done step) next)
+            ∙ ap (λ (ls : List ℕ). text ++ ls) (sym (append_assoc lines_made (transcript s (with_step s plays.done step) next.steps) (ending_text next.ending)))
+            ∙ sym (ap (λ (script : Script). text ++ text_after s plays.done script) (says_step s.desc ending plays.names n line lines step said keeps))
+            ∙ plays.printed ending (line ∷ lines)
+            ∙ sym (ap (λ ls. script_text s (script_from s.desc ending [] first ls)) (append_assoc given (line ∷ []) lines));
+        ends = λ ending lines.
+            sym (ap (λ (script : Script). script.ending) (says_step s.desc ending plays.names n line lines step said keeps)) ∙ plays.ends ending (line ∷ lines)
+            ∙ sym (ap (λ ls. (script_from s.desc ending [] first ls).ending) (append_assoc given (line ∷ []) lines));
       }
 
   -- ---- the end
 
-  ends_with : (s : Setup) (x : System X V) (out after before : List ℕ) (whole : Outcome) (ending last : Ending) (n : ℕ) (lines : List (List ℕ)) (status : Status)
-      → (goes : Goes s x out before whole ending n lines) → script_from s.desc ending goes.names n lines ≡ record { steps = []; ending = last }
-      → Finishes (only_ending last) status out after → Finishes whole status before after
-  ends_with s x out after before whole ending last n lines status goes left f = record {
+  ends_with : (s : Setup) (x : System X V) (text after : List ℕ) (first n : ℕ) (given lines : List (List ℕ)) (ending last : Ending) (status : Status)
+      → (plays : Plays driver s x text first n given) → script_from s.desc ending plays.names n lines ≡ record { steps = []; ending = last }
+      → Finishes (only_ending last) status text after → Finishes (outcome_of_script s (script_from s.desc ending [] first (given ++ lines))) status [] after
+  ends_with s x text after first n given lines ending last status plays left f = record {
     end = f.end;
-    ends = f.ends ∙ ap status_of (sym (ap (λ (script : Script). script.ending) left) ∙ goes.ends);
-    printed = f.printed ∙ sym (ap (λ (script : Script). out ++ text_after s goes.done script) left) ∙ goes.printed;
+    ends = f.ends ∙ ap status_of (sym (ap (λ (script : Script). script.ending) left) ∙ plays.ends ending lines);
+    printed = f.printed ∙ sym (ap (λ (script : Script). text ++ text_after s plays.done script) left) ∙ plays.printed ending lines;
   }
 
-  pub ends_last : (s : Setup) (x : System X V) (out after before : List ℕ) (whole : Outcome) (ending : Ending) (n : ℕ) (lines : List (List ℕ)) (status : Status)
-      → lines ≡ [] → Goes s x out before whole ending n lines → Finishes (only_ending ending) status out after → Finishes whole status before after
-  ends_last s x out after before whole ending n lines status none goes f =
-      ends_with s x out after before whole ending ending n lines status goes (ap (script_from s.desc ending goes.names n) none) f
+  pub plays_last : (s : Setup) (x : System X V) (text after : List ℕ) (first n : ℕ) (given : List (List ℕ)) (ending : Ending) (status : Status)
+      → Plays driver s x text first n given → Finishes (only_ending ending) status text after
+      → Finishes (outcome_of_script s (script_from s.desc ending [] first given)) status [] after
+  plays_last s x text after first n given ending status plays f =
+      subst (λ (ls : List (List ℕ)). Finishes (outcome_of_script s (script_from s.desc ending [] first ls)) status [] after) (append-nil given)
+      (ends_with s x text after first n given [] ending ending status plays refl f)
 
-  pub ends_refused : (s : Setup) (x : System X V) (out after before : List ℕ) (whole : Outcome) (ending : Ending) (n : ℕ) (lines : List (List ℕ)) (line : List ℕ) (more : List (List ℕ)) (why : Why) (status : Status)
-      → lines ≡ line ∷ more → step_of s.desc line ≡ Err why → Goes s x out before whole ending n lines
-      → Finishes (only_ending (Refused n why)) status out after → Finishes whole status before after
-  ends_refused s x out after before whole ending n lines line more why status is said goes f =
-      ends_with s x out after before whole ending (Refused n why) n lines status goes
-      (ap (script_from s.desc ending goes.names n) is ∙ is_refused s.desc ending goes.names n line more why said) f
+  pub plays_refused : (s : Setup) (x : System X V) (text after : List ℕ) (first n : ℕ) (given : List (List ℕ)) (line : List ℕ) (lines : List (List ℕ)) (why : Why) (ending : Ending) (status : Status)
+      → step_of s.desc line ≡ Err why → Plays driver s x text first n given → Finishes (only_ending (Refused n why)) status text after
+      → Finishes (outcome_of_script s (script_from s.desc ending [] first (given ++ line ∷ lines))) status [] after
+  plays_refused s x text after first n given line lines why ending status said plays f =
+      ends_with s x text after first n given (line ∷ lines) ending (Refused n why) status plays (is_refused s.desc ending plays.names n line lines why said) f
 
-  pub ends_over : (s : Setup) (x : System X V) (out after before : List ℕ) (whole : Outcome) (ending : Ending) (n : ℕ) (lines : List (List ℕ)) (line : List ℕ) (more : List (List ℕ)) (step : Step) (status : Status)
-      → lines ≡ line ∷ more → step_of s.desc line ≡ Ok (Some step) → keeps_names (names_by x) (Some step) ≡ false → Goes s x out before whole ending n lines
-      → Finishes (only_ending (Refused n Limit)) status out after → Finishes whole status before after
-  ends_over s x out after before whole ending n lines line more step status is said over goes f =
-      ends_with s x out after before whole ending (Refused n Limit) n lines status goes
-      (ap (script_from s.desc ending goes.names n) is ∙ is_over s.desc ending goes.names n line more step said (same_kept goes.names (names_by x) step goes.same ∙ over)) f
+  pub plays_over : (s : Setup) (x : System X V) (text after : List ℕ) (first n : ℕ) (given : List (List ℕ)) (line : List ℕ) (lines : List (List ℕ)) (step : Step) (ending : Ending) (status : Status)
+      → step_of s.desc line ≡ Ok (Some step) → keeps_names (names_by x) (Some step) ≡ false → Plays driver s x text first n given
+      → Finishes (only_ending (Refused n Limit)) status text after
+      → Finishes (outcome_of_script s (script_from s.desc ending [] first (given ++ line ∷ lines))) status [] after
+  plays_over s x text after first n given line lines step ending status said over plays f =
+      ends_with s x text after first n given (line ∷ lines) ending (Refused n Limit) status plays
+      (is_over s.desc ending plays.names n line lines step said (same_kept plays.names (names_by x) step plays.same ∙ over)) f
+
+  -- a line that is too long
+  pub plays_long : (s : Setup) (x : System X V) (text after : List ℕ) (first n : ℕ) (given : List (List ℕ)) (line : List ℕ) (lines : List (List ℕ)) (ending : Ending) (status : Status)
+      → fits_line line ≡ false → Plays driver s x text first n given → Finishes (only_ending (Refused n Long)) status text after
+      → Finishes (outcome_of_script s (script_from s.desc ending [] first (given ++ line ∷ lines))) status [] after
+  plays_long s x text after first n given line lines ending status long plays f =
+      plays_refused s x text after first n given line lines Long ending status (rw long refl) plays f
+
+  -- what was printed is a front part of what any script prints that goes on so
+  pub plays_front : (s : Setup) (x : System X V) (text : List ℕ) (first n : ℕ) (given lines : List (List ℕ)) (ending : Ending) → Plays driver s x text first n given
+      → IsFrontOf (outcome_of_script s (script_from s.desc ending [] first (given ++ lines))) text
+  plays_front s x text first n given lines ending plays = record {
+    rest = text_after s plays.done (script_from s.desc ending plays.names n lines);
+    parts = sym (plays.printed ending lines);
+  }
+
+  -- and all that its lines print
+  pub plays_all : (s : Setup) (x : System X V) (text : List ℕ) (first n : ℕ) (given : List (List ℕ)) → Plays driver s x text first n given
+      → text ≡ script_text s (script_from s.desc Finished [] first given)
+  plays_all s x text first n given plays =
+      sym (append-nil text) ∙ plays.printed Finished [] ∙ ap (λ ls. script_text s (script_from s.desc Finished [] first ls)) (append-nil given)
+
+-- ---- what was written before
+
+pub behind_sent : (sent before after : List ℕ) (outcome : Outcome) (status : Status) → Finishes outcome status before after → Finishes outcome status (sent ++ before) (sent ++ after)
+behind_sent sent before after outcome status f = record {
+  end = f.end;
+  ends = f.ends;
+  printed = ap (λ t. sent ++ t) f.printed ∙ sym (append_assoc sent before outcome.printed);
+}

@@ -1,5 +1,5 @@
 -- How a run ends, and what it has written then. (This project's own.)
-use Rattle.std.specs.Prelude.{◌≡◌, ℕ, ◌≤◌, List, ◌++◌, Option, Some, None, IfNone}
+use Rattle.std.specs.Prelude.{◌≡◌, ℕ, ◌≤◌, List, ◌++◌, Option, Some, None, IfNone, IfSome}
 use Rattle.iio_base.specs.Faults.{Rose}
 use Rattle.iio_history.specs.Script.{Ending}
 use Rattle.iio_history.specs.Script as ending
@@ -63,3 +63,9 @@ pub record ShowsFaults {S K : Type 0} (left : S → Option (List ℕ)) (reads : 
   pub memory : status ≡ Memory → (reads source' ≡ reads source) × (writes sink' ≡ writes sink)
   pub counted : (reads source ≤ reads source') × (writes sink ≤ writes sink')
   pub silent : (IfNone (left source) (left source' ≡ None)) × (IfNone (written sink) (written sink' ≡ None))
+
+-- of the bytes `kept` a front part was written, and `rest` is left
+pub record Sends (before after : Option (List ℕ)) (kept rest : List ℕ) : Type 0 where
+  pub sent : List ℕ
+  pub parts : kept ≡ sent ++ rest
+  pub writes : IfSome before (λ xs. after ≡ Some (xs ++ sent))

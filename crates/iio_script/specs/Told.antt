@@ -1,20 +1,79 @@
 -- What the head of an input was read as.
-use Rattle.std.specs.Prelude.{ℕ, ◌+◌, ◌^◌, ◌<◌, length}
+use Rattle.std.specs.Prelude.{◌≡◌, ℕ, ◌+◌, ◌≤◌, Bool, true, false, List, [], ◌++◌, length, take, drop, Option, Some}
 use Rattle.iio_text.specs.Lines.{lines_of}
 use Rattle.iio_desc.specs.declared.reader.DescFault.TheVariants.{Line}
+use Rattle.iio_desc.specs.Description.{Description}
+use Rattle.iio_desc.specs.DescReader.{new_reader}
 use Rattle.iio_desc.specs.WellFormed.{IsWellFormed}
-use Rattle.iio_history.specs.Outcome.{Head, Cut, Described, Faulty}
+use Rattle.iio_history.specs.Input.{ended_part, is_overlong}
+use Rattle.iio_history.specs.Outcome.{Head, Cut, Described, Faulty, head_from, head_of}
+use Rattle.iio_script.specs.LineReader.{Follows, Hand, TakesNear}
 use Rattle.iio_script.specs.declared.opening.Opening.{Opening}
 use Rattle.iio_script.specs.declared.opening.Opening.TheVariants as read
 
--- what it says
-abbrev pub told : Opening → Head
-told (read.Described desc first script) = Described desc first (lines_of script.now)
-told (read.Refused line why) = Faulty (Line line why)
-told read.Cut = Cut
+-- what it says, where these lines stand behind it, and that line is the next
+abbrev pub told : ℕ → List (List ℕ) → Opening → Head
+told next more (read.Described desc first) = Described desc first more
+told next more (read.Alone desc) = Described desc next []
+told next more (read.Refused line why) = Faulty (Line line why)
+told next more read.Cut = Cut
 
--- the description is well formed with so many drivers, and the numbers of the lines after it have 32 bits
+-- the description is well formed with so many drivers
 abbrev pub IsSoundOpening : ℕ → Opening → Type 0
-IsSoundOpening drivers (read.Described desc first script) = IsWellFormed drivers desc × (first + length script.now < 2 ^ 32)
+IsSoundOpening drivers (read.Described desc first) = IsWellFormed drivers desc
+IsSoundOpening drivers (read.Alone desc) = IsWellFormed drivers desc
 IsSoundOpening drivers (read.Refused line why) = Unit {0}
 IsSoundOpening drivers read.Cut = Unit {0}
+
+-- a refusal is of that line
+abbrev pub IsRefusedAt : ℕ → Opening → Type 0
+IsRefusedAt number (read.Refused line why) = line ≡ number
+IsRefusedAt number opening = Unit {0}
+
+-- an opening that a line ended, or that none did
+abbrev pub IsEnded : ℕ → Opening → Type 0
+IsEnded number (read.Described desc first) = first ≡ number + 1
+IsEnded number (read.Alone desc) = ⊥
+IsEnded number opening = Unit {0}
+
+abbrev pub IsUnended : Opening → Type 0
+IsUnended (read.Described desc first) = ⊥
+IsUnended opening = Unit {0}
+
+-- a line ended the description: whatever stands behind the lines that were given is its script
+pub record EndsAt (drivers : ℕ) (desc : Description) (first : ℕ) (input : List ℕ) (h : Hand) (left : Option (List ℕ)) : Type 0 where
+  pub front : List (List ℕ)
+  pub follows : Follows input front h left
+  pub next : first ≡ length front + 1
+  pub head : (overlong : Bool) (more : List (List ℕ)) → head_from overlong (new_reader drivers) 1 (front ++ more) ≡ Described desc first more
+  pub behind : List (List ℕ)
+  pub whole : head_of drivers input ≡ Described desc first behind
+
+-- the input's end ended it
+pub record EndsAlone (drivers : ℕ) (desc : Description) (input : List ℕ) : Type 0 where
+  pub next : ℕ
+  pub head : head_of drivers input ≡ Described desc next []
+  pub short : is_overlong input ≡ false
+
+-- a line of it is refused, and not much more was taken
+pub record RefusesAt (drivers : ℕ) (opening : Opening) (line : ℕ) (input : List ℕ) (left : Option (List ℕ)) : Type 0 where
+  pub head : head_of drivers input ≡ told 0 [] opening
+  pub near : TakesNear line input left
+
+-- what was read of an input whose description may use so many drivers
+abbrev pub Opens : ℕ → Opening → (input : List ℕ) → Hand → (left : Option (List ℕ)) → Type 0
+Opens drivers (read.Described desc first) input h left = EndsAt drivers desc first input h left
+Opens drivers (read.Alone desc) input h left = EndsAlone drivers desc input
+Opens drivers (read.Refused line why) input h left = RefusesAt drivers (read.Refused line why) line input left
+Opens drivers read.Cut input h left = head_of drivers input ≡ Cut
+
+-- the lines behind a description have numbers within what was taken
+abbrev pub StartsAt : Opening → Hand → Type 0
+StartsAt (read.Described desc first) h = first ≤ h.given + 1
+StartsAt opening h = Unit {0}
+
+-- a read failed before the description's end: none of the whole lines of what was taken ends it, and none is refused
+pub record FailsWithin (drivers : ℕ) (input : List ℕ) (left : Option (List ℕ)) : Type 0 where
+  pub count : ℕ
+  pub rest : left ≡ Some (drop count input)
+  pub head : head_from true (new_reader drivers) 1 (lines_of (ended_part (take count input))) ≡ Cut

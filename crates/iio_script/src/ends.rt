@@ -1,10 +1,11 @@
 //! How a run ends, and what it has printed and written then.
 
-ghost use Rattle.std.specs.Prelude.{◌≡◌, ◌≤◌, [], None, IfOk, IfSome, IfNone, OnErr};
+ghost use Rattle.std.specs.Prelude.{◌≡◌, ◌⊎◌, ◌≤◌, [], ℕ, List, None, IfOk, IfErr, IfNone, OnErr, OnOk};
 ghost use Rattle.iio_base.specs.Faults.{Rose};
 ghost use Rattle.iio_history.specs.Outcome.{Outcome, last_ending, only_ending};
-ghost use Rattle.iio_history.specs.Script.{Refused, ending_text};
-ghost use Rattle.iio_script.specs.Ends.{HasStatus, IsEnd, Finishes, Writes};
+ghost use Rattle.iio_history.specs.Script.{Refused, TooLong, ending_text};
+ghost use Rattle.iio_script.specs.Ends.{Finishes, Sends};
+ghost use Rattle.iio_script.specs.Plays.{EndsWriting, IsRefusedOr, Prints, WritesText};
 
 use crate::digits::push_digits;
 use crate::status::Status;
@@ -48,21 +49,70 @@ pub fn push_end(out: &mut Vec<u8>, overlong: bool) -> Result<Status, Mem>
     Ok(Status::Done)
 }
 
-/// Writes what a run printed that ended so.
-pub fn write_out<K: Sink>(output: &mut K, printed: &[u8], status: Status) -> Status
-    requires { IsEnd status }
-    ensures written { (outcome : Outcome) → Finishes outcome status [] printed.now
-        → IfSome (K.written output.old) (λ written. Writes outcome written result (K.written output.new)) }
-    ensures status { (outcome : Outcome) → Finishes outcome status [] printed.now → HasStatus outcome result }
-    ensures read_fault { result ≡ Status.ReadFault → ⊥ }
-    ensures write_fault { result ≡ Status.WriteFault → Rose (K.faults output.old) (K.faults output.new) }
-    ensures words { result ≡ Status.Usage → ⊥ }
-    ensures memory { result ≡ Status.Memory → ⊥ }
+/// Writes what a run has printed and not written yet. Where a write fails, a front part of it was written.
+pub fn write_out<K: Sink>(output: &mut K, printed: &mut Vec<u8>) -> Result<(), Status>
+    ensures whole { OnOk result (Sends (K.written output.old) (K.written output.new) printed.old.items []) }
+    ensures none_left { OnOk result (printed.new.items ≡ []) }
+    ensures part { OnErr result ((rest : List ℕ) × Sends (K.written output.old) (K.written output.new) printed.old.items rest) }
+    ensures fault { OnErr result (Rose (K.faults output.old) (K.faults output.new)) }
+    ensures err { IfErr result (λ status. status ≡ Status.WriteFault) }
     ensures counted { K.faults output.old ≤ K.faults output.new }
+    ensures steady { OnOk result (K.faults output.new ≡ K.faults output.old) }
     ensures silent { IfNone (K.written output.old) (K.written output.new ≡ None) }
 {
     match write_whole(output, printed) {
+        Ok(()) => {
+            printed.clear();
+            Ok(())
+        }
+        Err(_) => Err(Status::WriteFault),
+    }
+}
+
+/// Writes what is kept at a run's end, whose status that is.
+pub fn end_with<K: Sink>(output: &mut K, kept: &mut Vec<u8>, status: Status) -> Status
+    ensures writes { EndsWriting status result (K.written output.old) (K.written output.new) kept.old.items }
+    ensures prints { (outcome : Outcome) → Finishes outcome status [] kept.old.items
+        → (text : List ℕ) × WritesText (K.written output.old) (K.written output.new) text × Prints outcome result text }
+    ensures fault { result ≡ Status.WriteFault → status ≡ Status.WriteFault ⊎ Rose (K.faults output.old) (K.faults output.new) }
+    ensures steady { (result ≡ Status.WriteFault → ⊥) → K.faults output.new ≡ K.faults output.old }
+    ensures counted { K.faults output.old ≤ K.faults output.new }
+    ensures silent { IfNone (K.written output.old) (K.written output.new ≡ None) }
+{
+    match write_out(output, kept) {
         Ok(()) => status,
-        Err(_) => Status::WriteFault,
+        Err(fault) => fault,
+    }
+}
+
+/// Prints the end at a refused line, where nothing was printed before.
+pub fn end_refused<K: Sink>(alloc: Global, output: &mut K, line: u32, why: Why) -> Status
+    ensures prints { (text : List ℕ) × WritesText (K.written output.old) (K.written output.new) text × Prints (only_ending (Refused line why)) result text }
+    ensures refused { IsRefusedOr line result }
+    ensures write_fault { result ≡ Status.WriteFault → Rose (K.faults output.old) (K.faults output.new) }
+    ensures memory { result ≡ Status.Memory → K.faults output.new ≡ K.faults output.old }
+    ensures counted { K.faults output.old ≤ K.faults output.new }
+    ensures silent { IfNone (K.written output.old) (K.written output.new ≡ None) }
+{
+    let mut kept = Vec::new(alloc);
+    match push_refused(alloc, &mut kept, line, why) {
+        Ok(status) => end_with(output, &mut kept, status),
+        Err(Mem) => Status::Memory,
+    }
+}
+
+/// Prints the end of what is looked at, where nothing was printed before.
+pub fn end_cut<K: Sink>(alloc: Global, output: &mut K) -> Status
+    ensures prints { (text : List ℕ) × WritesText (K.written output.old) (K.written output.new) text × Prints (only_ending TooLong) result text }
+    ensures refused { IsRefusedOr 0 result }
+    ensures write_fault { result ≡ Status.WriteFault → Rose (K.faults output.old) (K.faults output.new) }
+    ensures memory { result ≡ Status.Memory → K.faults output.new ≡ K.faults output.old }
+    ensures counted { K.faults output.old ≤ K.faults output.new }
+    ensures silent { IfNone (K.written output.old) (K.written output.new ≡ None) }
+{
+    let mut kept = Vec::new(alloc);
+    match push_end(&mut kept, true) {
+        Ok(status) => end_with(output, &mut kept, status),
+        Err(Mem) => Status::Memory,
     }
 }

@@ -3,7 +3,7 @@
 
 mod digits;
 mod ends;
-mod input;
+mod line_reader;
 mod opening;
 mod outline;
 mod script;
@@ -12,10 +12,10 @@ mod step;
 mod step_word;
 
 pub use digits::push_digits;
-pub use ends::{push_end, push_refused, write_out};
+pub use ends::{end_cut, end_refused, end_with, push_refused};
 pub use iio_base::Mem;
 pub use iio_text::LineFault as StepFault;
-pub use input::INPUT_LIMIT;
+pub use line_reader::LineReader;
 pub use opening::{Opening, open};
 pub use script::play;
 pub use status::Status;

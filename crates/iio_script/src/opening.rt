@@ -1,86 +1,108 @@
 //! The description at the head of an input.
 
-ghost use Rattle.std.specs.Prelude.{◌≡◌, ◌+◌, ◌^◌, ◌≤◌, ◌<◌, [], IfOk, List, ℕ, length, take};
-ghost use Rattle.iio_text.specs.Lines.{lines_of};
-ghost use Rattle.iio_desc.specs.DescReader.{drivers_of, ended_by, finished, new_reader};
-ghost use Rattle.iio_history.specs.Input.{input_limit};
-ghost use Rattle.iio_history.specs.Outcome.{described, head_from, head_of};
-ghost use Rattle.iio_script.specs.Told.{told, IsSoundOpening};
+ghost use Rattle.std.specs.Prelude.{◌≡◌, ◌+◌, ◌^◌, ◌≤◌, ◌<◌, [], None, Err, IfErr, IfOk, IfSome, IfNone, IsOk, List, ℕ, length};
+ghost use Rattle.iio_base.specs.Faults.{Rose};
+ghost use Rattle.iio_desc.specs.DescReader.{drivers_of, ended_by, finished, line_count, new_reader};
+ghost use Rattle.iio_history.specs.Outcome.{described};
+ghost use Rattle.iio_script.specs.LineReader.{IsHand, TakesBlocks, empty_hand};
+ghost use Rattle.iio_script.specs.Told.{FailsWithin, IsEnded, IsRefusedAt, IsSoundOpening, IsUnended, Opens, StartsAt, told};
 
-use crate::input::{is_overlong, looked_part};
-use iio_base::Mem;
+use crate::line_reader::{Found, LineReader};
 use iio_desc::{Desc, DescFault, DescReader, is_end};
-use iio_text::{Why, next_line};
+use iio_io::{ReadEnd, Source};
+use iio_text::Why;
 use std::alloc::Global;
 
 /// What the lines up to the end of a description say.
 #[derive(Drop)]
-pub enum Opening<'a> {
-    /// A description, and the text after it, whose first line has that number.
-    Described {
-        desc: Desc,
-        first: u32,
-        script: &'a [u8],
-    },
+pub enum Opening {
+    /// A description that a line ends. The line after it has that number.
+    Described { desc: Desc, first: u32 },
+    /// A description that the input's end ends.
+    Alone { desc: Desc },
     /// The line of that number, counted from 1, is refused.
-    Refused {
-        line: u32,
-        why: Why,
-    },
+    Refused { line: u32, why: Why },
     /// The lines that are looked at end before the description, and the input goes on.
     Cut,
 }
 
-// The description that a line ends.
-fn end_at<'a>(
-    reader: DescReader,
-    line: &[u8],
-    number: u32,
-    script: &'a [u8],
-) -> Result<Opening<'a>, Mem>
-    requires { number + length script.now + 1 < 2 ^ 32 }
-    ensures opening { IfOk result (λ opening. told opening ≡ described (number + 1) (lines_of script.now) (ended_by reader line.now)) }
+// The description that a line of that number ends.
+fn end_at(reader: DescReader, line: &[u8], number: u32) -> Result<Opening, ReadEnd>
+    requires reading { IsOk reader }
+    requires lines { line_count reader + 1 ≡ number }
+    requires few { number + 1 < 2 ^ 32 }
+    ensures opening { IfOk result (λ opening. (more : List (List ℕ)) → told number more opening ≡ described (number + 1) more (ended_by reader line.now)) }
+    ensures refused { IfOk result (IsRefusedAt number) }
+    ensures ended { IfOk result (IsEnded number) }
     ensures sound { IfOk result (IsSoundOpening (drivers_of reader)) }
+    ensures memory { IfErr result (λ e. e ≡ ReadEnd.Mem) }
 {
     match reader.end(line) {
         Ok(desc) => Ok(Opening::Described {
             desc,
             first: number + 1,
-            script,
         }),
         Err(DescFault::Line { number, why }) => Ok(Opening::Refused { line: number, why }),
-        Err(DescFault::Mem) => Err(Mem),
+        Err(DescFault::Mem) => Err(ReadEnd::Mem),
     }
 }
 
 // The description that the input's end ends.
-fn end_after<'a>(reader: DescReader, number: u32) -> Result<Opening<'a>, Mem>
-    ensures opening { IfOk result (λ opening. told opening ≡ described number [] (finished reader)) }
+fn end_after(reader: DescReader) -> Result<Opening, ReadEnd>
+    requires reading { IsOk reader }
+    ensures opening { IfOk result (λ opening. (next : ℕ) (more : List (List ℕ)) → told next more opening ≡ described next [] (finished reader)) }
+    ensures refused { IfOk result (IsRefusedAt (line_count reader + 1)) }
+    ensures unended { IfOk result IsUnended }
     ensures sound { IfOk result (IsSoundOpening (drivers_of reader)) }
+    ensures memory { IfErr result (λ e. e ≡ ReadEnd.Mem) }
 {
     match reader.finish() {
-        Ok(desc) => Ok(Opening::Described {
-            desc,
-            first: number,
-            script: &[],
-        }),
+        Ok(desc) => Ok(Opening::Alone { desc }),
         Err(DescFault::Line { number, why }) => Ok(Opening::Refused { line: number, why }),
-        Err(DescFault::Mem) => Err(Mem),
+        Err(DescFault::Mem) => Err(ReadEnd::Mem),
     }
 }
 
-// The description of a text of which all lines are looked at.
-fn open_lines(alloc: Global, text: &[u8], overlong: bool, drivers: u32) -> Result<Opening<'_>, Mem>
-    requires { length text.now ≤ 2 ^ 27 }
-    ensures opening { IfOk result (λ opening. told opening ≡ head_from overlong (new_reader drivers) 1 (lines_of text.now)) }
+/// Reads the description at the head of the input that a source has left, which may use as many drivers as are handed in.
+/// The line behind it is the reader's next.
+pub fn open<S: Source>(
+    alloc: Global,
+    lines: &mut LineReader,
+    source: &mut S,
+    drivers: u32,
+) -> Result<Opening, ReadEnd>
+    requires { lines.old ≡ empty_hand }
+    ensures opening { IfOk result (λ opening. IfSome (S.left source.old) (λ input. Opens drivers opening input lines.new (S.left source.new))) }
+    ensures fault { result ≡ Err ReadEnd.Failed → IfSome (S.left source.old) (λ input. FailsWithin drivers input (S.left source.new)) }
+    ensures taken { IfSome (S.left source.old) (λ input. TakesBlocks input (S.left source.new)) }
     ensures sound { IfOk result (IsSoundOpening drivers) }
+    ensures starts { IfOk result (λ opening. StartsAt opening lines.new) }
+    ensures hand { IsHand lines.new }
+    ensures silent { IfNone (S.left source.old) (S.left source.new ≡ None) }
+    ensures counted { S.faults source.old ≤ S.faults source.new }
+    ensures failed { result ≡ Err ReadEnd.Failed → Rose (S.faults source.old) (S.faults source.new) }
+    ensures memory { result ≡ Err ReadEnd.Mem → S.faults source.new ≡ S.faults source.old }
+    ensures steady { IfOk result (λ _. S.faults source.new ≡ S.faults source.old) }
 {
-    let mut reader = DescReader::new(alloc, drivers)?;
-    let mut rest = text;
+    let Ok(mut reader) = DescReader::new(alloc, drivers) else {
+        return Err(ReadEnd::Mem);
+    };
     let mut number = 1;
-    while let Some((line, more)) = next_line(rest) {
+    loop {
+        match lines.find(source)? {
+            Found::Line => {}
+            Found::Long => return Ok(Opening::Refused {
+                line: number,
+                why: Why::Long,
+            }),
+            Found::End => return end_after(reader),
+            Found::Cut => return Ok(Opening::Cut),
+        }
+        let line = lines.line();
         if is_end(line) {
-            return end_at(reader, line, number, more);
+            let opening = end_at(reader, line, number)?;
+            lines.pass();
+            return Ok(opening);
         }
         match reader.line(line) {
             Ok(()) => {}
@@ -88,24 +110,9 @@ fn open_lines(alloc: Global, text: &[u8], overlong: bool, drivers: u32) -> Resul
                 line: number,
                 why,
             }),
-            Err(DescFault::Mem) => return Err(Mem),
+            Err(DescFault::Mem) => return Err(ReadEnd::Mem),
         }
-        rest = more;
+        lines.pass();
         number += 1;
     }
-    if overlong {
-        return Ok(Opening::Cut);
-    }
-    end_after(reader, number)
-}
-
-/// Reads the description at the head of an input, which may use as many drivers as are handed in. What stands after it isn't
-/// looked at. Of a longer input the first 67,108,865 bytes are enough.
-pub fn open(alloc: Global, input: &[u8], drivers: u32) -> Result<Opening<'_>, Mem>
-    requires { length input.now ≤ input_limit + 1 }
-    ensures opening { IfOk result (λ opening. told opening ≡ head_of drivers input.now) }
-    ensures front { IfOk result (λ opening. (whole : List ℕ) → input.now ≡ take (input_limit + 1) whole → told opening ≡ head_of drivers whole) }
-    ensures sound { IfOk result (IsSoundOpening drivers) }
-{
-    open_lines(alloc, looked_part(input), is_overlong(input), drivers)
 }

@@ -1,22 +1,25 @@
 //! Playing an input: its description, and then its steps.
 
-ghost use Rattle.std.specs.Prelude.{◌≡◌, ◌+◌, ◌^◌, ◌≤◌, ◌<◌, [], IfOk, IfSome, Some, length, map};
+ghost use Rattle.std.specs.Prelude.{◌≡◌, ◌+◌, ◌*◌, ◌^◌, ◌≤◌, ◌<◌, [], ◌∷◌, ◌++◌, ℕ, Err, IfErr, IfOk, IfSome, IfNone, None, Some, List, OnErr, OnOk, Option, length, map};
+ghost use Rattle.iio_base.specs.Faults.{Rose};
 ghost use Rattle.iio_io.specs.Bytes.{TakesAtMost};
-ghost use Rattle.iio_text.specs.Lines.{lines_of};
 ghost use Rattle.iio_desc.specs.WellFormed.{IsWellFormed};
 ghost use Rattle.iio_device.specs.declared.plug.Plug.TheVariants.{Given};
-ghost use Rattle.iio_history.specs.Input.{input_limit};
+ghost use Rattle.iio_history.specs.Input.{input_limit, is_overlong, looked_lines};
 ghost use Rattle.iio_history.specs.Outcome.{last_ending, outcome_of, outcome_of_script};
 ghost use Rattle.iio_history.specs.Registry.{Setup};
 ghost use Rattle.iio_history.specs.Script.{keeps_names, script_from};
 ghost use Rattle.iio_system.specs.Bench.{front_of};
 ghost use Rattle.iio_system.specs.Standing.{StandsFor, names_by};
 ghost use Rattle.iio_system.specs.Step.{step_view};
-ghost use Rattle.iio_script.specs.Ends.{HasStatus, Finishes, ShowsFaults, Writes};
+ghost use Rattle.iio_script.specs.Ends.{HasStatus, Sends, ShowsFaults, Writes};
+ghost use Rattle.iio_script.specs.LineReader.{Follows, IsHand};
 ghost use Rattle.iio_script.specs.Outline.{FindsSame};
+ghost use Rattle.iio_script.specs.Taken.{Runs, WritesLines};
+ghost use Rattle.iio_script.specs.Plays.{EndsScript, EndsSteps, IsOver, IsRefusedWith, Plays, PlaysLine, TakesFor, WritesText};
 
-use crate::ends::{push_end, push_refused, write_out};
-use crate::input::{INPUT_LIMIT, is_overlong};
+use crate::ends::{end_cut, end_refused, end_with, push_end, push_refused, write_out};
+use crate::line_reader::{Found, LineReader};
 use crate::opening::{Opening, open};
 use crate::outline::outline;
 use crate::status::Status;
@@ -24,11 +27,14 @@ use crate::step::read_step;
 use iio_base::Mem;
 use iio_desc::Desc;
 use iio_device::Plug;
-use iio_io::{ReadEnd, Sink, Source, read_whole};
+use iio_io::{ReadEnd, Sink, Source};
 use iio_sensor::Sensor;
 use iio_system::{Step, System};
-use iio_text::{LineFault, Why, next_line};
+use iio_text::{LineFault, Why};
 use std::alloc::Global;
+
+// The most bytes that are kept back where no read comes between.
+const KEPT: usize = 65_536;
 
 // Whether a step keeps to the number of names.
 fn takes(system: &System, step: &Step) -> bool
@@ -40,115 +46,212 @@ fn takes(system: &System, step: &Step) -> bool
     }
 }
 
-// The steps of a script from a line on, at a core before the first step. `names` finds what its description finds.
-fn play_steps(
+// Plays the line of that number. `names` finds what the script's description finds. A status comes where the script ends at
+// the line, since it is refused.
+fn play_line(
     alloc: Global,
     system: &mut System,
     names: &Desc,
-    text: &[u8],
-    first: u32,
-    overlong: bool,
+    line: &[u8],
+    number: u32,
     out: &mut Vec<u8>,
-) -> Result<Status, Mem>
+) -> Result<Option<Status>, Mem>
+    requires triggers { length names.now.triggers ≡ length (front_of system.old.bench).triggers }
+    requires devices { length names.now.devices ≡ length (front_of system.old.bench).devices }
+    requires few { system.old.used ≤ 1048577 * number }
+    ensures front { front_of system.new.bench ≡ front_of system.old.bench }
+    ensures used { IfOk result (λ _. system.new.used ≤ system.old.used + 1048577) }
+    ensures played { IfOk result (λ ended. (s : Setup) (sent : List ℕ) (first : ℕ) (given : List (List ℕ)) → FindsSame names.now s.desc
+        → Plays ⟦<Plug as Sensor>⟧.driver s system.old (sent ++ out.old.items) first number given
+        → PlaysLine ⟦<Plug as Sensor>⟧.driver s system.new (sent ++ out.new.items) first number given line.now ended) }
+    ensures refused { IfOk result (λ ended. IfSome ended (IsRefusedWith number)) }
+{
+    let said = match read_step(alloc, names, line) {
+        Ok(said) => said,
+        Err(LineFault::Why(why)) => return Ok(Some(push_refused(alloc, out, number, why)?)),
+        Err(LineFault::Mem) => return Err(Mem),
+    };
+    let Some(step) = said else {
+        return Ok(None);
+    };
+    if !takes(system, &step) {
+        return Ok(Some(push_refused(alloc, out, number, Why::Limit)?));
+    }
+    system.step(&step, out)?;
+    Ok(None)
+}
+
+// Writes what is kept, where bytes have to be read for the next line or much is kept.
+fn write_ready<K: Sink>(
+    lines: &mut LineReader,
+    output: &mut K,
+    out: &mut Vec<u8>,
+) -> Result<(), Status>
+    ensures follows { (input : List ℕ) (front : List (List ℕ)) (left : Option (List ℕ)) → Follows input front lines.old left → Follows input front lines.new left }
+    ensures given { lines.new.given ≡ lines.old.given }
+    ensures hand { IsHand lines.new }
+    ensures sends { OnOk result (Sends (K.written output.old) (K.written output.new) out.old.items out.new.items) }
+    ensures part { OnErr result ((rest : List ℕ) × Sends (K.written output.old) (K.written output.new) out.old.items rest) }
+    ensures fault { OnErr result (Rose (K.faults output.old) (K.faults output.new)) }
+    ensures err { IfErr result (λ status. status ≡ Status.WriteFault) }
+    ensures counted { K.faults output.old ≤ K.faults output.new }
+    ensures steady { OnOk result (K.faults output.new ≡ K.faults output.old) }
+    ensures silent { IfNone (K.written output.old) (K.written output.new ≡ None) }
+{
+    let ready = lines.look().is_some();
+    if ready && out.len() < KEPT {
+        return Ok(());
+    }
+    write_out(output, out)
+}
+
+// The steps of a script from a line on, at a core before the first step. What is printed is written in pieces, and all of it
+// before a read. An `Ok` has bytes in `out` to be written yet; its status is that of the script, or tells a failed read.
+fn play_steps<S: Source, K: Sink>(
+    alloc: Global,
+    system: &mut System,
+    names: &Desc,
+    lines: &mut LineReader,
+    first: u32,
+    input: &mut S,
+    output: &mut K,
+    out: &mut Vec<u8>,
+) -> Result<Status, Status>
     requires triggers { length names.now.triggers ≡ length (front_of system.old.bench).triggers }
     requires devices { length names.now.devices ≡ length (front_of system.old.bench).devices }
     requires unfed { names_by system.old ≡ [] }
     requires unused { system.old.used ≡ 0 }
-    requires few { first + length text.now < 2 ^ 32 }
-    ensures { IfOk result (λ status. (s : Setup) → StandsFor ⟦<Plug as Sensor>⟧.driver s [] system.old → FindsSame names.now s.desc
-        → Finishes (outcome_of_script s (script_from s.desc (last_ending overlong) [] first (lines_of text.now))) status out.old.items out.new.items) }
+    requires begun { first ≤ lines.old.given + 1 }
+    requires hand { IsHand lines.old }
+    requires empty { out.old.items ≡ [] }
+    ensures played { (s : Setup) (input' : List ℕ) (front more : List (List ℕ)) → StandsFor ⟦<Plug as Sensor>⟧.driver s [] system.old → FindsSame names.now s.desc
+        → Follows input' front lines.old (S.left input.old) → first ≡ length front + 1 → looked_lines input' ≡ front ++ more
+        → (sent : List ℕ) × (IfSome (K.written output.old) (λ written. K.written output.new ≡ Some (written ++ sent)))
+        × EndsSteps s first front (outcome_of_script s (script_from s.desc (last_ending (is_overlong input')) [] first more)) input' result sent out.new.items (S.left input.new)
+        × TakesAtMost input' (input_limit + 1) (S.left input.new) }
+    ensures over { IsOver result }
+    ensures read_fault { result ≡ Ok Status.ReadFault → Rose (S.faults input.old) (S.faults input.new) }
+    ensures steady { IfOk result (λ _. K.faults output.new ≡ K.faults output.old) }
+    ensures write_fault { result ≡ Err Status.WriteFault → Rose (K.faults output.old) (K.faults output.new) }
+    ensures memory { result ≡ Err Status.Memory → (S.faults input.new ≡ S.faults input.old) × (K.faults output.new ≡ K.faults output.old) }
+    ensures counted { (S.faults input.old ≤ S.faults input.new) × (K.faults output.old ≤ K.faults output.new) }
+    ensures silent { (IfNone (S.left input.old) (S.left input.new ≡ None)) × (IfNone (K.written output.old) (K.written output.new ≡ None)) }
 {
-    let mut rest = text;
-    let mut next = first;
-    while let Some((line, more)) = next_line(rest) {
-        let number = next;
-        rest = more;
-        next += 1;
-        let said = match read_step(alloc, names, line) {
-            Ok(said) => said,
-            Err(LineFault::Why(why)) => return push_refused(alloc, out, number, why),
-            Err(LineFault::Mem) => return Err(Mem),
-        };
-        let Some(step) = said else {
-            continue;
-        };
-        if !takes(system, &step) {
-            return push_refused(alloc, out, number, Why::Limit);
+    let mut number = first;
+    loop {
+        write_ready(lines, output, out)?;
+        match lines.find(input) {
+            Ok(Found::Line) => {}
+            Ok(Found::Long) => return Ok(push_refused(alloc, out, number, Why::Long)?),
+            Ok(Found::End) => return Ok(Status::Done),
+            Ok(Found::Cut) => return Ok(push_end(out, true)?),
+            Err(ReadEnd::Failed) => return Ok(Status::ReadFault),
+            Err(ReadEnd::Mem) => return Err(Status::Memory),
         }
-        system.step(&step, out)?;
+        if let Some(status) = play_line(alloc, system, names, lines.line(), number, out)? {
+            return Ok(status);
+        }
+        lines.pass();
+        number += 1;
     }
-    push_end(out, overlong)
 }
 
-// The script after a description, from a line on.
-fn play_described(
+// The script behind a description, from a line on.
+fn play_described<S: Source, K: Sink>(
     alloc: Global,
     desc: Desc,
     drivers: Vec<Box<dyn Sensor + Send>>,
-    text: &[u8],
+    lines: &mut LineReader,
     first: u32,
-    overlong: bool,
-    out: &mut Vec<u8>,
-) -> Result<Status, Mem>
+    input: &mut S,
+    output: &mut K,
+) -> Status
     requires sound { IsWellFormed (length drivers.items) desc }
-    requires few { first + length text.now < 2 ^ 32 }
-    ensures { IfOk result (λ status. Finishes (outcome_of_script
-        (record { desc = desc; drivers = map (λ d. ⟦<Plug as Sensor>⟧.driver (Given d)) drivers.items })
-        (script_from desc (last_ending overlong) [] first (lines_of text.now))) status out.old.items out.new.items) }
+    requires begun { first ≤ lines.old.given + 1 }
+    requires hand { IsHand lines.old }
+    ensures played { (input' : List ℕ) (front more : List (List ℕ)) → Follows input' front lines.old (S.left input.old) → first ≡ length front + 1 → looked_lines input' ≡ front ++ more
+        → (text : List ℕ) × WritesText (K.written output.old) (K.written output.new) text
+        × EndsScript (record { desc = desc; drivers = map (λ d. ⟦<Plug as Sensor>⟧.driver (Given d)) drivers.items }) first front
+        (outcome_of_script (record { desc = desc; drivers = map (λ d. ⟦<Plug as Sensor>⟧.driver (Given d)) drivers.items }) (script_from desc (last_ending (is_overlong input')) [] first more)) input' result text (S.left input.new)
+        × TakesAtMost input' (input_limit + 1) (S.left input.new) }
+    ensures faults { ShowsFaults S.left S.faults K.written K.faults result input.old input.new output.old output.new }
+    ensures words { result ≡ Status.Usage → ⊥ }
 {
-    let names = outline(alloc, &desc)?;
-    let mut system = System::new(alloc, desc, drivers)?;
-    play_steps(alloc, &mut system, &names, text, first, overlong, out)
+    let Ok(names) = outline(alloc, &desc) else {
+        return Status::Memory;
+    };
+    let Ok(mut system) = System::new(alloc, desc, drivers) else {
+        return Status::Memory;
+    };
+    let mut out = Vec::new(alloc);
+    match play_steps(
+        alloc,
+        &mut system,
+        &names,
+        lines,
+        first,
+        input,
+        output,
+        &mut out,
+    ) {
+        Ok(status) => end_with(output, &mut out, status),
+        Err(fault) => fault,
+    }
 }
 
-// What an input prints.
-fn play_text(
+// Plays the input that a source has left, with so many drivers.
+fn play_input<S: Source, K: Sink>(
     alloc: Global,
-    text: &[u8],
+    input: &mut S,
     drivers: Vec<Box<dyn Sensor + Send>>,
-    out: &mut Vec<u8>,
-) -> Result<Status, Mem>
-    requires few { length text.now ≤ input_limit + 1 }
-    requires drivers { length drivers.items < 2 ^ 32 }
-    ensures { IfOk result (λ status. Finishes (outcome_of (map (λ d. ⟦<Plug as Sensor>⟧.driver (Given d)) drivers.items) text.now) status out.old.items out.new.items) }
+    count: u32,
+    output: &mut K,
+) -> Status
+    requires { count ≡ length drivers.items }
+    ensures runs { IfSome (S.left input.old) (λ left. Runs (map (λ d. ⟦<Plug as Sensor>⟧.driver (Given d)) drivers.items) left result (S.left input.new) (K.written output.old) (K.written output.new)) }
+    ensures words { result ≡ Status.Usage → ⊥ }
+    ensures faults { ShowsFaults S.left S.faults K.written K.faults result input.old input.new output.old output.new }
 {
-    let overlong = is_overlong(text);
-    match open(alloc, text, drivers.len() as u32)? {
-        Opening::Described {
-            desc,
-            first,
-            script,
-        } => play_described(alloc, desc, drivers, script, first, overlong, out),
-        Opening::Refused { line, why } => push_refused(alloc, out, line, why),
-        Opening::Cut => push_end(out, true),
+    let Ok(mut lines) = LineReader::new(alloc) else {
+        return Status::Memory;
+    };
+    match open(alloc, &mut lines, input, count) {
+        Ok(Opening::Described { desc, first }) => {
+            play_described(alloc, desc, drivers, &mut lines, first, input, output)
+        }
+        Ok(Opening::Alone { .. }) => Status::Done,
+        Ok(Opening::Refused { line, why }) => end_refused(alloc, output, line, why),
+        Ok(Opening::Cut) => end_cut(alloc, output),
+        Err(ReadEnd::Failed) => Status::ReadFault,
+        Err(ReadEnd::Mem) => Status::Memory,
     }
 }
 
 /// Plays the input that a source has left, and writes what it prints to a sink: a description, and then the steps of a
 /// script, up to the first line that is refused. A device of a driver's number samples the driver of that number among
-/// those that are handed in, any other its recorded rows.
+/// those that are handed in, any other its recorded rows. Lines are played as they come, and what they print is written
+/// before more is read: a failed read loses nothing of the lines before, and a refusal leaves what stands behind in the
+/// source, but for a piece of 65,536 bytes.
 pub fn play<S: Source, K: Sink>(
     alloc: Global,
     input: &mut S,
     drivers: Vec<Box<dyn Sensor + Send>>,
     output: &mut K,
 ) -> Status
-    requires { length drivers.items < 2 ^ 32 }
     ensures transcript { IfSome (S.left input.old) (λ left. IfSome (K.written output.old) (λ written.
         Writes (outcome_of (map (λ d. ⟦<Plug as Sensor>⟧.driver (Given d)) drivers.items) left) written result (K.written output.new))) }
     ensures status { IfSome (S.left input.old) (λ left. HasStatus (outcome_of (map (λ d. ⟦<Plug as Sensor>⟧.driver (Given d)) drivers.items) left) result) }
     ensures words { result ≡ Status.Usage → ⊥ }
     ensures taken { IfSome (S.left input.old) (λ left. TakesAtMost left (input_limit + 1) (S.left input.new)) }
+    // Where a line is refused, at most a piece was taken behind the byte at which it failed.
+    ensures near { IfSome (S.left input.old) (λ left. TakesFor result left (S.left input.new)) }
+    // Where a read failed, what the whole lines before it print was written.
+    ensures whole_lines { result ≡ Status.ReadFault → IfSome (S.left input.old) (λ left. IfSome (K.written output.old) (λ written.
+        WritesLines (map (λ d. ⟦<Plug as Sensor>⟧.driver (Given d)) drivers.items) left written (S.left input.new) (K.written output.new))) }
     ensures faults { ShowsFaults S.left S.faults K.written K.faults result input.old input.new output.old output.new }
 {
-    let text = match read_whole(alloc, input, INPUT_LIMIT) {
-        Ok(text) => text,
-        Err(ReadEnd::Failed) => return Status::ReadFault,
-        Err(ReadEnd::Mem) => return Status::Memory,
-    };
-    let mut out = Vec::new(alloc);
-    let Ok(status) = play_text(alloc, text.as_slice(), drivers, &mut out) else {
+    let Ok(count) = u32::try_from(drivers.len()) else {
         return Status::Memory;
     };
-    write_out(output, out.as_slice(), status)
+    play_input(alloc, input, drivers, count, output)
 }

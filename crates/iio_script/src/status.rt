@@ -2,7 +2,9 @@
 
 ghost use Rattle.std.specs.Prelude.{◌≡◌};
 ghost use Rattle.iio_script.specs.Status.{code_of};
+ghost use Rattle.iio_script.specs.declared.status.Status.TheVariants.{Memory as OutOfMemory};
 
+use iio_base::Mem;
 use iio_text::Why;
 
 /// How a run ends.
@@ -22,6 +24,14 @@ pub enum Status {
     Memory,
     /// The input has more bytes than are looked at, and no line that is looked at fails.
     TooLong,
+}
+
+impl From<Mem> for Status {
+    ghost from_gives = { λ _ e. e ≡ OutOfMemory };
+
+    fn from(_e: Mem) -> Status {
+        Status::Memory
+    }
 }
 
 impl Status {

@@ -1,14 +1,14 @@
 -- The row that holds at a moment.
 use Rattle.std.proofs.Common.{◌≡◌, ℕ, zero, suc, ◌+◌, ◌-◌, ◌*◌, ◌<◌, ◌≤◌, Bool, true, false, List, length, take, drop, get_or, refl, ap, sym, ◌∙◌, arith, ℤ, pos, inl, inr, ◌⊎◌, count_by, suc-mul, ◌≢◌}
 use Rattle.std.proofs.lemmas.Bool.{cases_eq}
-use Rattle.std.specs.Prelude.{int_le}
+use Rattle.std.specs.Prelude.{int_le, int_lt}
 use Rattle.std.specs.List.Sorted.{IsPartitionPoint, IsPartitionedBy}
-use Rattle.std.proofs.lemmas.List.{take_all}
+use Rattle.std.proofs.lemmas.List.{get_or_default, take_all}
 use Rattle.std.proofs.lemmas.List.Sums.{count_by_more_yes, count_by_more_no}
 use Rattle.std.proofs.lemmas.Int.{ints}
 use Rattle.iio_layout.specs.Shape.{RowsRecord}
 use Rattle.iio_layout.specs.Rows.{Rises}
-use Rattle.iio_sensor.specs.Recorded.{row_before}
+use Rattle.iio_sensor.specs.Recorded.{come_by, row_before}
 
 -- where the elements that pass stand before the others, their number is the place between
 pub count_to_point : (p : ℤ → Bool) (xs : List ℤ) (i : ℕ) → i ≤ length xs → IsPartitionPoint (λ x. p x ≡ true) (λ x. p x ≡ false) xs i → count_by p xs ≡ i
@@ -45,3 +45,26 @@ row_part rows (suc k) h =
     let front : suc k - 1 ≡ k = omega arith in
     let size : suc k * rows.width - k * rows.width ≡ rows.width = omega (arith, suc-mul k rows.width) in
     rw (front, size) refl
+
+-- so many moments have come where the last of them has and the next hasn't
+pub come_at : (moments : List ℤ) (t : ℤ) (n : ℕ) → Rises moments → n ≤ length moments → (0 < n → int_lt t (get_or moments (n - 1) (pos 0)) ≡ false)
+    → (n < length moments → int_lt t (get_or moments n (pos 0)) ≡ true) → n ≡ come_by moments t
+come_at moments t n rises within last next = sym (count_to_point (λ m. int_le m t) moments n within (come, later))
+  where
+    come : (k : ℕ) (d : ℤ) → 0 ≤ k → k < n → int_le (get_or moments k d) t ≡ true
+    come k d first below =
+        let some = last (omega arith) in
+        let at : get_or moments (n - 1) d ≡ get_or moments (n - 1) (pos 0) = get_or_default moments (n - 1) d (pos 0) (omega arith) in
+        elim (cases_eq k (n - 1)) [
+          | inl same ↦ rw (same, at) (grind (arith, ints))
+          | inr other ↦ let up = rises k (n - 1) d (omega arith) (omega arith) in grind (arith, ints)
+        ]
+
+    later : (k : ℕ) (d : ℤ) → n ≤ k → k < length moments → int_le (get_or moments k d) t ≡ false
+    later k d above inside =
+        let below = next (omega arith) in
+        let at : get_or moments n d ≡ get_or moments n (pos 0) = get_or_default moments n d (pos 0) (omega arith) in
+        elim (cases_eq k n) [
+          | inl same ↦ rw (same, at) (grind (arith, ints))
+          | inr other ↦ let up = rises n k d (omega arith) inside in grind (arith, ints)
+        ]

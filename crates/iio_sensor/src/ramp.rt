@@ -101,8 +101,9 @@ fn ramp_value(biases: &[i64; MAX_BIASES], shape: &Shape, t: i64, c: u32, k: u32)
     requires { c < length shape.now.channels }
     ensures { result ≡ with_bias (format_at (formats_of shape.now) c) (number_at c k t) (bias_in biases.now c) }
 {
-    let ty = shape.scan_type(c);
-    ty.saturating_sum(number_at(c, k, t), biases[c as usize])
+    shape
+        .data_type(c)
+        .saturating_sum(number_at(c, k, t), biases[c as usize])
 }
 
 /// The number for element `k` of channel `c` at a moment.

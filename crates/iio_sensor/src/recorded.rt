@@ -1,12 +1,12 @@
 //! A driver that replays rows.
 
-ghost use Rattle.std.specs.Prelude.{◌≡◌, ℕ, ◌+◌, ◌^◌, ◌<◌, ◌≤◌, length, pos, replicate, slice_index_or, None, Some, OnOk, is_err};
+ghost use Rattle.std.specs.Prelude.{◌≡◌, ℕ, ◌+◌, ◌^◌, ◌<◌, ◌≤◌, IsTrue, length, pos, replicate, slice_index_or, None, Some, OnOk, is_err};
 ghost use Rattle.iio_layout.specs.Layout.{scan_size};
 ghost use Rattle.iio_layout.specs.Rows.{IsRecording, Rises};
 ghost use Rattle.iio_layout.specs.Scan.{scan_of, values_by};
 ghost use Rattle.iio_layout.specs.Shape.{count_of, formats_of};
 ghost use Rattle.iio_sensor.specs.Driver.{IsFresh, after_capture, ask_fails, next_count, values_of};
-ghost use Rattle.iio_sensor.specs.Recorded.{come_by, driver_of, row_at, value_in};
+ghost use Rattle.iio_sensor.specs.Recorded.{come_by, driver_of, row_before, value_in};
 
 use crate::asks::Asks;
 use crate::{Fault, MAX_BIASES, Sensor};
@@ -20,6 +20,8 @@ use std::marker::Model;
 pub struct Recorded {
     rows: Rows,
     asks: Asks,
+    // How many moments had come when it was asked last: where a moment is looked for first.
+    come: usize,
 }
 
 impl Model for Recorded {
@@ -45,6 +47,7 @@ impl Recorded {
         Recorded {
             rows,
             asks: Asks::none(),
+            come: 0,
         }
     }
 }
@@ -61,20 +64,17 @@ impl Sensor for Recorded {
         ensures kept { self.new ≡ record self.old { asked = next_count self.old.asked; last = Some (t, active.bits) } }
     {
         self.asks.count_capture(t, active);
-        fill_row(
-            row_at(&self.rows, t),
-            &self.asks.biases,
-            shape,
-            active,
-            t,
-            out,
-        );
+        self.come = come_near(&self.rows.moments, self.come, t);
+        let row = row_before(&self.rows, self.come);
+        fill_row(row, &self.asks.biases, shape, active, t, out);
         Ok(())
     }
 
     fn raw(&mut self, shape: &Shape, c: u32, t: i64) -> Result<i64, Fault> {
         self.asks.count();
-        Ok(row_value(row_at(&self.rows, t), &self.asks.biases, shape, c, 0))
+        self.come = come_near(&self.rows.moments, self.come, t);
+        let row = row_before(&self.rows, self.come);
+        Ok(row_value(row, &self.asks.biases, shape, c, 0))
     }
 
     fn bias_of(&self, c: u32) -> i64 {
@@ -86,20 +86,55 @@ impl Sensor for Recorded {
     }
 }
 
-/// The numbers of the row that holds at `t`; none before the first.
-fn row_at(rows: &Rows, t: i64) -> &[i64]
-    requires { IsRecording rows.now }
-    ensures { result.now ≡ row_at rows.now t }
+/// The numbers of the last of so many rows; none where there is none.
+#[inline]
+fn row_before(rows: &Rows, count: usize) -> &[i64]
+    requires recording { IsRecording rows.now }
+    requires within { count ≤ length rows.now.moments }
+    ensures { result.now ≡ row_before rows.now count }
 {
-    let come = come_by(&rows.moments, t);
-    if come == 0 {
+    if count == 0 {
         return &[];
     }
     let width = rows.width as usize;
-    &rows.values[(come - 1) * width..come * width]
+    &rows.values[(count - 1) * width..count * width]
+}
+
+/// How many of the moments, which rise, are at or before `t`. It is looked for at `before` and at one more, where it
+/// mostly is, and then everywhere.
+#[inline]
+fn come_near(moments: &[i64], before: usize, t: i64) -> usize
+    requires { Rises moments.now }
+    ensures value { result ≡ come_by moments.now t }
+    ensures bound { result ≤ length moments.now }
+{
+    if have_come(moments, before, t) {
+        return before;
+    }
+    if before < moments.len() && have_come(moments, before + 1, t) {
+        return before + 1;
+    }
+    come_by(moments, t)
+}
+
+/// Whether just so many of the moments, which rise, are at or before `t`.
+#[inline]
+fn have_come(moments: &[i64], count: usize, t: i64) -> bool
+    requires { Rises moments.now }
+    ensures value { IsTrue result → count ≡ come_by moments.now t }
+    ensures bound { IsTrue result → count ≤ length moments.now }
+{
+    if count > moments.len() {
+        return false;
+    }
+    if count > 0 && t < moments[count - 1] {
+        return false;
+    }
+    count == moments.len() || t < moments[count]
 }
 
 /// How many of the moments, which rise, are at or before `t`.
+#[cold]
 fn come_by(moments: &[i64], t: i64) -> usize
     requires { Rises moments.now }
     ensures value { result ≡ come_by moments.now t }
@@ -128,6 +163,7 @@ impl Values for RowValues<'_> {
 }
 
 /// Writes the scan of a row's numbers.
+#[inline(never)]
 fn fill_row(
     row: &[i64],
     biases: &[i64; MAX_BIASES],
@@ -150,8 +186,9 @@ fn row_value(row: &[i64], biases: &[i64; MAX_BIASES], shape: &Shape, c: u32, k: 
     ensures { result ≡ value_in row.now biases.now (formats_of shape.now) c k }
 {
     let number = number_at(row, shape.first_value(c) + k as usize);
-    let ty = shape.scan_type(c);
-    ty.saturating_sum(number, biases[c as usize])
+    shape
+        .data_type(c)
+        .saturating_sum(number, biases[c as usize])
 }
 
 /// The number at a place of a row, which is 0 past its end.

@@ -31,7 +31,7 @@ use Rattle.iio_system.specs.Bench.{front_of as bench_front, machine_of as bench_
 use Rattle.iio_system.specs.Handling.{entry_answer, entry_machine}
 use Rattle.iio_system.specs.Lines.{handled_word, polled_words}
 use Rattle.iio_system.specs.Moves.{CanGoOn, HandlesAll, HandlesOne, InOrder, Plays, handling_of, handlings}
-use Rattle.iio_system.specs.Places.{TriggerRecord, entries_from, entry_of, first_trigger, handled, poll_answer, polled, trigger_of}
+use Rattle.iio_system.specs.Places.{TriggerRecord, entries_from, entry_of, first_trigger, handled, is_first, poll_answer, polled, trigger_of}
 use Rattle.iio_system.specs.Seat.{seen_of}
 use Rattle.iio_system.specs.Standing.{CanCapture, Holds, RiseBy, handed_by, trigger_by}
 use Rattle.iio_system.specs.Station.{front_by, station_by}
@@ -132,6 +132,22 @@ entries_placed f g same k [] past = sym (past (omega arith))
 entries_placed f g same zero (t ∷ ts) past = same t
 entries_placed f g same (suc k) (t ∷ ts) past = entries_placed f g same k ts (λ h. past (omega (arith, h)))
 
+-- the entries at a bench's trigger are the told ones
+entries_in : (ts : List Trigger) (trigger : ℕ) → (trigger_in (map trigger_by ts) trigger).entries ≡ map handed_by (entries_at ts trigger)
+entries_in ts trigger = ap (λ (o : Option TriggerRecord). (unwrap_or o first_trigger).entries) (slice_get-map trigger_by ts trigger) ∙ by (slice_get ts trigger)
+  where
+    by : (o : Option Trigger) → (unwrap_or (option_map trigger_by o) first_trigger).entries ≡ map handed_by (elim o [ None ↦ [] | Some t ↦ t.entries ])
+    by None = refl
+    by (Some t) = refl
+
+-- a device that isn't the first one's comes before the entries that are left
+order_skip : (dev high : ℕ) (es : List Entry) → dev < high → is_first dev (map handed_by es) ≡ false → InOrder dev high es → InOrder (suc dev) high es
+order_skip dev high [] less other order = omega (arith, less)
+order_skip dev high (e ∷ es) less other order =
+    let h = order.0 in
+    let apart : e.device ≡ dev → ⊥ = λ same. absurd (grind (arith, nat_tests)) in
+    (grind (arith, nat_tests), order.1)
+
 -- ---- handlings one after another
 
 module _ {X : Type 0} {V : X → Type 0} (driver : Plug X V → Driver) where
@@ -219,7 +235,17 @@ module _ {X : Type 0} {V : X → Type 0} (driver : Plug X V → Driver) where
       let one_more : suc dev ≡ dev + 1 = omega arith in
       subst (λ (d : ℕ). IsLeft s m trigger d high b' cs before after) one_more
       (next_by s m x.state trigger dev high b' cs before now after x.entries x.there less x.order x.text x.last
-      (subst (λ (es : List Entry). Took s x.state trigger dev b' cs now after (told_entry dev es)) x.there (one s x.state x.holds)))
+      (subst (λ (es : List Entry). Took s x.state trigger dev b' cs now after (told_entry dev es)) x.there
+      (one s x.state x.holds high less (subst (λ (es : List Entry). InOrder dev high es) (sym x.there) x.order))))
+
+  -- a device that isn't the first one's has none
+  pub plays_skipped : (s : Setup) (m : Told) (trigger dev high : ℕ) (b : Bench X V) (cs : List (Connection Seat)) (before : List ℕ) → is_first dev (trigger_in (triggers_of b) trigger).entries ≡ false
+      → Holds driver s m b cs → dev < high → InOrder dev high (entries_at m.triggers trigger) → Plays driver (handling_of trigger dev) s m trigger b cs before before
+  plays_skipped s m trigger dev high b cs before other h less order =
+      let es = entries_at m.triggers trigger in
+      let told : is_first dev (map handed_by es) ≡ false = sym (ap (λ (hs : List Handed). is_first dev hs) (ap (λ (ts : List TriggerRecord). (trigger_in ts trigger).entries) h.triggers ∙ entries_in m.triggers trigger)) ∙ other in
+      let none : told_entry dev es ≡ None = entry_none dev (suc dev) high es (omega arith) (order_skip dev high es less told order) in
+      subst (λ (o : Option Entry). Took s m trigger dev b cs before before o) (sym none) (sym (append-nil before), h)
 
 -- ---- captures
 
@@ -242,13 +268,6 @@ bench_order dev trigger t (st ∷ sts) =
         → InOrder dev (dev + suc (length sts)) (cond c (record { device = dev; attachment = st.site.attachment; moment = t } ∷ bench_entries (suc dev) trigger t sts) (bench_entries (suc dev) trigger t sts))
     by true rest = (omega arith, rest)
     by false rest = order_from dev (suc dev) (dev + suc (length sts)) (bench_entries (suc dev) trigger t sts) (omega arith) rest
-
-entries_in : (ts : List Trigger) (trigger : ℕ) → (trigger_in (map trigger_by ts) trigger).entries ≡ map handed_by (entries_at ts trigger)
-entries_in ts trigger = ap (λ (o : Option TriggerRecord). (unwrap_or o first_trigger).entries) (slice_get-map trigger_by ts trigger) ∙ by (slice_get ts trigger)
-  where
-    by : (o : Option Trigger) → (unwrap_or (option_map trigger_by o) first_trigger).entries ≡ map handed_by (elim o [ None ↦ [] | Some t ↦ t.entries ])
-    by None = refl
-    by (Some t) = refl
 
 accepts : (made : List Handed) (es : List Entry) (n missed : ℕ) → Accepted n ≡ poll_answer made (map handed_by es) missed → es ≡ []
 accepts made [] n missed answered = refl

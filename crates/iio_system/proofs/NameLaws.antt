@@ -1,5 +1,5 @@
 -- The names of connections, and the places where they stand.
-use Rattle.std.proofs.Common.{◌≡◌, ℕ, suc, zero, ◌<◌, ◌||◌, nat_lt, Bool, true, false, cond, List, [], ◌∷◌, length, map, get_or, Option, Some, None, is_some, refl, sym, ap, ◌∙◌, arith, inl, inr}
+use Rattle.std.proofs.Common.{◌≡◌, ℕ, suc, zero, ◌<◌, ◌≤◌, ◌||◌, nat_lt, Bool, true, false, cond, List, [], ◌∷◌, length, map, get_or, Option, Some, None, is_some, refl, sym, ap, ◌∙◌, arith, inl, inr}
 use Rattle.std.specs.List.{list_any, position, position_or_len}
 use Rattle.std.specs.Str.{bytes_eq}
 use Rattle.std.proofs.lemmas.Bool.{cases_lt}
@@ -15,6 +15,10 @@ use Rattle.iio_history.specs.Transcript.{line_named}
 use Rattle.iio_system.specs.declared.connection.Connection.{Connection}
 use Rattle.iio_system.specs.Standing.{has_room, name_by}
 use Rattle.iio_system.specs.System.{AreLines, IsServed}
+
+or_true : (b : Bool) → (b || true) ≡ true
+or_true true = refl
+or_true false = refl
 
 module _ {S : Type 0} (name : List ℕ) where
   abbrev pub is_named : Connection S → Bool
@@ -67,14 +71,22 @@ module _ {S : Type 0} (name : List ℕ) where
 
   -- ---- room
 
-  pub room_known : (cs : List (Connection S)) (o : Option ℕ) → o ≡ position is_named cs → is_some o ≡ true → has_room (map name_by cs) name ≡ true
-  room_known cs None at some = cc
-  room_known cs (Some i) at some = ap (λ (b : Bool). b || nat_lt (length (map name_by cs)) max_names) (known_at cs i (sym at))
+  length_names : (cs : List (Connection S)) → length (map name_by cs) ≡ length cs
+  length_names [] = refl
+  length_names (c ∷ cs) = ap (λ (n : ℕ). suc n) (length_names cs)
 
-  pub room_left : (cs : List (Connection S)) (o : Option ℕ) → o ≡ position is_named cs → is_some o ≡ false → has_room (map name_by cs) name ≡ nat_lt (length cs) max_names
-  room_left cs (Some i) at none = cc
-  room_left cs None at none = ap (λ (b : Bool). b || nat_lt (length (map name_by cs)) max_names) (unknown cs (sym at)) ∙ ap (λ (n : ℕ). nat_lt n max_names) (length_names cs)
-    where
-      length_names : (cs : List (Connection S)) → length (map name_by cs) ≡ length cs
-      length_names [] = refl
-      length_names (c ∷ cs) = ap (λ (n : ℕ). suc n) (length_names cs)
+  room_by : (cs : List (Connection S)) (b : Bool) → nat_lt (length cs) max_names ≡ b → has_room (map name_by cs) name ≡ is_known (map name_by cs) name || b
+  room_by cs b room = ap (λ (n : ℕ). is_known (map name_by cs) name || nat_lt n max_names) (length_names cs) ∙ ap (λ (b : Bool). is_known (map name_by cs) name || b) room
+
+  -- while there are few names, there is room for each
+  pub room_short : (cs : List (Connection S)) → length cs < max_names → has_room (map name_by cs) name ≡ true
+  room_short cs few = room_by cs true (grind (arith, nat_tests)) ∙ or_true (is_known (map name_by cs) name)
+
+  -- for one that isn't known there is room while there are few
+  pub room_left : (cs : List (Connection S)) → None ≡ position is_named cs → has_room (map name_by cs) name ≡ nat_lt (length cs) max_names
+  room_left cs at = room_by cs (nat_lt (length cs) max_names) refl ∙ ap (λ (b : Bool). b || nat_lt (length cs) max_names) (unknown cs (sym at))
+
+  -- else for those that are known
+  pub room_full : (cs : List (Connection S)) (o : Option ℕ) → o ≡ position is_named cs → max_names ≤ length cs → has_room (map name_by cs) name ≡ is_some o
+  room_full cs None at full = room_by cs false (grind (arith, nat_tests)) ∙ ap (λ (b : Bool). b || false) (unknown cs (sym at))
+  room_full cs (Some i) at full = room_by cs false (grind (arith, nat_tests)) ∙ ap (λ (b : Bool). b || false) (known_at cs i (sym at))

@@ -85,7 +85,7 @@ names_new cs c' name bytes at same =
 
 pub more_fit : (cs : List (Connection Seat)) (c : Connection Seat) (name : List ℕ) → None ≡ position (is_named name) cs → has_room (map name_by cs) name ≡ true → length (cs ++ c ∷ []) ≤ max_names
 more_fit cs c name at room =
-    let less : nat_lt (length cs) max_names ≡ true = sym (room_left name cs None at refl) ∙ room in
+    let less : nat_lt (length cs) max_names ≡ true = sym (room_left name cs at) ∙ room in
     let more : length (cs ++ c ∷ []) ≡ length cs + 1 = length-append cs (c ∷ []) in
     grind (arith, nat_tests, less, more)
 

@@ -62,6 +62,11 @@ poll_answer made (e ∷ es) missed = Missed (missed_after (e ∷ es) missed)
 abbrev pub entry_of : ℕ → List Handed → Option Handed
 entry_of dev entries = find (λ (e : Handed). e.dev == dev) entries
 
+-- whether the first of some entries is the device's
+abbrev pub is_first : ℕ → List Handed → Bool
+is_first dev [] = false
+is_first dev (e ∷ es) = e.dev == dev
+
 -- the entries without the device's
 abbrev pub without_entry : ℕ → List Handed → List Handed
 without_entry dev entries = filter (λ (e : Handed). not (e.dev == dev)) entries

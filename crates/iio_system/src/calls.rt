@@ -11,13 +11,13 @@ ghost use Rattle.iio_device.specs.Site.{Site, site_written, with_monitor};
 ghost use Rattle.iiod_session.specs.declared.iio.No.TheVariants.{Mem};
 ghost use Rattle.iiod_session.specs.Calls.{ev_open_answer, ev_read_answer, holds_events, trigger_answer};
 ghost use Rattle.iiod_session.specs.Machine.{scans_in, with_site};
-ghost use Rattle.iio_system.specs.Acting.{Acts, Keeps, KeepsCaptures, Reads, TakesAt, has_member, id_of, is_member, lost_in, nothing_at};
+ghost use Rattle.iio_system.specs.Acting.{Acts, Keeps, KeepsCaptures, Reads, TakesAt, has_member, id_of, lost_in, nothing_at};
 ghost use Rattle.iio_system.specs.Handling.{counted, entry_answer, entry_station, is_last};
 ghost use Rattle.iio_system.specs.Places.{entry_of, has_in_hand, trigger_of};
 ghost use Rattle.iio_system.specs.Station.{station_by, view_by};
 
 use iio_attr::{Attr, Value};
-use iio_device::{Device, Handled, Member, Membership, Plug, RawFault};
+use iio_device::{Device, Handled, Member, Plug, RawFault};
 use iio_event::EventData;
 use iio_kfifo::Kfifo;
 use iio_mask::Mask;
@@ -158,27 +158,13 @@ pub(crate) fn ev_close(device: &mut Device<Kfifo>, who: u32) -> Result<(), No>
     }
 }
 
-// Whether it is the member of that number, under that mask.
-fn is_member(member: &Membership<Kfifo>, number: u64, mask: Mask) -> bool
-    ensures { result ≡ is_member (id_of number mask) member.now }
-{
-    member.number == number && member.mask.bits == mask.bits
-}
-
-// Whether that member is there.
-fn has_member(members: &[Membership<Kfifo>], number: u64, mask: Mask) -> bool
-    ensures { result ≡ has_member (id_of number mask) members.now }
-{
-    members.iter().any(|member| is_member(member, number, mask))
-}
-
 /// Takes the oldest scan of the member of that number, under that mask.
 pub(crate) fn take(device: &mut Device<Kfifo>, number: u64, mask: Mask, out: &mut [u8]) -> Took
     requires { length out.old ≡ scan_size device.old.core.roster.shape mask.bits }
     ensures takes { TakesAt (id_of number mask) result out.new (station_by ⟦<Plug as Sensor>⟧.driver device.old) (station_by ⟦<Plug as Sensor>⟧.driver device.new) }
     ensures keeps { KeepsCaptures (view_by ⟦<Plug as Sensor>⟧.driver device.old) (view_by ⟦<Plug as Sensor>⟧.driver device.new) }
 {
-    if has_member(&device.core.roster.members, number, mask) {
+    if device.is_live_under(&Member { number }, mask) {
         take_from(device, number, mask, out)
     } else {
         nothing(device)
@@ -215,13 +201,13 @@ pub(crate) fn counts(device: &Device<Kfifo>, number: u64, mask: Mask) -> Counts
     ensures waiting { result.waiting ≡ length (scans_in (id_of number mask) (station_by ⟦<Plug as Sensor>⟧.driver device.now).members) }
     ensures lost { result.lost ≡ lost_in (id_of number mask) (station_by ⟦<Plug as Sensor>⟧.driver device.now).members }
 {
-    if !has_member(&device.core.roster.members, number, mask) {
+    let member = Member { number };
+    if !device.is_live_under(&member, mask) {
         return Counts {
             waiting: 0,
             lost: 0,
         };
     }
-    let member = Member { number };
     Counts {
         waiting: u64::from(device.waiting(&member).unwrap_or(0)),
         lost: device.lost(&member).unwrap_or(0),

@@ -21,12 +21,11 @@ fn push_count(out: &mut Vec<u8>, n: u64) -> Result<(), Mem>
     Ok(())
 }
 
-// A word and the count behind it, which end their line.
-fn push_counted(out: &mut Vec<u8>, word: &[u8], n: u64) -> Result<(), Mem>
-    ensures { OnOk result (out.new.items ≡ out.old.items ++ printed (word.now ∷ decimal n ∷ [])) }
+// Bytes, and a count that ends their line.
+fn push_counted(out: &mut Vec<u8>, before: &[u8], n: u64) -> Result<(), Mem>
+    ensures { OnOk result (out.new.items ≡ out.old.items ++ before.now ++ decimal n ++ codes "\n") }
 {
-    out.extend_from_slice(word)?;
-    out.push(b' ')?;
+    out.extend_from_slice(before)?;
     push_count(out, n)?;
     out.push(b'\n')?;
     Ok(())
@@ -47,21 +46,21 @@ pub(crate) fn push_poll(out: &mut Vec<u8>, trigger: &[u8], polled: Polled) -> Re
 {
     out.extend_from_slice(b"poll ")?;
     out.extend_from_slice(trigger)?;
-    out.push(b' ')?;
     match polled {
-        Polled::Accepted(entries) => push_counted(out, b"accepted", u64::from(entries)),
-        Polled::Missed(missed) => push_counted(out, b"missed", missed),
+        Polled::Accepted(entries) => push_counted(out, b" accepted ", u64::from(entries)),
+        Polled::Missed(missed) => push_counted(out, b" missed ", missed),
     }
 }
 
-fn handled_word(handled: Option<Handled>) -> &'static [u8]
-    ensures { result.now ≡ handled_word handled }
+// What became of an entry, as a line ends.
+fn handled_end(handled: Option<Handled>) -> &'static [u8]
+    ensures { result.now ≡ codes " " ++ handled_word handled ++ codes "\n" }
 {
     match handled {
-        None => b"none",
-        Some(Handled::Captured(_)) => b"captured",
-        Some(Handled::Fault) => b"fault",
-        Some(Handled::Idle) => b"idle",
+        None => b" none\n",
+        Some(Handled::Captured(_)) => b" captured\n",
+        Some(Handled::Fault) => b" fault\n",
+        Some(Handled::Idle) => b" idle\n",
     }
 }
 
@@ -78,8 +77,8 @@ pub(crate) fn push_handle(
     out.extend_from_slice(trigger)?;
     out.push(b' ')?;
     out.extend_from_slice(device)?;
-    out.push(b' ')?;
-    push_last(out, handled_word(handled))
+    out.extend_from_slice(handled_end(handled))?;
+    Ok(())
 }
 
 /// `DEVICE sensed N`, with how many events fired; or `DEVICE fault`, `DEVICE gone`.
@@ -87,12 +86,12 @@ pub(crate) fn push_sense(out: &mut Vec<u8>, device: &[u8], sensed: Sensed) -> Re
     ensures { OnOk result (out.new.items ≡ out.old.items ++ printed (device.now ∷ sensed_words sensed)) }
 {
     out.extend_from_slice(device)?;
-    out.push(b' ')?;
     match sensed {
-        Sensed::Fired(events) => push_counted(out, b"sensed", u64::from(events)),
-        Sensed::Fault => push_last(out, b"fault"),
-        Sensed::Gone => push_last(out, b"gone"),
+        Sensed::Fired(events) => return push_counted(out, b" sensed ", u64::from(events)),
+        Sensed::Fault => out.extend_from_slice(b" fault\n")?,
+        Sensed::Gone => out.extend_from_slice(b" gone\n")?,
     }
+    Ok(())
 }
 
 /// `clock T`

@@ -107,7 +107,7 @@ pub(crate) fn handle(
     )
 }
 
-// Handles the entry that a device has at a trigger, where it has one.
+// Handles the entry that a device has at a trigger, where it has one. No entry there is of a device before it.
 fn handle_one(bench: &mut Bench, trigger: u32, dev: u32, out: &mut Vec<u8>) -> Result<(), Mem>
     requires trigger { trigger < length (front_of bench.old).triggers }
     requires dev { dev < length (front_of bench.old).devices }
@@ -116,6 +116,9 @@ fn handle_one(bench: &mut Bench, trigger: u32, dev: u32, out: &mut Vec<u8>) -> R
     ensures makes { OnOk result ((cs : List (Connection Seat)) → HandlesOne ⟦<Plug as Sensor>⟧.driver trigger dev bench.old bench.new cs out.old.items out.new.items) }
     ensures captures { RiseBy 1 (captures_of bench.old) (captures_of bench.new) }
 {
+    if !bench.is_first(trigger, dev) {
+        return Ok(());
+    }
     match bench.handle(trigger, dev) {
         None => Ok(()),
         Some(handled) => push_handle(

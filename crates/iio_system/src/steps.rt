@@ -127,7 +127,7 @@ impl System {
     pub fn takes(&self, name: &Name) -> bool
         ensures { result ≡ has_room (names_by self.now) name.now }
     {
-        place(&self.connections, name).is_some() || self.connections.len() < MAX_NAMES
+        self.connections.len() < MAX_NAMES || place(&self.connections, name).is_some()
     }
 
     /// Makes a step, and appends the lines that it prints. After `Mem` the system is only dropped.

@@ -1,10 +1,10 @@
 -- Lemmas on escaped texts.
 use borrow.Rule.Slice.PartMut.{mid_of}
-use Rattle.std.proofs.Common.{◌≡◌, ℕ, zero, suc, ◌+◌, ◌-◌, ◌*◌, ◌/◌, ◌%◌, ◌<◌, ◌≤◌, Bool, true, false, eqb, List, [], ◌∷◌, ◌++◌, length, get_or, take, drop, Some, Result, Ok, Err, refl, arith, ap, inl, inr, ◌∙◌, sym, subst, add-zero, add-one, append_assoc, length-append, Fits, w8}
+use Rattle.std.proofs.Common.{◌≡◌, ℕ, zero, suc, ◌+◌, ◌-◌, ◌*◌, ◌/◌, ◌%◌, ◌<◌, ◌≤◌, Bool, true, false, not, cond, eqb, List, [], ◌∷◌, ◌++◌, length, get_or, take, drop, Some, Result, Ok, Err, refl, arith, ap, inl, inr, ◌∙◌, sym, subst, add-zero, add-one, append_assoc, length-append, length-drop, append-nil, None, Fits, w8}
 use Rattle.std.specs.Char.{digit_char}
-use Rattle.std.specs.List.{prefix_len}
+use Rattle.std.specs.List.{prefix_len, position_or_len}
 use Rattle.std.proofs.Math.Seq.{take-append_seam, drop-append_seam}
-use Rattle.std.proofs.lemmas.List.{drop-drop}
+use Rattle.std.proofs.lemmas.List.{drop-drop, drop_all}
 use Rattle.std.proofs.lemmas.Bool.Decides.{nat_tests, eqb_tells}
 use Rattle.iio_text.specs.Escape.{is_plain, escaped_byte, escaped, hex_value, hex_byte, piece_of, piece_then, before, unescaped, unescaped_from, between_quotes, quoted, quoted_of}
 
@@ -117,6 +117,15 @@ before-nil (Err place) = refl
 piece_of-plain : (b : ℕ) (rest : List ℕ) → is_plain b ≡ true → piece_of (b ∷ rest) ≡ Some (b, 0)
 piece_of-plain b rest p = grind (arith, nat_tests, p)
 
+-- the bytes before the first that doesn't stand for itself
+plain_step : (t : Bool) (n : ℕ) → cond (not (not t)) (1 + n) 0 ≡ cond t (1 + n) 0
+plain_step true n = refl
+plain_step false n = refl
+
+pub plain_place : (s : List ℕ) → position_or_len (λ b. not (is_plain b)) s ≡ prefix_len is_plain s
+plain_place [] = refl
+plain_place (b ∷ bs) = ap (λ n. cond (not (not (is_plain b))) (1 + n) 0) (plain_place bs) ∙ plain_step (is_plain b) (prefix_len is_plain bs)
+
 -- what a text means from a place on: its first n bytes, and what stands after them
 abbrev Means : ℕ → List ℕ → ℕ → Type 0
 Means place s n = unescaped_from place 0 s ≡ before (take n s) (unescaped_from (place + n) 0 (drop n s))
@@ -143,11 +152,25 @@ plain_run : (place : ℕ) (s : List ℕ) → Means place s (prefix_len is_plain 
 plain_run place [] = refl
 plain_run place (b ∷ rest) = run_by place b rest (plain_run (place + 1) rest) (is_plain b) refl
 
--- one turn of the reading loop that takes the bytes that stand for themselves
-pub run_more : (text out : List ℕ) (place n k : ℕ) → unescaped text ≡ before out (unescaped_from place 0 (drop place text)) → n ≡ prefix_len is_plain (drop place text) → k ≡ n → unescaped text ≡ before (out ++ mid_of place k text) (unescaped_from (place + n) 0 (drop (place + n) text))
-run_more text out place n k so_far e same =
+-- what is read with the bytes before the next one that doesn't stand for itself
+pub run_more : (text out items : List ℕ) (place n k : ℕ) → unescaped text ≡ before out (unescaped_from place 0 (drop place text)) → n ≡ position_or_len (λ b. not (is_plain b)) (drop place text) → k ≡ n
+    → items ≡ out ++ mid_of place k text → unescaped text ≡ before items (unescaped_from (place + n) 0 (drop (place + n) text))
+run_more text out items place n k so_far is same all =
     let after = drop place text in
     let len = prefix_len is_plain after in
-    rw (same, e) (so_far ∙ ap (before out) (plain_run place after)
+    let e : n ≡ len = is ∙ plain_place after in
+    rw (all, same, e) (so_far ∙ ap (before out) (plain_run place after)
     ∙ before-before out (take len after) _
     ∙ ap (λ s. before (out ++ take len after) (unescaped_from (place + len) 0 s)) (drop-drop len place text))
+
+-- a text that is read to its end
+pub whole_read : (text out : List ℕ) (place : ℕ) → unescaped text ≡ before out (unescaped_from place 0 (drop place text)) → length text ≤ place → unescaped text ≡ Ok out
+whole_read text out place so_far past = so_far ∙ ap (λ s. before out (unescaped_from place 0 s)) (drop_all place text past) ∙ ap Ok (append-nil out)
+
+-- no piece stands where a text goes on
+no_piece_by : (place : ℕ) (s : List ℕ) → 0 < length s → piece_of s ≡ None → unescaped_from place 0 s ≡ Err place
+no_piece_by place [] some none = absurd (omega arith)
+no_piece_by place (b ∷ rest) some none = ap (λ o. piece_then place o (λ m. unescaped_from (place + 1) m rest)) none
+
+pub no_piece : (text out : List ℕ) (place : ℕ) → unescaped text ≡ before out (unescaped_from place 0 (drop place text)) → place < length text → piece_of (drop place text) ≡ None → unescaped text ≡ Err place
+no_piece text out place so_far some none = so_far ∙ ap (before out) (no_piece_by place (drop place text) (omega (arith, length-drop place text)) none)

@@ -4,4 +4,5 @@ pub mod EscapeLemmas
 pub mod FixedLemmas
 pub mod NumberLemmas
 pub mod PrintedLemmas
+pub mod RunLemmas
 pub mod WordLemmas

@@ -1,6 +1,5 @@
 -- The lines of a text, from its front.
-use Rattle.std.proofs.Common.{◌≡◌, ℕ, ◌+◌, ◌-◌, ◌<◌, ◌≤◌, Bool, true, false, not, cond, List, [], ◌∷◌, length, take, drop, get_or, refl, ap, ◌∙◌, add-one, arith, subst, length-drop}
-use Rattle.std.proofs.lemmas.List.{take_all}
+use Rattle.std.proofs.Common.{◌≡◌, ℕ, ◌+◌, ◌<◌, ◌≤◌, Bool, true, false, not, cond, List, [], ◌∷◌, length, take, drop, get_or, refl, sym, ap, ◌∙◌, add-one, arith}
 use Rattle.std.proofs.lemmas.List.Sums.{position_or_len_is}
 use Rattle.std.proofs.Math.Numerals.{one-add}
 use Rattle.std.specs.List.{position_or_len}
@@ -15,7 +14,7 @@ split_step true b bs n h rest = refl
 split_step false b bs n h rest =
     ap (onto_line b) (rest (omega arith)) ∙ rw (one-add, add-one, add-one) refl
 
-lines_of-split : (text : List ℕ) → position_or_len is_line_end text < length text
+pub lines_of-split : (text : List ℕ) → position_or_len is_line_end text < length text
     → lines_of text ≡ take (position_or_len is_line_end text) text ∷ lines_of (drop (position_or_len is_line_end text + 1) text)
 lines_of-split [] h = absurd (omega arith)
 lines_of-split (b ∷ bs) h = split_step (is_line_end b) b bs (position_or_len is_line_end bs) h (lines_of-split bs)
@@ -28,7 +27,7 @@ whole_step true b bs n h rest = absurd (omega arith)
 whole_step false b [] n h rest = refl
 whole_step false b (c ∷ cs) n h rest = ap (onto_line b) (rest (omega arith) (omega arith))
 
-lines_of-whole : (text : List ℕ) → 0 < length text → length text ≤ position_or_len is_line_end text → lines_of text ≡ text ∷ []
+pub lines_of-whole : (text : List ℕ) → 0 < length text → length text ≤ position_or_len is_line_end text → lines_of text ≡ text ∷ []
 lines_of-whole [] some h = absurd (omega arith)
 lines_of-whole (b ∷ bs) some h = whole_step (is_line_end b) b bs (position_or_len is_line_end bs) h (λ s l. lines_of-whole bs s l)
 
@@ -40,17 +39,10 @@ is_false false h = refl
 none_before : (text : List ℕ) (n : ℕ) → Nowhere (Passes (is_byte 10) text) 0 n → (k : ℕ) → k < n → is_line_end (get_or text k 0) ≡ false
 none_before text n h k below = is_false (is_line_end (get_or text k 0)) (h k (omega arith) below)
 
--- the first line, and the text after its LF
-pub first_line : (text : List ℕ) (n : ℕ) → NoneBefore (Passes (is_byte 10) text) 0 (length text) n × Passes (is_byte 10) text n
-    → lines_of text ≡ take n text ∷ lines_of (take (length text - (n + 1)) (drop (n + 1) text))
-first_line text n h =
-    let within : n < length text = h.0.high in
-    let place : position_or_len is_line_end text ≡ n = position_or_len_is is_line_end text n 0 (omega arith) (none_before text n h.0.before) (λ _. h.1) in
-    rw (take_all (length text - (n + 1)) (drop (n + 1) text) (omega (arith, length-drop (n + 1) text)))
-    (subst (λ (k : ℕ). lines_of text ≡ take k text ∷ lines_of (drop (k + 1) text)) place (lines_of-split text (omega arith)))
+-- the first LF
+pub first_end : (text : List ℕ) (n : ℕ) → NoneBefore (Passes (is_byte 10) text) 0 (length text) n × Passes (is_byte 10) text n → n ≡ position_or_len is_line_end text
+first_end text n h = sym (position_or_len_is is_line_end text n 0 (let within = h.0.high in omega (arith, within)) (none_before text n h.0.before) (λ _. h.1))
 
--- the only line, without an LF
-pub only_line : (text : List ℕ) → Nowhere (Passes (is_byte 10) text) 0 (length text) → 0 < length text → lines_of text ≡ text ∷ []
-only_line text h some =
-    let place : position_or_len is_line_end text ≡ length text = position_or_len_is is_line_end text (length text) 0 (omega arith) (none_before text (length text) h) (λ past. absurd (omega arith)) in
-    lines_of-whole text some (omega arith)
+-- there is none
+pub no_end : (text : List ℕ) → Nowhere (Passes (is_byte 10) text) 0 (length text) → length text ≡ position_or_len is_line_end text
+no_end text h = sym (position_or_len_is is_line_end text (length text) 0 (omega arith) (none_before text (length text) h) (λ past. absurd (omega arith)))

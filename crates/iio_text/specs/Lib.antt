@@ -4,5 +4,6 @@ pub mod Fixed
 pub mod LineFault
 pub mod Lines
 pub mod Numbers
+pub mod Runs
 pub mod Why
 pub mod Words

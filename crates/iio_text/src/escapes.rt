@@ -1,13 +1,13 @@
 //! Escaped texts: any bytes, written in printable ones.
 
-ghost use Rattle.std.specs.Prelude.{◌≡◌, ◌*◌, ◌<◌, ◌≤◌, ℕ, ◌++◌, length, take, Some, Ok, IfSome, IfOk, IfErr, OnOk, OnErr, option_copied};
-ghost use Rattle.std.specs.List.{prefix_len};
+ghost use Rattle.std.specs.Prelude.{◌≡◌, not, ◌*◌, ◌<◌, ◌≤◌, ℕ, ◌++◌, length, take, Some, Ok, IfSome, IfOk, IfErr, OnOk, OnErr, option_copied};
 ghost use Rattle.iio_text.specs.Escape.{is_plain, escaped_byte, escaped, hex_value, pair_of, piece_of, unescaped, Explains, between_quotes, quoted, quoted_of};
 
 use crate::faults::Unescape;
+use crate::runs::{ByteTest, first_place, first_set};
 use iio_base::Mem;
 use std::alloc::Global;
-use std::simd::Simd;
+use std::simd::prelude::*;
 
 // Each byte as it is printed, filled up to four bytes with spaces.
 const PRINTED: [u8; 1024] = *b"\
@@ -45,7 +45,7 @@ const PRINTED: [u8; 1024] = *b"\
     \\xf8\\xf9\\xfa\\xfb\\xfc\\xfd\\xfe\\xff";
 
 // How many bytes each byte is printed as.
-const PRINTED_LENS: [u8; 256] = [
+const PRINTED_LENS: [usize; 256] = [
     4, 4, 4, 4, 4, 4, 4, 4, 4, 4, 2, 4, 4, 4, 4, 4, 4, 4, 4, 4, 4, 4, 4, 4, 4, 4, 4, 4, 4, 4, 4, 4,
     1, 1, 2, 1, 1, 1, 1, 1, 1, 1, 1, 1, 1, 1, 1, 1, 1, 1, 1, 1, 1, 1, 1, 1, 1, 1, 1, 1, 1, 1, 1, 1,
     1, 1, 1, 1, 1, 1, 1, 1, 1, 1, 1, 1, 1, 1, 1, 1, 1, 1, 1, 1, 1, 1, 1, 1, 1, 1, 1, 1, 2, 1, 1, 1,
@@ -56,8 +56,11 @@ const PRINTED_LENS: [u8; 256] = [
     4, 4, 4, 4, 4, 4, 4, 4, 4, 4, 4, 4, 4, 4, 4, 4, 4, 4, 4, 4, 4, 4, 4, 4, 4, 4, 4, 4, 4, 4, 4, 4,
 ];
 
-// How many bytes are printed at a time.
-const CHUNK: usize = 64;
+// How many bytes are printed before they are put into a vector.
+const CHUNK: usize = 128;
+
+// How many bytes are printed in one turn of a loop.
+const GROUP: usize = 8;
 
 // Whether a byte is printed as itself.
 #[inline]
@@ -77,11 +80,12 @@ fn put_escaped(byte: u8, room: &mut [u8]) -> usize
 {
     let at = byte as usize;
     Simd::<u8, 4>::from_slice(&PRINTED[4 * at..]).copy_to_slice(room);
-    usize::from(PRINTED_LENS[at])
+    PRINTED_LENS[at]
 }
 
 // Writes bytes as they are printed to the begin of a room, and answers how many bytes that takes.
-fn put_all_escaped(bytes: &[u8], room: &mut [u8]) -> usize
+#[inline(always)]
+fn put_each_escaped(bytes: &[u8], room: &mut [u8]) -> usize
     requires { 4 * length bytes.now ≤ length room.old }
     ensures within { result ≤ 4 * length bytes.now }
     ensures text { take result room.new ≡ escaped bytes.now }
@@ -91,6 +95,21 @@ fn put_all_escaped(bytes: &[u8], room: &mut [u8]) -> usize
         len += put_escaped(*byte, &mut room[len..]);
     }
     len
+}
+
+// The same of many bytes: whole groups come first, whose loops the compiler unrolls.
+fn put_all_escaped(bytes: &[u8], room: &mut [u8]) -> usize
+    requires { 4 * length bytes.now ≤ length room.old }
+    ensures within { result ≤ 4 * length bytes.now }
+    ensures text { take result room.new ≡ escaped bytes.now }
+{
+    let mut len = 0;
+    let mut place = 0;
+    while bytes.len() - place >= GROUP {
+        len += put_each_escaped(&bytes[place..place + GROUP], &mut room[len..]);
+        place += GROUP;
+    }
+    len + put_each_escaped(&bytes[place..], &mut room[len..])
 }
 
 /// Puts bytes at the end of a vector, as they are printed. After an `Err` the vector has gained the
@@ -163,17 +182,27 @@ fn piece(text: &[u8]) -> Option<(u8, usize)>
     }
 }
 
-// How many bytes stand for themselves at the begin of a text.
-fn plain_len(text: &[u8]) -> usize
-    ensures within { result ≤ length text.now }
-    ensures value { result ≡ prefix_len is_plain text.now }
-{
-    for (i, byte) in text.iter().enumerate() {
-        if !is_plain(*byte) {
-            return i;
-        }
+// Whether a byte doesn't stand for itself.
+#[derive(Drop)]
+struct Special;
+
+impl ByteTest for Special {
+    ghost passes = { λ _ byte. not (is_plain byte) };
+
+    #[inline(always)]
+    fn passes_at(&self, byte: u8) -> bool {
+        !is_plain(byte)
     }
-    text.len()
+
+    #[inline(always)]
+    fn first_in_lanes(&self, text: &[u8], place: usize) -> usize {
+        let lanes = u8x16::from_slice(&text[place..]);
+        let special = lanes.simd_lt(u8x16::splat(b' '))
+            | lanes.simd_gt(u8x16::splat(b'~'))
+            | lanes.simd_eq(u8x16::splat(b'"'))
+            | lanes.simd_eq(u8x16::splat(b'\\'));
+        first_set(special.to_bitmask())
+    }
 }
 
 /// The bytes that an escaped text means. `\n`, `\"` and `\\` stand for 0x0a, `"` and `\`; `\x` with two
@@ -188,13 +217,13 @@ pub fn unescape(alloc: Global, text: &[u8]) -> Result<Vec<u8>, Unescape>
     };
     let mut place = 0;
     'pieces: while place < text.len() {
-        let plain = plain_len(&text[place..]);
-        if plain > 0 {
-            if out.extend_from_slice(&text[place..place + plain]).is_err() {
-                return Err(Unescape::Mem);
-            }
-            place += plain;
-            continue;
+        let plain = first_place(&Special, &text[place..]);
+        if out.extend_from_slice(&text[place..place + plain]).is_err() {
+            return Err(Unescape::Mem);
+        }
+        place += plain;
+        if place == text.len() {
+            return Ok(out);
         }
         let Some((byte, more)) = piece(&text[place..]) else {
             return Err(Unescape::BadEscape(place));

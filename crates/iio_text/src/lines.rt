@@ -1,9 +1,9 @@
 //! The lines of a text, and the checks that come before all others.
 
-ghost use Rattle.std.specs.Prelude.{◌≡◌, ◌<◌, ◌↔◌, [], ◌∷◌, length, Ok, IsNone, IfSome, IfNone, IfOk, IfErr, Err};
-ghost use Rattle.std.specs.List.{list_all};
+ghost use Rattle.std.specs.Prelude.{◌≡◌, ◌<◌, ◌≤◌, ◌↔◌, [], ◌∷◌, length, Ok, IsNone, IfSome, IfNone, IfOk, IfErr, Err};
+ghost use Rattle.std.specs.List.{list_all, position_or_len};
 ghost use Rattle.iio_text.specs.Words.{words_of, is_space, IsFirstWord};
-ghost use Rattle.iio_text.specs.Lines.{lines_of, is_printable, fits_line, is_comment, words_of_line};
+ghost use Rattle.iio_text.specs.Lines.{is_line_end, lines_of, is_printable, fits_line, is_comment, words_of_line};
 
 use crate::refusals::{Why, ensure};
 use crate::words::{Blanks, next_word};
@@ -12,6 +12,17 @@ use memchr::memchr;
 /// The most bytes of a line, without its LF.
 pub const MAX_LINE_BYTES: usize = 1_048_576;
 
+/// How many bytes of a text stand before its first LF; all of them where it has none.
+pub fn line_len(text: &[u8]) -> usize
+    ensures within { result ≤ length text.now }
+    ensures value { result ≡ position_or_len is_line_end text.now }
+{
+    match memchr(b'\n', text) {
+        Some(len) => len,
+        None => text.len(),
+    }
+}
+
 /// Takes the first line, without its LF, off a text, and gives the text after it too. LF ends a line, and a last line
 /// without LF counts where it isn't empty. None comes exactly where there is no line.
 pub fn next_line(text: &[u8]) -> Option<(&[u8], &[u8])>
@@ -19,11 +30,14 @@ pub fn next_line(text: &[u8]) -> Option<(&[u8], &[u8])>
     ensures found { IfSome result (λ l. lines_of text.now ≡ l.0.now ∷ lines_of l.1.now) }
     ensures shorter { IfSome result (λ l. length l.1.now < length text.now) }
 {
-    match memchr(b'\n', text) {
-        Some(len) => Some((&text[..len], &text[len + 1..])),
-        None if text.is_empty() => None,
-        None => Some(text.split_at(text.len())),
+    if text.is_empty() {
+        return None;
     }
+    let len = line_len(text);
+    if len == text.len() {
+        return Some(text.split_at(len));
+    }
+    Some((&text[..len], &text[len + 1..]))
 }
 
 /// Whether a line is short enough: it has at most [`MAX_LINE_BYTES`] bytes.

@@ -171,6 +171,13 @@ fn lines_of_texts(rt: HostRuntime) {
     let (line, after) = next_line(b"\n").expect(&rt, "a line");
     assert!(rt; line.is_empty() && after.is_empty());
     assert!(rt; fits_line(b"#"));
+    for (text, len) in [
+        (b"".as_slice(), 0),
+        (b"a line of more bytes than are looked at at once\n\n", 47),
+        (b"a line that isn't ended", 23),
+    ] {
+        assert_eq!(rt; line_len(text), len, "{text:?}");
+    }
 }
 
 /// A line, and its first word with the line after it, or why it is refused.

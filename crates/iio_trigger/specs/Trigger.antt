@@ -1,6 +1,6 @@
 -- A trigger, as contracts see it. (Kernel driver-api/iio, "Triggers": a trigger that is still busy misses a poll. Places
 -- and the count of missed polls are this project's own.)
-use Rattle.std.specs.Prelude.{◌≡◌, ℕ, ◌+◌, ◌-◌, ◌^◌, ◌<◌, ◌≤◌, ℤ, Bool, true, false, not, ◌&&◌, ◌==◌, nat_lt, if◌then◌else◌, List, [], ◌∷◌, map, filter, length, min, Option}
+use Rattle.std.specs.Prelude.{◌≡◌, ℕ, ◌+◌, ◌-◌, ◌^◌, ◌<◌, ◌≤◌, ℤ, Bool, true, false, not, ◌&&◌, ◌==◌, nat_lt, if◌then◌else◌, List, [], ◌∷◌, map, filter, length, min, Option, Some, None}
 use Rattle.std.specs.List.{list_any, find}
 use Rattle.std.specs.Option.{option_map}
 use Rattle.iio_trigger.specs.declared.rows.Place.{Place}
@@ -61,6 +61,11 @@ without_place dev places = filter (λ (p : Place). not (p.dev == dev)) places
 -- a poll's entries: one for each device that holds a place
 abbrev pub entries_at : ℤ → List Place → List Entry
 entries_at t places = map (λ (p : Place). record { dev = p.dev; attachment = p.attachment; t = t; in_hand = false }) places
+
+-- the device of the first of some entries
+abbrev pub first_dev : List Entry → Option ℕ
+first_dev [] = None
+first_dev (e ∷ es) = Some e.dev
 
 -- whether the device has this entry, and nobody has it in hand
 abbrev pub is_waiting : ℕ → Entry → Bool

@@ -97,7 +97,7 @@ impl Model for Trigger {
 }
 
 impl Trigger {
-    ghost use Rattle.iio_trigger.specs.Trigger.{IsSound, holds_place, with_place, without_place, due_of, with_in_hand, without_entry, Polls};
+    ghost use Rattle.iio_trigger.specs.Trigger.{IsSound, first_dev, holds_place, with_place, without_place, due_of, with_in_hand, without_entry, Polls};
     /// A trigger with this number of places. None is taken, no entry is outstanding, no poll was missed.
     pub fn new(places: u8) -> Trigger
         requires some { 1 ≤ places }
@@ -181,6 +181,16 @@ impl Trigger {
         }
         add_entries(&mut self.entries, self.attached.as_slice(), t);
         Polled::Accepted(self.attached.len() as u32)
+    }
+
+    /// The device of the first entry that is outstanding, in the order of devices. `None` comes exactly where none is.
+    pub fn first(&self) -> Option<u32>
+        ensures { result ≡ first_dev self.now.outstanding }
+    {
+        if self.entries.is_empty() {
+            return None;
+        }
+        Some(self.entries[0].dev)
     }
 
     /// Hands out the device's entry, where it has one that is in no hand. The entry stays

@@ -51,12 +51,15 @@ fn no_free_place(rt: HostRuntime) {
     assert_eq!(rt; trigger.attach(5, 1), Err(NoPlace));
     assert_eq!(rt; trigger.attach(7, 9), Ok(()));
     assert!(rt; trigger.holds(2) && trigger.holds(7) && !trigger.holds(5));
+    assert_eq!(rt; trigger.first(), None);
     assert_eq!(rt; trigger.poll(10), Polled::Accepted(2));
+    assert_eq!(rt; trigger.first(), Some(2));
     assert!(rt; trigger.detach(2));
     assert_eq!(rt; trigger.attach(5, 1), Ok(()));
     assert_eq!(rt; handle(&mut trigger, 5), None);
     assert_eq!(rt; handle(&mut trigger, 7), Some((9, 10)));
     assert_eq!(rt; handle(&mut trigger, 2), Some((4, 10)));
+    assert_eq!(rt; trigger.first(), None);
 }
 
 // An entry is handed out once, is outstanding while it is in hand, and belongs to one trigger.

@@ -1,14 +1,14 @@
 //! The lines and payloads of a stream.
 
 ghost use Rattle.std.specs.Prelude.{◌≡◌, ◌+◌, ◌<◌, ◌≤◌, ◌++◌, true, [], Some, None, length, vec_capacity, IfOk};
-ghost use Rattle.std.specs.List.{position_or_len};
-ghost use Rattle.iiod_grammar.specs.Lines.{is_lf, is_begun, new_lines, feed_of};
+ghost use Rattle.iiod_grammar.specs.Lines.{is_begun, new_lines, feed_of};
 ghost use Rattle.iiod_grammar.specs.Scans.{Scans, EndsPiece};
 ghost use Rattle.iiod_grammar.specs.Taking.{Takes};
 ghost use Rattle.iiod_grammar.specs.declared.lines.Ready.{Ready};
 
 use crate::line::len_without_returns;
 use iio_base::Mem;
+use iio_text::line_len;
 use std::alloc::Global;
 use std::marker::Model;
 
@@ -135,19 +135,6 @@ impl Lines {
     }
 }
 
-// How many bytes stand before the first LF.
-fn line_end(bytes: &[u8]) -> usize
-    ensures within { result ≤ length bytes.now }
-    ensures value { result ≡ position_or_len is_lf bytes.now }
-{
-    for (i, byte) in bytes.iter().enumerate() {
-        if *byte == b'\n' {
-            return i;
-        }
-    }
-    bytes.len()
-}
-
 // Appends bytes in the room that is there for them.
 fn keep(kept: &mut Vec<u8>, bytes: &[u8])
     requires { length kept.old.items + length bytes.now ≤ vec_capacity kept.old }
@@ -166,7 +153,7 @@ fn take_line(kept: &mut Vec<u8>, bytes: &[u8]) -> (usize, Ready)
     ensures some { result.1 ≡ Ready.Line → 0 < result.0 }
     ensures room { 65536 ≤ vec_capacity kept.new }
 {
-    let end = line_end(bytes);
+    let end = line_len(bytes);
     if kept.len() + end > MAX_LINE {
         return (0, Ready::TooLong);
     }

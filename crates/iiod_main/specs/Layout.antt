@@ -1,5 +1,5 @@
 -- What `layout` prints for an input, and how it ends. (This project's own.)
-use Rattle.std.specs.Prelude.{ℕ, List, Option, Some, None, option_and_then, slice_get}
+use Rattle.std.specs.Prelude.{ℕ, suc, List, Option, Some, None, option_and_then, slice_get}
 use Rattle.iio_text.specs.declared.refusals.Why.TheVariants.{Device, Mask}
 use Rattle.iio_mask.specs.Text.{mask_of}
 use Rattle.iio_layout.specs.Shape.{ShapeRecord, count_of}
@@ -7,7 +7,15 @@ use Rattle.iio_desc.specs.declared.reader.DescFault.TheVariants.{Line, Mem}
 use Rattle.iio_desc.specs.Description.{Description, DeviceRecord, find_device}
 use Rattle.iio_history.specs.Outcome.{Cut, Described, Faulty, Head, Outcome, head_of, only_ending}
 use Rattle.iio_history.specs.Script.{Finished, Refused, TooLong}
+use Rattle.iio_script.specs.declared.status.Status.{Status}
+use Rattle.iio_script.specs.declared.status.Status.TheVariants as status
+use Rattle.iio_script.specs.LineReader.{TakesNear}
 use Rattle.iiod_main.specs.Placing.{layout_text}
+
+-- where a line of the description is refused, not much more was taken than up to its end; line 0 has the program's words
+abbrev pub TakesForLine : Status → List ℕ → Option (List ℕ) → Type 0
+TakesForLine (status.Refused (suc n) why) left remaining = TakesNear (suc n) left remaining
+TakesForLine st left remaining = Unit {0}
 
 -- the first device of that name
 abbrev pub device_named : Description → List ℕ → Option DeviceRecord

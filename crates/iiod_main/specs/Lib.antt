@@ -1,4 +1,3 @@
-pub mod Blocks
 pub mod Complete
 pub mod Layout
 pub mod Placing

@@ -7,9 +7,11 @@ ghost use Rattle.iio_device.specs.declared.plug.Plug.TheVariants.{Given};
 ghost use Rattle.iio_history.specs.Input.{input_limit};
 ghost use Rattle.iio_history.specs.Outcome.{outcome_of};
 ghost use Rattle.iio_script.specs.Ends.{HasStatus, ShowsFaults, Writes};
-ghost use Rattle.iiod_main.specs.Blocks.{TakesBlocks};
+ghost use Rattle.iio_script.specs.LineReader.{TakesBlocks};
+ghost use Rattle.iio_script.specs.Plays.{TakesFor};
+ghost use Rattle.iio_script.specs.Taken.{WritesLines};
 ghost use Rattle.iiod_main.specs.Complete.{Completes};
-ghost use Rattle.iiod_main.specs.Layout.{layout_of};
+ghost use Rattle.iiod_main.specs.Layout.{TakesForLine, layout_of};
 ghost use Rattle.iiod_main.specs.Usage.{IsPlay, IsLayout, IsOther, IsUsage, PrintsUsage};
 
 use crate::layout::layout;
@@ -69,7 +71,6 @@ pub fn run<S: Source, K: Sink>(
     input: &mut S,
     output: &mut K,
 ) -> Status
-    requires { length drivers.items < 2 ^ 32 }
     ensures transcript { IsPlay words.now → IfSome (S.left input.old) (λ left. IfSome (K.written output.old) (λ written.
         Writes (outcome_of (map (λ d. ⟦<Plug as Sensor>⟧.driver (Given d)) drivers.items) left) written result (K.written output.new))) }
     // Where neither count of faults rose, the whole was written, unless memory ran out.
@@ -78,6 +79,11 @@ pub fn run<S: Source, K: Sink>(
 
     ensures status { IsPlay words.now → IfSome (S.left input.old) (λ left. HasStatus (outcome_of (map (λ d. ⟦<Plug as Sensor>⟧.driver (Given d)) drivers.items) left) result) }
     ensures taken { IsPlay words.now → IfSome (S.left input.old) (λ left. TakesAtMost left (input_limit + 1) (S.left input.new)) }
+    // Where a line is refused, at most 65,536 bytes were taken behind the byte at which it failed.
+    ensures near { IsPlay words.now → IfSome (S.left input.old) (λ left. TakesFor result left (S.left input.new)) }
+    // Where a read failed, exactly what the whole lines before it print was written.
+    ensures whole_lines { IsPlay words.now → result ≡ Status.ReadFault → IfSome (S.left input.old) (λ left. IfSome (K.written output.old) (λ written.
+        WritesLines (map (λ d. ⟦<Plug as Sensor>⟧.driver (Given d)) drivers.items) left written (S.left input.new) (K.written output.new))) }
 
     ensures layout { (device mask : List ℕ) → IsLayout words.now device mask → IfSome (S.left input.old) (λ left. IfSome (K.written output.old) (λ written.
         Writes (layout_of (length drivers.items) left device mask) written result (K.written output.new))) }
@@ -85,6 +91,9 @@ pub fn run<S: Source, K: Sink>(
         IfSome (S.left input.old) (λ left. IfSome (K.written output.old) (λ written. Completes (layout_of (length drivers.items) left device mask) written result (K.written output.new))) }
     ensures layout_status { (device mask : List ℕ) → IsLayout words.now device mask → IfSome (S.left input.old) (λ left. HasStatus (layout_of (length drivers.items) left device mask) result) }
     ensures layout_taken { (device mask : List ℕ) → IsLayout words.now device mask → IfSome (S.left input.old) (λ left. TakesBlocks left (S.left input.new)) }
+    // Where a line of the description is refused, at most 65,536 bytes were taken behind the byte at which it failed.
+    ensures layout_near { (device mask : List ℕ) → IsLayout words.now device mask → IfSome (S.left input.old) (λ left. TakesForLine result left (S.left input.new)) }
+    ensures layout_nothing { (device mask : List ℕ) → IsLayout words.now device mask → result ≡ Status.ReadFault → output.new ≡ output.old }
     ensures layout_words { (device mask : List ℕ) → IsLayout words.now device mask → result ≡ Status.Usage → ⊥ }
 
     ensures usage { IsOther words.now → IsUsage result }
@@ -98,7 +107,10 @@ pub fn run<S: Source, K: Sink>(
         return play(alloc, input, drivers, output);
     }
     if let Some((device, mask)) = layout_words(words) {
-        return layout(alloc, drivers.len() as u32, device, mask, input, output);
+        let Ok(count) = u32::try_from(drivers.len()) else {
+            return Status::Memory;
+        };
+        return layout(alloc, count, device, mask, input, output);
     }
     print_usage(output)
 }

@@ -1,17 +1,19 @@
 //! The layout of a device of a description.
 
-ghost use Rattle.std.specs.Prelude.{◌≡◌, ◌+◌, ◌≤◌, IfOk, IfSome, List, ℕ, length, take};
-ghost use Rattle.iio_history.specs.Input.{input_limit};
+ghost use Rattle.std.specs.Prelude.{◌≡◌, ◌≤◌, ℕ, List, None, IfOk, IfSome, IfNone};
+ghost use Rattle.iio_base.specs.Faults.{Rose};
 ghost use Rattle.iio_script.specs.Ends.{HasStatus, Finishes, ShowsFaults, Writes};
+ghost use Rattle.iio_script.specs.LineReader.{TakesBlocks};
+ghost use Rattle.iio_script.specs.Plays.{Prints, WritesText};
 ghost use Rattle.iio_script.specs.Told.{told};
-ghost use Rattle.iiod_main.specs.Blocks.{TakesBlocks};
-ghost use Rattle.iiod_main.specs.Layout.{laid, laid_out, layout_of};
+ghost use Rattle.iiod_main.specs.Layout.{TakesForLine, laid, laid_out, layout_of};
 
-use crate::blocks::read_description;
 use crate::placing::lay_under;
 use iio_desc::Desc;
 use iio_io::{ReadEnd, Sink, Source};
-use iio_script::{Mem, Opening, Status, open, push_end, push_refused, write_out};
+use iio_script::{
+    LineReader, Mem, Opening, Status, end_cut, end_refused, end_with, open, push_refused,
+};
 use iio_text::Why;
 use std::alloc::Global;
 
@@ -31,43 +33,52 @@ fn lay_out(
     lay_under(alloc, &desc.devices[number as usize].shape, mask, out)
 }
 
-// What is printed for the head of an input.
-fn lay_opening(
+// It is written.
+fn lay_device<K: Sink>(
     alloc: Global,
-    opening: Opening<'_>,
+    desc: &Desc,
     device: &[u8],
     mask: &[u8],
-    out: &mut Vec<u8>,
-) -> Result<Status, Mem>
-    ensures { IfOk result (λ status. Finishes (laid device.now mask.now (told opening.entry)) status out.old.items out.new.items) }
+    output: &mut K,
+) -> Status
+    ensures prints { (text : List ℕ) × WritesText (K.written output.old) (K.written output.new) text × Prints (laid_out desc.now device.now mask.now) result text }
+    ensures write_fault { result ≡ Status.WriteFault → Rose (K.faults output.old) (K.faults output.new) }
+    ensures memory { result ≡ Status.Memory → K.faults output.new ≡ K.faults output.old }
+    ensures counted { K.faults output.old ≤ K.faults output.new }
+    ensures silent { IfNone (K.written output.old) (K.written output.new ≡ None) }
 {
-    match opening {
-        Opening::Described { desc, .. } => lay_out(alloc, &desc, device, mask, out),
-        Opening::Refused { line, why } => push_refused(alloc, out, line, why),
-        Opening::Cut => push_end(out, true),
+    let mut out = Vec::new(alloc);
+    match lay_out(alloc, desc, device, mask, &mut out) {
+        Ok(status) => end_with(output, &mut out, status),
+        Err(Mem) => Status::Memory,
     }
 }
 
-// What is printed for a text. Of a longer input the bytes up to one past the limit are enough.
-fn lay_text(
+// What is printed for the head of an input.
+fn lay_opening<K: Sink>(
     alloc: Global,
-    drivers: u32,
-    text: &[u8],
+    opening: Opening,
     device: &[u8],
     mask: &[u8],
-    out: &mut Vec<u8>,
-) -> Result<Status, Mem>
-    requires { length text.now ≤ input_limit + 1 }
-    ensures lines { IfOk result (λ status. Finishes (layout_of drivers text.now device.now mask.now) status out.old.items out.new.items) }
-    ensures front { IfOk result (λ status. (whole : List ℕ) → text.now ≡ take (input_limit + 1) whole
-        → Finishes (layout_of drivers whole device.now mask.now) status out.old.items out.new.items) }
+    output: &mut K,
+) -> Status
+    ensures prints { (next : ℕ) (more : List (List ℕ)) → (text : List ℕ) × WritesText (K.written output.old) (K.written output.new) text × Prints (laid device.now mask.now (told next more opening)) result text }
+    ensures write_fault { result ≡ Status.WriteFault → Rose (K.faults output.old) (K.faults output.new) }
+    ensures memory { result ≡ Status.Memory → K.faults output.new ≡ K.faults output.old }
+    ensures counted { K.faults output.old ≤ K.faults output.new }
+    ensures silent { IfNone (K.written output.old) (K.written output.new ≡ None) }
 {
-    let opening = open(alloc, text, drivers)?;
-    lay_opening(alloc, opening, device, mask, out)
+    match opening {
+        Opening::Described { desc, .. } => lay_device(alloc, &desc, device, mask, output),
+        Opening::Alone { desc } => lay_device(alloc, &desc, device, mask, output),
+        Opening::Refused { line, why } => end_refused(alloc, output, line, why),
+        Opening::Cut => end_cut(alloc, output),
+    }
 }
 
-/// Reads a description, which may use so many drivers, from a source, and writes to a sink where each channel of the mask stands in a scan of the
-/// device, and the scan's size. What stands after the line that ends the description isn't looked at.
+/// Reads a description, which may use so many drivers, from a source, and writes to a sink where each channel of the mask
+/// stands in a scan of the device, and the scan's size. What stands after the line that ends the description isn't looked
+/// at, and at most a piece was taken behind the byte at which a line failed. Where a read fails, nothing is written.
 pub fn layout<S: Source, K: Sink>(
     alloc: Global,
     drivers: u32,
@@ -81,16 +92,16 @@ pub fn layout<S: Source, K: Sink>(
     ensures taken { IfSome (S.left input.old) (λ left. TakesBlocks left (S.left input.new)) }
     ensures status { IfSome (S.left input.old) (λ left. HasStatus (layout_of drivers left device.now mask.now) result) }
     ensures words { result ≡ Status.Usage → ⊥ }
+    ensures near { IfSome (S.left input.old) (λ left. TakesForLine result left (S.left input.new)) }
+    ensures nothing { result ≡ Status.ReadFault → output.new ≡ output.old }
     ensures faults { ShowsFaults S.left S.faults K.written K.faults result input.old input.new output.old output.new }
 {
-    let text = match read_description(alloc, input) {
-        Ok(text) => text,
-        Err(ReadEnd::Failed) => return Status::ReadFault,
-        Err(ReadEnd::Mem) => return Status::Memory,
-    };
-    let mut out = Vec::new(alloc);
-    let Ok(status) = lay_text(alloc, drivers, text.as_slice(), device, mask, &mut out) else {
+    let Ok(mut lines) = LineReader::new(alloc) else {
         return Status::Memory;
     };
-    write_out(output, out.as_slice(), status)
+    match open(alloc, &mut lines, input, drivers) {
+        Ok(opening) => lay_opening(alloc, opening, device, mask, output),
+        Err(ReadEnd::Failed) => Status::ReadFault,
+        Err(ReadEnd::Mem) => Status::Memory,
+    }
 }

@@ -1,7 +1,6 @@
 //! The program: its words, its streams, and the status that it ends with.
 #![tactic(auto)]
 
-mod blocks;
 mod command;
 mod exit;
 mod layout;

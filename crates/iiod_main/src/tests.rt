@@ -5,6 +5,7 @@ mod more;
 mod playing;
 mod refused;
 mod rows;
+mod streaming;
 mod worked;
 
 ghost use Rattle.std.specs.Prelude.{◌≤◌};
@@ -97,24 +98,6 @@ fn examples_are_played(rt: HostRuntime) -> Result<(), Fail> {
         );
         assert_eq!(rt; bytes.written(), printed);
     }
-    Ok(())
-}
-
-// One byte a read: each read of the text fails in turn, and then the one that gives the end.
-#[test]
-fn failing_reads_end_the_run(rt: HostRuntime) -> Result<(), Fail> {
-    let alloc = rt.alloc();
-    let reads = FIRST_PATH.len() as u64 + 1;
-    for failing in 1..=reads {
-        let mut input = source(alloc, FIRST_PATH, 1, &[failing])?;
-        let mut output = sink(alloc, 1000, &[])?;
-        let ended = played(alloc, &mut input, &mut output)?;
-        assert_eq!(rt; ended, Status::ReadFault, "at read {failing}");
-        assert!(rt; output.written().is_empty(), "at read {failing}");
-    }
-    let mut input = source(alloc, FIRST_PATH, 1, &[reads + 1])?;
-    let mut output = sink(alloc, 1000, &[])?;
-    assert_eq!(rt; played(alloc, &mut input, &mut output)?, Status::Done);
     Ok(())
 }
 

@@ -1,10 +1,10 @@
 -- Takes one after another.
-use Rattle.std.proofs.Common.{◌≡◌, ℕ, zero, suc, ◌+◌, ◌-◌, ◌*◌, ◌≤◌, ◌<◌, List, [], ◌∷◌, ◌++◌, length, take, drop, Option, Some, None, IfSome, option_map, length-append, refl, sym, ap, ◌∙◌, arith, append-nil, append_assoc, Bool, true, false, not}
-use Rattle.std.proofs.Math.Seq.{drop-nil, take-nil}
+use Rattle.std.proofs.Common.{◌≡◌, ℕ, zero, suc, ◌+◌, ◌-◌, ◌*◌, ◌≤◌, ◌<◌, List, [], ◌∷◌, ◌++◌, length, take, drop, Option, Some, None, IfSome, option_map, length-append, length-drop, length-take, subst, refl, sym, ap, ◌∙◌, arith, append-nil, append_assoc, Bool, true, false, not}
+use Rattle.std.proofs.Math.Seq.{drop-nil, take-append_seam, take-nil}
 use Rattle.std.proofs.lemmas.Slice.{take-put_mid}
 use Rattle.std.proofs.Math.Nat.{mul-lt-mul_of_pos_right}
 use Rattle.std.proofs.Common.{inl, inr}
-use borrow.Rule.Slice.PartMut.{put_mid}
+use borrow.Rule.Slice.PartMut.{mid_of, put_mid, same_len_mid}
 use Rattle.iiod_session.specs.Machine.{Machine, MemberId, queue_of, with_queue}
 use Rattle.iiod_session.specs.Seat.{SeatRecord, Tale, seat_id, after_scans, after_take, after_nothing, Takes}
 use Rattle.iiod_session.specs.declared.iio.Took.{Took}
@@ -74,21 +74,49 @@ joined-append : (xs : List (List ℕ)) (x : List ℕ) → joined_scans (xs ++ x 
 joined-append [] x = append-nil x
 joined-append (y ∷ ys) x = ap (λ zs. y ++ zs) (joined-append ys x) ∙ sym (append_assoc y (joined_scans ys) x)
 
-pub reading_none : (dev want size : ℕ) (told : Option Machine) (s : SeatRecord) (room : List ℕ) → size ≡ s.size → length room ≡ want * size
+pub reading_none : (dev want size : ℕ) (told : Option Machine) (s : SeatRecord) (room : List ℕ) → size ≡ s.size
     → Reading dev want told told s s want 0 room
-reading_none dev want size told s room same all =
+reading_none dev want size told s room same =
     record { scans = []; gave = gave_none dev told s; bytes = refl; count = omega arith; ends = omega arith }
+
+-- the room grows behind what was read
+pub reading_wider : (dev want : ℕ) (told t : Option Machine) (s b : SeatRecord) (left end : ℕ) (room room' : List ℕ)
+    → Reading dev want told t s b left end room → take end room' ≡ take end room → Reading dev want told t s b left end room'
+reading_wider dev want told t s b left end room room' r same =
+    record { scans = r.scans; gave = r.gave; bytes = same ∙ r.bytes; count = r.count; ends = r.ends }
+
+-- what is written into a part of the room leaves it as long
+pub part_length : (at k : ℕ) (room out : List ℕ) → at + k ≤ length room → length out ≡ k → length (put_mid at k room out) ≡ length room
+part_length at k room out fits whole =
+    let part : length (mid_of at k room) ≡ k = simp (length-take, length-drop) (omega arith) in
+    same_len_mid at k room out (whole ∙ sym part)
+
+-- and stands there
+pub part_written : (len at k : ℕ) (room base out : List ℕ) → base ≡ room → length room ≡ len → at + k ≤ length room → length out ≡ k
+    → take len (put_mid at k base out ++ drop (length (put_mid at k base out)) room) ≡ put_mid at k room out
+part_written len at k room base out same all fits whole =
+    rw same (subst (λ (n : ℕ). take n (put_mid at k room out ++ drop (length (put_mid at k room out)) room) ≡ put_mid at k room out) (part_length at k room out fits whole ∙ all)
+    (take-append_seam (put_mid at k room out) (drop (length (put_mid at k room out)) room)))
+
+-- there is room for one scan more among those that are wanted
+pub next_within : (dev want size : ℕ) (told t : Option Machine) (s b : SeatRecord) (left end : ℕ) (room : List ℕ)
+    → Reading dev want told t s b left end room → 0 < left → size ≡ b.size → end + size ≤ want * size
+next_within dev want size told t s b left end room r more same =
+    let sized : s.size ≡ size = sym (same ∙ ap (λ (x : SeatRecord). x.size) r.gave.shown) in
+    by_left left (rw sized at r.ends) more
+  where
+    by_left : (left : ℕ) → end + left * size ≡ want * size → 0 < left → end + size ≤ want * size
+    by_left zero e h = absurd (omega (arith, h))
+    by_left (suc n) e h = omega (arith, e)
 
 pub reading_more : (dev want size : ℕ) (told t t' : Option Machine) (s b b' : SeatRecord) (left end k : ℕ) (room out : List ℕ)
     → Reading dev want told t s b left end room
-    → 0 < left → length room ≡ want * size → size ≡ b.size → length out ≡ size → k ≡ size
+    → 0 < left → end + size ≤ length room → size ≡ b.size → length out ≡ size → k ≡ size
     → IfSome t (λ (m : Machine). Takes m dev (seat_id b) Scan out t')
     → b' ≡ record b { tale = option_map (after_take Scan out) b.tale }
     → Reading dev want told t' s b' (left - 1) (end + size) (put_mid end k room out)
-reading_more dev want size told t t' s b b' left end k room out before more all same whole part takes shown =
+reading_more dev want size told t t' s b b' left end k room out before more fits same whole part takes shown =
     let sized : s.size ≡ size = sym (same ∙ ap (λ (x : SeatRecord). x.size) before.gave.shown) in
-    let known : end + left * size ≡ length room = rw sized at before.ends ∙ sym all in
-    let fits : end + size ≤ length room = by_left left known more in
     record {
       scans = before.scans ++ out ∷ [];
       gave = gave_more dev told t t' s b b' before.scans out before.gave takes shown;
@@ -100,10 +128,6 @@ reading_more dev want size told t t' s b b' left end k room out before more all 
     by_less : (left : ℕ) → end + left * size ≡ want * size → 0 < left → (end + size) + (left - 1) * size ≡ want * size
     by_less zero e h = absurd (omega (arith, h))
     by_less (suc n) e h = let one : suc n - 1 ≡ n = omega arith in rw one (omega (arith, e))
-
-    by_left : (left : ℕ) → end + left * size ≡ length room → 0 < left → end + size ≤ length room
-    by_left zero e h = absurd (omega (arith, h))
-    by_left (suc n) e h = omega (arith, e)
 
 -- ---- the end of a READBUF
 

@@ -30,13 +30,13 @@ module _ {S : Type 0} (seen : S → SeatRecord) where
   one_more_held f [] h = refl
   one_more_held f (x ∷ xs) h = ap (λ ys. f x ∷ ys) (one_more_held f xs h)
 
-  pub joins : (front : Front) (dev capacity : ℕ) (mask : Mask) (base : DeskRecord) (held mid held' : List (Held S)) (s : S) → IsNew front dev mask.bits capacity (seen s)
+  pub joins : (front : Front) (dev capacity size : ℕ) (mask : Mask) (base : DeskRecord) (held mid held' : List (Held S)) (s : S) → IsNew front dev mask.bits capacity (seen s)
       → place_of dev (seats_of seen held) ≡ None
-      → mid ≡ held → held' ≡ mid ++ record { dev = dev; mask = mask; capacity = capacity; seat = s } ∷ []
+      → mid ≡ held → held' ≡ mid ++ record { dev = dev; mask = mask; capacity = capacity; size = size; seat = s } ∷ []
       → JoinsBy dev (with_seats (seats_of seen held) base) (tales_of seen held) (Ok tt) (with_seats (seats_of seen held') base) (tales_of seen held')
-  joins front dev capacity mask base held mid held' s is free z e' =
-      let e : held' ≡ held ++ record { dev = dev; mask = mask; capacity = capacity; seat = s } ∷ [] = rw z at e' in (
-        bare_of seen (record { dev = dev; mask = mask; capacity = capacity; seat = s }),
+  joins front dev capacity size mask base held mid held' s is free z e' =
+      let e : held' ≡ held ++ record { dev = dev; mask = mask; capacity = capacity; size = size; seat = s } ∷ [] = rw z at e' in (
+        bare_of seen (record { dev = dev; mask = mask; capacity = capacity; size = size; seat = s }),
         (seen s).tale,
         refl,
         free,

@@ -1,6 +1,6 @@
 -- What a connection has of the devices: its seats, its buffers counts, and the devices whose events go to it. The seats'
 -- tales stand beside, in the same order.
-use Rattle.std.specs.Prelude.{ℕ, ◌*◌, ◌==◌, ◌<◌, not, Bool, List, [], ◌∷◌, ◌++◌, map, filter, length, if◌then◌else◌, Option, is_none, unwrap_or, All, Result, position}
+use Rattle.std.specs.Prelude.{◌≡◌, ℕ, ◌*◌, ◌==◌, ◌<◌, ◌≤◌, not, Bool, List, [], ◌∷◌, ◌++◌, map, filter, length, if◌then◌else◌, Option, is_none, unwrap_or, All, Result, position}
 use Rattle.iio_base.specs.Refusals.{first_refusal, unless_refused}
 use Rattle.iio_text.specs.declared.errors.Errno.{Errno}
 use Rattle.iio_mask.specs.Text.{mask_of}
@@ -11,7 +11,7 @@ use Rattle.iiod_session.specs.declared.desk.BuffersCount.{BuffersCount}
 use Rattle.iiod_session.specs.declared.desk.Desk.{Desk}
 use Rattle.iiod_session.specs.declared.desk.Held.{Held}
 use Rattle.iiod_session.specs.declared.desk.TheConstants.{FIRST_BUFFERS}
-use Rattle.iiod_session.specs.Front.{Front}
+use Rattle.iiod_session.specs.Front.{Front, size_at}
 use Rattle.iiod_session.specs.Machine.{MemberId}
 use Rattle.iiod_session.specs.Opening.{asked_refusals, is_excess}
 use Rattle.iiod_session.specs.Seat.{SeatRecord, Tale, MayOpen, IsOwned}
@@ -89,9 +89,11 @@ module _ {S : Type 0} (seen : S → SeatRecord) where
   abbrev pub desk_of : Desk S → DeskRecord
   desk_of d = record { who = d.who; seats = seats_of d.held.items; buffers = d.buffers.items; holdings = d.holdings.items }
 
-  -- a seat is owned at its device, with the mask and the capacity of its OPEN
+  -- a seat is owned at its device, with the mask and the capacity of its OPEN, and its size is that of the mask's scans
   pub record IsHeld (front : Front) (h : Held S) : Type 0 where
     pub opened : MayOpen front h.dev h.mask.bits h.capacity
+    pub sized : h.size ≡ size_at front h.dev h.mask.bits
+    pub some : 1 ≤ h.size
     pub owned : IsOwned front h.dev h.mask.bits h.capacity (seen h.seat)
 
   abbrev pub AllHeld : Front → List (Held S) → Type 0

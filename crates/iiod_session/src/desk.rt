@@ -8,12 +8,13 @@ pub(crate) const FIRST_BUFFERS: u32 = 4;
 /// The most buffers.
 pub(crate) const MAX_BUFFERS: u32 = 64;
 
-/// A seat, with its device, and the mask and the capacity of its OPEN.
+/// A seat, with its device, the mask and the capacity of its OPEN, and the bytes of its scans.
 #[derive(Drop)]
 pub(crate) struct Held<S> {
     pub(crate) dev: u32,
     pub(crate) mask: Mask,
     pub(crate) capacity: u32,
+    pub(crate) size: u32,
     pub(crate) seat: S,
 }
 

@@ -18,6 +18,7 @@ fn close_all<I: Iio>(held: &mut Vec<Held<I::Seat>>, iio: &mut I)
             dev,
             mask: _,
             capacity: _,
+            size: _,
             seat,
         } = h;
         iio.close(dev, seat);

@@ -11,7 +11,7 @@ ghost use Rattle.iiod_session.specs.declared.desk.Held.{Held};
 use crate::answers::push_refusal;
 use crate::desk::{BuffersCount, Desk, FIRST_BUFFERS, Held};
 use crate::iio::{Iio, No, Took};
-use crate::reading::{data_scan_size, read_scans};
+use crate::reading::{data_scan_size, read_sized};
 use crate::wanted::{Wanted, wanted_by};
 use iio_base::Mem;
 use iio_text::Errno;
@@ -63,6 +63,7 @@ fn join<I: Iio>(desk: &mut Desk<I::Seat>, iio: &mut I, dev: u32, wanted: Wanted)
         return Err(No::Mem);
     }
     let Wanted { mask, capacity } = wanted;
+    let size = data_scan_size(iio.shape(dev), mask);
     match iio.open(dev, mask, capacity) {
         Err(no) => Err(no),
         Ok(seat) => {
@@ -70,6 +71,7 @@ fn join<I: Iio>(desk: &mut Desk<I::Seat>, iio: &mut I, dev: u32, wanted: Wanted)
                 dev,
                 mask,
                 capacity,
+                size,
                 seat,
             });
             Ok(())
@@ -131,6 +133,7 @@ pub(crate) fn close_at<I: Iio>(desk: &mut Desk<I::Seat>, iio: &mut I, dev: u32) 
                 dev: at,
                 mask: _,
                 capacity: _,
+                size: _,
                 seat,
             } = desk.held.remove(i);
             iio.close(at, seat);
@@ -154,17 +157,18 @@ fn read_held<I: Iio>(
     ensures read { ReadHeld (I.front (I.kept iio.old)) asked (I.told iio.old) (I.told iio.new)
         (bare_of I.seen h.old) (tale_of I.seen h.old) (tale_of I.seen h.new) out.old.items out.new.items result }
 {
-    if asked < data_scan_size(iio.shape(h.dev), h.mask) {
+    if asked < h.size {
         number(0, out)?;
         return Ok(Took::Scan);
     }
-    read_scans(
+    read_sized(
         alloc,
         iio,
         h.dev,
         &mut h.seat,
         h.mask,
         h.capacity,
+        h.size,
         asked,
         out,
     )

@@ -9,6 +9,7 @@ ghost use Rattle.iio_sensor.specs.Failing.{driver_of};
 use crate::{Device, Handled, JoinFault, JoinRefused, Member, Plug, RawFault};
 use iio_attr::{Attr, Value, check};
 use iio_desc::{DeviceDesc, read_desc};
+use iio_event::NotHolder;
 use iio_kfifo::{Kfifo, Tail};
 use iio_layout::{Shape, scan_size};
 use iio_mask::Mask;
@@ -16,6 +17,7 @@ use iio_sensor::{Failing, Fault, Recorded, Sensor};
 use iio_text::Errno;
 use iio_trigger::{Polled, Trigger};
 use std::alloc::Global;
+use std::mem;
 use std::process::Abort;
 use std::sync::Arc;
 use std::sync::atomic::{AtomicU64, Ordering};
@@ -82,28 +84,39 @@ fn described(alloc: Global, text: &str) -> Result<DeviceDesc, Fail>
     Ok(device)
 }
 
-/// A device, number 0, beside a trigger.
+/// A device, number 0, beside a trigger of two places and another such one, and what its sensor was asked, where that tells
+/// it.
 #[derive(Drop)]
 pub(super) struct Bench {
     alloc: Global,
     pub(super) device: Device<Kfifo>,
     pub(super) trigger: Trigger,
+    other: Trigger,
+    asked: Arc<Asked, Global>,
 }
 
 impl Bench {
-    // A device as the text says, with that driver.
-    pub(super) fn with(alloc: Global, text: &str, plug: Plug) -> Result<Bench, Fail> {
+    // A device as the text says, with that driver, whose asks are told there.
+    pub(super) fn with(
+        alloc: Global,
+        text: &str,
+        plug: Plug,
+        asked: Arc<Asked, Global>,
+    ) -> Result<Bench, Fail> {
         Ok(Bench {
             alloc,
             device: Device::new(alloc, described(alloc, text)?, 0, plug)?,
             trigger: Trigger::new(2),
+            other: Trigger::new(2),
+            asked,
         })
     }
 
     // A device as the text says, with the rows of the text.
     pub(super) fn new(alloc: Global, text: &str) -> Result<Bench, Fail> {
         let rows = described(alloc, text)?.rows;
-        Bench::with(alloc, text, Plug::Own(Recorded::new(rows)))
+        let asked = Arc::new(alloc, Asked::new())?;
+        Bench::with(alloc, text, Plug::Own(Recorded::new(rows)), asked)
     }
 
     // The mask of that text at this device.
@@ -120,23 +133,19 @@ impl Bench {
         &mut self,
         rt: &impl Abort,
         text: &str,
-    ) -> Result<Result<Member, JoinFault>, Fail> {
+    ) -> Result<Result<u64, JoinFault>, Fail> {
         let mask = self.mask(rt, text)?;
         let size = scan_size(self.device.shape(), mask);
         assert!(rt; 1 <= size && size <= 1024);
         assert!(rt; self.device.trigger().is_some());
         let tail = Kfifo::new(self.alloc, ROOM, size)?;
         match self.device.join(mask, tail, &mut self.trigger) {
-            Ok(member) => Ok(Ok(member)),
+            Ok(member) => Ok(Ok(member.number)),
             Err(JoinRefused { fault, tail }) => {
                 assert_eq!(rt; (tail.size(), tail.capacity()), (size, ROOM));
                 Ok(Err(fault))
             }
         }
-    }
-
-    pub(super) fn join(&mut self, rt: &impl Abort, text: &str) -> Result<Member, Fail> {
-        Ok(self.try_join(rt, text)??)
     }
 
     pub(super) fn may_join(&self, bits: u64) -> Result<(), JoinFault> {
@@ -148,44 +157,92 @@ impl Bench {
     }
 
     // Makes a member leave, and says whether it was there.
-    pub(super) fn leave(&mut self, rt: &impl Abort, member: Member) -> bool {
+    pub(super) fn leave(&mut self, rt: &impl Abort, number: u64) -> bool {
         assert!(rt; self.device.trigger().is_some());
-        self.device.leave(member, &mut self.trigger).is_some()
+        self.device
+            .leave(Member { number }, &mut self.trigger)
+            .is_some()
     }
 
-    // Handles the device's entry, if it has one.
-    pub(super) fn handle(&mut self, rt: &impl Abort) -> Option<Handled> {
-        let due = self.trigger.due(self.device.number())?;
+    // Puts the other trigger in the place of the trigger.
+    pub(super) fn swap(&mut self) -> bool {
+        mem::swap(&mut self.trigger, &mut self.other);
+        true
+    }
+
+    // Handles the entry of that device, if it has one.
+    pub(super) fn handle(&mut self, rt: &impl Abort, dev: u32) -> Option<Handled> {
+        let due = self.trigger.due(dev)?;
         let handled = self.device.handle(&due);
         assert!(rt; self.trigger.done(due));
         Some(handled)
     }
 
-    // Polls the trigger, which has no other device, and handles the device's entry.
+    // Polls the trigger, and handles the device's entry.
     pub(super) fn fire(&mut self, rt: &impl Abort, t: i64) -> Option<Handled> {
         assert_eq!(rt; self.trigger.poll(t), Polled::Accepted(1), "at {t}");
-        self.handle(rt)
+        self.handle(rt, 0)
     }
 
-    // Takes a member's scans, which are to be these and no more.
-    pub(super) fn drain(
-        &mut self,
-        rt: &impl Abort,
-        member: Member,
-        scans: &[&[u8]],
-    ) -> Result<(), Fail> {
+    // Takes the member's oldest scan into room of that size, and says whether there was one.
+    pub(super) fn take(&mut self, number: u64, size: usize) -> Result<Option<bool>, Fail> {
+        let mut out = vec![in self.alloc; 0xffu8; size]?;
+        Ok(self.device.take(&Member { number }, &mut out))
+    }
+
+    // Takes the member's oldest scan, and says whether it is this one.
+    fn gives(&mut self, number: u64, want: &[u8]) -> Result<bool, Fail> {
+        let mut out = vec![in self.alloc; 0xffu8; want.len()]?;
+        let given = self.device.take(&Member { number }, &mut out);
+        Ok(given == Some(true) && out.as_slice() == want)
+    }
+
+    // Takes a member's scans, and says whether they are these and no more.
+    pub(super) fn drain(&mut self, number: u64, scans: &[&[u8]]) -> Result<bool, Fail> {
         for want in scans {
-            let mut out = vec![in self.alloc; 0xffu8; want.len()]?;
-            assert_eq!(rt;
-                self.device.take(&member, &mut out),
-                Some(true),
-                "{member:?}"
-            );
-            assert_eq!(rt; out.as_slice(), *want, "{member:?}");
-            assert_eq!(rt; self.device.take(&member, &mut []), None);
+            if !self.gives(number, want)? {
+                return Ok(false);
+            }
         }
-        assert_eq!(rt; self.device.waiting(&member), Some(0), "{member:?}");
-        Ok(())
+        Ok(self.queue(number).0 == Some(0))
+    }
+
+    // How many scans wait for a member, and how many it has lost.
+    pub(super) fn queue(&self, number: u64) -> (Option<u32>, Option<u64>) {
+        let member = Member { number };
+        (self.device.waiting(&member), self.device.lost(&member))
+    }
+
+    // Whether a member of that number and mask is there.
+    pub(super) fn is_live_under(&self, number: u64, bits: u64) -> bool {
+        self.device.is_live_under(&Member { number }, Mask { bits })
+    }
+
+    // The member that joined first.
+    pub(super) fn first(&self) -> Option<u64> {
+        Some(self.device.first_member()?.number)
+    }
+
+    // The mask that the sensor is asked under, and how many masks the members have.
+    pub(super) fn under(&self) -> (Option<u64>, u32) {
+        let groups = self.device.groups();
+        match self.device.active() {
+            None => (None, groups),
+            Some(mask) => (Some(mask.bits), groups),
+        }
+    }
+
+    // How often the sensor was asked, and the moment and the mask of its last capture.
+    pub(super) fn asked(&self) -> (u64, u64, u64) {
+        self.asked.now()
+    }
+
+    // The code and the moment of the event that waits longest.
+    pub(super) fn event(&mut self, who: u32) -> Result<Option<(u64, i64)>, NotHolder> {
+        match self.device.ev_read(who)? {
+            None => Ok(None),
+            Some(event) => Ok(Some((event.code, event.t))),
+        }
     }
 
     pub(super) fn raw(&mut self, rt: &impl Abort, c: u32, t: i64) -> Result<i64, RawFault> {
@@ -218,7 +275,7 @@ impl Bench {
     }
 }
 
-/// What a `Telling` was asked: how often, and the moment and the mask of its last capture.
+/// What a [`Telling`] was asked: how often, and the moment and the mask of its last capture.
 #[derive(Drop)]
 pub(super) struct Asked {
     asks: AtomicU64,
@@ -241,13 +298,11 @@ impl Asked {
     }
 
     // The number of asks, and the moment and the mask of the last capture.
-    pub(super) fn now(&self) -> (u64, (u64, u64)) {
+    fn now(&self) -> (u64, u64, u64) {
         (
             self.asks.load(Ordering::SeqCst),
-            (
-                self.t.load(Ordering::SeqCst),
-                self.active.load(Ordering::SeqCst),
-            ),
+            self.t.load(Ordering::SeqCst),
+            self.active.load(Ordering::SeqCst),
         )
     }
 }
@@ -260,6 +315,7 @@ pub(super) struct Telling {
 }
 
 impl Telling {
+    // One that fails at these asks, and tells there what it is asked.
     pub(super) fn new(
         alloc: Global,
         fails: &[u64],

@@ -504,7 +504,7 @@ B "-22\n"
 // ---- drivers
 
 /// A device of the first driver.
-const DRIVEN: &str = "trigger t0 2
+pub(crate) const DRIVEN: &str = "trigger t0 2
 device w t0
 channel voltage0 le:u16/16>>0
 driver 0

@@ -1,4 +1,5 @@
-use Rattle.std.proofs.Common.{arith}
+use Rattle.std.proofs.Common.{arith, ℕ, ◌∙◌}
+use Rattle.std.proofs.lemmas.List.{length-drop, length-take}
 use Rattle.iio_io.proofs.Told.{WroteSoFar-more, silent_more}
 use Rattle.iio_io.proofs.whole.write_whole.Goals as goal
 
@@ -7,8 +8,9 @@ loop-done-preserved g c =
     let old = c.loop-done.invariant in
     let new = c.in_ok-done.ensures in
     record {
-      within = grind (arith, new.fits);
-      told = WroteSoFar-more _ _ _ _ _ _ old.told new.appended;
+      within = omega (arith, new.fits, length-take {A = ℕ}, length-drop {A = ℕ});
+      told = WroteSoFar-more _ _ _ _ _ _ _ old.told (omega (arith, new.fits, length-take {A = ℕ})) new.appended;
       silent = silent_more _ _ _ old.silent new.silent;
+      steady = new.steady ∙ old.steady;
       counted = omega (arith, old.counted, new.counted);
     }

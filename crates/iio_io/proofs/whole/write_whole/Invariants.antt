@@ -7,6 +7,7 @@ invariant-loop-done g l = record {
   within : l.done ≤ length l.bytes;
   told : WroteSoFar (g.K.Sink.written l.fn.sink) l.bytes l.done (g.K.Sink.written l.sink);
   silent : IfNone (g.K.Sink.written l.fn.sink) (g.K.Sink.written l.sink ≡ None);
+  steady : g.K.Sink.faults l.sink ≡ g.K.Sink.faults l.fn.sink;
   counted : g.K.Sink.faults l.fn.sink ≤ g.K.Sink.faults l.sink;
 }
 

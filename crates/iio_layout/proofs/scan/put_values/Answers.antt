@@ -1,28 +1,17 @@
-use Rattle.std.proofs.Common.{◌≡◌, ◌+◌, ◌-◌, ◌*◌, ◌≤◌, ℕ, ℤ, length, FitsSigned, w64, rules, sym, ap, ◌∙◌, arith}
+use Rattle.std.proofs.Common.{◌≡◌, ◌*◌, ℤ, take, FitsSigned, w64, rules, sym, ap, ◌∙◌, arith, append-nil}
 use Rattle.std.proofs.lemmas.Int.{to_z-of_z}
-use Rattle.std.proofs.lemmas.List.{take_all}
-use Rattle.std.proofs.lemmas.Nat.{rows}
 use Rattle.iio_scan_type.specs.Bytes.{channel_bytes, element_bytes}
+use Rattle.iio_scan_type.specs.Format.{Format, element_size, size_of}
 use Rattle.iio_layout.specs.Scan.{elements_below}
-use Rattle.iio_layout.proofs.ValueLemmas.{elements_more}
 use Rattle.iio_layout.proofs.scan.put_values.Goals as goal
 
-pub loop-k-preserved : goal.loop-k-preserved
-loop-k-preserved g c =
-    let n : ℕ = c.element_size-size.result in
-    let k : ℕ = c.loop-k.k in
-    let room : (k + 1) * n ≤ length c.loop-k.out = grind (arith, rows) in
+pub returns-then-repeat-eq1 : goal.returns-then-repeat-eq1
+returns-then-repeat-eq1 g c =
+    let ty : Format = c.args.ty.now in
+    let value = g.V.Values.value c.args.values.now c.args.c in
+    let single : ty.repeat ≡ 1 = sym c.repeat.ensures.value ∙ c.if-repeat-eq1.true in
+    let one : size_of ty ≡ element_size ty = ap (λ n. element_size ty * n) single ∙ omega arith in
     let v : ℤ = c.value.result in
     let fits : FitsSigned w64 v = search rules in
-    let part : c.put_element.new.out ≡ element_bytes c.args.ty (g.V.Values.value c.args.values.now c.args.c k) =
-    (simp to_z-of_z at c.put_element.ensures) ∙ ap (element_bytes c.args.ty) c.value.ensures in
-    elements_more c.args.ty (g.V.Values.value c.args.values.now c.args.c) k n (k * n + n - k * n) c.loop-k.out c.put_element.new.out
-    c.element_size-size.ensures.value part room c.loop-k.invariant
-
-pub returns : goal.returns
-returns g c =
-    let n : ℕ = c.element_size-size.result in
-    let last : c.loop-k.k ≡ c.args.ty.repeat = omega arith in
-    let all : length c.loop-k.out ≤ c.loop-k.k * n = rw last (grind (arith, rows)) in
-    sym (take_all (c.loop-k.k * n) c.loop-k.out all) ∙ c.loop-k.invariant
-    ∙ ap (λ k. channel_bytes c.args.ty (elements_below (g.V.Values.value c.args.values.now c.args.c) k)) last
+    ap (λ n. take n c.put_front.new.out) one ∙ (simp to_z-of_z at c.put_front.ensures) ∙ ap (element_bytes ty) c.value.ensures
+    ∙ sym (append-nil (element_bytes ty (value 0))) ∙ ap (λ k. channel_bytes ty (elements_below value k)) (sym single)

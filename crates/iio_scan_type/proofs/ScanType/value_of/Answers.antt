@@ -1,27 +1,16 @@
-use Rattle.std.proofs.Common.{◌-◌, FitsSigned, w64, rules, ◌∙◌, ap}
-use Rattle.std.proofs.lemmas.Int.{to_z-of_z, to_z_pos}
-use Rattle.std.specs.Int.{int_shr}
+use Rattle.std.proofs.Common.{◌-◌, ◌*◌, ◌/◌, ◌%◌, ◌^◌, FitsSigned, w64, rules, sym, ◌∙◌, ap}
+use Rattle.std.proofs.lemmas.Int.{to_z-of_z}
 use Rattle.iio_scan_type.specs.Format.{Format}
 use Rattle.iio_scan_type.specs.View.{format_of}
-use Rattle.iio_scan_type.specs.Bytes.{value_in}
-use Rattle.iio_scan_type.proofs.Numbers.{signed_value, unsigned_small, unsigned_value}
+use Rattle.iio_scan_type.specs.Bytes.{value_by, value_in}
+use Rattle.iio_scan_type.proofs.Numbers.{number_field}
 use Rattle.iio_scan_type.proofs.ScanType.value_of.Goals as goal
 
-pub overflow_cast-result-in-Unsigned-2 : goal.overflow_cast-result-in-Unsigned-2
-overflow_cast-result-in-Unsigned-2 c =
-    record { sfits = unsigned_small (format_of c.self.inside) c.args.number c.self.invariant c.in-Unsigned.is }
-
-pub returns-in-Signed : goal.returns-in-Signed
-returns-in-Signed c =
+pub returns : goal.returns
+returns c =
     let f : Format = format_of c.self.inside in
-    let fits : FitsSigned w64 c.cast_signed.result = search rules in
-    let shifted : FitsSigned w64 (int_shr c.cast_signed.result (64 - f.realbits)) = search rules in
-    let e = signed_value f c.args.number c.self.invariant c.in-Signed.is in
-    simp to_z-of_z (ap (λ z. int_shr z (64 - f.realbits)) c.cast_signed.ensures ∙ e ∙ ap (λ (g : Format). value_in g c.args.number) c.self.view_is)
-
-pub returns-in-Unsigned : goal.returns-in-Unsigned
-returns-in-Unsigned c =
-    let f : Format = format_of c.self.inside in
-    let small = unsigned_small f c.args.number c.self.invariant c.in-Unsigned.is in
-    to_z_pos w64 _ small ∙ unsigned_value f c.args.number c.self.invariant c.in-Unsigned.is
-    ∙ ap (λ (g : Format). value_in g c.args.number) c.self.view_is
+    let n = c.args.number in
+    let fits : FitsSigned w64 c.extended.result = search rules in
+    to_z-of_z w64 c.extended.result fits ∙ c.extended.ensures
+    ∙ ap (λ (g : Format). value_by g.sign g.realbits ((n * 2 ^ (64 - f.realbits - f.shift)) % 2 ^ 64 / 2 ^ (64 - g.realbits))) (sym c.self.view_is)
+    ∙ ap (value_by f.sign f.realbits) (number_field f n c.self.invariant) ∙ ap (λ (g : Format). value_in g n) c.self.view_is

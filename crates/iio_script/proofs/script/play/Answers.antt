@@ -1,35 +1,31 @@
-use Rattle.std.proofs.Common.{◌≡◌, ℕ, List, [], IfSome, subst, sym}
-use Rattle.iio_sensor.specs.Driver.{Driver}
-use Rattle.iio_history.specs.Outcome.{outcome_of}
-use Rattle.iio_script.specs.declared.status.Status.{Status}
-use Rattle.iio_script.specs.Ends.{Finishes, HasStatus, Writes}
-use Rattle.iio_script.proofs.OutcomeLaws.{of_left, wrote_none}
+use Rattle.std.proofs.Common.{[]}
+use Rattle.iio_script.proofs.OutcomeLaws.{each_told, run_lines, run_near, run_status, run_writes, runs_nothing}
 use Rattle.iio_script.proofs.script.play.Goals as goal
 
-finished_by : (drivers : List Driver) (read text : List ℕ) (status : Status) (first before out after : List ℕ) → read ≡ text → first ≡ before → after ≡ out
-    → Finishes (outcome_of drivers read) status first out → Finishes (outcome_of drivers text) status before after
-finished_by drivers read text status first before out after same none whole f =
-    subst (λ (t : List ℕ). Finishes (outcome_of drivers t) status before after) same
-    (subst (λ (b : List ℕ). Finishes (outcome_of drivers read) status b after) none
-    (subst (λ (o : List ℕ). Finishes (outcome_of drivers read) status first o) (sym whole) f))
-
 pub returns-in_default-clause-transcript : goal.returns-in_default-clause-transcript
-returns-in_default-clause-transcript g c = wrote_none _ _ _
+returns-in_default-clause-transcript g c =
+    each_told _ _ (g.S.Source.left c.args.input.now) (λ input run. run_writes _ input _ (g.S.Source.left c.args.input.now) (g.K.Sink.written c.args.output.now) (g.K.Sink.written c.args.output.now) run) (runs_nothing _ (g.S.Source.left c.args.input.now) (g.K.Sink.written c.args.output.now))
 
--- the status is that of the outcome, where the source tells it
-pub returns-clause-status : goal.returns-clause-status
-returns-clause-status g c =
-    of_left (λ outcome. HasStatus outcome c.write_out.result) _ (g.S.Source.left c.args.input.now) (g.S.Source.left c.read_whole.new.source) c.in-Ok.text.items c.as_slice-2.result.now
-    c.in-Ok-play_text.status c.in-Ok.ensures.whole
-    (finished_by _ c.as_slice.result.now c.in-Ok.text.items c.in-Ok-play_text.status c.new-out.result.items [] c.play_text.new.out.items c.as_slice-2.result.now
-    c.as_slice.ensures.value c.new-out.ensures.items c.as_slice-2.ensures.value c.in-Ok-play_text.ensures)
-    c.write_out.ensures.status
+pub returns-in_default-clause-taken : goal.returns-in_default-clause-taken
+returns-in_default-clause-taken g c =
+    each_told _ _ (g.S.Source.left c.args.input.now) (λ input run. run.takes) (runs_nothing [] (g.S.Source.left c.args.input.now) (g.K.Sink.written c.args.output.now))
 
 pub returns-clause-transcript : goal.returns-clause-transcript
 returns-clause-transcript g c =
-    of_left (λ outcome. IfSome (g.K.Sink.written c.args.output.now) (λ before. Writes outcome before c.write_out.result (g.K.Sink.written c.write_out.new.output))) _
-    (g.S.Source.left c.args.input.now) (g.S.Source.left c.read_whole.new.source) c.in-Ok.text.items c.as_slice-2.result.now
-    c.in-Ok-play_text.status c.in-Ok.ensures.whole
-    (finished_by _ c.as_slice.result.now c.in-Ok.text.items c.in-Ok-play_text.status c.new-out.result.items [] c.play_text.new.out.items c.as_slice-2.result.now
-    c.as_slice.ensures.value c.new-out.ensures.items c.as_slice-2.ensures.value c.in-Ok-play_text.ensures)
-    c.write_out.ensures.written
+    each_told _ _ (g.S.Source.left c.args.input.now) (λ input run. run_writes _ input c.play_input.result (g.S.Source.left c.play_input.new.input) (g.K.Sink.written c.args.output.now) (g.K.Sink.written c.play_input.new.output) run) c.play_input.ensures.runs
+
+pub returns-clause-status : goal.returns-clause-status
+returns-clause-status g c =
+    each_told _ _ (g.S.Source.left c.args.input.now) (λ input run. run_status _ input c.play_input.result (g.S.Source.left c.play_input.new.input) (g.K.Sink.written c.args.output.now) (g.K.Sink.written c.play_input.new.output) run) c.play_input.ensures.runs
+
+pub returns-clause-taken : goal.returns-clause-taken
+returns-clause-taken g c =
+    each_told _ _ (g.S.Source.left c.args.input.now) (λ input run. run.takes) c.play_input.ensures.runs
+
+pub returns-clause-near : goal.returns-clause-near
+returns-clause-near g c =
+    each_told _ _ (g.S.Source.left c.args.input.now) (λ input run. run_near _ input c.play_input.result (g.S.Source.left c.play_input.new.input) (g.K.Sink.written c.args.output.now) (g.K.Sink.written c.play_input.new.output) run) c.play_input.ensures.runs
+
+pub returns-clause-whole_lines : goal.returns-clause-whole_lines
+returns-clause-whole_lines g c =
+    λ is. each_told _ _ (g.S.Source.left c.args.input.now) (λ input run. run_lines _ input c.play_input.result (g.S.Source.left c.play_input.new.input) (g.K.Sink.written c.args.output.now) (g.K.Sink.written c.play_input.new.output) is run) c.play_input.ensures.runs

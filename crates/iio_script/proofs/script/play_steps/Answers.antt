@@ -1,84 +1,121 @@
-use Rattle.std.proofs.Common.{◌≡◌, ◌≤◌, true, false, Option, Some, None, Ok, option_map, sym, ap, ◌∙◌, subst, arith}
-use Rattle.std.proofs.lemmas.Result.{IfOk-weaker}
-use Rattle.iio_text.specs.declared.refusals.Why.{Why}
-use Rattle.iio_text.specs.declared.faults.LineFault.{LineFault}
-use Rattle.iio_text.specs.LineFault.{Tells}
-use Rattle.iio_text.specs.Lines.{lines_of}
-use Rattle.iio_history.specs.Outcome.{only_ending}
-use Rattle.iio_history.specs.Script.{Refused, keeps_names, step_of}
-use Rattle.iio_system.specs.declared.step.Step.{Step}
-use Rattle.iio_system.specs.Standing.{names_by}
-use Rattle.iio_system.specs.Step.{cost_of, step_view}
-use Rattle.iio_script.specs.Ends.{Finishes}
-use Rattle.iio_script.proofs.CostLemmas.{cost_of_line}
-use Rattle.iio_script.proofs.OutlineLemmas.{same_step}
-use Rattle.iio_script.proofs.PlayLaws.{ends_over, ends_refused, goes_on, goes_past}
+use Rattle.std.proofs.Common.{◌≡◌, refl, Err, ◌∙◌, arith, rules}
+use Rattle.iio_script.specs.declared.status.Status.TheVariants.{Memory}
+use Rattle.iio_script.proofs.EndLaws.{silent_first, silent_more}
+use Rattle.iio_script.proofs.PlayLaws.{plays_first}
+use Rattle.iio_script.proofs.StepLaws.{ends_cut, ends_done, ends_fault, ends_long, ends_read_fault, ends_refused, ends_sent_fault, so_far_first, so_far_found, so_far_played, so_far_sent}
 use Rattle.iio_script.proofs.script.play_steps.Goals as goal
 
-pub returns-in-Err-Why : goal.returns-in-Err-Why
-returns-in-Err-Why g c =
-    let said = subst (λ (e : LineFault). Tells e (step_of c.args.names.now c.in-Some.line.now)) c.in-Err-Why.field-0-is c.in-Err-Why.ensures.err in
-    IfOk-weaker c.push_refused.result _ _
-    (λ status f s stands finds. ends_refused _ s c.loop-line.system c.loop-line.out.items _ _ _ _ c.loop-line.next _ c.in-Some.line.now (lines_of c.in-Some.more.now) c.in-Err-Why.why status
-    c.in-Some.ensures.found (sym (same_step c.args.names.now s.desc c.in-Some.line.now finds) ∙ said) (c.loop-line.invariant.goes s stands finds)
-    (subst (λ (why : Why). Finishes (only_ending (Refused c.loop-line.next why)) status c.loop-line.out.items c.push_refused.new.out.items) c.in-Err-Why.why-is f))
-    c.push_refused.ensures.ends
-
-pub loop-line-preserved-in_default-said : goal.loop-line-preserved-in_default-said
-loop-line-preserved-in_default-said g c =
-    let at = c.loop-line.invariant in
-    let said : step_of c.args.names.now c.in-Some.line.now ≡ Ok None = c.in-Ok.ensures.ok ∙ ap (λ (o : Option Step). Ok (option_map step_view o)) c.in_default-said.is in
+pub loop-lines-init : goal.loop-lines-init
+loop-lines-init g c =
     record {
-      goes = λ s stands finds. goes_past _ s c.loop-line.system c.loop-line.out.items _ _ _ c.loop-line.next _ c.in-Some.line.now (lines_of c.in-Some.more.now)
-          c.in-Some.ensures.found (sym (same_step c.args.names.now s.desc c.in-Some.line.now finds) ∙ said) (at.goes s stands finds);
-      front = at.front;
-      lines = omega (arith, at.lines, c.in-Some.ensures.shorter);
-      begun = omega (arith, at.begun);
-      used = omega (arith, at.used);
+      played = λ s stands finds. so_far_first _ s c.args.system.now c.args.out.now.items c.args.first c.args.lines.now (g.S.Source.left c.args.input.now) (g.K.Sink.written c.args.output.now) c.requires.empty
+          (plays_first _ s c.args.system.now c.args.first c.requires.unfed stands);
+      hand = c.requires.hand;
+      front = refl;
+      begun = c.requires.begun;
+      used = omega (arith, c.requires.unused);
+      reads = refl;
+      writes = refl;
+      silent = (silent_first _, silent_first _);
     }
 
-pub returns-then-not-takes : goal.returns-then-not-takes
-returns-then-not-takes g c =
-    let over : keeps_names (names_by c.loop-line.system) (Some (step_view c.in-Some-said.step)) ≡ false = sym c.takes.ensures ∙ c.if-not-takes.true in
-    let said : step_of c.args.names.now c.in-Some.line.now ≡ Ok (Some (step_view c.in-Some-said.step)) = c.in-Ok.ensures.ok ∙ ap (λ (o : Option Step). Ok (option_map step_view o)) c.in-Some-said.is in
-    IfOk-weaker c.push_refused-then-not-takes.result _ _
-    (λ status f s stands finds. ends_over _ s c.loop-line.system c.loop-line.out.items _ _ _ _ c.loop-line.next _ c.in-Some.line.now (lines_of c.in-Some.more.now) (step_view c.in-Some-said.step) status
-    c.in-Some.ensures.found (sym (same_step c.args.names.now s.desc c.in-Some.line.now finds) ∙ said) over (c.loop-line.invariant.goes s stands finds) f)
-    c.push_refused-then-not-takes.ensures.ends
+pub returns-in_err-write_ready-clause-played : goal.returns-in_err-write_ready-clause-played
+returns-in_err-write_ready-clause-played g c = λ s input front more stands finds follows at looked.
+    let is : c.from_residual.result ≡ Err c.in_err-write_ready.field-0.0 = search rules in
+    rw is (ends_sent_fault _ s c.loop-lines.system c.loop-lines.out.items c.write_ready.new.out.items c.args.first c.loop-lines.number c.args.lines.now c.loop-lines.lines c.write_ready.new.lines (g.S.Source.left c.args.input.now) (g.S.Source.left c.loop-lines.input) (g.K.Sink.written c.args.output.now) (g.K.Sink.written c.loop-lines.output) (g.K.Sink.written c.write_ready.new.output) front more input c.in_err-write_ready.field-0.0
+    c.write_ready.ensures.follows c.write_ready.ensures.hand follows looked c.in_err-write_ready.ensures.part (c.loop-lines.invariant.played s stands finds))
 
-pub step-requires-clause-few : goal.step-requires-clause-few
-step-requires-clause-few g c =
-    let at = c.loop-line.invariant in
-    let said : step_of c.args.names.now c.in-Some.line.now ≡ Ok (Some (step_view c.in-Some-said.step)) = c.in-Ok.ensures.ok ∙ ap (λ (o : Option Step). Ok (option_map step_view o)) c.in-Some-said.is in
-    let cost : cost_of c.in-Some-said.step ≤ 1048577 = cost_of_line c.args.names.now c.in-Some.line.now c.in-Some-said.step said in
-    omega (arith, cost, at.used, at.lines, c.requires.few)
+pub returns-in_err-push_refused-in-Ok-Long-clause-played : goal.returns-in_err-push_refused-in-Ok-Long-clause-played
+returns-in_err-push_refused-in-Ok-Long-clause-played g c = λ s input front more stands finds follows at looked.
+    let is : c.from_residual-in_err-push_refused-in-Ok-Long.result ≡ Err Memory = search rules in
+    rw is (ends_fault _ s c.loop-lines.system c.write_ready.new.out.items c.push_refused.new.out.items c.args.first c.loop-lines.number c.args.lines.now c.find.new.self (g.S.Source.left c.args.input.now) (g.S.Source.left c.find.new.source) (g.K.Sink.written c.args.output.now) (g.K.Sink.written c.write_ready.new.output) front more input Memory c.find.ensures.hand follows looked
+    (so_far_found _ s c.loop-lines.system c.write_ready.new.out.items c.args.first c.loop-lines.number c.args.lines.now c.write_ready.new.lines c.find.new.self (g.S.Source.left c.args.input.now) (g.S.Source.left c.loop-lines.input) (g.S.Source.left c.find.new.source) (g.K.Sink.written c.args.output.now) (g.K.Sink.written c.write_ready.new.output)
+    c.find.ensures.follows
+    (so_far_sent _ s c.loop-lines.system c.loop-lines.out.items c.write_ready.new.out.items c.args.first c.loop-lines.number c.args.lines.now c.loop-lines.lines c.write_ready.new.lines (g.S.Source.left c.args.input.now) (g.S.Source.left c.loop-lines.input) (g.K.Sink.written c.args.output.now) (g.K.Sink.written c.loop-lines.output) (g.K.Sink.written c.write_ready.new.output)
+    c.write_ready.ensures.follows c.in_ok-write_ready.ensures.sends (c.loop-lines.invariant.played s stands finds))))
 
-pub loop-line-preserved : goal.loop-line-preserved
-loop-line-preserved g c =
-    let at = c.loop-line.invariant in
-    let kept : keeps_names (names_by c.loop-line.system) (Some (step_view c.in-Some-said.step)) ≡ true = sym c.takes.ensures ∙ c.if-not-takes.false in
-    let said : step_of c.args.names.now c.in-Some.line.now ≡ Ok (Some (step_view c.in-Some-said.step)) = c.in-Ok.ensures.ok ∙ ap (λ (o : Option Step). Ok (option_map step_view o)) c.in-Some-said.is in
-    let cost : cost_of c.in-Some-said.step ≤ 1048577 = cost_of_line c.args.names.now c.in-Some.line.now c.in-Some-said.step said in
+pub returns-in-Ok-Long-clause-played : goal.returns-in-Ok-Long-clause-played
+returns-in-Ok-Long-clause-played g c = λ s input front more stands finds follows at looked.
+    ends_long _ s c.loop-lines.system c.write_ready.new.out.items c.push_refused.new.out.items c.args.first c.loop-lines.number c.args.lines.now c.find.new.self (g.S.Source.left c.args.input.now) (g.S.Source.left c.find.new.source) (g.K.Sink.written c.args.output.now) (g.K.Sink.written c.write_ready.new.output) front more input _ c.find.ensures.hand (rw c.in-Ok-Long.field-0-is at c.in-Ok-Long.ensures.found) follows at looked c.in_ok-push_refused-in-Ok-Long.ensures.ends
+    (so_far_found _ s c.loop-lines.system c.write_ready.new.out.items c.args.first c.loop-lines.number c.args.lines.now c.write_ready.new.lines c.find.new.self (g.S.Source.left c.args.input.now) (g.S.Source.left c.loop-lines.input) (g.S.Source.left c.find.new.source) (g.K.Sink.written c.args.output.now) (g.K.Sink.written c.write_ready.new.output)
+    c.find.ensures.follows
+    (so_far_sent _ s c.loop-lines.system c.loop-lines.out.items c.write_ready.new.out.items c.args.first c.loop-lines.number c.args.lines.now c.loop-lines.lines c.write_ready.new.lines (g.S.Source.left c.args.input.now) (g.S.Source.left c.loop-lines.input) (g.K.Sink.written c.args.output.now) (g.K.Sink.written c.loop-lines.output) (g.K.Sink.written c.write_ready.new.output)
+    c.write_ready.ensures.follows c.in_ok-write_ready.ensures.sends (c.loop-lines.invariant.played s stands finds)))
+
+pub returns-in-Ok-End-clause-played : goal.returns-in-Ok-End-clause-played
+returns-in-Ok-End-clause-played g c = λ s input front more stands finds follows at looked.
+    ends_done _ s c.loop-lines.system c.write_ready.new.out.items c.write_ready.new.out.items c.args.first c.loop-lines.number c.args.lines.now c.find.new.self (g.S.Source.left c.args.input.now) (g.S.Source.left c.find.new.source) (g.K.Sink.written c.args.output.now) (g.K.Sink.written c.write_ready.new.output) front more input c.find.ensures.hand (rw c.in-Ok-End.field-0-is at c.in-Ok-End.ensures.found) follows looked refl
+    (so_far_found _ s c.loop-lines.system c.write_ready.new.out.items c.args.first c.loop-lines.number c.args.lines.now c.write_ready.new.lines c.find.new.self (g.S.Source.left c.args.input.now) (g.S.Source.left c.loop-lines.input) (g.S.Source.left c.find.new.source) (g.K.Sink.written c.args.output.now) (g.K.Sink.written c.write_ready.new.output)
+    c.find.ensures.follows
+    (so_far_sent _ s c.loop-lines.system c.loop-lines.out.items c.write_ready.new.out.items c.args.first c.loop-lines.number c.args.lines.now c.loop-lines.lines c.write_ready.new.lines (g.S.Source.left c.args.input.now) (g.S.Source.left c.loop-lines.input) (g.K.Sink.written c.args.output.now) (g.K.Sink.written c.loop-lines.output) (g.K.Sink.written c.write_ready.new.output)
+    c.write_ready.ensures.follows c.in_ok-write_ready.ensures.sends (c.loop-lines.invariant.played s stands finds)))
+
+pub returns-in_err-push_end-in-Ok-Cut-clause-played : goal.returns-in_err-push_end-in-Ok-Cut-clause-played
+returns-in_err-push_end-in-Ok-Cut-clause-played g c = λ s input front more stands finds follows at looked.
+    let is : c.from_residual-in_err-push_end-in-Ok-Cut.result ≡ Err Memory = search rules in
+    rw is (ends_fault _ s c.loop-lines.system c.write_ready.new.out.items c.push_end.new.out.items c.args.first c.loop-lines.number c.args.lines.now c.find.new.self (g.S.Source.left c.args.input.now) (g.S.Source.left c.find.new.source) (g.K.Sink.written c.args.output.now) (g.K.Sink.written c.write_ready.new.output) front more input Memory c.find.ensures.hand follows looked
+    (so_far_found _ s c.loop-lines.system c.write_ready.new.out.items c.args.first c.loop-lines.number c.args.lines.now c.write_ready.new.lines c.find.new.self (g.S.Source.left c.args.input.now) (g.S.Source.left c.loop-lines.input) (g.S.Source.left c.find.new.source) (g.K.Sink.written c.args.output.now) (g.K.Sink.written c.write_ready.new.output)
+    c.find.ensures.follows
+    (so_far_sent _ s c.loop-lines.system c.loop-lines.out.items c.write_ready.new.out.items c.args.first c.loop-lines.number c.args.lines.now c.loop-lines.lines c.write_ready.new.lines (g.S.Source.left c.args.input.now) (g.S.Source.left c.loop-lines.input) (g.K.Sink.written c.args.output.now) (g.K.Sink.written c.loop-lines.output) (g.K.Sink.written c.write_ready.new.output)
+    c.write_ready.ensures.follows c.in_ok-write_ready.ensures.sends (c.loop-lines.invariant.played s stands finds))))
+
+pub returns-in-Ok-Cut-clause-played : goal.returns-in-Ok-Cut-clause-played
+returns-in-Ok-Cut-clause-played g c = λ s input front more stands finds follows at looked.
+    ends_cut _ s c.loop-lines.system c.write_ready.new.out.items c.push_end.new.out.items c.args.first c.loop-lines.number c.args.lines.now c.find.new.self (g.S.Source.left c.args.input.now) (g.S.Source.left c.find.new.source) (g.K.Sink.written c.args.output.now) (g.K.Sink.written c.write_ready.new.output) front more input _ c.find.ensures.hand (rw c.in-Ok-Cut.field-0-is at c.in-Ok-Cut.ensures.found) follows looked c.in_ok-push_end-in-Ok-Cut.ensures.ends
+    (so_far_found _ s c.loop-lines.system c.write_ready.new.out.items c.args.first c.loop-lines.number c.args.lines.now c.write_ready.new.lines c.find.new.self (g.S.Source.left c.args.input.now) (g.S.Source.left c.loop-lines.input) (g.S.Source.left c.find.new.source) (g.K.Sink.written c.args.output.now) (g.K.Sink.written c.write_ready.new.output)
+    c.find.ensures.follows
+    (so_far_sent _ s c.loop-lines.system c.loop-lines.out.items c.write_ready.new.out.items c.args.first c.loop-lines.number c.args.lines.now c.loop-lines.lines c.write_ready.new.lines (g.S.Source.left c.args.input.now) (g.S.Source.left c.loop-lines.input) (g.K.Sink.written c.args.output.now) (g.K.Sink.written c.loop-lines.output) (g.K.Sink.written c.write_ready.new.output)
+    c.write_ready.ensures.follows c.in_ok-write_ready.ensures.sends (c.loop-lines.invariant.played s stands finds)))
+
+pub returns-in-Err-Failed-clause-played : goal.returns-in-Err-Failed-clause-played
+returns-in-Err-Failed-clause-played g c = λ s input front more stands finds follows at looked.
+    ends_read_fault _ s c.loop-lines.system c.write_ready.new.out.items c.args.first c.loop-lines.number c.args.lines.now c.find.new.self (g.S.Source.left c.args.input.now) (g.S.Source.left c.find.new.source) (g.K.Sink.written c.args.output.now) (g.K.Sink.written c.write_ready.new.output) front more input c.find.ensures.hand c.in-Err-Failed.ensures.more follows looked
+    (so_far_found _ s c.loop-lines.system c.write_ready.new.out.items c.args.first c.loop-lines.number c.args.lines.now c.write_ready.new.lines c.find.new.self (g.S.Source.left c.args.input.now) (g.S.Source.left c.loop-lines.input) (g.S.Source.left c.find.new.source) (g.K.Sink.written c.args.output.now) (g.K.Sink.written c.write_ready.new.output)
+    c.find.ensures.follows
+    (so_far_sent _ s c.loop-lines.system c.loop-lines.out.items c.write_ready.new.out.items c.args.first c.loop-lines.number c.args.lines.now c.loop-lines.lines c.write_ready.new.lines (g.S.Source.left c.args.input.now) (g.S.Source.left c.loop-lines.input) (g.K.Sink.written c.args.output.now) (g.K.Sink.written c.loop-lines.output) (g.K.Sink.written c.write_ready.new.output)
+    c.write_ready.ensures.follows c.in_ok-write_ready.ensures.sends (c.loop-lines.invariant.played s stands finds)))
+
+pub returns-in-Err-Mem-clause-played : goal.returns-in-Err-Mem-clause-played
+returns-in-Err-Mem-clause-played g c = λ s input front more stands finds follows at looked.
+    ends_fault _ s c.loop-lines.system c.write_ready.new.out.items c.write_ready.new.out.items c.args.first c.loop-lines.number c.args.lines.now c.find.new.self (g.S.Source.left c.args.input.now) (g.S.Source.left c.find.new.source) (g.K.Sink.written c.args.output.now) (g.K.Sink.written c.write_ready.new.output) front more input Memory c.find.ensures.hand follows looked
+    (so_far_found _ s c.loop-lines.system c.write_ready.new.out.items c.args.first c.loop-lines.number c.args.lines.now c.write_ready.new.lines c.find.new.self (g.S.Source.left c.args.input.now) (g.S.Source.left c.loop-lines.input) (g.S.Source.left c.find.new.source) (g.K.Sink.written c.args.output.now) (g.K.Sink.written c.write_ready.new.output)
+    c.find.ensures.follows
+    (so_far_sent _ s c.loop-lines.system c.loop-lines.out.items c.write_ready.new.out.items c.args.first c.loop-lines.number c.args.lines.now c.loop-lines.lines c.write_ready.new.lines (g.S.Source.left c.args.input.now) (g.S.Source.left c.loop-lines.input) (g.K.Sink.written c.args.output.now) (g.K.Sink.written c.loop-lines.output) (g.K.Sink.written c.write_ready.new.output)
+    c.write_ready.ensures.follows c.in_ok-write_ready.ensures.sends (c.loop-lines.invariant.played s stands finds)))
+
+pub returns-in_err-status-clause-played : goal.returns-in_err-status-clause-played
+returns-in_err-status-clause-played g c = λ s input front more stands finds follows at looked.
+    let is : c.from_residual-in_err-status.result ≡ Err Memory = search rules in
+    rw is (ends_fault _ s c.loop-lines.system c.write_ready.new.out.items c.play_line.new.out.items c.args.first c.loop-lines.number c.args.lines.now c.find.new.self (g.S.Source.left c.args.input.now) (g.S.Source.left c.find.new.source) (g.K.Sink.written c.args.output.now) (g.K.Sink.written c.write_ready.new.output) front more input Memory c.find.ensures.hand follows looked
+    (so_far_found _ s c.loop-lines.system c.write_ready.new.out.items c.args.first c.loop-lines.number c.args.lines.now c.write_ready.new.lines c.find.new.self (g.S.Source.left c.args.input.now) (g.S.Source.left c.loop-lines.input) (g.S.Source.left c.find.new.source) (g.K.Sink.written c.args.output.now) (g.K.Sink.written c.write_ready.new.output)
+    c.find.ensures.follows
+    (so_far_sent _ s c.loop-lines.system c.loop-lines.out.items c.write_ready.new.out.items c.args.first c.loop-lines.number c.args.lines.now c.loop-lines.lines c.write_ready.new.lines (g.S.Source.left c.args.input.now) (g.S.Source.left c.loop-lines.input) (g.K.Sink.written c.args.output.now) (g.K.Sink.written c.loop-lines.output) (g.K.Sink.written c.write_ready.new.output)
+    c.write_ready.ensures.follows c.in_ok-write_ready.ensures.sends (c.loop-lines.invariant.played s stands finds))))
+
+pub returns-in-Some-clause-played : goal.returns-in-Some-clause-played
+returns-in-Some-clause-played g c = λ s input front more stands finds follows at looked.
+    let so = so_far_found _ s c.loop-lines.system c.write_ready.new.out.items c.args.first c.loop-lines.number c.args.lines.now c.write_ready.new.lines c.find.new.self (g.S.Source.left c.args.input.now) (g.S.Source.left c.loop-lines.input) (g.S.Source.left c.find.new.source) (g.K.Sink.written c.args.output.now) (g.K.Sink.written c.write_ready.new.output)
+    c.find.ensures.follows
+    (so_far_sent _ s c.loop-lines.system c.loop-lines.out.items c.write_ready.new.out.items c.args.first c.loop-lines.number c.args.lines.now c.loop-lines.lines c.write_ready.new.lines (g.S.Source.left c.args.input.now) (g.S.Source.left c.loop-lines.input) (g.K.Sink.written c.args.output.now) (g.K.Sink.written c.loop-lines.output) (g.K.Sink.written c.write_ready.new.output)
+    c.write_ready.ensures.follows c.in_ok-write_ready.ensures.sends (c.loop-lines.invariant.played s stands finds)) in
+    ends_refused _ s c.loop-lines.system c.write_ready.new.out.items c.play_line.new.out.items c.line.result.now c.args.first c.loop-lines.number c.args.lines.now c.find.new.self (g.S.Source.left c.args.input.now) (g.S.Source.left c.find.new.source) (g.K.Sink.written c.args.output.now) (g.K.Sink.written c.write_ready.new.output) front more input c.in-Some.status c.find.ensures.hand (rw c.in-Ok-Line.field-0-is at c.in-Ok-Line.ensures.found) follows at looked c.line.ensures (rw c.in-Some.is at c.in_ok-status.ensures.refused) so
+    (rw c.in-Some.is at c.in_ok-status.ensures.played s so.sent c.args.first so.given finds so.plays)
+
+pub loop-lines-preserved : goal.loop-lines-preserved
+loop-lines-preserved g c =
     record {
-      goes = λ s stands finds. goes_on _ s c.loop-line.system c.step.new.self c.loop-line.out.items c.step.new.out.items _ _ _ c.loop-line.next _ c.in-Some.line.now (lines_of c.in-Some.more.now) (step_view c.in-Some-said.step)
-          c.in-Some.ensures.found (sym (same_step c.args.names.now s.desc c.in-Some.line.now finds) ∙ said) kept (λ h. c.in_ok-step.ensures.lines s h) c.in_ok-step.ensures.names (at.goes s stands finds);
-      front = c.in_ok-step.ensures.front ∙ at.front;
-      lines = omega (arith, at.lines, c.in-Some.ensures.shorter);
-      begun = omega (arith, at.begun);
-      used = omega (arith, at.used, cost, c.in_ok-step.ensures.used);
-    }
-
-pub loop-line-preserved-in_ok-step : goal.loop-line-preserved-in_ok-step
-loop-line-preserved-in_ok-step g c =
-    let at = c.loop-line.invariant in
-    let kept : keeps_names (names_by c.loop-line.system) (Some (step_view c.in-Some-said.step)) ≡ true = sym c.takes.ensures ∙ c.if-not-takes.false in
-    let said : step_of c.args.names.now c.in-Some.line.now ≡ Ok (Some (step_view c.in-Some-said.step)) = c.in-Ok.ensures.ok ∙ ap (λ (o : Option Step). Ok (option_map step_view o)) c.in-Some-said.is in
-    let cost : cost_of c.in-Some-said.step ≤ 1048577 = cost_of_line c.args.names.now c.in-Some.line.now c.in-Some-said.step said in
-    record {
-      goes = λ s stands finds. goes_on _ s c.loop-line.system c.step.new.self c.loop-line.out.items c.step.new.out.items _ _ _ c.loop-line.next _ c.in-Some.line.now (lines_of c.in-Some.more.now) (step_view c.in-Some-said.step)
-          c.in-Some.ensures.found (sym (same_step c.args.names.now s.desc c.in-Some.line.now finds) ∙ said) kept (λ h. c.in_ok-step.ensures.lines s h) c.in_ok-step.ensures.names (at.goes s stands finds);
-      front = c.in_ok-step.ensures.front ∙ at.front;
-      lines = omega (arith, at.lines, c.in-Some.ensures.shorter);
-      begun = omega (arith, at.begun);
-      used = omega (arith, at.used, cost, c.in_ok-step.ensures.used);
+      played = λ s stands finds.
+          let so = so_far_found _ s c.loop-lines.system c.write_ready.new.out.items c.args.first c.loop-lines.number c.args.lines.now c.write_ready.new.lines c.find.new.self (g.S.Source.left c.args.input.now) (g.S.Source.left c.loop-lines.input) (g.S.Source.left c.find.new.source) (g.K.Sink.written c.args.output.now) (g.K.Sink.written c.write_ready.new.output)
+          c.find.ensures.follows
+          (so_far_sent _ s c.loop-lines.system c.loop-lines.out.items c.write_ready.new.out.items c.args.first c.loop-lines.number c.args.lines.now c.loop-lines.lines c.write_ready.new.lines (g.S.Source.left c.args.input.now) (g.S.Source.left c.loop-lines.input) (g.K.Sink.written c.args.output.now) (g.K.Sink.written c.loop-lines.output) (g.K.Sink.written c.write_ready.new.output)
+          c.write_ready.ensures.follows c.in_ok-write_ready.ensures.sends (c.loop-lines.invariant.played s stands finds)) in
+          so_far_played _ s c.loop-lines.system c.play_line.new.system c.write_ready.new.out.items c.play_line.new.out.items c.line.result.now c.args.first c.loop-lines.number c.args.lines.now c.find.new.self c.pass.new.self (g.S.Source.left c.args.input.now) (g.S.Source.left c.find.new.source) (g.K.Sink.written c.args.output.now) (g.K.Sink.written c.write_ready.new.output)
+          c.pass.ensures.follows c.line.ensures so (rw c.in_default.is at c.in_ok-status.ensures.played s so.sent c.args.first so.given finds so.plays);
+      hand = c.pass.ensures.hand;
+      front = c.play_line.ensures.front ∙ c.loop-lines.invariant.front;
+      begun = omega (arith, c.loop-lines.invariant.begun, c.pass.ensures.further, c.find.ensures.given, c.write_ready.ensures.given);
+      used = omega (arith, c.in_ok-status.ensures.used, c.loop-lines.invariant.used);
+      reads = c.in-Ok-Line.ensures.steady ∙ c.loop-lines.invariant.reads;
+      writes = c.in_ok-write_ready.ensures.steady ∙ c.loop-lines.invariant.writes;
+      silent = (silent_more _ _ _ c.loop-lines.invariant.silent.0 c.find.ensures.silent, silent_more _ _ _ c.loop-lines.invariant.silent.1 c.write_ready.ensures.silent);
     }

@@ -1,13 +1,13 @@
-use Rattle.std.proofs.Common.{◌∙◌, ap, refl, sym}
+use Rattle.std.proofs.Common.{◌∙◌, refl, sym}
 use Rattle.iio_device.specs.Plug.{driver_of}
-use Rattle.iio_system.specs.Acting.{has_member, id_of}
+use Rattle.iio_system.specs.Acting.{id_of}
 use Rattle.iio_system.specs.Station.{view_by}
 use Rattle.iio_system.proofs.IioLemmas.{scans_absent}
 use Rattle.iio_system.proofs.TakeLemmas.{nothing_taken}
 use Rattle.iio_system.proofs.calls.take.Goals as goal
 
-pub returns-else-has_member-clause-takes : goal.returns-else-has_member-clause-takes
-returns-else-has_member-clause-takes g c =
+pub returns-else-is_live_under-clause-takes : goal.returns-else-is_live_under-clause-takes
+returns-else-is_live_under-clause-takes g c =
     let view = view_by (driver_of (λ b. (g.dyn-1.0.entry b.vtable).1.driver b.value)) c.args.device.now in
     nothing_taken (id_of c.args.number c.args.mask) c.nothing.result c.args.out.now view view
-    (scans_absent (id_of c.args.number c.args.mask) c.args.device.now.core.roster.members.items (ap (λ ms. has_member (id_of c.args.number c.args.mask) ms) (sym c.deref.ensures.value) ∙ sym c.has_member.ensures ∙ c.if-has_member.false)) refl c.nothing.ensures
+    (scans_absent (id_of c.args.number c.args.mask) c.args.device.now.core.roster.members.items (sym c.is_live_under.ensures ∙ c.if-is_live_under.false)) refl c.nothing.ensures

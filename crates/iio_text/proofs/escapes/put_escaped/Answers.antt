@@ -3,7 +3,7 @@ use Rattle.iio_text.proofs.PrintedLemmas.{printed_stored, printed_len-le}
 use Rattle.iio_text.proofs.escapes.put_escaped.Goals as goal
 
 pub returns-clause-within : goal.returns-clause-within
-returns-clause-within c = rw (c.from.ensures) (printed_len-le c.args.byte c.ranges.byte.fits)
+returns-clause-within c = printed_len-le c.args.byte c.ranges.byte.fits
 
 pub returns-clause-text : goal.returns-clause-text
-returns-clause-text c = rw (c.from.ensures) (printed_stored c.args.byte _ c.args.room.now c.ranges.byte.fits c.requires (omega arith))
+returns-clause-text c = printed_stored c.args.byte _ c.args.room.now c.ranges.byte.fits c.requires (omega arith)

@@ -11,7 +11,7 @@ returns-then-is_play-clause-complete g c = λ words reads writes.
 
 pub returns-in-Some-clause-layout : goal.returns-in-Some-clause-layout
 returns-in-Some-clause-layout g c = λ device mask words.
-    let many : c.len.result ≡ length c.args.drivers.items = c.len.ensures ∙ c.args.drivers.ok.0 in
+    let many : c.in-Ok.count ≡ length c.args.drivers.items = c.in-Ok.ensures.1 ∙ c.len.ensures ∙ c.args.drivers.ok.0 in
     named (λ device mask. IfSome (g.S.Source.left c.args.input.now) (λ left. IfSome (g.K.Sink.written c.args.output.now)
     (λ written. Writes (layout_of (length c.args.drivers.items) left device mask) written c.layout.result (g.K.Sink.written c.layout.new.output))))
     c.args.words.now c.in-Some.device.now c.in-Some.mask.now device mask c.in-Some.ensures.found words
@@ -20,7 +20,7 @@ returns-in-Some-clause-layout g c = λ device mask words.
 
 pub returns-in-Some-clause-layout_complete : goal.returns-in-Some-clause-layout_complete
 returns-in-Some-clause-layout_complete g c = λ device mask words reads writes.
-    let many : c.len.result ≡ length c.args.drivers.items = c.len.ensures ∙ c.args.drivers.ok.0 in
+    let many : c.in-Ok.count ≡ length c.args.drivers.items = c.in-Ok.ensures.1 ∙ c.len.ensures ∙ c.args.drivers.ok.0 in
     completes_told (λ left. layout_of (length c.args.drivers.items) left device mask) _ _ _ _ _ _ _ _
     (named (λ device mask. IfSome (g.S.Source.left c.args.input.now) (λ left. IfSome (g.K.Sink.written c.args.output.now)
     (λ written. Writes (layout_of (length c.args.drivers.items) left device mask) written c.layout.result (g.K.Sink.written c.layout.new.output))))

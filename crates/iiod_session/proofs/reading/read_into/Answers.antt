@@ -10,6 +10,6 @@ returns-then-end-eq0-clause-read g c =
 pub returns-clause-read : goal.returns-clause-read
 returns-clause-read g c =
     let read = some_ended _ _ _ _ _ _ _ _ _ c.take_scans-end.ensures.ends (omega (arith, c.if-end-eq0.false)) in
-    let fits = length-block c.count-channels.result c.args.mask.bits c.args.asked (take c.take_scans-end.result.0 c.take_scans-end.new.room) (search (rules, arith)) in
+    let fits = length-block c.count-channels.result c.args.mask.bits c.args.asked (take c.take_scans-end.result.0 c.take_scans-end.new.room.items) (search (rules, arith)) in
     let block = appended _ _ _ _ _ c.block.ensures.text c.block.ensures.room (search (rules, arith)) in
     (read.0, block ∙ search rules, read.2)

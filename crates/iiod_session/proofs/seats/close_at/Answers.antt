@@ -1,7 +1,18 @@
-use Rattle.std.proofs.Common.{rules}
-use Rattle.iiod_session.specs.Desk.{desk_of}
+use Rattle.std.proofs.Common.{rules, ◌+◌}
+use Rattle.std.proofs.lemmas.List.Elements.{All-append, All-drop, All-take}
+use Rattle.iiod_session.specs.Desk.{IsHeld, desk_of}
 use Rattle.iiod_session.proofs.SeatsLaws.{closes, leaves}
 use Rattle.iiod_session.proofs.seats.close_at.Goals as goal
+
+pub returns-in-Some-clause-desk : goal.returns-in-Some-clause-desk
+returns-in-Some-clause-desk g c =
+    let held = c.args.desk.now.held.items in
+    let is = IsHeld g.I.Iio.seen (g.I.Iio.front (g.I.Iio.kept c.args.iio.now)) in
+    record {
+      seats = rw (c.remove-at.ensures.by_index.2, c.close.ensures.kept)
+          (All-append is _ _ (All-take is c.in-Some.i held c.requires.desk.seats) (All-drop is (c.in-Some.i + 1) held c.requires.desk.seats));
+      holdings = rw c.close.ensures.kept c.requires.desk.holdings;
+    }
 
 pub returns-in-Some-clause-told : goal.returns-in-Some-clause-told
 returns-in-Some-clause-told g c =

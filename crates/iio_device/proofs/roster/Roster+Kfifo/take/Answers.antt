@@ -19,6 +19,7 @@ invariant_of-self c =
     record {
       sound = sound_takes roster.shape roster.active roster.captures roster.next members c.take_at.new.members.items roster.groups.items at old new
           roster.sound within (ap (λ d. slice_index_or members at d) c.index.ensures) (keeps_drained _ _ _ old new (c.take_at.ensures.moved c.index.result.now)) (c.take_at.ensures.others c.index.result.now);
+      sized = roster.sized;
       roomy = roster.roomy;
     }
 

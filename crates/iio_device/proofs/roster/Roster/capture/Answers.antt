@@ -20,6 +20,7 @@ invariant_of-self g c =
     let tail = g.Q.Tail in
     let roster = c.args.self.now in
     record {
+      sized = roster.sized;
       roomy = roster.roomy;
       sound = rw (c.lay_out_all.ensures)
           (sound_captures tail.taken tail.lost tail.size tail.capacity tail.offer_gives (λ mask. scan_under c.deref-2.result.now mask) roster.shape roster.active roster.captures roster.next

@@ -29,5 +29,6 @@ invariant_of-self g c =
       sound = rw (c.push_reserved.ensures.items, c.add_group.ensures, c.remake_all.ensures.remade)
           (sound_joins tail.taken tail.lost tail.size roster.shape roster.active c.in-Ok.made.0 roster.captures roster.next roster.members.items roster.groups.items m c.in-Ok.made.1
           roster.sound found (search rules) (omega (arith, small, longer)) refl is c.in-Ok.ensures.group c.in-Ok.ensures.none);
+      sized = c.asked_size-self.ensures;
       roomy = roster.roomy;
     }

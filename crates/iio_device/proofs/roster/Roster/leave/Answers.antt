@@ -24,6 +24,7 @@ invariant_of-self-2 g c =
     let within : c.in_ok-at.at < length roster.members.items = rw (sym c.deref.ensures.value) c.in_ok-at.ensures.within in
     let ruled : bits_of c.active_for-active.result ≡ active_for roster.shape (masks_of c.remove-tail.new.self.items) = rw (sym c.deref-2.ensures.value) c.active_for-active.ensures.value in
     record {
+      sized = c.asked_size-self.ensures;
       roomy = roster.roomy;
       sound = rw (c.remake_for.ensures, c.keep_wanted.ensures, c.deref-3.ensures.value)
           (sound_leaves_at tail.taken tail.lost tail.size roster.shape roster.active c.active_for-active.result roster.captures roster.next roster.members.items c.remove-tail.new.self.items

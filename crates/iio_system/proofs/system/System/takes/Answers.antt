@@ -1,14 +1,17 @@
-use Rattle.std.proofs.Common.{rules, ◌≡◌, ℕ, nat_lt, length, sym, ap, ◌∙◌}
+use Rattle.std.proofs.Common.{rules, ◌≡◌, ◌<◌, ◌≤◌, ℕ, nat_lt, true, length, sym, ◌∙◌, subst, arith}
+use Rattle.std.proofs.lemmas.Bool.Decides.{nat_tests}
 use Rattle.iio_history.specs.Script.{max_names}
-use Rattle.iio_system.proofs.NameLaws.{room_known, room_left}
+use Rattle.iio_system.proofs.NameLaws.{room_full, room_short}
 use Rattle.iio_system.proofs.system.System.takes.Goals as goal
 
-pub returns-then-is_some : goal.returns-then-is_some
-returns-then-is_some g c =
-    c.if-is_some.true ∙ sym (room_known c.args.name.now c.args.self.now.connections.items c.place.result (rw c.deref.ensures.value at c.place.ensures) (sym c.is_some.ensures ∙ c.if-is_some.true))
-
-pub returns-else-is_some : goal.returns-else-is_some
-returns-else-is_some g c =
+pub returns-then-len-lt-MAX_NAMES : goal.returns-then-len-lt-MAX_NAMES
+returns-then-len-lt-MAX_NAMES g c =
     let many : c.len.result ≡ length c.args.self.now.connections.items = search rules in
-    ap (λ (n : ℕ). nat_lt n max_names) many
-    ∙ sym (room_left c.args.name.now c.args.self.now.connections.items c.place.result (rw c.deref.ensures.value at c.place.ensures) (sym c.is_some.ensures ∙ c.if-is_some.false))
+    let few : nat_lt c.len.result max_names ≡ true = grind (arith, nat_tests, c.if-len-lt-MAX_NAMES.true) in
+    few ∙ sym (room_short c.args.name.now c.args.self.now.connections.items (subst (λ (n : ℕ). n < max_names) many c.if-len-lt-MAX_NAMES.true))
+
+pub returns-else-len-lt-MAX_NAMES : goal.returns-else-len-lt-MAX_NAMES
+returns-else-len-lt-MAX_NAMES g c =
+    let many : c.len.result ≡ length c.args.self.now.connections.items = search rules in
+    c.is_some.ensures
+    ∙ sym (room_full c.args.name.now c.args.self.now.connections.items c.place.result (rw c.deref.ensures.value at c.place.ensures) (subst (λ (n : ℕ). max_names ≤ n) many c.if-len-lt-MAX_NAMES.false))

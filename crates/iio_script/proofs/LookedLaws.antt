@@ -1,0 +1,159 @@
+-- The lines of an input that are looked at, from a front of it on.
+use Rattle.std.proofs.Common.{◌≡◌, ℕ, ◌+◌, ◌-◌, ◌<◌, ◌≤◌, Bool, true, false, ◌⊎◌, cond, List, [], ◌∷◌, ◌++◌, length, take, drop, nat_lt, refl, sym, ap, ◌∙◌, inl, inr, arith, subst, append_assoc, append-nil}
+use Rattle.std.proofs.Math.Seq.{take-append-add}
+use Rattle.std.proofs.lemmas.Bool.{cases_lt}
+use Rattle.std.proofs.lemmas.Bool.Decides.{nat_tests}
+use Rattle.std.proofs.lemmas.List.{length-append, length-take}
+use Rattle.iio_text.specs.Lines.{fits_line, lines_of}
+use Rattle.iio_text.specs.declared.lines.TheConstants.{MAX_LINE_BYTES}
+use Rattle.iio_history.specs.Input.{cut_line, ended_part, input_limit, looked_lines, told_part}
+use Rattle.iio_script.specs.LineReader.{IsFront, IsPlain}
+use Rattle.iio_script.proofs.LineLaws.{BeginsWith, Parted, ended_behind, ended_none, lines_begin, lines_last, parted, plain_append, told_front}
+
+-- the lines that are looked at under a limit
+lines_within : ℕ → List ℕ → List (List ℕ)
+lines_within limit input = lines_of (cond (nat_lt limit (length input)) (told_part (take limit input)) input)
+
+looked : (input : List ℕ) → lines_within input_limit input ≡ looked_lines input
+unfolding lines_within
+looked input = refl
+
+-- they begin with a front's
+pub record Begins (front lines : List (List ℕ)) : Type 0 where
+  pub more : List (List ℕ)
+  pub parts : lines ≡ front ++ more
+
+-- a front of the limit's part
+take_front : (limit : ℕ) (bytes rest : List ℕ) → length bytes ≤ limit → take limit (bytes ++ rest) ≡ bytes ++ take (limit - length bytes) rest
+take_front limit bytes rest few =
+    let sum : limit ≡ length bytes + (limit - length bytes) = omega (arith, few) in
+    ap (λ n. take n (bytes ++ rest)) sum ∙ take-append-add bytes rest (limit - length bytes)
+
+-- an input that isn't longer
+all_within : (limit : ℕ) (input : List ℕ) → length input ≤ limit → lines_within limit input ≡ lines_of input
+unfolding lines_within
+all_within limit input few = let short : nat_lt limit (length input) ≡ false = grind (arith, nat_tests, few) in rw short refl
+
+-- a longer one
+part_within : (limit : ℕ) (bytes rest : List ℕ) (front : List (List ℕ)) → IsFront bytes front → length bytes ≤ limit → limit < length (bytes ++ rest)
+    → lines_within limit (bytes ++ rest) ≡ front ++ lines_of (told_part (take (limit - length bytes) rest))
+unfolding lines_within
+part_within limit bytes rest front is few over =
+    let long : nat_lt limit (length (bytes ++ rest)) ≡ true = grind (arith, nat_tests, over) in
+    rw (long, take_front limit bytes rest few, told_front bytes (take (limit - length bytes) rest) front is)
+    (is.lines (told_part (take (limit - length bytes) rest)))
+
+begins_within : (limit : ℕ) (bytes rest : List ℕ) (front : List (List ℕ)) → IsFront bytes front → length bytes ≤ limit → Begins front (lines_within limit (bytes ++ rest))
+begins_within limit bytes rest front is few = elim (cases_lt limit (length (bytes ++ rest))) [
+  | inl over ↦ record { more = lines_of (told_part (take (limit - length bytes) rest)); parts = part_within limit bytes rest front is few over }
+  | inr short ↦ record { more = lines_of rest; parts = all_within limit (bytes ++ rest) short ∙ is.lines rest }
+]
+
+-- the last line, and none
+last_within : (limit : ℕ) (bytes line : List ℕ) (front : List (List ℕ)) → IsFront bytes front → IsPlain line → 0 < length line → length (bytes ++ line) ≤ limit
+    → lines_within limit (bytes ++ line) ≡ front ++ line ∷ []
+last_within limit bytes line front is plain some short =
+    all_within limit (bytes ++ line) short ∙ is.lines line ∙ ap (λ ls. front ++ ls) (lines_last line plain some)
+
+-- no further line can be told
+cut_within : (limit : ℕ) (bytes rest : List ℕ) (front : List (List ℕ)) → IsFront bytes front → length bytes ≤ limit → limit < length (bytes ++ rest)
+    → IsPlain (take (limit - length bytes) rest) → limit ≤ length bytes + MAX_LINE_BYTES → lines_within limit (bytes ++ rest) ≡ front
+cut_within limit bytes rest front is few over plain short =
+    let part : List ℕ = take (limit - length bytes) rest in
+    let none : ended_part part ≡ [] = ended_none part plain in
+    let fits : fits_line (cut_line part) ≡ true = rw none (grind (arith, nat_tests, length-take (limit - length bytes) rest, short)) in
+    part_within limit bytes rest front is few over
+    ∙ rw (fits, none) (append-nil front)
+
+-- a line that begins with more bytes than it may have
+pub record BeginsLong (lines : List (List ℕ)) : Type 0 where
+  pub line : List ℕ
+  pub more : List (List ℕ)
+  pub parts : lines ≡ line ∷ more
+  pub long : fits_line line ≡ false
+
+begins_long : (front : List ℕ) (lines : List (List ℕ)) → BeginsWith front lines → MAX_LINE_BYTES < length front → BeginsLong lines
+begins_long front lines begins long = record {
+  line = front ++ begins.rest;
+  more = begins.more;
+  parts = begins.parts;
+  long = grind (arith, nat_tests, length-append front begins.rest, long);
+}
+
+long_lines : (front more : List ℕ) → IsPlain front → MAX_LINE_BYTES < length front → BeginsLong (lines_of (front ++ more))
+long_lines front more plain long = begins_long front (lines_of (front ++ more)) (lines_begin front more plain (omega (arith, long))) long
+
+-- also where the text goes on
+long_ended : (front more : List ℕ) → IsPlain front → MAX_LINE_BYTES < length front → fits_line (cut_line (front ++ more)) ≡ true → (IsPlain more) ⊎ Parted more
+    → BeginsLong (lines_of (ended_part (front ++ more)))
+long_ended front more plain long fits (inl none) =
+    let whole : cut_line (front ++ more) ≡ front ++ more = ap (λ text. drop (length text) (front ++ more)) (ended_none (front ++ more) (plain_append front more plain none)) in
+    absurd (grind (arith, nat_tests, ap fits_line (sym whole) ∙ fits, length-append front more, long))
+long_ended front more plain long fits (inr parted) =
+    let line : List ℕ = parted.line in
+    let text : front ++ more ≡ (front ++ line) ++ 10 ∷ parted.more = ap (λ m. front ++ m) parted.parts ∙ sym (append_assoc front line (10 ∷ parted.more)) in
+    let part : ended_part (front ++ more) ≡ front ++ (line ++ 10 ∷ ended_part parted.more) =
+    ap ended_part text ∙ ended_behind (front ++ line) parted.more ∙ append_assoc (front ++ line) (10 ∷ []) (ended_part parted.more) ∙ append_assoc front line (10 ∷ ended_part parted.more) in
+    subst (λ (t : List ℕ). BeginsLong (lines_of t)) (sym part) (long_lines front (line ++ 10 ∷ ended_part parted.more) plain long)
+
+long_told : (front more : List ℕ) → IsPlain front → MAX_LINE_BYTES < length front → BeginsLong (lines_of (told_part (front ++ more)))
+long_told front more plain long = by_fits (fits_line (cut_line (front ++ more))) refl
+  where
+    by_fits : (t : Bool) → fits_line (cut_line (front ++ more)) ≡ t → BeginsLong (lines_of (cond t (ended_part (front ++ more)) (front ++ more)))
+    by_fits true fits = long_ended front more plain long fits (parted more)
+    by_fits false fits = long_lines front more plain long
+
+-- behind a front
+pub record LongBehind (front : List (List ℕ)) (lines : List (List ℕ)) : Type 0 where
+  pub line : List ℕ
+  pub more : List (List ℕ)
+  pub parts : lines ≡ front ++ line ∷ more
+  pub long : fits_line line ≡ false
+
+long_behind : (front lines all : List (List ℕ)) → all ≡ front ++ lines → BeginsLong lines → LongBehind front all
+long_behind front lines all is begins = record {
+  line = begins.line;
+  more = begins.more;
+  parts = is ∙ ap (λ ls. front ++ ls) begins.parts;
+  long = begins.long;
+}
+
+long_within : (limit : ℕ) (bytes line rest : List ℕ) (front : List (List ℕ)) → IsFront bytes front → IsPlain line → MAX_LINE_BYTES < length line → length bytes + length line ≤ limit
+    → LongBehind front (lines_within limit (bytes ++ (line ++ rest)))
+long_within limit bytes line rest front is plain long few = elim (cases_lt limit (length (bytes ++ (line ++ rest)))) [
+  | inl over ↦
+      let part : take (limit - length bytes) (line ++ rest) ≡ line ++ take (limit - length bytes - length line) rest =
+      take_front (limit - length bytes) line rest (omega (arith, few)) in
+      long_behind front (lines_of (told_part (line ++ take (limit - length bytes - length line) rest))) (lines_within limit (bytes ++ (line ++ rest)))
+      (part_within limit bytes (line ++ rest) front is (omega (arith, few)) over ∙ ap (λ text. front ++ lines_of (told_part text)) part)
+      (long_told line (take (limit - length bytes - length line) rest) plain long)
+  | inr short ↦
+      long_behind front (lines_of (line ++ rest)) (lines_within limit (bytes ++ (line ++ rest)))
+      (all_within limit (bytes ++ (line ++ rest)) short ∙ is.lines (line ++ rest)) (long_lines line rest plain long)
+]
+
+-- ---- the same of the input's limit
+
+pub looked_begin : (bytes rest : List ℕ) (front : List (List ℕ)) → IsFront bytes front → length bytes ≤ input_limit → Begins front (looked_lines (bytes ++ rest))
+unfolding lines_within
+looked_begin bytes rest front is few = begins_within input_limit bytes rest front is few
+
+pub looked_whole : (bytes : List ℕ) (front : List (List ℕ)) → IsFront bytes front → length bytes ≤ input_limit → looked_lines bytes ≡ front
+unfolding lines_within
+looked_whole bytes front is few =
+    all_within input_limit bytes few ∙ ap lines_of (sym (append-nil bytes)) ∙ is.lines [] ∙ append-nil front
+
+pub looked_last : (bytes line : List ℕ) (front : List (List ℕ)) → IsFront bytes front → IsPlain line → 0 < length line → length (bytes ++ line) ≤ input_limit
+    → looked_lines (bytes ++ line) ≡ front ++ line ∷ []
+unfolding lines_within
+looked_last bytes line front is plain some short = last_within input_limit bytes line front is plain some short
+
+pub looked_cut : (bytes rest : List ℕ) (front : List (List ℕ)) → IsFront bytes front → length bytes ≤ input_limit → input_limit < length (bytes ++ rest)
+    → IsPlain (take (input_limit - length bytes) rest) → input_limit ≤ length bytes + MAX_LINE_BYTES → looked_lines (bytes ++ rest) ≡ front
+unfolding lines_within
+looked_cut bytes rest front is few over plain short = cut_within input_limit bytes rest front is few over plain short
+
+pub looked_long : (bytes line rest : List ℕ) (front : List (List ℕ)) → IsFront bytes front → IsPlain line → MAX_LINE_BYTES < length line → length bytes + length line ≤ input_limit
+    → LongBehind front (looked_lines (bytes ++ (line ++ rest)))
+unfolding lines_within
+looked_long bytes line rest front is plain long few = long_within input_limit bytes line rest front is plain long few

@@ -1,0 +1,73 @@
+-- How much a reader has taken of a description.
+use Rattle.std.proofs.Common.{◌≡◌, ℕ, ◌+◌, ◌≤◌, Bool, true, false, ◌||◌, List, [], ◌++◌, length, take, drop, Option, Some, refl, sym, ap, ◌∙◌, inl, inr, arith, append_assoc, append-nil}
+use Rattle.std.proofs.Math.Seq.{take-append_seam}
+use Rattle.std.proofs.lemmas.Bool.{false≢true, cases_lt}
+use Rattle.std.proofs.lemmas.Bool.Decides.{nat_tests}
+use Rattle.std.proofs.lemmas.List.{length-append, length-take-le, take-append-drop, take_all, drop_all}
+use Rattle.std.proofs.lemmas.List.Folds.{list_any-append}
+use Rattle.std.specs.List.{list_any}
+use Rattle.iio_text.specs.Lines.{lines_of}
+use Rattle.iio_desc.specs.Lines.{is_end}
+use Rattle.iio_history.specs.Input.{ended_part, input_limit}
+use Rattle.iio_script.specs.LineReader.{Follows, FollowsFront, Hand, IsHand, TakesBlocks, has_end, line_of, taken_of}
+use Rattle.iio_script.proofs.FrontLaws.{end_count}
+use Rattle.iio_script.proofs.ToldLaws.{has_end-lines, has_end-take}
+use Rattle.iio_script.proofs.LineLaws.{ended_none}
+use Rattle.iio_script.proofs.FollowLaws.{by_over, taken_front}
+
+-- among the first lines there is none where there is none among all
+any_take : (p : List ℕ → Bool) (n : ℕ) (lines : List (List ℕ)) → list_any p lines ≡ false → list_any p (take n lines) ≡ false
+any_take p n lines none = (both (list_any p (take n lines)) (list_any p (drop n lines)) (sym (list_any-append p (take n lines) (drop n lines)) ∙ ap (list_any p) (take-append-drop n lines) ∙ none))
+  where
+    both : (a b : Bool) → (a || b) ≡ false → a ≡ false
+    both true b h = h
+    both false b h = refl
+
+-- the bytes up to those that were looked at
+looked_front : (input : List ℕ) (front : List (List ℕ)) (h : Hand) (left : Option (List ℕ)) → IsHand h → (goes : FollowsFront input front h left)
+    → take (h.given + h.looked) input ≡ goes.bytes ++ line_of h
+looked_front input front h left is goes =
+    let line : List ℕ = line_of h in
+    let parts : input ≡ (goes.bytes ++ line) ++ (drop h.looked h.bytes ++ goes.rest) =
+    goes.parts ∙ ap (λ t. goes.bytes ++ t) (ap (λ t. t ++ goes.rest) (sym (take-append-drop h.looked h.bytes)) ∙ append_assoc line (drop h.looked h.bytes) goes.rest)
+    ∙ sym (append_assoc goes.bytes line (drop h.looked h.bytes ++ goes.rest)) in
+    let size : h.given + h.looked ≡ length (goes.bytes ++ line) = omega (arith, goes.given, length-append goes.bytes line, length-take-le h.looked h.bytes is.looked) in
+    ap (λ n. take n input) size ∙ ap (take (length (goes.bytes ++ line))) parts ∙ take-append_seam (goes.bytes ++ line) (drop h.looked h.bytes ++ goes.rest)
+
+-- none of its lines ends a description
+none_ends : (input : List ℕ) (front : List (List ℕ)) (h : Hand) (left : Option (List ℕ)) → IsHand h → FollowsFront input front h left → list_any is_end front ≡ false
+    → has_end (take (h.given + h.looked) input) ≡ false
+none_ends input front h left is goes none =
+    let lines : lines_of (ended_part (goes.bytes ++ line_of h)) ≡ front =
+    ap lines_of (goes.front_is.ended (line_of h) ∙ ap (λ t. goes.bytes ++ t) (ended_none (line_of h) is.plain)) ∙ goes.front_is.lines [] ∙ append-nil front in
+    ap has_end (looked_front input front h left is goes) ∙ ap (list_any is_end) lines ∙ none
+
+-- so a front part that has such a line is longer
+pub takes_blocks : (input : List ℕ) (front : List (List ℕ)) (h : Hand) (left : Option (List ℕ)) → IsHand h → list_any is_end front ≡ false → Follows input front h left
+    → TakesBlocks input left
+takes_blocks input front h left is none follows =
+    by_over (TakesBlocks input left) input front h left
+    (λ going goes.
+    let taken = taken_front input front h left goes in
+    let no_end = none_ends input front h left is goes none in
+    record {
+      count = taken_of h;
+      within = is.within;
+      near = λ m ends. elim (cases_lt (h.given + h.looked) m) [
+        | inl behind ↦ omega (arith, behind, is.near)
+        | inr within ↦ absurd (false≢true (sym no_end ∙ has_end-take input m (h.given + h.looked) within ends))
+      ];
+      rest = taken.1;
+    })
+    (λ over all.
+    let short : length input ≤ input_limit = grind (arith, nat_tests, all.short) in
+    let no_end : has_end input ≡ false = has_end-lines input ∙ any_take is_end (end_count input) (lines_of input) (ap (list_any is_end) all.every ∙ none) in
+    record {
+      count = length input;
+      within = omega (arith, short);
+      near = λ m ends. elim (cases_lt (length input) m) [
+        | inl behind ↦ omega (arith, behind)
+        | inr within ↦ absurd (false≢true (sym no_end ∙ ap has_end (sym (take_all (length input) input (omega arith))) ∙ has_end-take input m (length input) within ends))
+      ];
+      rest = all.none_left ∙ ap Some (sym (drop_all (length input) input (omega arith)));
+    }) follows

@@ -1,0 +1,117 @@
+-- A run that has come to a line of a script.
+use Rattle.std.specs.Prelude.{◌≡◌, ◌⊎◌, ℕ, ◌+◌, List, [], ◌∷◌, ◌++◌, length, take, drop, Option, Some, None, IfSome, Result, Ok, Err}
+use Rattle.iio_text.specs.Lines.{lines_of}
+use Rattle.iio_sensor.specs.Driver.{Driver}
+use Rattle.iio_device.specs.declared.plug.Plug.{Plug}
+use Rattle.iio_history.specs.Event.{Event}
+use Rattle.iio_history.specs.Input.{ended_part}
+use Rattle.iio_history.specs.Outcome.{Outcome, outcome_of_script}
+use Rattle.iio_history.specs.Registry.{Setup}
+use Rattle.iio_history.specs.Script.{Ending, Finished, Script, ending_text, is_known, script_from, script_text}
+use Rattle.iio_history.specs.Transcript.{transcript}
+use Rattle.iio_system.specs.declared.system.System.{System}
+use Rattle.iio_system.specs.Standing.{StandsFor, names_by}
+use Rattle.iio_script.specs.declared.status.Status.{Status}
+use Rattle.iio_script.specs.declared.status.Status.TheVariants.{Done, Memory, ReadFault, Refused, TooLong, Usage, WriteFault}
+use Rattle.iio_script.specs.Ends.{Finishes, Sends}
+use Rattle.iio_script.specs.LineReader.{TakesNear}
+
+-- the same names, in whatever order
+pub record AreSame (one other : List (List ℕ)) : Type 0 where
+  pub known : (name : List ℕ) → is_known one name ≡ is_known other name
+  pub count : length one ≡ length other
+
+-- what a script prints after a history
+abbrev pub text_after : Setup → List Event → Script → List ℕ
+text_after s h script = transcript s h script.steps ++ ending_text script.ending
+
+module _ {X : Type 0} {V : X → Type 0} (driver : Plug X V → Driver) where
+  -- the lines `given`, from that number on, were played and printed that text; the next line has number n. So whatever lines
+  -- stand behind
+  pub record Plays (s : Setup) (x : System X V) (text : List ℕ) (first n : ℕ) (given : List (List ℕ)) : Type 0 where
+    pub done : List Event
+    pub names : List (List ℕ)
+    pub stands : StandsFor driver s done x
+    pub same : AreSame names (names_by x)
+    pub printed : (ending : Ending) (lines : List (List ℕ)) → text ++ text_after s done (script_from s.desc ending names n lines) ≡ script_text s (script_from s.desc ending [] first (given ++ lines))
+    pub ends : (ending : Ending) (lines : List (List ℕ)) → (script_from s.desc ending names n lines).ending ≡ (script_from s.desc ending [] first (given ++ lines)).ending
+
+  -- a line was played; or it is refused, and its end was printed
+  abbrev pub PlaysLine : Setup → System X V → (text : List ℕ) (first n : ℕ) (given : List (List ℕ)) → (line : List ℕ) → Option Status → Type 0
+  PlaysLine s x text first n given line None = Plays s x text first (n + 1) (given ++ line ∷ [])
+  PlaysLine s x text first n given line (Some status) =
+      (ending : Ending) (lines : List (List ℕ)) → Finishes (outcome_of_script s (script_from s.desc ending [] first (given ++ line ∷ lines))) status [] text
+
+-- the line of that number is refused
+abbrev pub IsRefusedWith : ℕ → Status → Type 0
+IsRefusedWith number (Refused line why) = line ≡ number
+IsRefusedWith number status = ⊥
+
+-- where it is refused, it is at that line
+abbrev pub IsRefusedOr : ℕ → Status → Type 0
+IsRefusedOr number (Refused line why) = line ≡ number
+IsRefusedOr number status = Unit {0}
+
+-- where a line is refused, not much more was taken than up to its end
+abbrev pub TakesFor : Status → List ℕ → Option (List ℕ) → Type 0
+TakesFor (Refused line why) left remaining = TakesNear line left remaining
+TakesFor status left remaining = Unit {0}
+
+-- a text is a front part of what an outcome prints
+pub record IsFrontOf (outcome : Outcome) (text : List ℕ) : Type 0 where
+  pub rest : List ℕ
+  pub parts : outcome.printed ≡ text ++ rest
+
+-- a read failed: of the input a front part was taken, and its whole lines printed that text
+pub record FailsAt (s : Setup) (first : ℕ) (front : List (List ℕ)) (outcome : Outcome) (input text : List ℕ) (left : Option (List ℕ)) : Type 0 where
+  pub begins : IsFrontOf outcome text
+  pub count : ℕ
+  pub rest : left ≡ Some (drop count input)
+  pub given : List (List ℕ)
+  pub lines : lines_of (ended_part (take count input)) ≡ front ++ given
+  pub printed : text ≡ script_text s (script_from s.desc Finished [] first given)
+
+-- a script that ended was printed whole
+pub record FinishesAt (outcome : Outcome) (status : Status) (input text : List ℕ) (left : Option (List ℕ)) : Type 0 where
+  pub finishes : Finishes outcome status [] text
+  pub near : TakesFor status input left
+
+-- how the steps of a script end: `sent` was written, and `kept` is to be written yet
+abbrev pub EndsSteps : Setup → (first : ℕ) (front : List (List ℕ)) → Outcome → (input : List ℕ) → Result Status Status → (sent kept : List ℕ) → (left : Option (List ℕ)) → Type 0
+EndsSteps s first front outcome input (Ok ReadFault) sent kept left = FailsAt s first front outcome input (sent ++ kept) left
+EndsSteps s first front outcome input (Ok status) sent kept left = FinishesAt outcome status input (sent ++ kept) left
+EndsSteps s first front outcome input (Err status) sent kept left = IsFrontOf outcome sent
+
+-- a run that has more to write ends by itself, or by a failed read; one that has not ends by a failed write or want of memory
+abbrev pub IsOver : Result Status Status → Type 0
+IsOver (Ok Done) = Unit {0}
+IsOver (Ok (Refused line why)) = Unit {0}
+IsOver (Ok TooLong) = Unit {0}
+IsOver (Ok ReadFault) = Unit {0}
+IsOver (Ok status) = ⊥
+IsOver (Err WriteFault) = Unit {0}
+IsOver (Err Memory) = Unit {0}
+IsOver (Err status) = ⊥
+
+-- how a script ends of which that text was written
+abbrev pub EndsScript : Setup → (first : ℕ) (front : List (List ℕ)) → Outcome → (input : List ℕ) → Status → (text : List ℕ) → (left : Option (List ℕ)) → Type 0
+EndsScript s first front outcome input ReadFault text left = FailsAt s first front outcome input text left
+EndsScript s first front outcome input WriteFault text left = IsFrontOf outcome text
+EndsScript s first front outcome input Memory text left = IsFrontOf outcome text
+EndsScript s first front outcome input status text left = FinishesAt outcome status input text left
+
+-- that text was written
+abbrev pub WritesText : (before after : Option (List ℕ)) → List ℕ → Type 0
+WritesText before after text = IfSome before (λ xs. after ≡ Some (xs ++ text))
+
+-- what ends so that nothing is left to be written: all of it was written, or a write failed
+abbrev pub EndsWriting : (status result : Status) (before after : Option (List ℕ)) (kept : List ℕ) → Type 0
+EndsWriting status result before after kept = ((result ≡ status) × Sends before after kept []) ⊎ ((result ≡ WriteFault) × ((rest : List ℕ) × Sends before after kept rest))
+
+-- an outcome was printed and written, or a front part of it where that failed
+abbrev pub Prints : Outcome → Status → (text : List ℕ) → Type 0
+Prints outcome ReadFault text = ⊥
+Prints outcome Usage text = ⊥
+Prints outcome WriteFault text = IsFrontOf outcome text
+Prints outcome Memory text = IsFrontOf outcome text
+Prints outcome status text = Finishes outcome status [] text
