@@ -11,6 +11,8 @@ use Rattle.iio_desc.specs.WellFormed.{IsWrite}
 use Rattle.iio_device.specs.Device.{DeviceView, new_view}
 use Rattle.iio_device.specs.Roster.{Standing, nobody}
 use Rattle.iio_device.specs.Site.{Site, first_site}
+use Rattle.iio_device.specs.Totals.{no_totals}
+use Rattle.iio_device.specs.declared.totals.Totals.{Totals}
 use Rattle.iio_device.specs.declared.membership.Membership.{Membership}
 use Rattle.iio_device.specs.Members.{WasOffered}
 use Rattle.iio_device.specs.Plug.{driver_in}
@@ -23,17 +25,18 @@ module _ {Q P : Type 0} (taken lost size capacity : Q → ℕ) (offer_gives : Q 
   offered_by plugged plug moment t old new is at offered = rw is (subst (λ m. AreOffered (driver plug) m old new) at offered)
 
 -- a device whose site alone changes
-pub same_but : {Q : Type 0} (name : List ℕ) (number : ℕ) (standing : Standing Q) (a b : Site ℕ) → a ≡ b
-    → (let x : DeviceView Q = record { name = name; number = number; standing = standing; site = a } in x) ≡ (let y : DeviceView Q = record { name = name; number = number; standing = standing; site = b } in y)
-same_but {Q = Q} name number standing a b same = ap (λ (s : Site ℕ). (let x : DeviceView Q = record { name = name; number = number; standing = standing; site = s } in x)) same
+pub same_but : {Q : Type 0} (name : List ℕ) (number : ℕ) (standing : Standing Q) (totals : Totals) (a b : Site ℕ) → a ≡ b
+    → (let x : DeviceView Q = record { name = name; number = number; standing = standing; totals = totals; site = a } in x) ≡ (let y : DeviceView Q = record { name = name; number = number; standing = standing; totals = totals; site = b } in y)
+same_but {Q = Q} name number standing totals a b same = ap (λ (s : Site ℕ). (let x : DeviceView Q = record { name = name; number = number; standing = standing; totals = totals; site = s } in x)) same
 
 -- a device that was made of a description
-pub made : {Q : Type 0} (inside desc : DeviceRecord) (number : ℕ) (driver : Driver) (standing : Standing Q) (site : Site ℕ) (attrs : List AttrDesc) → inside ≡ desc
-    → standing ≡ nobody inside.shape → site ≡ first_site inside.shape inside.trigger driver attrs → attrs ≡ inside.attrs
-    → (let x : DeviceView Q = record { name = inside.name; number = number; standing = standing; site = site } in x) ≡ new_view desc number driver
-made {Q = Q} inside desc number driver standing site attrs is alone first same =
-    ap (λ (s : Standing Q). (let x : DeviceView Q = record { name = inside.name; number = number; standing = s; site = site } in x)) alone
-    ∙ same_but inside.name number (nobody inside.shape) site (first_site inside.shape inside.trigger driver inside.attrs) (first ∙ ap (λ (attrs : List AttrDesc). first_site inside.shape inside.trigger driver attrs) same)
+pub made : {Q : Type 0} (inside desc : DeviceRecord) (number : ℕ) (driver : Driver) (standing : Standing Q) (totals : Totals) (site : Site ℕ) (attrs : List AttrDesc) → inside ≡ desc
+    → standing ≡ nobody inside.shape → totals ≡ no_totals → site ≡ first_site inside.shape inside.trigger driver attrs → attrs ≡ inside.attrs
+    → (let x : DeviceView Q = record { name = inside.name; number = number; standing = standing; totals = totals; site = site } in x) ≡ new_view desc number driver
+made {Q = Q} inside desc number driver standing totals site attrs is alone none first same =
+    ap (λ (s : Standing Q). (let x : DeviceView Q = record { name = inside.name; number = number; standing = s; totals = totals; site = site } in x)) alone
+    ∙ ap (λ (t : Totals). (let x : DeviceView Q = record { name = inside.name; number = number; standing = nobody inside.shape; totals = t; site = site } in x)) none
+    ∙ same_but inside.name number (nobody inside.shape) no_totals site (first_site inside.shape inside.trigger driver inside.attrs) (first ∙ ap (λ (attrs : List AttrDesc). first_site inside.shape inside.trigger driver attrs) same)
     ∙ ap (λ (d : DeviceRecord). new_view {Q = Q} d number driver) is
 
 -- its lines of attributes are right

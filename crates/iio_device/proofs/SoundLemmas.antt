@@ -12,6 +12,7 @@ use Rattle.iio_mask.proofs.UnionLemmas.{union_of_all-less}
 use Rattle.iio_layout.proofs.ActiveLemmas.{active_fewer}
 use Rattle.iio_layout.specs.Active.{active_of, data_part, with_stamp}
 use Rattle.iio_layout.specs.Shape.{ShapeRecord, count_of}
+use Rattle.iio_demux.specs.Table.{CopyTable}
 use Rattle.iio_device.specs.declared.membership.Membership.{Membership}
 use Rattle.iio_device.specs.Groups.{GroupRecord, IsGroup, has_group, remade}
 use Rattle.iio_device.specs.Active.{active_for}
@@ -29,6 +30,17 @@ or_true false = refl
 
 remade_group : (shape : ShapeRecord) (a a' : ℕ) (g : GroupRecord) → IsGroup shape a g → IsGroup shape a' (remade shape a' g)
 remade_group shape a a' g is = record { table = refl; room = is.room }
+
+-- tables that are made for a mask are those that would be made for it
+pub same_tables : (shape : ShapeRecord) (active : ℕ) (groups : List GroupRecord) → All (IsGroup shape active) groups → map (remade shape active) groups ≡ groups
+same_tables shape active [] all = refl
+same_tables shape active (g ∷ gs) all =
+    ap (λ (table : CopyTable). record g { table = table } ∷ map (remade shape active) gs) (sym (All-head (IsGroup shape active) g gs all).table)
+    ∙ ap (λ (rest : List GroupRecord). g ∷ rest) (same_tables shape active gs (All-tail (IsGroup shape active) g gs all))
+
+pub same_tables_for : (shape : ShapeRecord) (active : Option Mask) (groups : List GroupRecord) → All (IsGroup shape (unwrap_or (bits_of active) 0)) groups → groups ≡ remade_for shape active groups
+same_tables_for shape None groups all = refl
+same_tables_for shape (Some active) groups all = sym (same_tables shape active.bits groups all)
 
 with_group-has : (g : Option GroupRecord) (groups : List GroupRecord) (mask : ℕ) → has_group groups mask ≡ true → has_group (with_group g groups) mask ≡ true
 with_group-has None groups mask there = there

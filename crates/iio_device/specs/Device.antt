@@ -37,12 +37,16 @@ use Rattle.iio_device.specs.Sensing.{sensed, with_sensed}
 use Rattle.iio_device.specs.Site.{Site, is_current, is_empty, first_site, attached, captured, sampled, site_written}
 use Rattle.iio_device.specs.Standing.{standing_of}
 use Rattle.iio_device.specs.Stored.{site_with}
+use Rattle.iio_device.specs.Totals.{no_totals, with_lost}
+use Rattle.iio_device.specs.declared.totals.Totals.{Totals}
 
--- a device: its name, its number, its members with what belongs to them, and what else stands at it
+-- a device: its name, its number, its members with what belongs to them, what its queues gave and lost in all, and what else
+-- stands at it
 pub record DeviceView (Q : Type 0) : Type 0 where
   pub name : List ℕ
   pub number : ℕ
   pub standing : Standing Q
+  pub totals : Totals
   pub site : Site ℕ
 
 module _ {Q P : Type 0} {g : Ghosts Q} (driver : P → Driver) where
@@ -51,7 +55,7 @@ module _ {Q P : Type 0} {g : Ghosts Q} (driver : P → Driver) where
   site_of core plug = site_with (is_some plug) core.trigger core.attachment (driver_in driver plug) core.stored
 
   abbrev pub view_of : IioDev Q g → Option P → DeviceView Q
-  view_of core plug = record { name = core.name; number = core.number; standing = standing_of core.roster; site = site_of core plug }
+  view_of core plug = record { name = core.name; number = core.number; standing = standing_of core.roster; totals = core.totals; site = site_of core plug }
 
 -- ---- words on joining
 
@@ -66,7 +70,7 @@ has_no_place number trigger = not (holds_place number trigger.attached) && not (
 module _ {Q : Type 0} where
   -- a new device is plugged, and has no member
   abbrev pub new_view : DeviceRecord → ℕ → Driver → DeviceView Q
-  new_view desc number driver = record { name = desc.name; number = number; standing = nobody desc.shape; site = first_site desc.shape desc.trigger driver desc.attrs }
+  new_view desc number driver = record { name = desc.name; number = number; standing = nobody desc.shape; totals = no_totals; site = first_site desc.shape desc.trigger driver desc.attrs }
 
   abbrev pub at_site : Site ℕ → DeviceView Q → DeviceView Q
   at_site site d = record d { site = site }
@@ -112,12 +116,13 @@ module _ {Q : Type 0} where
   abbrev pub trigger_left : DeviceView Q → State → State
   trigger_left d trigger = if is_empty d.standing.members then record trigger { attached = without_place d.number trigger.attached } else trigger
 
-  -- the member of that number leaves, and gives its queue's end back; where there is none, nothing changes
-  abbrev pub LeavesDevice : ℕ → Option Q → (old new : DeviceView Q) → (trigger trigger' : State) → Type 0
-  LeavesDevice number None old new trigger trigger' = (member_of number old.standing.members ≡ None) × (new ≡ old) × (trigger' ≡ trigger)
-  LeavesDevice number (Some tail) old new trigger trigger' =
+  -- the member of that number leaves, gives its queue's end back, and what its queue lost is counted; where there is none,
+  -- nothing changes
+  abbrev pub LeavesDevice : (lost : Q → ℕ) → ℕ → Option Q → (old new : DeviceView Q) → (trigger trigger' : State) → Type 0
+  LeavesDevice lost number None old new trigger trigger' = (member_of number old.standing.members ≡ None) × (new ≡ old) × (trigger' ≡ trigger)
+  LeavesDevice lost number (Some tail) old new trigger trigger' =
       (option_map (λ (m : Membership Q). m.tail) (member_of number old.standing.members) ≡ Some tail)
-      × (new ≡ record old { standing = after_leave number old.standing })
+      × (new ≡ record old { standing = after_leave number old.standing; totals = with_lost (lost tail) old.totals })
       × (trigger' ≡ trigger_left new trigger)
 
   -- ---- asking the sensor

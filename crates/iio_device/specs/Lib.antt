@@ -11,4 +11,5 @@ pub mod Plug
 pub mod Sensing
 pub mod Stored
 pub mod Whole
+pub mod Totals
 pub mod Device

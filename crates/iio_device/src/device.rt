@@ -1,18 +1,21 @@
 //! A device: its members, what the core keeps of it, and its driver.
 
-ghost use Rattle.std.specs.Prelude.{◌≡◌, ⊤, IfOk, All, is_some, length, option_map};
+ghost use Rattle.std.specs.Prelude.{◌≡◌, ◌+◌, ◌-◌, ◌^◌, ⊤, IfOk, All, is_some, length, min, option_map};
+ghost use Rattle.std.specs.List.{sum_by};
 ghost use Rattle.iio_desc.specs.WellFormed.{IsWrite};
 ghost use Rattle.iio_kfifo.specs.Queue.{Queue};
 ghost use Rattle.iio_device.specs.declared.membership.Member.{Member};
 ghost use Rattle.iio_device.specs.declared.membership.Membership.{Membership};
 ghost use Rattle.iio_device.specs.Members.{first_number, is_live_under, mask_count, member_of};
 ghost use Rattle.iio_device.specs.Roster.{Takes};
+ghost use Rattle.iio_device.specs.Totals.{with_taken};
 ghost use Rattle.iio_device.specs.Device.{new_view, view_of};
 
 use crate::iio_dev::IioDev;
 use crate::membership::Member;
 use crate::plug::Plug;
 use crate::roster::Roster;
+use crate::totals::Totals;
 use crate::values::first_stored;
 use iio_attr::Name;
 use iio_base::Mem;
@@ -50,6 +53,7 @@ impl<Q: Tail> Fitted<IioDev<Q>> {
             trigger: desc.trigger,
             attachment: 0,
             stored,
+            totals: Totals::new(),
         };
         Ok(Fitted {
             core,
@@ -128,6 +132,18 @@ impl<Q: Tail> Fitted<IioDev<Q>> {
         self.core.roster.is_live_under(member.number, mask)
     }
 
+    /// How many scans were lost because a queue was full, of all members and of those that have left. It stays at 2^64 - 1
+    /// when it gets there.
+    pub fn overruns(&self) -> u64
+        ensures { result ≡ min (self.now.core.totals.lost + sum_by (λ (m : Membership Q). Q.lost m.tail) self.now.core.roster.members.items) (2 ^ 64 - 1) }
+    {
+        let mut total = self.core.totals.lost.get();
+        for member in &self.core.roster.members {
+            total = total.saturating_add(member.tail.lost());
+        }
+        total
+    }
+
     /// How many scans the member has lost since its joining. None exactly where it isn't live.
     pub fn lost(&self, member: &Member) -> Option<u64>
         ensures { result ≡ option_map (λ (m : Membership Q). Q.lost m.tail) (member_of member.now.number self.now.core.roster.members.items) }
@@ -137,14 +153,16 @@ impl<Q: Tail> Fitted<IioDev<Q>> {
 }
 
 impl Fitted<IioDev<Kfifo>> {
-    /// Moves the member's oldest scan into `out`, and says whether there was one. None exactly where the member isn't live
+    /// Moves the member's oldest scan into `out`, and says whether there was one; it counts in the device's totals. None exactly where the member isn't live
     /// or `out` hasn't the size of its scans, and then nothing changes.
     pub fn take(&mut self, member: &Member, out: &mut [u8]) -> Option<bool>
         requires { ⊤ }
         ensures taken { Takes member.now.number result out.old out.new (view_of ⟦<Plug as Sensor>⟧.driver self.old.core self.old.plug).standing (view_of ⟦<Plug as Sensor>⟧.driver self.new.core self.new.plug).standing }
-        ensures rest { view_of ⟦<Plug as Sensor>⟧.driver self.new.core self.new.plug ≡ record (view_of ⟦<Plug as Sensor>⟧.driver self.old.core self.old.plug) { standing = (view_of ⟦<Plug as Sensor>⟧.driver self.new.core self.new.plug).standing } }
+        ensures rest { view_of ⟦<Plug as Sensor>⟧.driver self.new.core self.new.plug ≡ record (view_of ⟦<Plug as Sensor>⟧.driver self.old.core self.old.plug) { standing = (view_of ⟦<Plug as Sensor>⟧.driver self.new.core self.new.plug).standing; totals = with_taken result out.new self.old.core.totals } }
     {
-        self.core.roster.take(member.number, out)
+        let taken = self.core.roster.take(member.number, out);
+        self.core.totals.count(taken, out);
+        taken
     }
 
     /// How many scans wait for the member. None exactly where it isn't live.

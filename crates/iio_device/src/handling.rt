@@ -66,7 +66,7 @@ impl<Q: Tail> IioDev<Q> {
         ensures monitor { self.new.stored.monitor ≡ (channels_sensed self.old.roster.shape t (length self.old.roster.shape.channels) (begun (P.driver plug.old) self.old.stored.monitor)).monitor }
         ensures answer { result ≡ sense_result (channels_sensed self.old.roster.shape t (length self.old.roster.shape.channels) (begun (P.driver plug.old) self.old.stored.monitor)) }
         ensures stored { (self.new.stored.sampling_frequency ≡ self.old.stored.sampling_frequency) × (self.new.stored.values ≡ self.old.stored.values) }
-        ensures rest { (standing_of self.new.roster ≡ standing_of self.old.roster) × (self.new.name ≡ self.old.name) × (self.new.number ≡ self.old.number) × (self.new.trigger ≡ self.old.trigger) × (self.new.attachment ≡ self.old.attachment) }
+        ensures rest { (standing_of self.new.roster ≡ standing_of self.old.roster) × (self.new.name ≡ self.old.name) × (self.new.number ≡ self.old.number) × (self.new.trigger ≡ self.old.trigger) × (self.new.attachment ≡ self.old.attachment) × (self.new.totals ≡ self.old.totals) }
     {
         let stored = &mut self.stored;
         sense_all(plug, &mut stored.monitor, &self.roster.shape, t)

@@ -5,6 +5,7 @@ ghost use Rattle.iio_device.specs.Whole.{IsWhole};
 
 use crate::roster::Roster;
 use crate::stored::Stored;
+use crate::totals::Totals;
 use iio_attr::Name;
 use iio_kfifo::Tail;
 
@@ -20,5 +21,6 @@ pub struct IioDev<Q: Tail> {
     /// How often a first member has joined: the number of the present attachment.
     pub attachment: u64,
     pub stored: Stored,
+    pub totals: Totals,
     ghost whole: { IsWhole (length roster.shape.channels) attachment roster.next stored },
 }

@@ -62,7 +62,7 @@ impl<Q: Tail> IioDev<Q> {
         requires place { has_no_place self.old.number trigger.old ≡ false }
         ensures trigger { trigger.new ≡ record trigger.old { attached = with_place self.old.number (self.old.attachment + 1) trigger.old.attached } }
         ensures attachment { self.new.attachment ≡ self.old.attachment + 1 }
-        ensures same { (self.new.roster ≡ self.old.roster) × (self.new.name ≡ self.old.name) × (self.new.number ≡ self.old.number) × (self.new.trigger ≡ self.old.trigger) × (self.new.stored ≡ self.old.stored) }
+        ensures same { (self.new.roster ≡ self.old.roster) × (self.new.name ≡ self.old.name) × (self.new.number ≡ self.old.number) × (self.new.trigger ≡ self.old.trigger) × (self.new.stored ≡ self.old.stored) × (self.new.totals ≡ self.old.totals) }
     {
         self.attachment += 1;
         let _place = trigger.attach(self.number, self.attachment);
@@ -130,15 +130,16 @@ impl<Q: Tail> Fitted<IioDev<Q>> {
         Ok(Member { number })
     }
 
-    /// A member leaves, and gives its queue's end back. None exactly where it isn't live, and then nothing changes. The
+    /// A member leaves, and gives its queue's end back; what it lost counts in the device's totals. None exactly where it isn't live, and then nothing changes. The
     /// device's place at the trigger is freed with the last member.
     pub fn leave(&mut self, member: Member, trigger: &mut Trigger) -> Option<Q>
         requires { is_some self.old.core.trigger ≡ true }
-        ensures { LeavesDevice member.number result (view_of ⟦<Plug as Sensor>⟧.driver self.old.core self.old.plug) (view_of ⟦<Plug as Sensor>⟧.driver self.new.core self.new.plug) trigger.old trigger.new }
+        ensures { LeavesDevice Q.lost member.number result (view_of ⟦<Plug as Sensor>⟧.driver self.old.core self.old.plug) (view_of ⟦<Plug as Sensor>⟧.driver self.new.core self.new.plug) trigger.old trigger.new }
     {
         let Some(tail) = self.core.roster.leave(member.number) else {
             return None;
         };
+        self.core.totals.lose(tail.lost());
         if self.core.roster.members.is_empty() {
             trigger.detach(self.core.number);
         }

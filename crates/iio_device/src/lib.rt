@@ -13,6 +13,7 @@ mod plug;
 mod roster;
 mod sensing;
 mod stored;
+mod totals;
 mod values;
 
 pub use device::{Device, Fitted};
@@ -23,6 +24,7 @@ pub use membership::{Member, Membership};
 pub use plug::Plug;
 pub use roster::{JoinFault, JoinRefused, Roster};
 pub use stored::{ChannelValues, Stored};
+pub use totals::Totals;
 
 #[cfg(test)]
 mod tests;

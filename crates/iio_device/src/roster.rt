@@ -101,12 +101,17 @@ fn keep_wanted<Q>(groups: &mut Vec<Group>, members: &[Membership<Q>])
     groups.retain(|group| is_wanted(members, group.mask()));
 }
 
-// Makes the tables anew, where there is an active mask.
-fn remake_for(groups: &mut Vec<Group>, shape: &Shape, active: Option<Mask>)
+// Makes the tables anew, where there is an active mask and it isn't the one that they are made for.
+fn remake_for(groups: &mut Vec<Group>, shape: &Shape, before: Option<Mask>, active: Option<Mask>)
     requires below { IfSome active (λ m. m.bits < 2 ^ count_of shape.now) }
     requires within { IfSome active (λ m. All (λ (g : GroupRecord). is_within g.mask m.bits ≡ true) groups.old.items) }
-    ensures { groups.new.items ≡ remade_for shape.now active groups.old.items }
+    requires made { All (IsGroup shape.now (unwrap_or (bits_of before) 0)) groups.old.items }
+    ensures remade { groups.new.items ≡ remade_for shape.now active groups.old.items }
+    ensures capacity { vec_capacity groups.new ≡ vec_capacity groups.old }
 {
+    if active == before {
+        return;
+    }
     if let Some(active) = active {
         remake_all(groups, shape, active);
     }
@@ -118,6 +123,18 @@ fn asked_size(shape: &Shape, active: Option<Mask>) -> u32
     ensures { IsSize shape.now active result }
 {
     scan_size(shape, active.unwrap_or(Mask { bits: 0 }))
+}
+
+// The same, where it is known for the mask before.
+fn asked_size_after(shape: &Shape, before: Option<Mask>, size: u32, active: Option<Mask>) -> u32
+    requires below { IfSome active (λ m. m.bits < 2 ^ count_of shape.now) }
+    requires size { IsSize shape.now before size }
+    ensures { IsSize shape.now active result }
+{
+    if active == before {
+        return size;
+    }
+    asked_size(shape, active)
 }
 
 // Asks a driver for a capture's scan of `size` bytes, into the first bytes of the room.
@@ -231,7 +248,7 @@ impl<Q: Tail> Roster<Q> {
             Ok(made) => made,
         };
         let number = self.next;
-        remake_all(&mut self.groups, &self.shape, active);
+        remake_for(&mut self.groups, &self.shape, self.active, Some(active));
         add_group(&mut self.groups, group);
         self.members.push_reserved(Membership {
             number,
@@ -240,7 +257,7 @@ impl<Q: Tail> Roster<Q> {
             tail,
         });
         self.next += 1;
-        self.size = asked_size(&self.shape, Some(active));
+        self.size = asked_size_after(&self.shape, self.active, self.size, Some(active));
         self.active = Some(active);
         Ok(number)
     }
@@ -259,8 +276,8 @@ impl<Q: Tail> Roster<Q> {
         } = self.members.remove(at);
         let active = active_for(&self.shape, &self.members);
         keep_wanted(&mut self.groups, &self.members);
-        remake_for(&mut self.groups, &self.shape, active);
-        self.size = asked_size(&self.shape, active);
+        remake_for(&mut self.groups, &self.shape, self.active, active);
+        self.size = asked_size_after(&self.shape, self.active, self.size, active);
         self.active = active;
         Some(tail)
     }
@@ -352,7 +369,8 @@ impl Roster<Kfifo> {
     /// Moves the oldest scan of the member of that number into `out`, and says whether there was one. `None` comes exactly
     /// where no member has that number, or `out` hasn't the size of its scans, and then nothing changes.
     pub(crate) fn take(&mut self, number: u64, out: &mut [u8]) -> Option<bool>
-        ensures { Takes number result out.old out.new (standing_of self.old) (standing_of self.new) }
+        ensures takes { Takes number result out.old out.new (standing_of self.old) (standing_of self.new) }
+        ensures few { IfSome result (λ given. length out.new < 2 ^ 32) }
     {
         let at = position_of(&self.members, number)?;
         if out.len() != self.members[at].tail.size() as usize {

@@ -1,5 +1,5 @@
 -- CLOSE and READBUF.
-use Rattle.std.proofs.Common.{◌≡◌, ℕ, zero, suc, ◌/◌, ◌≤◌, ◌<◌, ◌==◌, not, nat_lt, Bool, true, false, List, [], ◌∷◌, map, take, drop, remove, Option, Some, None, Result, Ok, ok_or, slice_get, option_map, cond, refl, sym, ap, ◌∙◌, subst, arith}
+use Rattle.std.proofs.Common.{◌≡◌, ℕ, zero, suc, ◌/◌, ◌≤◌, ◌<◌, ◌==◌, not, nat_lt, Bool, true, false, List, [], ◌∷◌, map, take, drop, length, length-drop, remove, Option, Some, None, Result, Ok, ok_or, slice_get, option_map, cond, refl, sym, ap, ◌∙◌, subst, arith}
 use Rattle.std.proofs.lemmas.Bool.Decides.{nat_tests}
 use Rattle.std.proofs.lemmas.Nat.{le-div}
 use Rattle.std.proofs.Math.Nat.{div-eq_of_lt}
@@ -9,12 +9,14 @@ use Rattle.iio_text.specs.declared.errors.Errno.TheVariants.{EAGAIN, EBADF, ENOD
 use Rattle.iio_layout.specs.Layout.{scan_size}
 use Rattle.iio_layout.specs.Shape.{ShapeRecord, count_of}
 use Rattle.iio_desc.specs.Description.{find_device}
+use Rattle.iio_device.specs.declared.totals.Totals.{Totals}
 use Rattle.iio_device.specs.Site.{is_empty}
+use Rattle.iio_device.specs.Totals.{with_given}
 use Rattle.iiod_grammar.specs.Command.{Close, ReadBuf}
 use Rattle.iiod_grammar.specs.Stream.{Said}
 use Rattle.iiod_reply.specs.Reply.{Reply, Block, Refusal}
 use Rattle.iiod_session.specs.Acts.{Acted, act, close_at, close_seat, only, read_at, read_at_seat, read_scans_of, read_seat, refused, zero_reply}
-use Rattle.iiod_session.specs.Calls.{closed}
+use Rattle.iiod_session.specs.Calls.{closed, left}
 use Rattle.iiod_session.specs.Desk.{Bare, DeskRecord, place_of, with_seats}
 use Rattle.iiod_session.specs.Front.{size_at}
 use Rattle.iiod_session.specs.Machine.{Member as MachineMember, Station as MachineStation, MemberId, is_id_of, queue_of, scans_in, with_queue, with_scans, with_station, without}
@@ -23,12 +25,12 @@ use Rattle.iio_history.specs.Who.{Who, Conn}
 use Rattle.iio_history.specs.Event.{Event, Heard}
 use Rattle.iio_history.specs.Registry.{Setup, is_named}
 use Rattle.iio_history.specs.Act.{Act, Leaving, Reading, only as only_act}
-use Rattle.iio_history.specs.Told.{Seat, Station, Told, registry_of}
+use Rattle.iio_history.specs.Told.{Seat, Station, Told, registry_of, scans_given, with_gone}
 use Rattle.iio_history.specs.Machine.{read_seat as told_read, station_after, station_by, step}
 use Rattle.iio_history.specs.Reply.{Known, read_buffer, replied, reply, seat_of}
 use Rattle.iio_history.specs.Bench.{IsAct, IsBench, IsDeskOf, IsSeat, IsStation, bare_by, bench_by, front_of, machine_of, names_of, numbered, place_in, seat_at, seat_in}
 use Rattle.iio_history.proofs.BenchLists.{drop_most, every_at, get_first, itself, same_number, take_most}
-use Rattle.iio_history.proofs.BenchSeats.{TellSame, found_sound, gone, id_of_seat, left_none, left_same, read_none, scans_same, taken_same, tell_same}
+use Rattle.iio_history.proofs.BenchSeats.{TellSame, found_sound, given_none, given_same, gone, gone_none, id_of_seat, left_none, left_same, lost_same, read_none, scans_same, taken_same, tell_same}
 use Rattle.iio_history.proofs.BenchSteps.{bench_at, named_by, names_kept, shape_same}
 use Rattle.iio_history.proofs.BenchDesks.{counts_kept, holds_kept, keeps_spared, seat_kept, users_after, HolderStays}
 use Rattle.iio_history.proofs.BenchPlaces.{IsAt, is_at, place_none}
@@ -70,9 +72,9 @@ close_acts s m name device k st found at = record {
   is = ap (λ (b : Bool). only_act b (Leaving (Conn name ∷ []))) (named_by s device k k found ∙ itself k);
 }
 
--- with other members
-abbrev bench_with : List (List ℕ) → Station → List MachineMember → MachineStation
-bench_with names st members = record (bench_by names st) { members = members }
+-- with other totals and members
+abbrev bench_with : List (List ℕ) → Station → Totals → List MachineMember → MachineStation
+bench_with names st totals members = record (bench_by names st) { totals = totals; members = members }
 
 -- the desk after a CLOSE
 closed_desk : (s : Setup) (m : Told) (name : List ℕ) (desk : DeskRecord) (device : List ℕ) (k : ℕ) (st : Station) (y : Bare) → IsDeskOf m name desk
@@ -120,7 +122,8 @@ close_by s m name desk device k st bench d found at None is =
     subst (λ (p : Option ℕ). IsAct s m name (Said (Ok (Close device))) (close_at (machine_of m) desk p)) (sym (place_none k desk.seats (own_seat m name desk k st None d at is)))
     (unchanged s m name (Said (Ok (Close device))) device k st (Leaving (Conn name ∷ [])) (close_acts s m name device k st found at) desk (Refusal EBADF) d
     (close_reply s m name device k st None found at is)
-    (ap (λ (xs : List Seat). bench_with (names_of m) st (map numbered xs)) stays)
+    (ap (λ (xs : List Seat). bench_with (names_of m) st (with_gone (Conn name ∷ []) st.seats st.totals) (map numbered xs)) stays
+    ∙ ap (λ (t : Totals). bench_with (names_of m) st t (map numbered st.seats)) (gone_none (Conn name) st.seats st.totals is))
     (record { seat = ap (λ (xs : List Seat). option_map (bare_by k) (seat_of (Conn name) xs)) stays; holder = λ own. own })
     (λ u. refl))
 close_by s m name desk device k st bench d found at (Some y) is =
@@ -129,8 +132,9 @@ close_by s m name desk device k st bench d found at (Some y) is =
     (subst (λ (b : Option Bare). IsAct s m name (Said (Ok (Close device))) (close_seat (machine_of m) desk f.i b)) (sym f.here)
     (record {
       answer = close_reply s m name device k st (Some y) found at is;
-      state = state_changed s m name (Said (Ok (Close device))) device k st (Leaving (Conn name ∷ [])) (close_acts s m name device k st found at) (λ b. record b { members = without y.number b.members })
-          (ap (bench_with (names_of m) st) (left_same (Conn name) y st.seats (tells s m (Conn name) k st y bench at is)));
+      state = state_changed s m name (Said (Ok (Close device))) device k st (Leaving (Conn name ∷ [])) (close_acts s m name device k st found at) (left y.number)
+          (ap (bench_with (names_of m) st (with_gone (Conn name ∷ []) st.seats st.totals)) (left_same (Conn name) y st.seats (tells s m (Conn name) k st y bench at is))
+          ∙ ap (λ (t : Totals). bench_with (names_of m) st t (without y.number (map numbered st.seats))) (lost_same (Conn name) y st.seats st.totals (station_is s m k st bench at).apart (tells s m (Conn name) k st y bench at is) is));
       desk = closed_desk s m name desk device k st (bare_by k y) d found at f;
     }))
 
@@ -169,6 +173,12 @@ read_reply : (s : Setup) (m : Told) (name device : List ℕ) (bytes k : ℕ) (st
 read_reply s m name device bytes k st o found at is =
     sym (ap (λ (r : Result Known Errno). replied (r >>= reading name bytes)) (known_is s m device k st found at) ∙ ap (λ (x : Option Seat). replied (ok_or x EBADF >>= (λ seat. read_buffer st seat bytes))) is)
 
+-- where what is left is all, nothing is taken
+kept_none : (n : ℕ) (q : List (List ℕ)) → drop n q ≡ q → take n q ≡ []
+kept_none zero q e = refl
+kept_none (suc n) [] e = refl
+kept_none (suc n) (x ∷ xs) e = let short = length-drop n xs in let long : length (drop n xs) ≡ suc (length xs) = ap length e in absurd (omega arith)
+
 -- scans that are put back where they were
 put_back : (id : MemberId) (xs : List MachineMember) → with_scans id (scans_in id xs) xs ≡ xs
 put_back id [] = refl
@@ -204,7 +214,9 @@ module _ (s : Setup) (m : Told) (name : List ℕ) (desk : DeskRecord) (device : 
   -- where nothing is taken
   nothing_taken : drop (bytes / scan_size st.shape y.member.mask) y.queue.scans ≡ y.queue.scans → bench_by (names_of m) (station_by (Reading (Conn name) bytes) st) ≡ bench_by (names_of m) st
   nothing_taken none =
-      ap (bench_with (names_of m) st)
+      ap (λ (xs : List (List ℕ)). bench_with (names_of m) st (with_given xs st.totals) (map numbered (map (told_read st.shape (Conn name) bytes) st.seats)))
+      (given_same st.shape (Conn name) bytes y st.seats is ∙ kept_none (bytes / scan_size st.shape y.member.mask) y.queue.scans none)
+      ∙ ap (bench_with (names_of m) st st.totals)
       (taken ∙ ap (λ (xs : List (List ℕ)). with_scans (id_of_seat y) xs (map numbered st.seats)) (none ∙ sym waiting) ∙ put_back (id_of_seat y) (map numbered st.seats))
 
   nothing : (rep : Reply) → rep ≡ reply s m name (Said (Ok (ReadBuf device bytes))) → drop (bytes / scan_size st.shape y.member.mask) y.queue.scans ≡ y.queue.scans
@@ -234,10 +246,13 @@ module _ (s : Setup) (m : Told) (name : List ℕ) (desk : DeskRecord) (device : 
             ∙ ap (λ (i : ℕ). Block (count_of st.shape) y.member.mask (take i (first ∷ rest)) bytes) (sym many)
             ∙ answer_by false (first ∷ rest) test waits;
         state =
-            ap (λ (xs : List (List ℕ)). with_station (λ b. record b { members = with_scans (id_of_seat y) xs b.members }) k (machine_of m))
+            ap (λ (xs : List (List ℕ)). with_station (λ b. record b { totals = with_given (first ∷ take n rest) b.totals; members = with_scans (id_of_seat y) xs b.members }) k (machine_of m))
             (ap (λ (xs : List (List ℕ)). drop want xs) queue_is ∙ ap (λ (i : ℕ). drop i y.queue.scans) most ∙ drop_most (bytes / scan_size st.shape y.member.mask) y.member.capacity y.queue.scans sound.bounded)
             ∙ state_changed s m name (Said (Ok (ReadBuf device bytes))) device k st (Reading (Conn name) bytes) acts
-            (λ b. record b { members = with_scans (id_of_seat y) (drop (bytes / scan_size st.shape y.member.mask) y.queue.scans) b.members }) (ap (bench_with (names_of m) st) taken);
+            (λ b. record b { totals = with_given (first ∷ take n rest) b.totals; members = with_scans (id_of_seat y) (drop (bytes / scan_size st.shape y.member.mask) y.queue.scans) b.members })
+            (ap (λ (xs : List (List ℕ)). bench_with (names_of m) st (with_given xs st.totals) (map numbered (map (told_read st.shape (Conn name) bytes) st.seats)))
+            (given_same st.shape (Conn name) bytes y st.seats is ∙ ap (λ (q : List (List ℕ)). take (bytes / scan_size st.shape y.member.mask) q) waits ∙ ap (λ (i : ℕ). take i (first ∷ rest)) many)
+            ∙ ap (bench_with (names_of m) st (with_given (first ∷ take n rest) st.totals)) taken);
         desk = desk_stays s m name (Said (Ok (ReadBuf device bytes))) device k st (Reading (Conn name) bytes) acts desk d (keeps_spared (Conn name) k (Reading (Conn name) bytes) st tt) (λ u. refl);
       }
 
@@ -307,7 +322,8 @@ read_by s m name desk device bytes k st bench d found at None is =
     subst (λ (p : Option ℕ). IsAct s m name (Said (Ok (ReadBuf device bytes))) (read_at (front_of s) (machine_of m) desk bytes p)) (sym (place_none k desk.seats (own_seat m name desk k st None d at is)))
     (unchanged s m name (Said (Ok (ReadBuf device bytes))) device k st (Reading (Conn name) bytes) (read_acts s m name device bytes k st found at) desk (Refusal EBADF) d
     (read_reply s m name device bytes k st None found at is)
-    (ap (λ (xs : List Seat). bench_with (names_of m) st (map numbered xs)) stays) (keeps_spared (Conn name) k (Reading (Conn name) bytes) st tt) (λ u. refl))
+    (ap (λ (xs : List Seat). bench_with (names_of m) st (with_given (scans_given st.shape (Conn name) bytes st.seats) st.totals) (map numbered xs)) stays
+    ∙ ap (λ (xs : List (List ℕ)). bench_with (names_of m) st (with_given xs st.totals) (map numbered st.seats)) (given_none st.shape (Conn name) bytes st.seats is)) (keeps_spared (Conn name) k (Reading (Conn name) bytes) st tt) (λ u. refl))
 read_by s m name desk device bytes k st bench d found at (Some y) is = read_seat_is s m name desk device bytes k st y bench d found at is
 
 pub read_buffer_is : (s : Setup) (m : Told) (name : List ℕ) (desk : DeskRecord) (device : List ℕ) (bytes : ℕ) → IsBench s m → IsDeskOf m name desk

@@ -8,12 +8,14 @@ use Rattle.iio_base.specs.Refusals.{ensure}
 use Rattle.iio_text.specs.declared.errors.Errno.{Errno}
 use Rattle.iio_text.specs.declared.errors.Errno.TheVariants.{EBADF}
 use Rattle.iio_event.specs.Monitor.{MonitorRecord, is_holder, after_close}
+use Rattle.iio_device.specs.declared.totals.Totals.{Totals}
 use Rattle.iio_device.specs.Site.{at_place, with_monitor}
+use Rattle.iio_device.specs.Totals.{with_left}
 use Rattle.iiod_grammar.specs.Stream.{End}
 use Rattle.iiod_session.specs.Acts.{all_closed, all_released, left_desk, left_machine}
-use Rattle.iiod_session.specs.Calls.{closed, ev_close_of, holds_events, unless}
+use Rattle.iiod_session.specs.Calls.{closed, ev_close_of, holds_events, left, unless}
 use Rattle.iiod_session.specs.Desk.{Bare, DeskRecord}
-use Rattle.iiod_session.specs.Machine.{Machine, Member as MachineMember, Station as MachineStation, no_station, station_at, with_site, with_station, without}
+use Rattle.iiod_session.specs.Machine.{Machine, Member as MachineMember, Station as MachineStation, lost_by, no_station, station_at, with_site, with_station}
 use Rattle.iio_history.specs.Places.{map_from}
 use Rattle.iio_history.specs.Who.{Conn, same}
 use Rattle.iio_history.specs.Event.{Event, Heard, Dropped}
@@ -21,17 +23,17 @@ use Rattle.iio_history.specs.Registry.{Setup, Device, User, user_named}
 use Rattle.iio_history.specs.Act.{Act, Ending, act_of}
 use Rattle.iio_history.specs.Fold.{buffers_after, clock_after, newcomers}
 use Rattle.iio_history.specs.Monitor.{released}
-use Rattle.iio_history.specs.Told.{Seat, Station, Told, device_of, registry_of, user_of}
+use Rattle.iio_history.specs.Told.{Seat, Station, Told, device_of, registry_of, user_of, with_gone}
 use Rattle.iio_history.specs.Machine.{new_line, station_after, station_by, step, without_seats}
 use Rattle.iio_history.specs.Reply.{seat_of}
 use Rattle.iio_history.specs.Bench.{IsBench, IsDeskOf, OnePerDevice, bare_by, bench_by, holds_in, is_listed, machine_of, monitor_by, names_of, numbered, place_in, seat_at, seat_in, site_by}
 use Rattle.iio_history.specs.BenchLaw.{IsLeft}
 use Rattle.iio_history.proofs.BenchLists.{get_first, itself, same_number}
-use Rattle.iio_history.proofs.BenchSeats.{gone, left_none, left_same}
+use Rattle.iio_history.proofs.BenchSeats.{gone, gone_none, left_none, left_same, lost_same}
 use Rattle.iio_history.proofs.BenchSites.{closed_same, holder_same, released_is}
 use Rattle.iio_history.proofs.BenchSteps.{names_kept}
 use Rattle.iio_history.proofs.BenchDesks.{counts_kept, is_one, users_after}
-use Rattle.iio_history.proofs.BenchBuffers.{own_seat, tells}
+use Rattle.iio_history.proofs.BenchBuffers.{own_seat, station_is, tells}
 use Rattle.iio_history.proofs.BenchEvents.{holder_there}
 
 -- ---- lists by their places
@@ -71,16 +73,16 @@ mapped_twice f g (Some x) = refl
 -- a station without the member of a seat
 abbrev without_seat : Option Bare → MachineStation → MachineStation
 without_seat None b = b
-without_seat (Some s) b = record b { members = without s.number b.members }
+without_seat (Some s) b = left s.number b
 
 closed_at : (m : Machine) (ss : List Bare) → OnePerDevice ss → (j : ℕ) → slice_get (all_closed m ss).stations j ≡ option_map (without_seat (seat_at j ss)) (slice_get m.stations j)
 unfolding closed with_station
 closed_at m [] apart j = sym (mapped_id (slice_get m.stations j))
 closed_at m (s ∷ ss) apart j =
-    get_changed s.dev (λ (b : MachineStation). record b { members = without s.number b.members }) (all_closed m ss).stations j ∙ by (s.dev == j) refl (closed_at m ss apart.1 j)
+    get_changed s.dev (left s.number) (all_closed m ss).stations j ∙ by (s.dev == j) refl (closed_at m ss apart.1 j)
   where
     change : MachineStation → MachineStation
-    change b = record b { members = without s.number b.members }
+    change b = left s.number b
 
     once : (x : Option MachineStation) → option_map change (option_map (without_seat None) x) ≡ option_map (without_seat (Some s)) x
     once None = refl
@@ -170,13 +172,16 @@ module _ (s : Setup) (m : Told) (name : List ℕ) (desk : DeskRecord) (e : Event
   left_bench st = bench_by (names_of m) (station_by (Ending (Conn name ∷ [])) st)
 
   closed_members : (k : ℕ) (st : Station) → slice_get m.stations k ≡ Some st → (o : Option Seat) → seat_of (Conn name) st.seats ≡ o
-      → without_seat (seat_at k desk.seats) (bench_by (names_of m) st) ≡ record (bench_by (names_of m) st) { members = map numbered (without_seats (Conn name ∷ []) st.seats) }
+      → without_seat (seat_at k desk.seats) (bench_by (names_of m) st) ≡ record (bench_by (names_of m) st) { totals = with_gone (Conn name ∷ []) st.seats st.totals; members = map numbered (without_seats (Conn name ∷ []) st.seats) }
   closed_members k st at None is =
       ap (λ (b : Option Bare). without_seat b (bench_by (names_of m) st)) (own_seat m name desk k st None d at is)
       ∙ ap (λ (xs : List Seat). record (bench_by (names_of m) st) { members = map numbered xs }) (sym (left_none (Conn name) st.seats is))
+      ∙ ap (λ (t : Totals). record (bench_by (names_of m) st) { totals = t; members = map numbered (without_seats (Conn name ∷ []) st.seats) }) (sym (gone_none (Conn name) st.seats st.totals is))
   closed_members k st at (Some y) is =
       ap (λ (b : Option Bare). without_seat b (bench_by (names_of m) st)) (own_seat m name desk k st (Some y) d at is)
-      ∙ ap (λ (ms : List MachineMember). record (bench_by (names_of m) st) { members = ms }) (sym (left_same (Conn name) y st.seats (tells s m (Conn name) k st y bench at is)))
+      ∙ ap (λ (ms : List MachineMember). record (bench_by (names_of m) st) { totals = with_left (lost_by y.number (map numbered st.seats)) st.totals; members = ms }) (sym (left_same (Conn name) y st.seats (tells s m (Conn name) k st y bench at is)))
+      ∙ ap (λ (t : Totals). record (bench_by (names_of m) st) { totals = t; members = map numbered (without_seats (Conn name ∷ []) st.seats) })
+      (sym (lost_same (Conn name) y st.seats st.totals (station_is s m k st bench at).apart (tells s m (Conn name) k st y bench at is) is))
 
   -- by number and by name
   monitor_is : (k : ℕ) (st : Station) → slice_get m.stations k ≡ Some st → after_close (λ a b. a == b) desk.who (monitor_by (names_of m) st.site.monitor) ≡ monitor_by (names_of m) (released (Conn name ∷ []) st.site.monitor)
@@ -186,16 +191,16 @@ module _ (s : Setup) (m : Told) (name : List ℕ) (desk : DeskRecord) (e : Event
       ∙ ap (monitor_by (names_of m)) (sym (released_is (Conn name) st.site.monitor))
 
   released_bench : (k : ℕ) (st : Station) → slice_get m.stations k ≡ Some st
-      → release desk.who (record (bench_by (names_of m) st) { members = map numbered (without_seats (Conn name ∷ []) st.seats) }) ≡ bench_by (names_of m) (station_by (Ending (Conn name ∷ [])) st)
+      → release desk.who (record (bench_by (names_of m) st) { totals = with_gone (Conn name ∷ []) st.seats st.totals; members = map numbered (without_seats (Conn name ∷ []) st.seats) }) ≡ bench_by (names_of m) (station_by (Ending (Conn name ∷ [])) st)
   released_bench k st at =
-      ap (λ (x : MonitorRecord ℕ). record (bench_by (names_of m) st) { members = map numbered (without_seats (Conn name ∷ []) st.seats); site = record (site_by (names_of m) st.site) { monitor = x } }) (monitor_is k st at)
+      ap (λ (x : MonitorRecord ℕ). record (bench_by (names_of m) st) { totals = with_gone (Conn name ∷ []) st.seats st.totals; members = map numbered (without_seats (Conn name ∷ []) st.seats); site = record (site_by (names_of m) st.site) { monitor = x } }) (monitor_is k st at)
 
   -- what isn't listed isn't held
   listed_by : (k : ℕ) (st : Station) → slice_get m.stations k ≡ Some st → (l : Bool) → is_listed k desk.holdings ≡ l
-      → release_if l desk.who (record (bench_by (names_of m) st) { members = map numbered (without_seats (Conn name ∷ []) st.seats) }) ≡ bench_by (names_of m) (station_by (Ending (Conn name ∷ [])) st)
+      → release_if l desk.who (record (bench_by (names_of m) st) { totals = with_gone (Conn name ∷ []) st.seats st.totals; members = map numbered (without_seats (Conn name ∷ []) st.seats) }) ≡ bench_by (names_of m) (station_by (Ending (Conn name ∷ [])) st)
   listed_by k st at true is = released_bench k st at
   listed_by k st at false is =
-      let b : MachineStation = record (bench_by (names_of m) st) { members = map numbered (without_seats (Conn name ∷ []) st.seats) } in
+      let b : MachineStation = record (bench_by (names_of m) st) { totals = with_gone (Conn name ∷ []) st.seats st.totals; members = map numbered (without_seats (Conn name ∷ []) st.seats) } in
       sym (not_held desk.who b (ap (λ (w : ℕ). is_holder (λ a b. a == b) w (monitor_by (names_of m) st.site.monitor)) d.who ∙ holder_same (names_of m) name st.site.monitor (holder_there s m k st bench at) ∙ other (is_holder same (Conn name) st.site.monitor) refl))
       ∙ released_bench k st at
     where

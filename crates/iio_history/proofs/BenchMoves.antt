@@ -170,11 +170,11 @@ asked_same : (names : List (List ℕ)) (moment : ℤ) (st : Station) → bench_b
 asked_same names moment st = ap (λ (ns : List ℕ). with_site (captured moment (active_for st.shape ns)) (bench_by names st)) (sym (masks_same st.seats))
 
 capture_same : (names : List (List ℕ)) (moment : ℤ) (st : Station) (c : Capture) → c.moment ≡ moment
-    → bench_by names (station_by (Capturing c) st) ≡ record (asked_once st.shape moment (bench_by names st)) { members = map (offered_to st.shape c) (map numbered st.seats) }
+    → bench_by names (station_by (Capturing c) st) ≡ record (asked_once st.shape moment (bench_by names st)) { captures = st.captures + 1; members = map (offered_to st.shape c) (map numbered st.seats) }
 capture_same names moment st c is =
     ap (λ (ms : List MachineMember). record (bench_by names (station_by (Capturing c) st)) { members = ms }) (offers_same st.shape c st.seats)
-    ∙ ap (λ (t : ℤ). record (bench_by names (station_by (Failing t) st)) { members = map (offered_to st.shape c) (map numbered st.seats) }) is
-    ∙ ap (λ (b : MachineStation). record b { members = map (offered_to st.shape c) (map numbered st.seats) }) (asked_same names moment st)
+    ∙ ap (λ (t : ℤ). record (bench_by names (station_by (Failing t) st)) { captures = st.captures + 1; members = map (offered_to st.shape c) (map numbered st.seats) }) is
+    ∙ ap (λ (b : MachineStation). record b { captures = st.captures + 1; members = map (offered_to st.shape c) (map numbered st.seats) }) (asked_same names moment st)
 
 entry_same : (names : List (List ℕ)) (st : Station) (o : Option Entry) → bench_by names (station_by (handled_act (outline_of (device_of st)) o) st) ≡ entry_made st.shape o (bench_by names st)
 entry_same names st None = refl
@@ -191,7 +191,7 @@ entry_same names st (Some e) = ap (λ (b : Bool). bench_by names (station_by (ma
 
     by : (a b : Bool) → bench_by names (station_by (made a b) st)
         ≡ cond a (cond b (asked_once st.shape e.moment (bench_by names st))
-        (record (asked_once st.shape e.moment (bench_by names st)) { members = map (offered_to st.shape (record { moment = e.moment; values = values_of st.site.driver st.shape e.moment })) (map numbered st.seats) })) (bench_by names st)
+        (record (asked_once st.shape e.moment (bench_by names st)) { captures = st.captures + 1; members = map (offered_to st.shape (record { moment = e.moment; values = values_of st.site.driver st.shape e.moment })) (map numbered st.seats) })) (bench_by names st)
     by false b = refl
     by true true = asked_same names e.moment st
     by true false = capture_same names e.moment st (record { moment = e.moment; values = values_of st.site.driver st.shape e.moment }) refl

@@ -170,9 +170,9 @@ module _ (s : Setup) (m : Told) (name : List ℕ) (desk : DeskRecord) (device : 
         → with_station (joined x.mask x.capacity) k (machine_of m) ≡ machine_of (step s m (Heard name (Said (Ok (Open device samples text cyclic)))))
     join_state x is =
         state_changed s m name (Said (Ok (Open device samples text cyclic))) device k st (Joining x) (open_acts (Ok x) is) (joined x.mask x.capacity)
-        (ap (λ (n : ℕ). record { next = n; members = map numbered (st.seats ++ new_seat ∷ []); site = site_by (names_of m) (attached (is_empty (outline_of (device_of st)).masks) st.site) }) next
-        ∙ ap (λ (ms : List MachineMember). record { next = st.joinings + 1; members = ms; site = site_by (names_of m) (attached (is_empty (outline_of (device_of st)).masks) st.site) }) (joined_numbered st.seats new_seat)
-        ∙ ap (λ (site : Site ℕ). record { next = st.joinings + 1; members = map numbered st.seats ++ numbered new_seat ∷ []; site = site })
+        (ap (λ (n : ℕ). record { next = n; captures = st.captures; totals = st.totals; members = map numbered (st.seats ++ new_seat ∷ []); site = site_by (names_of m) (attached (is_empty (outline_of (device_of st)).masks) st.site) }) next
+        ∙ ap (λ (ms : List MachineMember). record { next = st.joinings + 1; captures = st.captures; totals = st.totals; members = ms; site = site_by (names_of m) (attached (is_empty (outline_of (device_of st)).masks) st.site) }) (joined_numbered st.seats new_seat)
+        ∙ ap (λ (site : Site ℕ). record { next = st.joinings + 1; captures = st.captures; totals = st.totals; members = map numbered st.seats ++ numbered new_seat ∷ []; site = site })
         (attached_same (names_of m) (is_empty (outline_of (device_of st)).masks) st.site
         ∙ ap (λ (b : Bool). attached b (site_by (names_of m) st.site)) (sym (empty_same st.seats))))
       where

@@ -1,14 +1,16 @@
 -- Seats by the name of their connection are members by number.
-use Rattle.std.proofs.Common.{◌≡◌, ℕ, suc, ◌/◌, ◌≤◌, ◌<◌, ◌==◌, ◌||◌, ◌&&◌, not, Bool, true, false, List, [], ◌∷◌, ◌++◌, map, drop, is_some, Option, Some, None, cond, refl, sym, ap, ◌∙◌, subst, arith}
+use Rattle.std.proofs.Common.{◌≡◌, ℕ, suc, ◌/◌, ◌≤◌, ◌<◌, ◌==◌, ◌||◌, ◌&&◌, not, Bool, true, false, List, [], ◌∷◌, ◌++◌, map, take, drop, find, is_some, Option, Some, None, option_map, cond, refl, sym, ap, ◌∙◌, subst, arith}
 use Rattle.std.proofs.lemmas.Bool.Decides.{nat_tests}
 use Rattle.iio_layout.specs.Shape.{ShapeRecord}
 use Rattle.iio_layout.specs.Layout.{scan_size}
+use Rattle.iio_device.specs.declared.totals.Totals.{Totals}
 use Rattle.iio_device.specs.Site.{is_empty}
-use Rattle.iiod_session.specs.Machine.{Member as MachineMember, MemberId, is_id_of, masks_of, member_in, scans_in, with_scans, without}
+use Rattle.iio_device.specs.Totals.{with_left, with_lost}
+use Rattle.iiod_session.specs.Machine.{Member as MachineMember, MemberId, is_id_of, lost_by, masks_of, member_in, scans_in, with_scans, without}
 use Rattle.iio_history.specs.Who.{Who, same, is_among}
 use Rattle.iio_history.specs.Registry.{is_member, mask_of_member}
 use Rattle.iio_history.specs.Queue.{taken_from}
-use Rattle.iio_history.specs.Told.{Seat, member_of_seat}
+use Rattle.iio_history.specs.Told.{Seat, member_of_seat, scans_given, with_gone}
 use Rattle.iio_history.specs.Machine.{read_seat, without_seats}
 use Rattle.iio_history.specs.Reply.{seat_of}
 use Rattle.iio_history.specs.Law.{AreApart}
@@ -156,6 +158,40 @@ pub gone : (who : Who) (xs : List Seat) → seat_of who (without_seats (who ∷ 
 gone who [] = refl
 gone who (x ∷ xs) = gone_by (is_among x.member.who (who ∷ [])) (same who x.member.who) x who (without_seats (who ∷ []) xs) (among_one who x.member.who) refl (gone who xs)
 
+-- what is lost with it is counted
+gone_none_by : (a b : Bool) (who : Who) (x : Seat) (found : Option Seat) (xs : List Seat) (t : Totals) → a ≡ b → cond b (Some x) found ≡ None
+    → ((u : Totals) → found ≡ None → with_gone (who ∷ []) xs u ≡ u) → with_gone (who ∷ []) xs (cond a (with_lost x.queue.lost t) t) ≡ t
+gone_none_by a true who x found xs t p none is = cc
+gone_none_by true false who x found xs t p none is = cc
+gone_none_by false false who x found xs t p none is = is t none
+
+pub gone_none : (who : Who) (xs : List Seat) (t : Totals) → seat_of who xs ≡ None → with_gone (who ∷ []) xs t ≡ t
+gone_none who [] t none = refl
+gone_none who (x ∷ xs) t none =
+    gone_none_by (is_among x.member.who (who ∷ [])) (same who x.member.who) who x (seat_of who xs) xs t (among_one who x.member.who) none (gone_none who xs)
+
+lost_with : (a b : Bool) (who : Who) (x y : Seat) (found : Option Seat) (xs : List Seat) (more : Option ℕ) (t : Totals) → a ≡ b → cond a (Some x) found ≡ Some y
+    → (a ≡ true → with_gone (who ∷ []) xs (with_lost x.queue.lost t) ≡ with_lost x.queue.lost t) → (found ≡ Some y → with_gone (who ∷ []) xs t ≡ with_left more t)
+    → with_gone (who ∷ []) xs (cond a (with_lost x.queue.lost t) t) ≡ with_left (cond b (Some x.queue.lost) more) t
+lost_with true true who x y found xs more t p is alone rest = alone refl
+lost_with true false who x y found xs more t p is alone rest = cc
+lost_with false true who x y found xs more t p is alone rest = cc
+lost_with false false who x y found xs more t p is alone rest = rest is
+
+lost_found : (b : Bool) (x : MachineMember) (o : Option MachineMember) → option_map (λ (z : MachineMember). z.lost) (cond b (Some x) o) ≡ cond b (Some x.lost) (option_map (λ (z : MachineMember). z.lost) o)
+lost_found true x o = refl
+lost_found false x o = refl
+
+pub lost_same : (who : Who) (y : Seat) (xs : List Seat) (t : Totals) → AreApart (map member_of_seat xs) → TellSame who y xs → seat_of who xs ≡ Some y
+    → with_gone (who ∷ []) xs t ≡ with_left (lost_by y.number (map numbered xs)) t
+lost_same who y [] t apart tell is = cc
+lost_same who y (x ∷ xs) t apart tell is =
+    ap (λ (a : Bool). with_gone (who ∷ []) xs (cond a (with_lost x.queue.lost t) t)) (among_one who x.member.who)
+    ∙ lost_with (same who x.member.who) (x.number == y.number) who x y (seat_of who xs) xs (lost_by y.number (map numbered xs)) t tell.0 is
+    (λ own. gone_none who xs (with_lost x.queue.lost t) (absent_seat who xs (subst (λ (w : Who). is_member w (map member_of_seat xs) ≡ false) (sym (same_is who x.member.who own)) apart.0)))
+    (lost_same who y xs t apart.1 tell.2)
+    ∙ ap (λ (o : Option ℕ). with_left o t) (sym (lost_found (x.number == y.number) (numbered x) (find (λ (z : MachineMember). z.number == y.number) (map numbered xs))))
+
 -- ---- a member takes scans
 
 read_none_by : (b : Bool) (x z : Seat) (found : Option Seat) (rest xs : List Seat) → cond b (Some x) found ≡ None → (found ≡ None → rest ≡ xs) → cond b z x ∷ rest ≡ x ∷ xs
@@ -188,6 +224,26 @@ taken_same shape who bytes y (x ∷ xs) apart tell is =
     taken_by shape bytes (same who x.member.who) (is_id_of (id_of_seat y) (numbered x)) x y xs (map (read_seat shape who bytes) xs) (seat_of who xs) _ (tell_id _ x y tell.0 tell.1) tell.1
     (λ own. read_none shape who bytes xs (absent_seat who xs (subst (λ (w : Who). is_member w (map member_of_seat xs) ≡ false) (sym (same_is who x.member.who own)) apart.0)))
     (λ h. taken_same shape who bytes y xs apart.1 tell.2 h) is
+
+-- the scans that it is given
+given_by : (b : Bool) (x y : Seat) (found : Option Seat) (shape : ShapeRecord) (bytes : ℕ) (rest : List (List ℕ)) → cond b (Some x) found ≡ Some y
+    → (found ≡ Some y → rest ≡ take (bytes / scan_size shape y.member.mask) y.queue.scans)
+    → cond b (take (bytes / scan_size shape x.member.mask) x.queue.scans) rest ≡ take (bytes / scan_size shape y.member.mask) y.queue.scans
+given_by true x y found shape bytes rest is more = let one : x ≡ y = cc in ap (λ (z : Seat). take (bytes / scan_size shape z.member.mask) z.queue.scans) one
+given_by false x y found shape bytes rest is more = more is
+
+pub given_same : (shape : ShapeRecord) (who : Who) (bytes : ℕ) (y : Seat) (xs : List Seat) → seat_of who xs ≡ Some y
+    → scans_given shape who bytes xs ≡ take (bytes / scan_size shape y.member.mask) y.queue.scans
+given_same shape who bytes y [] is = cc
+given_same shape who bytes y (x ∷ xs) is = given_by (same who x.member.who) x y (seat_of who xs) shape bytes (scans_given shape who bytes xs) is (given_same shape who bytes y xs)
+
+given_none_by : (b : Bool) (x : Seat) (found : Option Seat) (scans rest : List (List ℕ)) → cond b (Some x) found ≡ None → (found ≡ None → rest ≡ []) → cond b scans rest ≡ []
+given_none_by true x found scans rest none is = cc
+given_none_by false x found scans rest none is = is none
+
+pub given_none : (shape : ShapeRecord) (who : Who) (bytes : ℕ) (xs : List Seat) → seat_of who xs ≡ None → scans_given shape who bytes xs ≡ []
+given_none shape who bytes [] none = refl
+given_none shape who bytes (x ∷ xs) none = given_none_by (same who x.member.who) x (seat_of who xs) _ (scans_given shape who bytes xs) none (given_none shape who bytes xs)
 
 -- ---- a member more, and the masks of all
 

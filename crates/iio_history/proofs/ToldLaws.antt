@@ -1,6 +1,7 @@
 -- The machine carries what the history tells.
 use Rattle.std.proofs.Common.{◌≡◌, ℕ, suc, Bool, true, false, List, [], ◌∷◌, Option, Some, None, slice_get, map, cond, refl, sym, ap, ◌∙◌, subst, arith}
 use Rattle.std.proofs.lemmas.Bool.{true≢false}
+use Rattle.iio_device.specs.declared.totals.Totals.{Totals}
 use Rattle.iio_history.specs.Places.{map_from}
 use Rattle.iio_history.specs.Who.{same}
 use Rattle.iio_history.specs.Event.{Event}
@@ -9,7 +10,7 @@ use Rattle.iio_history.specs.Act.{Act, Nothing, Joining, Remasking, act_of, act_
 use Rattle.iio_history.specs.Fold.{site_after, device_by, device_after, registry_after}
 use Rattle.iio_history.specs.Log.{membership_log}
 use Rattle.iio_history.specs.Membership.{waiting_for, waiting_before, joinings_of, number_of, discarded_of}
-use Rattle.iio_history.specs.Told.{Line, Seat, Station, Told, device_of, registry_of, station_told, told}
+use Rattle.iio_history.specs.Told.{Line, Seat, Station, Told, captures_after, captures_of, device_of, registry_of, seat_told, station_told, told, totals_after, totals_of}
 use Rattle.iio_history.specs.Machine.{station_by, station_after, step_by, step, machine_after}
 use Rattle.iio_history.specs.Law.{AreApart}
 use Rattle.iio_history.proofs.PlaceLemmas.{each_at, maps_same}
@@ -66,17 +67,26 @@ act_is s r e k d is = ap (λ (o : Option Device). elim o [ None ↦ Nothing | So
 
 -- ---- the law
 
+totals_are : (s : Setup) (h : List Event) (e : Event) (k : ℕ) (d : Device) → slice_get (registry_after s h).devices k ≡ Some d
+    → totals_of s k (e ∷ h) ≡ totals_after d.shape (act_of s (registry_after s h) e k d) (map (seat_told s h k d.shape) d.members) (totals_of s k h)
+totals_are s h e k d is = ap (λ (o : Option Device). elim o [
+  | None ↦ totals_of s k h
+  | Some x ↦ totals_after x.shape (act_of s (registry_after s h) e k x) (map (seat_told s h k x.shape) x.members) (totals_of s k h)
+]) is
+
 -- what is told of device k once an act was there
 station_by_act : (s : Setup) (h : List Event) (k : ℕ) (d : Device) (act : Act) → slice_get (registry_after s h).devices k ≡ Some d → Fits act d
     → record {
       shape = d.shape;
       joinings = Rattle.iio_history.specs.Membership.joinings_after act (joinings_of s k h);
+      captures = captures_after act (captures_of s k h);
+      totals = totals_after d.shape act (map (seat_told s h k d.shape) d.members) (totals_of s k h);
       site = site_after act (outline_of d);
       seats = map (Rattle.iio_history.proofs.MemberLaws.seat_by d.shape (book_after act (joinings_of s k h) (waiting_before s h k act) (book_of s h k))) (Rattle.iio_history.specs.Fold.members_after act d.members);
     } ≡ station_by act (station_told s h k d)
 station_by_act s h k d act is fit =
     let st = station_told s h k d in
-    ap (λ (xs : List Seat). record { shape = d.shape; joinings = (station_by act st).joinings; site = site_after act (outline_of d); seats = xs })
+    ap (λ (xs : List Seat). record { shape = d.shape; joinings = (station_by act st).joinings; captures = (station_by act st).captures; totals = (station_by act st).totals; site = site_after act (outline_of d); seats = xs })
     (seats_are d.shape act (joinings_of s k h) (waiting_before s h k act) (book_of s h k) d.members (is_sound s h k d act is (members_are_apart s h k d is) fit))
     ∙ ap (λ (x : Device). record (station_by act st) { site = site_after act (outline_of x) }) (sym (device_is s h k d))
 
@@ -84,13 +94,16 @@ station_is : (s : Setup) (h : List Event) (e : Event) (k : ℕ) (d : Device) →
     → station_told s (e ∷ h) k (device_after s (registry_after s h) e k d) ≡ station_after s (registry_after s h) e k (station_told s h k d)
 station_is s h e k d is =
     let r = registry_after s h in
-    let after : Act → Station = λ act. record {
+    let after : Act → Totals → Station = λ act totals. record {
       shape = d.shape;
       joinings = Rattle.iio_history.specs.Membership.joinings_after act (joinings_of s k h);
+      captures = captures_after act (captures_of s k h);
+      totals = totals;
       site = site_after (act_of s r e k d) (outline_of d);
       seats = map (Rattle.iio_history.proofs.MemberLaws.seat_by d.shape (book_after act (joinings_of s k h) (waiting_before s h k act) (book_of s h k))) (Rattle.iio_history.specs.Fold.members_after (act_of s r e k d) d.members);
     } in
-    ap after (act_is s r e k d is)
+    ap (λ (act : Act). after act (totals_of s k (e ∷ h))) (act_is s r e k d is)
+    ∙ ap (after (act_of s r e k d)) (totals_are s h e k d is)
     ∙ station_by_act s h k d (act_of s r e k d) is (fits s r e k d)
     ∙ ap (λ (x : Device). station_by (act_of s r e k x) (station_told s h k d)) (sym (device_is s h k d))
 

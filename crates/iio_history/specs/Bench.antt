@@ -70,7 +70,13 @@ abbrev pub numbered : Seat → MachineMember
 numbered x = record { number = x.number; mask = x.member.mask; capacity = x.member.capacity; scans = x.queue.scans; lost = x.queue.lost }
 
 abbrev pub bench_by : List (List ℕ) → Station → MachineStation
-bench_by names st = record { next = st.joinings; members = map numbered st.seats; site = site_by names st.site }
+bench_by names st = record {
+  next = st.joinings;
+  captures = st.captures;
+  totals = st.totals;
+  members = map numbered st.seats;
+  site = site_by names st.site;
+}
 
 abbrev pub machine_of : Told → Machine
 machine_of m = record { clock = m.clock; stations = map (bench_by (names_of m)) m.stations }

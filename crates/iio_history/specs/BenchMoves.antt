@@ -38,7 +38,7 @@ capture_made shape moment b =
     if ask_fails b.site.driver then asked_once shape moment b
     else (
     let c : Capture = record { moment = moment; values = values_of b.site.driver shape moment } in
-    record (asked_once shape moment b) { members = map (offered_to shape c) b.members })
+    record (asked_once shape moment b) { captures = b.captures + 1; members = map (offered_to shape c) b.members })
 
 -- an entry is handled; one that isn't current is let go
 abbrev pub entry_made : ShapeRecord → Option Entry → MachineStation → MachineStation

@@ -20,5 +20,6 @@ pub mod Registry
 pub mod Reply
 pub mod Script
 pub mod Told
+pub mod Summary
 pub mod Transcript
 pub mod Who

@@ -14,7 +14,7 @@ use Rattle.iio_history.specs.Act.{Act, Joining, Remasking, Leaving, Ending, Read
 use Rattle.iio_history.specs.Fold.{site_after, triggers_after, user_after, newcomers, clock_after}
 use Rattle.iio_history.specs.Queue.{new_queue, offered, taken_from}
 use Rattle.iio_history.specs.Membership.{joinings_after, more_discarded}
-use Rattle.iio_history.specs.Told.{Seat, Station, Line, Told, device_of, registry_of, told}
+use Rattle.iio_history.specs.Told.{Seat, Station, Line, Told, captures_after, totals_after, device_of, registry_of, told}
 
 -- a capture is offered to a member, laid out under its own mask
 abbrev pub offered_seat : ShapeRecord → Capture → Seat → Seat
@@ -49,6 +49,8 @@ abbrev pub station_by : Act → Station → Station
 station_by act st = record {
   shape = st.shape;
   joinings = joinings_after act st.joinings;
+  captures = captures_after act st.captures;
+  totals = totals_after st.shape act st.seats st.totals;
   site = site_after act (outline_of (device_of st));
   seats = seats_after st.shape st.joinings act st.seats;
 }

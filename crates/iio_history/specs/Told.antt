@@ -1,14 +1,17 @@
 -- What stands after a history: the registry, with each member's private queue, and what each connection has begun.
-use Rattle.std.specs.Prelude.{ℕ, List, [], ◌∷◌, ◌++◌, map, if◌then◌else◌, ℤ}
+use Rattle.std.specs.Prelude.{ℕ, ◌+◌, ◌/◌, List, [], ◌∷◌, ◌++◌, map, take, slice_get, None, Some, if◌then◌else◌, ℤ}
 use Rattle.std.specs.Str.{bytes_eq}
 use Rattle.iio_layout.specs.Shape.{ShapeRecord}
 use Rattle.iio_layout.specs.Layout.{scan_size}
+use Rattle.iio_device.specs.declared.totals.Totals.{Totals}
 use Rattle.iio_device.specs.Site.{Site}
+use Rattle.iio_device.specs.Totals.{no_totals, with_given, with_lost}
 use Rattle.iio_history.specs.Places.{map_from}
-use Rattle.iio_history.specs.Who.{Who}
+use Rattle.iio_history.specs.Who.{Who, same, is_among}
 use Rattle.iiod_grammar.specs.Stream.{Scanner, InLine, scanner_after}
 use Rattle.iio_history.specs.Event.{Event, Arrived}
 use Rattle.iio_history.specs.Registry.{Setup, Member, Device, Trigger, User, Registry}
+use Rattle.iio_history.specs.Act.{Act, Remasking, Leaving, Ending, Reading, Capturing, act_at, act_of}
 use Rattle.iio_history.specs.Fold.{registry_after}
 use Rattle.iio_history.specs.Log.{membership_log}
 use Rattle.iio_history.specs.Queue.{Queue, private_queue}
@@ -21,10 +24,12 @@ pub record Seat : Type 0 where
   pub queue : Queue
   pub discarded : ℕ
 
--- a device, how many have joined it, and its members
+-- a device, how many have joined it, how many captures it made, what its queues gave and lost in all, and its members
 pub record Station : Type 0 where
   pub shape : ShapeRecord
   pub joinings : ℕ
+  pub captures : ℕ
+  pub totals : Totals
   pub site : Site Who
   pub seats : List Seat
 
@@ -53,6 +58,31 @@ user_of l = l.user
 abbrev pub registry_of : Told → Registry
 registry_of m = record { clock = m.clock; users = map user_of m.lines; triggers = m.triggers; devices = map device_of m.stations }
 
+-- ---- what is counted at a device
+
+abbrev pub captures_after : Act → ℕ → ℕ
+captures_after (Capturing c) n = n + 1
+captures_after act n = n
+
+-- the scans that a READBUF of so many bytes gives, by what waits for its member
+abbrev pub scans_given : ShapeRecord → Who → ℕ → List Seat → List (List ℕ)
+scans_given shape who bytes [] = []
+scans_given shape who bytes (x ∷ xs) =
+    if same who x.member.who then take (bytes / scan_size shape x.member.mask) x.queue.scans else scans_given shape who bytes xs
+
+-- queues of members end: what each has lost is counted
+abbrev pub with_gone : List Who → List Seat → Totals → Totals
+with_gone gone [] t = t
+with_gone gone (x ∷ xs) t = with_gone gone xs (if is_among x.member.who gone then with_lost x.queue.lost t else t)
+
+-- what the queues of a device gave and lost in all, once an act was there; a REMASK ends its member's queue
+abbrev pub totals_after : ShapeRecord → Act → List Seat → Totals → Totals
+totals_after shape (Reading who bytes) xs t = with_given (scans_given shape who bytes xs) t
+totals_after shape (Remasking m mask) xs t = with_gone (m.who ∷ []) xs t
+totals_after shape (Leaving gone) xs t = with_gone gone xs t
+totals_after shape (Ending gone) xs t = with_gone gone xs t
+totals_after shape act xs t = t
+
 -- ---- what the history tells
 
 -- all bytes that a connection sent
@@ -74,8 +104,28 @@ seat_told s h k shape m = record {
   discarded = discarded_of s m.who k h;
 }
 
+-- how many captures device k made
+abbrev pub captures_of : Setup → ℕ → List Event → ℕ
+captures_of s k [] = 0
+captures_of s k (e ∷ h) = captures_after (act_at s (registry_after s h) e k) (captures_of s k h)
+
+-- what the queues of device k gave and lost in all
+abbrev pub totals_of : Setup → ℕ → List Event → Totals
+totals_of s k [] = no_totals
+totals_of s k (e ∷ h) = elim (slice_get (registry_after s h).devices k) [
+  | None ↦ totals_of s k h
+  | Some d ↦ totals_after d.shape (act_of s (registry_after s h) e k d) (map (seat_told s h k d.shape) d.members) (totals_of s k h)
+]
+
 abbrev pub station_told : Setup → List Event → ℕ → Device → Station
-station_told s h k d = record { shape = d.shape; joinings = joinings_of s k h; site = d.site; seats = map (seat_told s h k d.shape) d.members }
+station_told s h k d = record {
+  shape = d.shape;
+  joinings = joinings_of s k h;
+  captures = captures_of s k h;
+  totals = totals_of s k h;
+  site = d.site;
+  seats = map (seat_told s h k d.shape) d.members;
+}
 
 abbrev pub line_told : List Event → User → Line
 line_told h u = record { user = u; begun = begun_of (stream_of u.who h) }

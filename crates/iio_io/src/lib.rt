@@ -7,7 +7,6 @@
 
 mod memory;
 mod standard;
-mod tally;
 mod traits;
 mod whole;
 

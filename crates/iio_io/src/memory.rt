@@ -3,9 +3,8 @@
 ghost use Rattle.std.specs.Prelude.{◌≡◌, ◌^◌, ◌⊎◌, ◌-◌, ◌+◌, ◌≤◌, ◌++◌, ◌↔◌, ℕ, [], length, take, drop, min, IfOk, OnErr, IsErr, IsTrue};
 ghost use Rattle.iio_io.specs.Memory.{IsFull, IsListed, one_more};
 
-use crate::tally::Tally;
 use crate::traits::{Failed, Sink, Source};
-use iio_base::Mem;
+use iio_base::{Count, Mem};
 use std::alloc::Global;
 use std::marker::Model;
 
@@ -108,7 +107,7 @@ pub struct MemSink {
     room: usize,
     fails: Vec<u64>,
     calls: u64,
-    faults: Tally,
+    faults: Count,
 }
 
 impl Model for MemSink {
@@ -141,7 +140,7 @@ impl MemSink {
             room,
             fails,
             calls: 0,
-            faults: Tally::new(),
+            faults: Count::new(),
         })
     }
 

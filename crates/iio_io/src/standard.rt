@@ -3,8 +3,8 @@
 ghost use Rattle.std.specs.Prelude.{◌≡◌, ◌+◌, ◌-◌, ◌^◌, ◌<◌, ◌≤◌, min, length, IfOk, MatchResult};
 ghost use Rattle.std.specs.Io.KnownBytes.{ReadConsumes, WriteAppends};
 
-use crate::tally::Tally;
 use crate::traits::{Failed, Sink, Source};
+use iio_base::Count;
 use std::io::{ErrorKind, Read, Stdin, Stdout, Write};
 use std::marker::Model;
 
@@ -15,7 +15,7 @@ const TRIES: usize = 64;
 #[tactic(auto, using(crate::proofs::Kept::keeps_refl, crate::proofs::Kept::keeps_trans, crate::proofs::Kept::kept_consumes))]
 fn read_retrying<R: Read>(
     input: &mut R,
-    faults: &mut Tally,
+    faults: &mut Count,
     out: &mut [u8],
 ) -> Result<usize, Failed>
     ensures fits { IfOk result (λ n. n ≤ length out.new) }
@@ -40,7 +40,7 @@ fn read_retrying<R: Read>(
 #[tactic(auto, using(crate::proofs::Kept::keeps_refl, crate::proofs::Kept::keeps_trans, crate::proofs::Kept::kept_appends))]
 fn write_retrying<W: Write>(
     output: &mut W,
-    faults: &mut Tally,
+    faults: &mut Count,
     bytes: &[u8],
 ) -> Result<usize, Failed>
     ensures fits { IfOk result (λ n. n ≤ length bytes.now) }
@@ -70,7 +70,7 @@ fn write_retrying<W: Write>(
 #[derive(Drop)]
 pub struct StdSource {
     input: Stdin,
-    faults: Tally,
+    faults: Count,
 }
 
 impl Model for StdSource {
@@ -88,7 +88,7 @@ impl StdSource {
     {
         StdSource {
             input,
-            faults: Tally::new(),
+            faults: Count::new(),
         }
     }
 
@@ -120,7 +120,7 @@ impl Source for StdSource {
 #[derive(Drop)]
 pub struct StdSink {
     output: Stdout,
-    faults: Tally,
+    faults: Count,
 }
 
 impl Model for StdSink {
@@ -138,7 +138,7 @@ impl StdSink {
     {
         StdSink {
             output,
-            faults: Tally::new(),
+            faults: Count::new(),
         }
     }
 

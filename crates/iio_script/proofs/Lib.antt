@@ -1,4 +1,5 @@
 pub mod OutlineLemmas
+pub mod FeedLemmas
 pub mod CostLemmas
 pub mod LineLaws
 pub mod LookedLaws

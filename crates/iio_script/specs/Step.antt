@@ -1,9 +1,14 @@
 -- The reader of steps, as contracts see it.
 use Rattle.std.specs.Prelude.{ℕ, List, Result, Ok, Err}
+use Rattle.std.specs.Option.{ok_or}
+use Rattle.iio_base.specs.Refusals.{ensure, ◌>>=◌, ◌>>◌}
 use Rattle.iio_text.specs.declared.refusals.Why.{Why}
+use Rattle.iio_text.specs.declared.refusals.Why.TheVariants as why
+use Rattle.iio_text.specs.Escape.{quoted_of}
+use Rattle.iio_attr.specs.Name.{is_name}
 use Rattle.iio_desc.specs.Description.{Description}
-use Rattle.iio_history.specs.Script.{clock_step, drop_step, handle_step, sense_step, trigger_step, unplug_step}
-use Rattle.iio_history.specs.Transcript.{Step, Fire, Poll}
+use Rattle.iio_history.specs.Script.{begins_quote, clock_step, drop_step, handle_step, sense_step, trigger_step, unplug_step}
+use Rattle.iio_history.specs.Transcript.{Step, Feed, Fire, Poll}
 use Rattle.iio_system.specs.declared.step.Step.{Step as CodeStep}
 use Rattle.iio_system.specs.Step.{step_view}
 use Rattle.iio_script.specs.declared.step_word.StepWord.{StepWord}
@@ -23,3 +28,11 @@ form_of word.Sense = sense_step
 form_of word.Clock = clock_step
 form_of word.Drop = drop_step
 form_of word.Unplug = unplug_step
+
+-- a feed by its name, and by the text from the word after that on
+abbrev pub feed_of : List ℕ → List ℕ → Result Step Why
+feed_of name text = do
+  ensure (is_name name) why.Word
+  ensure (begins_quote text) why.Count
+  bytes ← ok_or (quoted_of text) why.Text
+  Ok (Feed name bytes)

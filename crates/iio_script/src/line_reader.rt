@@ -226,4 +226,29 @@ impl LineReader {
             self.fill(source)?;
         }
     }
+
+    /// What stands next, where a look has told it; else as `find`.
+    pub(crate) fn find_on<S: Source>(
+        &mut self,
+        seen: Option<Found>,
+        source: &mut S,
+    ) -> Result<Found, ReadEnd>
+        requires seen { IfSome seen (λ found. Shows found self.old) }
+        requires hand { IsHand self.old }
+        ensures found { IfOk result (λ found. Shows found self.new) }
+        ensures more { OnErr result (NeedsMore self.new) }
+        ensures follows { (input : List ℕ) (front : List (List ℕ)) → Follows input front self.old (S.left source.old) → Follows input front self.new (S.left source.new) }
+        ensures hand { IsHand self.new }
+        ensures given { self.new.given ≡ self.old.given }
+        ensures silent { IfNone (S.left source.old) (S.left source.new ≡ None) }
+        ensures counted { S.faults source.old ≤ S.faults source.new }
+        ensures failed { result ≡ Err ReadEnd.Failed → Rose (S.faults source.old) (S.faults source.new) }
+        ensures memory { result ≡ Err ReadEnd.Mem → S.faults source.new ≡ S.faults source.old }
+        ensures steady { IfOk result (λ _. S.faults source.new ≡ S.faults source.old) }
+    {
+        match seen {
+            Some(found) => Ok(found),
+            None => self.find(source),
+        }
+    }
 }

@@ -13,7 +13,7 @@ ghost use Rattle.iio_system.specs.Bench.{front_of};
 ghost use Rattle.iio_system.specs.Standing.{StandsFor, names_by};
 ghost use Rattle.iio_system.specs.Step.{step_view};
 ghost use Rattle.iio_script.specs.Ends.{HasStatus, Sends, ShowsFaults, Writes};
-ghost use Rattle.iio_script.specs.LineReader.{Follows, IsHand};
+ghost use Rattle.iio_script.specs.LineReader.{Follows, IsHand, Shows};
 ghost use Rattle.iio_script.specs.Outline.{FindsSame};
 ghost use Rattle.iio_script.specs.Taken.{Runs, WritesLines};
 ghost use Rattle.iio_script.specs.Plays.{EndsScript, EndsSteps, IsOver, IsRefusedWith, Plays, PlaysLine, TakesFor, WritesText};
@@ -23,7 +23,7 @@ use crate::line_reader::{Found, LineReader};
 use crate::opening::{Opening, open};
 use crate::outline::outline;
 use crate::status::Status;
-use crate::step::read_step;
+use crate::step::read_step_into;
 use iio_base::Mem;
 use iio_desc::Desc;
 use iio_device::Plug;
@@ -46,10 +46,18 @@ fn takes(system: &System, step: &Step) -> bool
     }
 }
 
-// Plays the line of that number. `names` finds what the script's description finds. A status comes where the script ends at
-// the line, since it is refused.
+// Keeps the bytes of a feed as room for those of the next.
+fn keep_room(step: Step, room: &mut Vec<u8>) {
+    if let Step::Feed(_, bytes) = step {
+        *room = bytes.into_bytes();
+    }
+}
+
+// Plays the line of that number. `names` finds what the script's description finds; `room` is room for the bytes of a feed. A
+// status comes where the script ends at the line, since it is refused.
 fn play_line(
     alloc: Global,
+    room: &mut Vec<u8>,
     system: &mut System,
     names: &Desc,
     line: &[u8],
@@ -66,7 +74,7 @@ fn play_line(
         → PlaysLine ⟦<Plug as Sensor>⟧.driver s system.new (sent ++ out.new.items) first number given line.now ended) }
     ensures refused { IfOk result (λ ended. IfSome ended (IsRefusedWith number)) }
 {
-    let said = match read_step(alloc, names, line) {
+    let said = match read_step_into(alloc, room, names, line) {
         Ok(said) => said,
         Err(LineFault::Why(why)) => return Ok(Some(push_refused(alloc, out, number, why)?)),
         Err(LineFault::Mem) => return Err(Mem),
@@ -78,6 +86,7 @@ fn play_line(
         return Ok(Some(push_refused(alloc, out, number, Why::Limit)?));
     }
     system.step(&step, out)?;
+    keep_room(step, room);
     Ok(None)
 }
 
@@ -86,7 +95,8 @@ fn write_ready<K: Sink>(
     lines: &mut LineReader,
     output: &mut K,
     out: &mut Vec<u8>,
-) -> Result<(), Status>
+) -> Result<Option<Found>, Status>
+    ensures found { IfOk result (λ seen. IfSome seen (λ found. Shows found lines.new)) }
     ensures follows { (input : List ℕ) (front : List (List ℕ)) (left : Option (List ℕ)) → Follows input front lines.old left → Follows input front lines.new left }
     ensures given { lines.new.given ≡ lines.old.given }
     ensures hand { IsHand lines.new }
@@ -98,11 +108,11 @@ fn write_ready<K: Sink>(
     ensures steady { OnOk result (K.faults output.new ≡ K.faults output.old) }
     ensures silent { IfNone (K.written output.old) (K.written output.new ≡ None) }
 {
-    let ready = lines.look().is_some();
-    if ready && out.len() < KEPT {
-        return Ok(());
+    let seen = lines.look();
+    if seen.is_none() || out.len() >= KEPT {
+        write_out(output, out)?;
     }
-    write_out(output, out)
+    Ok(seen)
 }
 
 // The steps of a script from a line on, at a core before the first step. What is printed is written in pieces, and all of it
@@ -138,9 +148,10 @@ fn play_steps<S: Source, K: Sink>(
     ensures silent { (IfNone (S.left input.old) (S.left input.new ≡ None)) × (IfNone (K.written output.old) (K.written output.new ≡ None)) }
 {
     let mut number = first;
+    let mut room = Vec::new(alloc);
     loop {
-        write_ready(lines, output, out)?;
-        match lines.find(input) {
+        let seen = write_ready(lines, output, out)?;
+        match lines.find_on(seen, input) {
             Ok(Found::Line) => {}
             Ok(Found::Long) => return Ok(push_refused(alloc, out, number, Why::Long)?),
             Ok(Found::End) => return Ok(Status::Done),
@@ -148,7 +159,15 @@ fn play_steps<S: Source, K: Sink>(
             Err(ReadEnd::Failed) => return Ok(Status::ReadFault),
             Err(ReadEnd::Mem) => return Err(Status::Memory),
         }
-        if let Some(status) = play_line(alloc, system, names, lines.line(), number, out)? {
+        if let Some(status) = play_line(
+            alloc,
+            &mut room,
+            system,
+            names,
+            lines.line(),
+            number,
+            out,
+        )? {
             return Ok(status);
         }
         lines.pass();

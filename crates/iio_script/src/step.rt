@@ -1,12 +1,12 @@
 //! The lines of a script as steps.
-ghost use Rattle.std.specs.Prelude.{◌≡◌, ◌<◌, length, option_map, IfOk, IfErr, IfSome, MatchResult, Ok, Err, ℕ, ℤ};
+ghost use Rattle.std.specs.Prelude.{◌≡◌, ◌<◌, length, option_map, IfOk, IfErr, IfSome, MatchResult, Ok, Err, List, ℕ, ℤ};
 ghost use Rattle.iio_desc.specs.Description.{Description};
-ghost use Rattle.iio_history.specs.Script.{clock_step, drop_step, feed_step, from_quote, handle_step, has_quote_first, sense_step, step_by, step_of, trigger_step, unplug_step, device_word, moment_word, trigger_word, step_words};
+ghost use Rattle.iio_history.specs.Script.{clock_step, drop_step, handle_step, sense_step, step_by, step_of, trigger_step, unplug_step, device_word, moment_word, trigger_word, step_words};
 ghost use Rattle.iio_history.specs.Transcript.{Step as HistoryStep};
 ghost use Rattle.iio_system.specs.Step.{IsValid, step_view};
-ghost use Rattle.iio_script.specs.Step.{form_of, read_view};
+ghost use Rattle.iio_script.specs.Step.{feed_of, form_of, read_view};
 ghost use Rattle.iio_text.specs.LineFault.{Tells};
-ghost use Rattle.iio_text.specs.Words.{words_of, is_space};
+ghost use Rattle.iio_text.specs.Words.{IsFirstWord, from_word, words_of, is_space};
 ghost use Rattle.iiod_grammar.specs.Command.{entry_of};
 
 use crate::step_word::StepWord;
@@ -14,10 +14,11 @@ use iio_attr::Name;
 use iio_desc::Desc;
 use iio_system::{Quoted, Step};
 use iio_text::{
-    Blanks, LineFault, Unescape, Why, between_quotes, first_word, next_word, one_word, read_int,
-    two_words, unescape,
+    LineFault, Unescape, Why, between_quotes, first_word, from_word, one_word, read_int, two_words,
+    unescape_into,
 };
 use std::alloc::Global;
+use std::mem;
 
 // The number of the trigger of that name.
 fn trigger_word(desc: &Desc, word: &[u8]) -> Result<u32, Why>
@@ -128,39 +129,25 @@ fn read_words(desc: &Desc, word: StepWord, words: &[u8]) -> Result<Step, Why>
     }
 }
 
-// The part of a line from its first quote on.
-fn from_quote(line: &[u8]) -> &[u8]
-    ensures { result.now ≡ from_quote line.now }
-{
-    for (i, byte) in line.iter().enumerate() {
-        if *byte == b'"' {
-            return &line[i..];
-        }
-    }
-    &line[line.len()..]
-}
-
-fn has_quote_first(words: &[u8]) -> bool
-    ensures { result ≡ has_quote_first (words_of is_space words.now) }
-{
-    match next_word(words, Blanks::Spaces) {
-        None => false,
-        Some((word, _)) => matches!(word, [b'"', ..]),
-    }
-}
-
-// `NAME "bytes"`
-fn read_feed(alloc: Global, line: &[u8], name: &[u8], words: &[u8]) -> Result<Step, LineFault>
-    ensures ok { IfOk result (λ step. feed_step line.now name.now (words_of is_space words.now) ≡ Ok (step_view step)) }
-    ensures err { IfErr result (λ e. Tells e (feed_step line.now name.now (words_of is_space words.now))) }
+// `NAME "bytes"`, by the name and by the words after it. The step takes the room for its bytes.
+fn read_feed(
+    alloc: Global,
+    room: &mut Vec<u8>,
+    name: &[u8],
+    words: &[u8],
+) -> Result<Step, LineFault>
+    ensures ok { IfOk result (λ step. feed_of name.now (from_word words.now) ≡ Ok (step_view step)) }
+    ensures err { IfErr result (λ e. Tells e (feed_of name.now (from_word words.now))) }
     ensures valid { (triggers devices : ℕ) → IfOk result (IsValid triggers devices) }
 {
     let name = Name::new(name).ok_or(Why::Word)?;
-    if !has_quote_first(words) {
+    let quoted = from_word(words);
+    if !matches!(quoted, [b'"', ..]) {
         return Err(LineFault::Why(Why::Count));
     }
-    let inner = between_quotes(from_quote(line)).ok_or(Why::Text)?;
-    match unescape(alloc, inner) {
+    let inner = between_quotes(quoted).ok_or(Why::Text)?;
+    let room = mem::replace(room, Vec::new(alloc));
+    match unescape_into(room, inner) {
         Ok(bytes) => Ok(Step::Feed(name, Quoted::new(bytes))),
         Err(Unescape::BadEscape(_)) => Err(LineFault::Why(Why::Text)),
         Err(Unescape::Mem) => Err(LineFault::Mem),
@@ -170,17 +157,19 @@ fn read_feed(alloc: Global, line: &[u8], name: &[u8], words: &[u8]) -> Result<St
 // A line by its first word, and by the words after it.
 fn read_line(
     alloc: Global,
+    room: &mut Vec<u8>,
     desc: &Desc,
-    line: &[u8],
     word: &[u8],
     words: &[u8],
 ) -> Result<Step, LineFault>
-    ensures ok { IfOk result (λ step. step_by desc.now line.now word.now (words_of is_space words.now) (entry_of step_words word.now) ≡ Ok (step_view step)) }
-    ensures err { IfErr result (λ e. Tells e (step_by desc.now line.now word.now (words_of is_space words.now) (entry_of step_words word.now))) }
+    ensures ok { IfOk result (λ step. (line : List ℕ) → IsFirstWord is_space line word.now words.now
+        → step_by desc.now line word.now (words_of is_space words.now) (entry_of step_words word.now) ≡ Ok (step_view step)) }
+    ensures err { IfErr result (λ e. (line : List ℕ) → IsFirstWord is_space line word.now words.now
+        → Tells e (step_by desc.now line word.now (words_of is_space words.now) (entry_of step_words word.now))) }
     ensures valid { IfOk result (IsValid (length desc.now.triggers) (length desc.now.devices)) }
 {
     match StepWord::of(word) {
-        None => read_feed(alloc, line, word, words),
+        None => read_feed(alloc, room, word, words),
         Some(first) => Ok(read_words(desc, first, words)?),
     }
 }
@@ -193,8 +182,23 @@ pub fn read_step(alloc: Global, desc: &Desc, line: &[u8]) -> Result<Option<Step>
     ensures err { IfErr result (λ e. Tells e (step_of desc.now line.now)) }
     ensures valid { IfOk result (λ step. IfSome step (IsValid (length desc.now.triggers) (length desc.now.devices))) }
 {
+    let mut room = Vec::new(alloc);
+    read_step_into(alloc, &mut room, desc, line)
+}
+
+/// The same, with room for the bytes of a feed, which its step takes. Nothing is said of what is in the room.
+pub(crate) fn read_step_into(
+    alloc: Global,
+    room: &mut Vec<u8>,
+    desc: &Desc,
+    line: &[u8],
+) -> Result<Option<Step>, LineFault>
+    ensures ok { IfOk result (λ step. step_of desc.now line.now ≡ Ok (option_map step_view step)) }
+    ensures err { IfErr result (λ e. Tells e (step_of desc.now line.now)) }
+    ensures valid { IfOk result (λ step. IfSome step (IsValid (length desc.now.triggers) (length desc.now.devices))) }
+{
     match first_word(line)? {
         None => Ok(None),
-        Some((word, words)) => Ok(Some(read_line(alloc, desc, line, word, words)?)),
+        Some((word, words)) => Ok(Some(read_line(alloc, room, desc, word, words)?)),
     }
 }

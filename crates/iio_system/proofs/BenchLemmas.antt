@@ -9,6 +9,7 @@ use Rattle.iio_attr.specs.declared.attributes.Attr.{Attr}
 use Rattle.iio_attr.specs.declared.attributes.Attr.TheVariants as attr
 use Rattle.iio_desc.specs.declared.description.TriggerDesc.{TriggerDesc}
 use Rattle.iio_trigger.specs.Trigger.{State}
+use Rattle.iio_device.specs.declared.totals.Totals.{Totals}
 use Rattle.iio_device.specs.Site.{is_empty, site_written, with_monitor}
 use Rattle.iio_event.specs.Monitor.{MonitorRecord}
 use Rattle.iiod_session.specs.declared.iio.No.{No}
@@ -121,8 +122,8 @@ empty_with_scans id scans (m ∷ ms) = by (is_id_of id m)
     by true = refl
     by false = refl
 
-pub scans_kept : (id : MemberId) (scans : List (List ℕ)) (st : Station) → KeepsPlace st (record st { members = with_scans id scans st.members })
-scans_kept id scans st =
+pub scans_kept : (id : MemberId) (totals : Totals) (scans : List (List ℕ)) (st : Station) → KeepsPlace st (record st { totals = totals; members = with_scans id scans st.members })
+scans_kept id totals scans st =
     let same = empty_with_scans id scans st.members in
     record {
       attached = λ t. rw same refl;
@@ -131,7 +132,7 @@ scans_kept id scans st =
     }
 
 pub take_kept : (id : MemberId) (took : Took) (scan : List ℕ) (st st' : Station) → TakesAt id took scan st st' → KeepsPlace st st'
-take_kept id Scan scan st st' t = kept_along st _ st' (scans_kept id _ st) t.1
+take_kept id Scan scan st st' t = kept_along st _ st' (scans_kept id _ _ st) t.1
 take_kept id Empty scan st st' t = kept_same st st' t.2
 take_kept id Gone scan st st' t = kept_same st st' t.2
 

@@ -1,5 +1,5 @@
 -- The handling of an entry, as the machine has it.
-use Rattle.std.proofs.Common.{◌≡◌, ℕ, ◌-◌, ◌^◌, Bool, true, false, List, [], ◌∷◌, map, length, Option, Some, None, refl, sym, ap, ◌∙◌, arith, cond}
+use Rattle.std.proofs.Common.{◌≡◌, ℕ, ◌+◌, ◌-◌, ◌^◌, Bool, true, false, List, [], ◌∷◌, map, length, Option, Some, None, refl, sym, ap, ◌∙◌, arith, cond}
 use Rattle.std.specs.Prelude.{◌==◌, ◌&&◌, not, nat_lt, ℤ}
 use Rattle.std.specs.List.{AllZip}
 use Rattle.std.proofs.lemmas.Bool.Decides.{nat_tests}
@@ -91,9 +91,9 @@ handled_is e (Captured n) v v' h own fewer ruled =
     rw due (
       ap (λ (k : ℕ). Captured k) many ∙ on_false (ask_fails v.site.driver) Fault (Captured (length (map member_of v.standing.members))) works,
       ap station_of h.3
-          ∙ ap (λ (next : ℕ). (let st : Station = record { next = next; members = map member_of v'.standing.members; site = captured e.t v.standing.active v.site } in st)) (ap (λ (s : Standing Queue). s.next) h.2.1)
-          ∙ ap (λ (ms : List Member). (let st : Station = record { next = v.standing.next; members = ms; site = captured e.t v.standing.active v.site } in st)) members
-          ∙ ap (λ (site : Site ℕ). (let st : Station = record { next = v.standing.next; members = map (offered v.standing.shape (values_of v.site.driver v.standing.shape e.t) e.t) (map member_of v.standing.members); site = site } in st)) (asked_is e.t v v.standing.members ruled)
+          ∙ ap (λ (s : Standing Queue). (let st : Station = record { next = s.next; captures = s.captures; totals = v.totals; members = map member_of v'.standing.members; site = captured e.t v.standing.active v.site } in st)) h.2.1
+          ∙ ap (λ (ms : List Member). (let st : Station = record { next = v.standing.next; captures = v.standing.captures + 1; totals = v.totals; members = ms; site = captured e.t v.standing.active v.site } in st)) members
+          ∙ ap (λ (site : Site ℕ). (let st : Station = record { next = v.standing.next; captures = v.standing.captures + 1; totals = v.totals; members = map (offered v.standing.shape (values_of v.site.driver v.standing.shape e.t) e.t) (map member_of v.standing.members); site = site } in st)) (asked_is e.t v v.standing.members ruled)
           ∙ on_false (ask_fails v.site.driver) (asked v.standing.shape e.t (station_of v)) _ works,
     )
 
@@ -136,7 +136,7 @@ captures_are e Fault v v' h = ap (λ (x : DeviceView Queue). x.standing.captures
 captures_are e (Captured n) v v' h = ap (λ (s : Standing Queue). s.captures) h.2.1
 
 place_kept : (shape : ShapeRecord) (values : List ℤ) (t : ℤ) (st : Station) (a b : Bool)
-    → KeepsPlace st (cond a st (cond b (asked shape t st) (record (asked shape t st) { members = map (offered shape values t) st.members })))
+    → KeepsPlace st (cond a st (cond b (asked shape t st) (record (asked shape t st) { captures = st.captures + 1; members = map (offered shape values t) st.members })))
 place_kept shape values t st true b = record { attached = λ u. refl; attachment = refl; hosted = λ n h. h }
 place_kept shape values t st false true = record { attached = λ u. refl; attachment = refl; hosted = λ n h. h }
 place_kept shape values t st false false =

@@ -28,3 +28,4 @@ pub mod StartLaws
 pub mod MoveLaws
 pub mod FireLaws
 pub mod StepLaws
+pub mod TallyLaws

@@ -1,5 +1,5 @@
 -- OPEN and CLOSE at a bench.
-use Rattle.std.proofs.Common.{◌≡◌, ℕ, suc, ◌+◌, ◌*◌, ◌<◌, ◌≤◌, ◌^◌, Bool, true, false, List, [], ◌∷◌, ◌++◌, map, filter, length, set, slice_get, Option, Some, None, IfOk, Result, Ok, Err, refl, sym, ap, subst, ◌∙◌, arith, cond, option_map}
+use Rattle.std.proofs.Common.{◌≡◌, ℕ, suc, ◌+◌, ◌*◌, ◌<◌, ◌≤◌, ◌^◌, Bool, true, false, List, [], ◌∷◌, ◌++◌, map, filter, find, length, set, slice_get, Option, Some, None, IfOk, Result, Ok, Err, refl, sym, ap, subst, ◌∙◌, arith, cond, option_map}
 use Rattle.std.specs.Prelude.{◌==◌, ◌||◌, not, ℤ, option_and_then}
 use Rattle.std.proofs.lemmas.Option.{slice_get-map}
 use Rattle.iio_base.specs.Refusals.{first_refusal}
@@ -19,14 +19,15 @@ use Rattle.iio_device.specs.declared.membership.Membership.{Membership}
 use Rattle.iio_device.specs.declared.plug.Plug.{Plug}
 use Rattle.iio_device.specs.declared.roster.JoinFault.{JoinFault}
 use Rattle.iio_device.specs.Device.{DeviceView, LeavesDevice, device_joined}
-use Rattle.iio_device.specs.Members.{without as without_of}
+use Rattle.iio_device.specs.Members.{member_of as membership_of, without as without_of}
 use Rattle.iio_device.specs.Site.{Site, attached, is_empty, no_driver}
+use Rattle.iio_device.specs.Totals.{with_left, with_lost}
 use Rattle.std.proofs.lemmas.Bool.Decides.{nat_tests}
 use Rattle.iiod_session.specs.declared.limits.TheConstants.{MAX_BYTES}
 use Rattle.iiod_session.specs.declared.iio.No.{No}
 use Rattle.iiod_session.specs.Front.{shape_at}
-use Rattle.iiod_session.specs.Machine.{Machine, Member, Station, with_station, without}
-use Rattle.iiod_session.specs.Calls.{closed, is_attached, joined, open_of, open_refusals}
+use Rattle.iiod_session.specs.Machine.{Machine, Member, Station, lost_by, with_station, without}
+use Rattle.iiod_session.specs.Calls.{closed, is_attached, joined, left, open_of, open_refusals}
 use Rattle.iiod_session.specs.Opening.{errno_of}
 use Rattle.iiod_session.specs.Seat.{Answers, IsNew, MayOpen, number_by as number_of}
 use Rattle.iio_system.specs.declared.seat.Seat.{Seat}
@@ -50,7 +51,7 @@ pub joins_keep : (mask : Mask) (capacity : ℕ) (r : Result Seat No) (v v' : Dev
 joins_keep mask capacity (Ok seat) v v' s s' j = keeps_along v _ v' (record { device = record { name = refl; number = refl; shape = refl }; captures = refl }) j.1
 joins_keep mask capacity (Err x) v v' s s' j = keeps_along v _ v' (record { device = record { name = refl; number = refl; shape = refl }; captures = refl }) j.1
 
-pub leaves_keep : (n : ℕ) (r : Option Queue) (v v' : DeviceView Queue) (s s' : State) → LeavesDevice n r v v' s s' → KeepsCaptures v v'
+pub leaves_keep : (n : ℕ) (r : Option Queue) (v v' : DeviceView Queue) (s s' : State) → LeavesDevice (λ (q : Queue). q.lost) n r v v' s s' → KeepsCaptures v v'
 leaves_keep n (Some q) v v' s s' j = keeps_along v _ v' (record { device = record { name = refl; number = refl; shape = refl }; captures = refl }) j.1
 leaves_keep n None v v' s s' j = keeps_along v _ v' (record { device = record { name = refl; number = refl; shape = refl }; captures = refl }) j.1
 
@@ -63,7 +64,7 @@ pub joins_tell : (mask : Mask) (capacity : ℕ) (r : Result Seat No) (v v' : Dev
 joins_tell mask capacity (Ok seat) v v' s s' j = places_tell (is_empty v.standing.members) _ s s' j.2
 joins_tell mask capacity (Err x) v v' s s' j = ap trigger_of j.2
 
-pub leaves_tell : (n : ℕ) (r : Option Queue) (v v' : DeviceView Queue) (s s' : State) → LeavesDevice n r v v' s s' → trigger_of s' ≡ trigger_of s
+pub leaves_tell : (n : ℕ) (r : Option Queue) (v v' : DeviceView Queue) (s s' : State) → LeavesDevice (λ (q : Queue). q.lost) n r v v' s s' → trigger_of s' ≡ trigger_of s
 leaves_tell n (Some q) v v' s s' j = places_tell (is_empty v'.standing.members) _ s s' j.2
 leaves_tell n None v v' s s' j = ap trigger_of j.2
 
@@ -87,13 +88,31 @@ members_kept st st' some some' trigger attachment = record {
 without_is : (n : ℕ) (ms : List (Membership Queue)) → without n (map member_of ms) ≡ map member_of (without_of n ms)
 without_is n ms = filter_map_is member_of (λ (m : Membership Queue). not (m.number == n)) (λ (x : Member). not (x.number == n)) (λ m. refl) ms
 
-left_is : (n : ℕ) (r : Option Queue) (v v' : DeviceView Queue) (s s' : State) → LeavesDevice n r v v' s s' → station_of v' ≡ record (station_of v) { members = without n (map member_of v.standing.members) }
+-- what was lost of the member of that number
+lost_told : (n : ℕ) (ms : List (Membership Queue)) → lost_by n (map member_of ms) ≡ option_map (λ (m : Membership Queue). m.tail.lost) (membership_of n ms)
+lost_told n [] = refl
+lost_told n (m ∷ ms) = by (m.number == n) (lost_told n ms)
+  where
+    by : (b : Bool) → lost_by n (map member_of ms) ≡ option_map (λ (m : Membership Queue). m.tail.lost) (membership_of n ms)
+        → option_map (λ (x : Member). x.lost) (cond b (Some (member_of m)) (find (λ (x : Member). x.number == n) (map member_of ms))) ≡ option_map (λ (m : Membership Queue). m.tail.lost) (cond b (Some m) (membership_of n ms))
+    by true h = refl
+    by false h = h
+
+lost_of_tail : (o : Option (Membership Queue)) → option_map (λ (m : Membership Queue). m.tail.lost) o ≡ option_map (λ (q : Queue). q.lost) (option_map (λ (m : Membership Queue). m.tail) o)
+lost_of_tail None = refl
+lost_of_tail (Some m) = refl
+
+left_is : (n : ℕ) (r : Option Queue) (v v' : DeviceView Queue) (s s' : State) → LeavesDevice (λ (q : Queue). q.lost) n r v v' s s' → station_of v' ≡ left n (station_of v)
 left_is n None v v' s s' j =
     let none : without n (map member_of v.standing.members) ≡ map member_of v.standing.members
     = without_is n v.standing.members ∙ ap (λ (ms : List (Membership Queue)). map member_of ms) (filter_none (λ (m : Membership Queue). m.number == n) v.standing.members j.0) in
     ap station_of j.1 ∙ ap (λ (ms : List Member). (let st : Station = record (station_of v) { members = ms } in st)) (sym none)
+    ∙ ap (λ (o : Option ℕ). (let st : Station = record (station_of v) { totals = with_left o v.totals; members = without n (map member_of v.standing.members) } in st))
+    (sym (lost_told n v.standing.members ∙ ap (λ (o : Option (Membership Queue)). option_map (λ (m : Membership Queue). m.tail.lost) o) j.0))
 left_is n (Some q) v v' s s' j =
-    ap station_of j.1 ∙ ap (λ (ms : List Member). (let st : Station = record (station_of v) { members = ms } in st)) (sym (without_is n v.standing.members))
+    ap station_of j.1 ∙ ap (λ (ms : List Member). (let st : Station = record (station_of v) { totals = with_lost q.lost v.totals; members = ms } in st)) (sym (without_is n v.standing.members))
+    ∙ ap (λ (o : Option ℕ). (let st : Station = record (station_of v) { totals = with_left o v.totals; members = without n (map member_of v.standing.members) } in st))
+    (sym (lost_told n v.standing.members ∙ lost_of_tail (membership_of n v.standing.members) ∙ ap (λ (o : Option Queue). option_map (λ (x : Queue). x.lost) o) j.0))
 
 -- a device on no trigger that is there has no member
 pub hosted_none : (n : ℕ) (st : Station) (trigger : Option ℕ) → st.site.trigger ≡ trigger → has_trigger n trigger ≡ false → is_hosted n st ≡ true → is_empty st.members ≡ true
@@ -215,7 +234,7 @@ module _ {X : Type 0} {V : X → Type 0} {g : Ghosts Queue} (drive : Plug X V �
     sound_joins mask capacity (Ok seat) j = bench_by (station_by (λ p. no_driver)) triggers (set states t s') ds k d' (joins_by mask _ (is_empty d.core.roster.members.items) refl j.1 j.2)
     sound_joins mask capacity (Err x) j = bench_by (station_by (λ p. no_driver)) triggers (set states t s') ds k d' (stays j.1 j.2)
 
-    leaves_by : (n : ℕ) (b : Bool) → is_empty d'.core.roster.members.items ≡ b → view_by drive d' ≡ record (view_by drive d) { standing = (view_by drive d').standing } → (is_empty d'.core.roster.members.items ≡ false → is_empty d.core.roster.members.items ≡ false)
+    leaves_by : (n : ℕ) (b : Bool) → is_empty d'.core.roster.members.items ≡ b → view_by drive d' ≡ record (view_by drive d) { standing = (view_by drive d').standing; totals = (view_by drive d').totals } → (is_empty d'.core.roster.members.items ≡ false → is_empty d.core.roster.members.items ≡ false)
         → s' ≡ cond b (record s { attached = without_place d'.core.number s.attached }) s → IsBench triggers (set states t s') (set (stations_by (λ p. no_driver) ds) k (station_by (λ p. no_driver) d'))
     leaves_by n true e v fewer after =
         bench_detached triggers states (stations_by (λ p. no_driver) ds) k t (station_by (λ p. no_driver) d) (station_by (λ p. no_driver) d') s s' sound (map_at (station_by (λ p. no_driver)) ds k d at) there inside own
@@ -235,32 +254,31 @@ module _ {X : Type 0} {V : X → Type 0} {g : Ghosts Queue} (drive : Plug X V �
     some_filtered p [] e = e
     some_filtered p (m ∷ ms) e = refl
 
-    pub sound_leaves : (n : ℕ) (r : Option Queue) → LeavesDevice n r (view_by drive d) (view_by drive d') s s' → IsBench triggers (set states t s') (stations_by (λ p. no_driver) (set ds k d'))
+    pub sound_leaves : (n : ℕ) (r : Option Queue) → LeavesDevice (λ (q : Queue). q.lost) n r (view_by drive d) (view_by drive d') s s' → IsBench triggers (set states t s') (stations_by (λ p. no_driver) (set ds k d'))
     sound_leaves n None j = bench_by (station_by (λ p. no_driver)) triggers (set states t s') ds k d' (stays j.1 j.2)
     sound_leaves n (Some q) j =
         let left : d'.core.roster.members.items ≡ without_of n d.core.roster.members.items = ap (λ (x : DeviceView Queue). x.standing.members) j.1 in
         bench_by (station_by (λ p. no_driver)) triggers (set states t s') ds k d'
         (leaves_by n (is_empty d'.core.roster.members.items) refl
-        (j.1 ∙ ap (λ standing. record (view_by drive d) { standing = standing }) (ap (λ (x : DeviceView Queue). x.standing) (sym j.1)))
+        (j.1 ∙ ap (λ (x : DeviceView Queue). (let y : DeviceView Queue = record (view_by drive d) { standing = x.standing; totals = x.totals } in y)) (sym j.1))
         (λ e. some_filtered _ d.core.roster.members.items (ap (λ (ms : List (Membership Queue)). is_empty ms) (sym left) ∙ e))
         j.2)
 
   -- ---- CLOSE
   module _ (ds : List (Fitted (IioDev Queue g) X V)) (clock : ℤ) (k : ℕ) (d : Fitted (IioDev Queue g) X V) (at : slice_get ds k ≡ Some d) (n : ℕ) where
-    pub told_leaves : (d' : Fitted (IioDev Queue g) X V) (s s' : State) (r : Option Queue) → LeavesDevice n r (view_by drive d) (view_by drive d') s s'
+    pub told_leaves : (d' : Fitted (IioDev Queue g) X V) (s s' : State) (r : Option Queue) → LeavesDevice (λ (q : Queue). q.lost) n r (view_by drive d) (view_by drive d') s s'
         → Some (machine_by (station_by drive) clock (set ds k d')) ≡ Some (closed (machine_by (station_by drive) clock ds) k n)
     unfolding closed
     told_leaves d' s s' r j =
-        ap (λ (m : Machine). Some m) (told_changed (station_by drive) clock ds k d d' at (λ st. record st { members = without n st.members }) (left_is n r (view_by drive d) (view_by drive d') s s' j))
+        ap (λ (m : Machine). Some m) (told_changed (station_by drive) clock ds k d d' at (left n) (left_is n r (view_by drive d) (view_by drive d') s s' j))
 
     pub told_stays : is_empty d.core.roster.members.items ≡ true → Some (machine_by (station_by drive) clock ds) ≡ Some (closed (machine_by (station_by drive) clock ds) k n)
     unfolding closed with_station
     told_stays e =
         let none : d.core.roster.members.items ≡ [] = empty_list d.core.roster.members.items e in
-        let same : without n (map member_of d.core.roster.members.items) ≡ map member_of d.core.roster.members.items = rw none refl in
+        let same : left n (station_by drive d) ≡ station_by drive d = rw none refl in
         ap (λ (sts : List Station). Some (let m : Machine = record { clock = clock; stations = sts } in m))
-        (sym (at_place_same (map (station_by drive) ds) k (station_by drive d) (λ st. record st { members = without n st.members }) (map_at (station_by drive) ds k d at)
-        (ap (λ (ms : List Member). (let st : Station = record (station_by drive d) { members = ms } in st)) same)))
+        (sym (at_place_same (map (station_by drive) ds) k (station_by drive d) (left n) (map_at (station_by drive) ds k d at) same))
 
   module _ (triggers : List TriggerDesc) (states : List State) (ds : List (Fitted (IioDev Queue g) X V)) (clock : ℤ) (k : ℕ) (d : Fitted (IioDev Queue g) X V)
       (sound : IsBench triggers states (stations_by (λ p. no_driver) ds)) (at : slice_get ds k ≡ Some d) (n : ℕ) where

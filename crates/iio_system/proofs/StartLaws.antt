@@ -8,6 +8,7 @@ use Rattle.iio_desc.specs.declared.description.TriggerDesc.{TriggerDesc}
 use Rattle.iio_desc.specs.Description.{DeviceRecord}
 use Rattle.iio_device.specs.declared.plug.Plug.{Plug}
 use Rattle.iio_device.specs.Site.{Site, new_site, number_in, with_attr}
+use Rattle.iio_device.specs.Totals.{no_totals}
 use Rattle.iiod_session.specs.Machine.{Machine, Station as MachineStation}
 use Rattle.iio_history.specs.Who.{Who}
 use Rattle.iio_history.specs.Places.{map_from}
@@ -40,7 +41,7 @@ written_all site (a ∷ attrs) =
 
 station_first : (s : Setup) (k : ℕ) (d : DeviceRecord) → bench_by [] (station_told s [] k (first_device s d)) ≡ first_station s.drivers d
 station_first s k d =
-    ap (λ (x : Site ℕ). (let st : MachineStation = record { next = 0; members = []; site = x } in st)) (written_all (new_site d.shape d.trigger (first_driver s d)) d.attrs)
+    ap (λ (x : Site ℕ). (let st : MachineStation = record { next = 0; captures = 0; totals = no_totals; members = []; site = x } in st)) (written_all (new_site d.shape d.trigger (first_driver s d)) d.attrs)
 
 stations_first : (s : Setup) (k : ℕ) (ds : List DeviceRecord) → map (bench_by []) (map_from (station_told s []) k (map (first_device s) ds)) ≡ map (first_station s.drivers) ds
 stations_first s k [] = refl

@@ -11,6 +11,7 @@ use Rattle.iio_device.specs.declared.membership.Membership.{Membership}
 use Rattle.iio_device.specs.Device.{DeviceView}
 use Rattle.iio_device.specs.Members.{member_of as membership_of}
 use Rattle.iio_device.specs.Roster.{Standing, Takes}
+use Rattle.iio_device.specs.Totals.{with_scan, with_taken}
 use Rattle.iiod_session.specs.declared.iio.Took.{Took}
 use Rattle.iiod_session.specs.declared.iio.Took.TheVariants.{Scan, Empty, Gone}
 use Rattle.iiod_session.specs.Machine.{Member, MemberId, Station, scans_in, with_scans}
@@ -46,7 +47,7 @@ fits_by id n shape None under e = tt
 fits_by id n shape (Some m) under e = let same : id.mask ≡ m.mask.bits = grind (arith, nat_tests) in e ∙ ap (λ (k : ℕ). scan_size shape k) same
 
 pub take_none : (id : MemberId) (took : Took) (out out' : List ℕ) (v v' : DeviceView Queue) → IsUnder id (membership_of id.number v.standing.members) → length out ≡ scan_size v.standing.shape id.mask
-    → Takes id.number None out out' v.standing v'.standing → v' ≡ record v { standing = v'.standing } → took ≡ nothing_at (station_of v') → TakesAt id took out' (station_of v) (station_of v')
+    → Takes id.number None out out' v.standing v'.standing → v' ≡ record v { standing = v'.standing; totals = with_taken None out' v.totals } → took ≡ nothing_at (station_of v') → TakesAt id took out' (station_of v) (station_of v')
 take_none id took out out' v v' under size takes rest e =
     nothing_taken id took out' v v' (scans_found id v.standing.members under ∙ not_there (length out) v (membership_of id.number v.standing.members) (fits_by id (length out) v.standing.shape (membership_of id.number v.standing.members) under size) takes.0) (view_is v v' rest takes.1) e
 
@@ -54,7 +55,7 @@ same_membership : (m x : Membership Queue) → x ≡ record m { tail = x.tail } 
 same_membership m x e t = e ∙ ap (λ (q : Queue). (let y : Membership Queue = record m { tail = q } in y)) t
 
 take_empty_false : (id : MemberId) (took : Took) (out out' : List ℕ) (v v' : DeviceView Queue) → IsUnder id (membership_of id.number v.standing.members)
-    → Takes id.number (Some false) out out' v.standing v'.standing → v' ≡ record v { standing = v'.standing } → took ≡ nothing_at (station_of v') → TakesAt id took out' (station_of v) (station_of v')
+    → Takes id.number (Some false) out out' v.standing v'.standing → v' ≡ record v { standing = v'.standing; totals = with_taken (Some false) out' v.totals } → took ≡ nothing_at (station_of v') → TakesAt id took out' (station_of v) (station_of v')
 take_empty_false id took out out' v v' under takes rest e =
     let one = takes.2 in
     let same : one.changed ≡ one.member = same_membership one.member one.changed one.moved.same one.moved.moved.1 in
@@ -86,7 +87,7 @@ changed_at id scans (x ∷ xs) ys m c distinct own mask e =
     rw apart (ap (λ (rest : List Member). member_of x ∷ rest) (changed_at id scans xs ys m c distinct.1 own mask e))
 
 take_scan_true : (id : MemberId) (out out' : List ℕ) (v v' : DeviceView Queue) → IsUnder id (membership_of id.number v.standing.members) → IsDistinct (λ a b. a == b) (map (λ (m : Membership Queue). m.number) v.standing.members)
-    → Takes id.number (Some true) out out' v.standing v'.standing → v' ≡ record v { standing = v'.standing } → TakesAt id Scan out' (station_of v) (station_of v')
+    → Takes id.number (Some true) out out' v.standing v'.standing → v' ≡ record v { standing = v'.standing; totals = with_taken (Some true) out' v.totals } → TakesAt id Scan out' (station_of v) (station_of v')
 take_scan_true id out out' v v' under distinct takes rest =
     let one = takes.2 in
     let queue : scans_in id (map member_of v.standing.members) ≡ one.member.tail.scans
@@ -101,16 +102,16 @@ take_scan_true id out out' v v' under distinct takes rest =
     ∙ changed_at id one.changed.tail.scans one.before one.after one.member one.changed (subst (λ (ms : List (Membership Queue)). IsDistinct (λ a b. a == b) (map (λ (m : Membership Queue). m.number) ms)) one.was distinct) (found_passes id.number v.standing.members one.member one.found) mask member
     ∙ ap (λ (ms : List (Membership Queue)). with_scans id one.changed.tail.scans (map member_of ms)) (sym one.was) in (
       rw left first,
-      ap station_of (rest ∙ ap (λ (s : Standing Queue). (let x : DeviceView Queue = record v { standing = s } in x)) takes.1)
-          ∙ ap (λ (ms : List Member). (let st : Station = record (station_of v) { members = ms } in st)) (members ∙ ap (λ (q : List (List ℕ)). with_scans id q (map member_of v.standing.members)) (sym left)),
+      ap station_of (rest ∙ ap (λ (s : Standing Queue). (let x : DeviceView Queue = record v { standing = s; totals = with_scan out' v.totals } in x)) takes.1)
+          ∙ ap (λ (ms : List Member). (let st : Station = record (station_of v) { totals = with_scan out' v.totals; members = ms } in st)) (members ∙ ap (λ (q : List (List ℕ)). with_scans id q (map member_of v.standing.members)) (sym left)),
     )
 
 pub take_empty : (id : MemberId) (took : Took) (b : Bool) (out out' : List ℕ) (v v' : DeviceView Queue) → IsUnder id (membership_of id.number v.standing.members) → b ≡ false
-    → Takes id.number (Some b) out out' v.standing v'.standing → v' ≡ record v { standing = v'.standing } → took ≡ nothing_at (station_of v') → TakesAt id took out' (station_of v) (station_of v')
+    → Takes id.number (Some b) out out' v.standing v'.standing → v' ≡ record v { standing = v'.standing; totals = with_taken (Some b) out' v.totals } → took ≡ nothing_at (station_of v') → TakesAt id took out' (station_of v) (station_of v')
 take_empty id took true out out' v v' under e takes rest n = absurd (cc)
 take_empty id took false out out' v v' under e takes rest n = take_empty_false id took out out' v v' under takes rest n
 
 pub take_scan : (id : MemberId) (b : Bool) (out out' : List ℕ) (v v' : DeviceView Queue) → IsUnder id (membership_of id.number v.standing.members) → b ≡ true → IsDistinct (λ a b. a == b) (map (λ (m : Membership Queue). m.number) v.standing.members)
-    → Takes id.number (Some b) out out' v.standing v'.standing → v' ≡ record v { standing = v'.standing } → TakesAt id Scan out' (station_of v) (station_of v')
+    → Takes id.number (Some b) out out' v.standing v'.standing → v' ≡ record v { standing = v'.standing; totals = with_taken (Some b) out' v.totals } → TakesAt id Scan out' (station_of v) (station_of v')
 take_scan id true out out' v v' under e distinct takes rest = take_scan_true id out out' v v' under distinct takes rest
 take_scan id false out out' v v' under e distinct takes rest = absurd (cc)

@@ -13,6 +13,7 @@ use Rattle.iio_desc.specs.declared.description.TriggerDesc.{TriggerDesc}
 use Rattle.iio_event.specs.declared.event.EventData.{EventData}
 use Rattle.iio_event.specs.Monitor.{after_close, after_open, after_read}
 use Rattle.iio_device.specs.Site.{sampled, site_written, with_monitor}
+use Rattle.iio_device.specs.Totals.{with_scan}
 use Rattle.iiod_session.specs.declared.iio.No.{No}
 use Rattle.iiod_session.specs.declared.iio.No.TheVariants.{Errno as NoErrno, Mem as NoMem}
 use Rattle.iiod_session.specs.declared.iio.Took.{Took}
@@ -114,8 +115,8 @@ module _ {D : Type 0} (f : D → Station) (clock : ℤ) (ds : List D) (k : ℕ) 
   told_take id Scan scan t =
       let q : scans_in id (station_at (machine_by f clock ds) k).members ≡ scans_in id (f d).members = ap (λ (st : Station). scans_in id st.members) here in (
         rw q t.0,
-        ap (λ (m : Machine). Some m) (told_changed (λ st. record st { members = with_scans id (drop 1 (scans_in id (f d).members)) st.members }) t.1
-            ∙ ap (λ (scans : List (List ℕ)). with_station (λ st. record st { members = with_scans id (drop 1 scans) st.members }) k (machine_by f clock ds)) (sym q)),
+        ap (λ (m : Machine). Some m) (told_changed (λ st. record st { totals = with_scan scan st.totals; members = with_scans id (drop 1 (scans_in id (f d).members)) st.members }) t.1
+            ∙ ap (λ (scans : List (List ℕ)). with_station (λ st. record st { totals = with_scan scan st.totals; members = with_scans id (drop 1 scans) st.members }) k (machine_by f clock ds)) (sym q)),
       )
   told_take id Empty scan t =
       (ap (λ (st : Station). scans_in id st.members) here ∙ t.0, ap (λ (st : Station). st.site.plugged) here ∙ t.1, some_same t.2)

@@ -10,6 +10,7 @@ use Rattle.iio_mask.specs.declared.Mask.{Mask}
 use Rattle.iio_device.specs.declared.membership.Membership.{Membership}
 use Rattle.iio_device.specs.Device.{DeviceView}
 use Rattle.iio_device.specs.Site.{sampled}
+use Rattle.iio_device.specs.Totals.{with_scan}
 use Rattle.iiod_session.specs.declared.iio.No.{No}
 use Rattle.iiod_session.specs.declared.iio.No.TheVariants.{Errno as NoErrno, Mem as NoMem}
 use Rattle.iiod_session.specs.declared.iio.Took.{Took}
@@ -55,7 +56,7 @@ has_member id members = list_any (is_member id) members
 abbrev pub TakesAt : MemberId → Took → List ℕ → (old new : Station) → Type 0
 TakesAt id Scan scan old new =
     (scans_in id old.members ≡ scan ∷ drop 1 (scans_in id old.members))
-    × (new ≡ record old { members = with_scans id (drop 1 (scans_in id old.members)) old.members })
+    × (new ≡ record old { totals = with_scan scan old.totals; members = with_scans id (drop 1 (scans_in id old.members)) old.members })
 TakesAt id Empty scan old new = (scans_in id old.members ≡ []) × (old.site.plugged ≡ true) × (new ≡ old)
 TakesAt id Gone scan old new = (scans_in id old.members ≡ []) × (old.site.plugged ≡ false) × (new ≡ old)
 

@@ -11,6 +11,7 @@ use Rattle.iio_desc.specs.WellFormed.{IsWrite}
 use Rattle.iio_desc.specs.declared.description.TriggerDesc.{TriggerDesc}
 use Rattle.iio_trigger.specs.Trigger.{State}
 use Rattle.iio_device.specs.Site.{first_site, no_driver}
+use Rattle.iio_device.specs.Totals.{no_totals}
 use Rattle.iiod_session.specs.Front.{DeviceFront, Front}
 use Rattle.iiod_session.specs.Machine.{Machine, Station}
 use Rattle.iio_system.specs.Places.{TriggerRecord, first_trigger}
@@ -25,7 +26,7 @@ first_driver drivers d = option_map_or (λ k. slice_index_or drivers k no_driver
 
 -- a device: no member yet, the trigger and the attributes of its description
 abbrev pub first_station : List Driver → DeviceRecord → Station
-first_station drivers d = record { next = 0; members = []; site = first_site d.shape d.trigger (first_driver drivers d) d.attrs }
+first_station drivers d = record { next = 0; captures = 0; totals = no_totals; members = []; site = first_site d.shape d.trigger (first_driver drivers d) d.attrs }
 
 abbrev pub first_machine : List Driver → Description → Machine
 first_machine drivers desc = record { clock = pos 0; stations = map (first_station drivers) desc.devices }

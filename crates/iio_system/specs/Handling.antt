@@ -35,7 +35,7 @@ abbrev pub handled_station : ShapeRecord → Handed → Station → Station
 handled_station shape e st =
     if not (is_due e st) then st
     else if ask_fails st.site.driver then asked shape e.t st
-    else record (asked shape e.t st) { members = map (offered shape (values_of st.site.driver shape e.t) e.t) st.members }
+    else record (asked shape e.t st) { captures = st.captures + 1; members = map (offered shape (values_of st.site.driver shape e.t) e.t) st.members }
 
 -- and its answer
 abbrev pub handled_answer : Handed → Station → Handled

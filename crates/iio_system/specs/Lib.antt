@@ -13,3 +13,4 @@ pub mod System
 pub mod Feeding
 pub mod Standing
 pub mod Moves
+pub mod Tally

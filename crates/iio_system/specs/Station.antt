@@ -15,9 +15,15 @@ use Rattle.iiod_session.specs.Machine.{Member, Station}
 abbrev pub member_of : Membership Queue → Member
 member_of m = record { number = m.number; mask = m.mask.bits; capacity = m.tail.capacity; scans = m.tail.scans; lost = m.tail.lost }
 
--- a device: the number of the next member, its members, and what else stands at it
+-- a device: the number of the next member, what it counted, its members, and what else stands at it
 abbrev pub station_of : DeviceView Queue → Station
-station_of d = record { next = d.standing.next; members = map member_of d.standing.members; site = d.site }
+station_of d = record {
+  next = d.standing.next;
+  captures = d.standing.captures;
+  totals = d.totals;
+  members = map member_of d.standing.members;
+  site = d.site;
+}
 
 module _ {X : Type 0} {V : X → Type 0} {g : Ghosts Queue} (driver : Plug X V → Driver) where
   -- the view of a device that samples by this driver

@@ -16,6 +16,7 @@ mod seat;
 mod step;
 mod steps;
 mod system;
+mod tally;
 
 pub use bench::Bench;
 pub use connection::Connection;
@@ -25,6 +26,7 @@ pub use quoted::Quoted;
 pub use seat::Seat;
 pub use step::Step;
 pub use system::System;
+pub use tally::Tally;
 
 #[cfg(test)]
 mod tests;

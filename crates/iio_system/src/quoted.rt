@@ -31,4 +31,11 @@ impl Quoted {
     {
         self.bytes.as_slice()
     }
+
+    /// Gives the bytes away, as they are.
+    pub fn into_bytes(self) -> Vec<u8>
+        ensures { result.items ≡ self }
+    {
+        self.bytes
+    }
 }

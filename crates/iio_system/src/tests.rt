@@ -1,11 +1,12 @@
 ghost use Rattle.std.specs.Prelude.{◌≡◌, ℕ, ◌+◌, ◌≤◌, ◌<◌, ◌^◌, true, IfOk, length};
+ghost use Rattle.iio_desc.specs.WellFormed.{IsWellFormed};
 ghost use Rattle.iio_system.specs.Bench.{front_of};
 ghost use Rattle.iio_system.specs.Standing.{IsTaken, names_by};
 ghost use Rattle.iio_system.specs.Step.{IsValid, cost_of};
 
 use super::*;
 use iio_attr::Name;
-use iio_desc::read_desc;
+use iio_desc::{Desc, read_desc};
 use std::alloc::Global;
 use std::process::Abort;
 use std::test::Fail;
@@ -14,15 +15,37 @@ use std::test::Fail;
 const TEXT: &[u8] =
     b"trigger t 2\ndevice a t\nchannel voltage0 le:u16/16>>0\nrow 0 513\ndevice b t\nchannel temp le:s8/8>>0\nrow 0 -1\n";
 
-fn started(alloc: Global) -> Result<System, Fail>
+// Two devices on one trigger, the first of which samples letters.
+const LETTERS: &[u8] =
+    b"trigger t0 2\ndevice y t0\nchannel voltage0 le:u8/8>>0\nrow 1 65\nrow 2 66\nrow 3 67\nrow 4 68\ndevice z t0\nchannel voltage0 le:u8/8>>0\nrow 0 9\n";
+
+// What a poll of that trigger prints while the first of them has a member.
+const CAPTURED: &[u8] = b"poll t0 accepted 1\nhandle t0 y captured\n";
+
+// The core of a description, which has a trigger and two devices.
+fn core_of(alloc: Global, desc: Desc) -> Result<System, Fail>
+    requires { IsWellFormed 0 desc }
     ensures triggers { IfOk result (λ x. 1 ≤ length (front_of x.bench).triggers) }
     ensures devices { IfOk result (λ x. 2 ≤ length (front_of x.bench).devices) }
 {
-    let desc = read_desc(alloc, TEXT, 0)?;
     if desc.triggers.is_empty() || desc.devices.len() < 2 {
         return Err(Fail::from("another description"));
     }
     Ok(System::new(alloc, desc, Vec::new(alloc))?)
+}
+
+fn started(alloc: Global) -> Result<System, Fail>
+    ensures triggers { IfOk result (λ x. 1 ≤ length (front_of x.bench).triggers) }
+    ensures devices { IfOk result (λ x. 2 ≤ length (front_of x.bench).devices) }
+{
+    core_of(alloc, read_desc(alloc, TEXT, 0)?)
+}
+
+fn started_with_letters(alloc: Global) -> Result<System, Fail>
+    ensures triggers { IfOk result (λ x. 1 ≤ length (front_of x.bench).triggers) }
+    ensures devices { IfOk result (λ x. 2 ≤ length (front_of x.bench).devices) }
+{
+    core_of(alloc, read_desc(alloc, LETTERS, 0)?)
 }
 
 fn feed(alloc: Global, name: &[u8], bytes: &[u8]) -> Result<Step, Fail>
@@ -142,5 +165,45 @@ fn names_are_taken(rt: HostRuntime) -> Result<(), Fail> {
     assert_eq!(rt; system.used(), 128);
     assert!(rt; system.takes(&Name::new(b"n77").ok_or("no name")?));
     assert!(rt; !system.takes(&Name::new(b"m").ok_or("no name")?));
+    Ok(())
+}
+
+// What was counted in a run, before and after its member left.
+#[test]
+fn tally_of_a_run(rt: HostRuntime) -> Result<(), Fail> {
+    let alloc = rt.alloc();
+    let mut system = started_with_letters(alloc)?;
+    let open = feed(alloc, b"A", b"SET y BUFFERS_COUNT 1\nOPEN y 1 00000001\n")?;
+    check(&rt, alloc, &mut system, &open, b"A \"0\\n0\\n\"\n")?;
+    check(&rt, alloc, &mut system, &Step::Fire(0, 1), CAPTURED)?;
+    check(&rt, alloc, &mut system, &Step::Fire(0, 2), CAPTURED)?;
+    check(&rt, alloc, &mut system, &Step::Fire(0, 3), CAPTURED)?;
+    let read = feed(alloc, b"A", b"READBUF y 1\nREAD y BUFFER overruns\n")?;
+    check(
+        &rt,
+        alloc,
+        &mut system,
+        &read,
+        b"A \"1\\n00000001\\nA1\\n2\\n\"\n",
+    )?;
+    check(&rt, alloc, &mut system, &Step::Fire(0, 4), CAPTURED)?;
+    let more = feed(alloc, b"A", b"READBUF y 2\nREADBUF y 1\n")?;
+    check(
+        &rt,
+        alloc,
+        &mut system,
+        &more,
+        b"A \"1\\n00000001\\nD0\\n-11\\n\"\n",
+    )?;
+    let counted = Tally {
+        captures: 4,
+        scans: 2,
+        overruns: 2,
+        bytes: 133,
+    };
+    assert_eq!(rt; system.tally(), counted);
+    let close = feed(alloc, b"A", b"CLOSE y\n")?;
+    check(&rt, alloc, &mut system, &close, b"A \"0\\n\"\n")?;
+    assert_eq!(rt; system.tally(), counted);
     Ok(())
 }

@@ -59,6 +59,9 @@ const PRINTED_LENS: [usize; 256] = [
 // How many bytes are printed before they are put into a vector.
 const CHUNK: usize = 128;
 
+// The most bytes of a short text: a number's, say. A chunk's room would take longer to clear than such a text to print.
+const SHORT: usize = 16;
+
 // How many bytes are printed in one turn of a loop.
 const GROUP: usize = 8;
 
@@ -112,12 +115,27 @@ fn put_all_escaped(bytes: &[u8], room: &mut [u8]) -> usize
     len + put_each_escaped(&bytes[place..], &mut room[len..])
 }
 
+// Puts a few bytes at the end of a vector, as they are printed.
+fn short_escape_to(out: &mut Vec<u8>, bytes: &[u8]) -> Result<(), Mem>
+    requires { length bytes.now ≤ SHORT }
+    ensures ok { OnOk result (out.new.items ≡ out.old.items ++ escaped bytes.now) }
+    ensures err { OnErr result (out.new.items ≡ out.old.items) }
+{
+    let mut room = [0; 4 * SHORT];
+    let len = put_each_escaped(bytes, &mut room);
+    out.extend_from_slice(&room[..len])?;
+    Ok(())
+}
+
 /// Puts bytes at the end of a vector, as they are printed. After an `Err` the vector has gained the
 /// printed form of those that fitted.
 pub fn escape_to(out: &mut Vec<u8>, bytes: &[u8]) -> Result<(), Mem>
     ensures ok { OnOk result (out.new.items ≡ out.old.items ++ escaped bytes.now) }
     ensures err { OnErr result ((k : ℕ) × (out.new.items ≡ out.old.items ++ escaped (take k bytes.now))) }
 {
+    if bytes.len() <= SHORT {
+        return short_escape_to(out, bytes);
+    }
     let mut room = [0; 4 * CHUNK];
     let mut place = 0;
     while place < bytes.len() {
@@ -212,7 +230,16 @@ pub fn unescape(alloc: Global, text: &[u8]) -> Result<Vec<u8>, Unescape>
     ensures ok { IfOk result (λ v. unescaped text.now ≡ Ok v.items) }
     ensures err { IfErr result (λ e. Explains e (unescaped text.now)) }
 {
-    let Ok(mut out) = Vec::with_capacity(alloc, text.len()) else {
+    unescape_into(Vec::new(alloc), text)
+}
+
+/// The bytes that an escaped text means, as by `unescape`, in the memory of a vector. What was in it goes.
+pub fn unescape_into(mut out: Vec<u8>, text: &[u8]) -> Result<Vec<u8>, Unescape>
+    ensures ok { IfOk result (λ v. unescaped text.now ≡ Ok v.items) }
+    ensures err { IfErr result (λ e. Explains e (unescaped text.now)) }
+{
+    out.clear();
+    let Ok(()) = out.reserve(text.len()) else {
         return Err(Unescape::Mem);
     };
     let mut place = 0;

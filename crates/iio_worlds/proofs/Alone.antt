@@ -1,9 +1,10 @@
 -- What a connection sees of the state: its own line and its own members, at all devices, and what stands there but for what
--- the sensor was asked last.
+-- the sensor was asked last and for what is counted.
 use Rattle.std.proofs.Common.{◌≡◌, ℕ, zero, suc, Bool, true, false, not, ◌||◌, List, [], ◌∷◌, ◌++◌, map, Some, None, option_map, slice_get, cond, refl, sym, ap, ◌∙◌}
 use Rattle.std.proofs.lemmas.Bool.{true≢false}
 use Rattle.std.specs.Str.{bytes_eq}
 use Rattle.iio_device.specs.Site.{Site, is_empty}
+use Rattle.iio_device.specs.Totals.{no_totals}
 use Rattle.iio_history.specs.Who.{Who, Conn, same}
 use Rattle.iio_history.specs.Registry.{Member, Device, User, Registry, is_member, member_of, without_members, user_named}
 use Rattle.iio_history.specs.Told.{Seat, Station, Line, Told, member_of_seat, device_of, user_of, registry_of}
@@ -35,7 +36,7 @@ own_users a [] = []
 own_users a (u ∷ us) = cond (bytes_eq u.who a) (u ∷ own_users a us) (own_users a us)
 
 abbrev pub own_station : Who → Station → Station
-own_station w st = record { shape = st.shape; joinings = 0; site = plain_site st.site; seats = own_seats w st.seats }
+own_station w st = record { shape = st.shape; joinings = 0; captures = 0; totals = no_totals; site = plain_site st.site; seats = own_seats w st.seats }
 
 abbrev pub own_device : Who → Device → Device
 own_device w d = record { shape = d.shape; site = plain_site d.site; members = own_members w d.members }

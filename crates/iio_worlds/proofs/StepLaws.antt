@@ -6,6 +6,7 @@ use Rattle.iio_trigger.specs.Trigger.{poll_made, missed_after}
 use Rattle.iiod_grammar.specs.Command.{SetBuffers}
 use Rattle.iio_desc.specs.Description.{find_device}
 use Rattle.iio_device.specs.Site.{at_place}
+use Rattle.iio_device.specs.Totals.{no_totals}
 use Rattle.iio_history.specs.Places.{map_from}
 use Rattle.iio_history.specs.Who.{Conn}
 use Rattle.iiod_grammar.specs.Stream.{Said}
@@ -139,7 +140,7 @@ station_alike s a m e k st is all apart here =
     let acts : act ≡ act_of s (own_registry a r) e k (device_of (own_station w st)) =
     act_alike s a r e k d is all even (apart k d at) ∙ ap (act_of s (own_registry a r) e k) (sym (device_own w st)) in
     ap (λ xs. record (own_station w (station_by act st)) { seats = xs }) (seats_alike w st.shape st.joinings act st.seats)
-    ∙ ap (λ site. record { shape = st.shape; joinings = 0; site = site; seats = own_seats w (seats_after st.shape 0 act (own_seats w st.seats)) })
+    ∙ ap (λ site. record { shape = st.shape; joinings = 0; captures = 0; totals = no_totals; site = site; seats = own_seats w (seats_after st.shape 0 act (own_seats w st.seats)) })
     (site_alike act (outline_of d) (masks_of (Rattle.iio_worlds.proofs.Alone.own_members w d.members)) (masks_even w d.members even)
     ∙ ap (λ x. plain_site (site_after act (outline_of x))) (sym (device_own w st)))
     ∙ ap (λ t. own_station w (station_by t (own_station w st))) acts

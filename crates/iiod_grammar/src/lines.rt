@@ -153,6 +153,9 @@ fn take_line(kept: &mut Vec<u8>, bytes: &[u8]) -> (usize, Ready)
     ensures some { result.1 ≡ Ready.Line → 0 < result.0 }
     ensures room { 65536 ≤ vec_capacity kept.new }
 {
+    if bytes.is_empty() {
+        return (0, Ready::More);
+    }
     let end = line_len(bytes);
     if kept.len() + end > MAX_LINE {
         return (0, Ready::TooLong);

@@ -17,7 +17,7 @@ use Rattle.iiod_grammar.specs.View.{command_view}
 use Rattle.iiod_grammar.specs.Command.{Command, Exit, Target, Write, command_of}
 use Rattle.iiod_grammar.specs.Lines.{LinesRecord, after_piece}
 use Rattle.iiod_grammar.specs.Scans.{ScansBy, scan_on, scanner_at}
-use Rattle.iiod_grammar.specs.Stream.{Item, Said, Written, End, ItemsCutAnywhere, ScannerCutAnywhere, Scanned, AtEnd, InLine, after_line, after_said, ended_by, no_item, one_item, payload_after}
+use Rattle.iiod_grammar.specs.Stream.{Item, Said, Written, End, ItemsCutAnywhere, ScannerCutAnywhere, Scanned, AtEnd, InLine, after_line, after_said, ended_by, no_item, one_item}
 use Rattle.iiod_reply.specs.Reply.{text_of}
 use Rattle.iiod_session.specs.declared.desk.Held.{Held}
 use Rattle.iiod_session.specs.declared.manner.Going.{Going}
@@ -30,10 +30,11 @@ use Rattle.iiod_session.specs.Acts.{Acts, act, end_reply, left_desk, left_machin
 use Rattle.iiod_session.specs.Desk.{tales_of}
 use Rattle.iiod_session.specs.Front.{Front}
 use Rattle.iiod_session.specs.Machine.{Machine}
+use Rattle.iiod_session.specs.PendingWrite.{PendingRecord}
 use Rattle.iiod_session.specs.Performs.{IsAllowed, Performs}
 use Rattle.iiod_session.specs.Run.{State, Fed, Feeds}
 use Rattle.iiod_session.specs.Seat.{SeatRecord}
-use Rattle.iiod_session.specs.Session.{IsKept, IsPlain, IsReady, device_by, piece_by, stream_by, target_by, unread_of}
+use Rattle.iiod_session.specs.Session.{IsKept, IsPlain, IsReady, piece_by, stream_by, unread_of}
 use Rattle.iiod_session.proofs.FeedLaws.{fed_more, fed_none, fed_one, fed_then, feeds_more, feeds_of, feeds_on, feeds_then, goes_on}
 use Rattle.iiod_session.proofs.StreamLaws.{scan_end, scan_nil, scan_rest, scanner_goes_on}
 
@@ -77,14 +78,14 @@ pub end_feeds : {S : Type 0} (seen : S → SeatRecord) (manner : Manner) (front 
 end_feeds seen manner front a b held error before after text t d tales none = ends manner front a b error before after text t d (tales ∙ none_seen seen held none)
 
 -- a line that ends the connection
-pub ended_line : (manner : Manner) (front : Front) (a b : State) (error : Option Errno) (all : Scanned) (before after : List ℕ) (lines : LinesRecord) (write_line : List ℕ) (r : Result Going Mem)
+pub ended_line : (manner : Manner) (front : Front) (a b : State) (error : Option Errno) (all : Scanned) (before after : List ℕ) (lines : LinesRecord) (pending : PendingRecord) (r : Result Going Mem)
     → all ≡ ended_by error → IfOk r (λ going. going ≡ Ended)
     → IfOk r (λ going. Feeds manner front a (ended_by error) before after b (no_item AtEnd) going)
-    → IfOk r (λ going. Feeds manner front a all before after b (stream_by going lines write_line) going)
-ended_line manner front a b error all before after lines write_line (Ok Ended) is e f = rw is f
-ended_line manner front a b error all before after lines write_line (Ok On) is e f = cc
-ended_line manner front a b error all before after lines write_line (Ok (Waits dev)) is e f = cc
-ended_line manner front a b error all before after lines write_line (Err fault) is e f = tt
+    → IfOk r (λ going. Feeds manner front a all before after b (stream_by going lines pending) going)
+ended_line manner front a b error all before after lines pending (Ok Ended) is e f = rw is f
+ended_line manner front a b error all before after lines pending (Ok On) is e f = cc
+ended_line manner front a b error all before after lines pending (Ok (Waits dev)) is e f = cc
+ended_line manner front a b error all before after lines pending (Err fault) is e f = tt
 
 pub ended_ready : (lines : LinesRecord) (r : Result Going Mem) → IfOk r (λ going. going ≡ Ended) → IfOk r (λ going. IsReady going lines)
 ended_ready lines (Ok Ended) e = tt
@@ -102,16 +103,16 @@ overlong_line line device target count e more = ap (λ said. after_said said) e 
 
 -- the line of a WRITE whose payload comes next
 write_stream : (line device : List ℕ) (target : Option Target) (count : ℕ) → command_of line ≡ Ok (Write device target count) → count ≤ MAX_PAYLOAD
-    → after_line line ≡ stream_by On (record (after_piece line) { wanted = Some count }) line
+    → after_line line ≡ stream_by On (record (after_piece line) { wanted = Some count }) (record { device = device; target = target })
 write_stream line device target count e within =
-    ap (λ said. after_said said) e ∙ rw (let b : nat_lt MAX_PAYLOAD count ≡ false = grind arith in b) refl ∙ ap (λ said. payload_after (device_by said) (target_by said) count []) (sym e)
+    ap (λ said. after_said said) e ∙ rw (let b : nat_lt MAX_PAYLOAD count ≡ false = grind arith in b) refl
 
-pub write_feeds : (manner : Manner) (front : Front) (a : State) (line device kept : List ℕ) (target : Option Target) (count : ℕ) (before : List ℕ) (lines : LinesRecord)
-    → command_of line ≡ Ok (Write device target count) → count ≤ MAX_PAYLOAD → lines ≡ record (after_piece line) { wanted = Some count } → kept ≡ line
+pub write_feeds : (manner : Manner) (front : Front) (a : State) (line device : List ℕ) (target : Option Target) (count : ℕ) (before : List ℕ) (lines : LinesRecord) (kept : PendingRecord)
+    → command_of line ≡ Ok (Write device target count) → count ≤ MAX_PAYLOAD → lines ≡ record (after_piece line) { wanted = Some count } → kept ≡ record { device = device; target = target }
     → Feeds manner front a (after_line line) before before a (stream_by On lines kept) On
-write_feeds manner front a line device kept target count before lines e within is same =
+write_feeds manner front a line device target count before lines kept e within is same =
     let here : after_line line ≡ stream_by On lines kept = write_stream line device target count e within ∙ rw (is, same) refl in
-    goes_on manner front a a (after_line line) (stream_by On lines kept) before before (scanner_goes_on lines (device_by (command_of kept)) (target_by (command_of kept)))
+    goes_on manner front a a (after_line line) (stream_by On lines kept) before before (scanner_goes_on lines kept.device kept.target)
     (rw here (fed_none manner front a (stream_by On lines kept) before))
 
 plain_line : (said : Result Command Refused) → IsPlain said → after_said said ≡ one_item (Said said)
@@ -123,14 +124,14 @@ abbrev pub going_of : Performed → Going
 going_of Done = On
 going_of (PerformedWaits dev) = Waits dev
 
-pub plain_feeds : (manner : Manner) (front : Front) (a b : State) (line kept : List ℕ) (said : Result Command Refused) (lines : LinesRecord) (before after : List ℕ) (p : Performed)
+pub plain_feeds : (manner : Manner) (front : Front) (a b : State) (line : List ℕ) (kept : PendingRecord) (said : Result Command Refused) (lines : LinesRecord) (before after : List ℕ) (p : Performed)
     → command_of line ≡ said → IsPlain said → lines ≡ after_piece line
     → Performs manner front a.told b.told a.desk a.tales (Said said) b.desk b.tales before after p
     → Feeds manner front a (after_line line) before after b (stream_by (going_of p) lines kept) (going_of p)
 plain_feeds manner front a b line kept said lines before after Done e plain is x =
     let all : after_line line ≡ one_item (Said said) = ap (λ z. after_said z) e ∙ plain_line said plain in
     let left : stream_by On lines kept ≡ no_item (InLine []) = rw is refl in
-    goes_on manner front a b (after_line line) (stream_by On lines kept) before after (scanner_goes_on lines (device_by (command_of kept)) (target_by (command_of kept)))
+    goes_on manner front a b (after_line line) (stream_by On lines kept) before after (scanner_goes_on lines kept.device kept.target)
     (rw (all, left) (fed_one manner front a b (one_item (Said said)) (no_item (InLine [])) before after (Said said) x.0 refl refl x.1 (record { allowed = x.2; answer = x.3; served = x.4 })))
 plain_feeds manner front a b line kept said lines before after (PerformedWaits dev) e plain is x =
     let all : after_line line ≡ one_item (Said said) = ap (λ z. after_said z) e ∙ plain_line said plain in
@@ -141,17 +142,17 @@ plain_feeds manner front a b line kept said lines before after (PerformedWaits d
 
 -- ---- payloads
 
-pub written_feeds : (manner : Manner) (front : Front) (a b : State) (lines : LinesRecord) (kept device : List ℕ) (target : Option Target) (payload before after : List ℕ) (p : Performed)
+pub written_feeds : (manner : Manner) (front : Front) (a b : State) (lines : LinesRecord) (kept : PendingRecord) (device : List ℕ) (target : Option Target) (payload before after : List ℕ) (p : Performed)
     → lines ≡ after_piece lines.piece
     → Performs manner front a.told b.told a.desk a.tales (Written device target payload) b.desk b.tales before after p
     → Feeds manner front a (one_item (Written device target payload)) before after b (stream_by On lines kept) On
 written_feeds manner front a b lines kept device target payload before after Done is x =
     let left : stream_by On lines kept ≡ no_item (InLine []) = ap (λ (z : LinesRecord). stream_by On z kept) is in
-    goes_on manner front a b (one_item (Written device target payload)) (stream_by On lines kept) before after (scanner_goes_on lines (device_by (command_of kept)) (target_by (command_of kept)))
+    goes_on manner front a b (one_item (Written device target payload)) (stream_by On lines kept) before after (scanner_goes_on lines kept.device kept.target)
     (rw left (fed_one manner front a b (one_item (Written device target payload)) (no_item (InLine [])) before after (Written device target payload) x.0 refl refl x.1 (record { allowed = x.2; answer = x.3; served = x.4 })))
 written_feeds manner front a b lines kept device target payload before after (PerformedWaits dev) is x = absurd x.2
 
-pub said_feeds : (manner : Manner) (front : Front) (a b : State) (kept : List ℕ) (said : Result Command Refused) (lines : LinesRecord) (before after : List ℕ) (p : Performed)
+pub said_feeds : (manner : Manner) (front : Front) (a b : State) (kept : PendingRecord) (said : Result Command Refused) (lines : LinesRecord) (before after : List ℕ) (p : Performed)
     → lines ≡ after_piece lines.piece → command_of lines.piece ≡ said → IsPlain said
     → Performs manner front a.told b.told a.desk a.tales (Said said) b.desk b.tales before after p
     → Feeds manner front a (after_line lines.piece) before after b (stream_by (going_of p) lines kept) (going_of p)
@@ -188,8 +189,8 @@ pub none_after : (at taken : ℕ) (bytes : List ℕ) → at ≤ length bytes →
 none_after at taken bytes within all = ap (λ n. drop n bytes) (all_taken at taken bytes within all) ∙ drop_all bytes
 
 -- a piece is whole, and the bytes after it
-pub piece_scans : ItemsCutAnywhere → ScannerCutAnywhere → (old new : LinesRecord) (kept rest : List ℕ) (taken : ℕ) (ready : Ready) → (ready ≢ More) → old.overlong ≡ false
-    → ScansBy (device_by (command_of kept)) (target_by (command_of kept)) old rest taken ready new
+pub piece_scans : ItemsCutAnywhere → ScannerCutAnywhere → (old new : LinesRecord) (kept : PendingRecord) (rest : List ℕ) (taken : ℕ) (ready : Ready) → (ready ≢ More) → old.overlong ≡ false
+    → ScansBy kept.device kept.target old rest taken ready new
     → scan_on (stream_by On old kept) rest ≡ scan_on (piece_by ready new kept) (drop taken rest)
 piece_scans items scanner old new kept rest taken More n going scans = absurd (n refl)
 piece_scans items scanner old new kept rest taken Line n going scans =
@@ -231,7 +232,7 @@ resumed manner front a b c all left before mid after bytes next (Ok x) f g =
 resumed manner front a b c all left before mid after bytes next (Err fault) f g = tt
 
 -- the bytes that are kept
-pub unread_feeds : (manner : Manner) (front : Front) (a b : State) (all : Scanned) (before after bytes : List ℕ) (taken : ℕ) (going : Going) (lines : LinesRecord) (kept : List ℕ)
+pub unread_feeds : (manner : Manner) (front : Front) (a b : State) (all : Scanned) (before after bytes : List ℕ) (taken : ℕ) (going : Going) (lines : LinesRecord) (kept : PendingRecord)
     → (going ≡ On → (taken ≡ length bytes) × ((stream_by On lines kept).items ≡ []))
     → Feeds manner front a all before after b (scan_on (stream_by going lines kept) (drop taken bytes)) going
     → Feeds manner front a all before after b (scan_on (stream_by going lines kept) (unread_of going taken bytes)) going
@@ -240,7 +241,7 @@ unread_feeds manner front a b all before after bytes taken On lines kept on f =
 unread_feeds manner front a b all before after bytes taken (Waits dev) lines kept on f = f
 unread_feeds manner front a b all before after bytes taken Ended lines kept on f = rw (scan_end (drop taken bytes), ← (scan_end [])) at f
 
-pub none_left : (bytes : List ℕ) (taken : ℕ) (going : Going) (lines : LinesRecord) (kept : List ℕ)
+pub none_left : (bytes : List ℕ) (taken : ℕ) (going : Going) (lines : LinesRecord) (kept : PendingRecord)
     → (going ≡ On → (taken ≡ length bytes) × ((stream_by On lines kept).items ≡ []))
     → going ≡ On → (scan_on (stream_by going lines kept) (unread_of going taken bytes)).items ≡ []
 none_left bytes taken On lines kept on e = ap (λ (s : Scanned). s.items) (scan_nil (stream_by On lines kept)) ∙ (on refl).1
@@ -261,17 +262,17 @@ plain_command command e w = tt
 
 -- ---- whether a connection has ended
 
-pub is_ended : (lines : LinesRecord) (kept left : List ℕ) (going : Going) → going ≡ Ended → scan_on (stream_by going lines kept) left ≡ no_item AtEnd
+pub is_ended : (lines : LinesRecord) (kept : PendingRecord) (left : List ℕ) (going : Going) → going ≡ Ended → scan_on (stream_by going lines kept) left ≡ no_item AtEnd
 is_ended lines kept left going e = ap (λ g. scan_on (stream_by g lines kept) left) e ∙ scan_end left
 
 not_nothing : (item : Item) (more : List Item) → item ∷ more ≡ [] → ⊥
 not_nothing item more e = cc
 
-pub not_ended : (lines : LinesRecord) (kept left : List ℕ) (going : Going) → IsKept going lines left → (going ≡ Ended → ⊥) → scan_on (stream_by going lines kept) left ≡ no_item AtEnd → ⊥
+pub not_ended : (lines : LinesRecord) (kept : PendingRecord) (left : List ℕ) (going : Going) → IsKept going lines left → (going ≡ Ended → ⊥) → scan_on (stream_by going lines kept) left ≡ no_item AtEnd → ⊥
 not_ended lines kept left Ended k n e = n refl
 not_ended lines kept left On k n e =
     let stays : scan_on (stream_by On lines kept) left ≡ stream_by On lines kept = ap (λ bs. scan_on (stream_by On lines kept) bs) k.1 ∙ scan_nil (stream_by On lines kept) in
-    scanner_goes_on lines (device_by (command_of kept)) (target_by (command_of kept)) (ap (λ (s : Scanned). s.next) (sym stays ∙ e))
+    scanner_goes_on lines kept.device kept.target (ap (λ (s : Scanned). s.next) (sym stays ∙ e))
 not_ended lines kept left (Waits dev) k n e =
     let one : after_line lines.piece ≡ one_item (Said (command_of lines.piece)) = plain_line (command_of lines.piece) k.1 in
     not_nothing _ _ (ap (λ (s : Scanned). s.items) (ap (λ s. scan_on s left) (sym one) ∙ e))

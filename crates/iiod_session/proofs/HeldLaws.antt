@@ -37,7 +37,7 @@ served_less front asked told s tale h = record { exact = by told; moves = rw (le
 
 read_scans_is : (front : Front) (m : Machine) (desk : DeskRecord) (s : Bare) (want asked : ℕ) (scans : List (List ℕ)) → 0 < length scans
     → read_scans_of front m desk s want asked scans
-    ≡ record { reply = Block (channel_count front s.dev) s.mask scans asked; machine = with_queue m s.dev (bare_id s) (drop want (queue_of m s.dev (bare_id s))); desk = desk }
+    ≡ record { reply = Block (channel_count front s.dev) s.mask scans asked; machine = with_queue m s.dev (bare_id s) scans (drop want (queue_of m s.dev (bare_id s))); desk = desk }
 read_scans_is front m desk s want asked [] h = absurd (omega arith)
 read_scans_is front m desk s want asked (x ∷ xs) h = refl
 
@@ -50,7 +50,7 @@ served_some front asked told told' s v v' scans same h r =
   where
     by : (told : Option Machine)
         → IfSome told (λ m. (take (most_scans asked (size_at front s.dev s.mask) s.capacity) (queue_of m s.dev (bare_id s)) ≡ scans)
-        × (told' ≡ Some (with_queue m s.dev (bare_id s) (drop (most_scans asked (size_at front s.dev s.mask) s.capacity) (queue_of m s.dev (bare_id s))))))
+        × (told' ≡ Some (with_queue m s.dev (bare_id s) scans (drop (most_scans asked (size_at front s.dev s.mask) s.capacity) (queue_of m s.dev (bare_id s))))))
         → IfSome told (λ m. (n : Machine) × (told' ≡ Some n)
         × ((desk : DeskRecord) → read_at_seat front m desk s asked
         ≡ record { reply = Block (channel_count front s.dev) s.mask scans asked; machine = n; desk = desk }))

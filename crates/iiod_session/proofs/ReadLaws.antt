@@ -44,17 +44,17 @@ split_at (suc k) (y ∷ ys) x r e = let h = split_at k ys x r e in (ap (λ zs. y
 
 told_more : (dev k : ℕ) (m : Machine) (n : MemberId) (out : List ℕ) (scans : List (List ℕ)) (t' : Option Machine)
     → take (length scans) (queue_of m dev n) ≡ scans
-    → Takes (with_queue m dev n (drop (length scans) (queue_of m dev n))) dev n Scan out t'
+    → Takes (with_queue m dev n scans (drop (length scans) (queue_of m dev n))) dev n Scan out t'
     → (take (length (scans ++ out ∷ [])) (queue_of m dev n) ≡ scans ++ out ∷ [])
-    × (t' ≡ Some (with_queue m dev n (drop (length (scans ++ out ∷ [])) (queue_of m dev n))))
+    × (t' ≡ Some (with_queue m dev n (scans ++ out ∷ []) (drop (length (scans ++ out ∷ [])) (queue_of m dev n))))
 told_more dev k m n out scans t' before takes =
-    let left = queue_of-dropped m dev n (length scans) in
+    let left = queue_of-dropped m dev n scans (length scans) in
     let first : drop (length scans) (queue_of m dev n) ≡ out ∷ drop 1 (drop (length scans) (queue_of m dev n)) = rw left at takes.0 in
     let parts = split_at (length scans) (queue_of m dev n) out (drop 1 (drop (length scans) (queue_of m dev n))) first in
     let count : length (scans ++ out ∷ []) ≡ suc (length scans) = omega (arith, length-append scans (out ∷ [])) in (
       rw count (parts.0 ∙ ap (λ (xs : List (List ℕ)). xs ++ out ∷ []) before),
-      takes.1 ∙ ap (λ (x : Machine). Some x) (with_queue-twice m dev n _ _)
-          ∙ ap (λ (xs : List (List ℕ)). Some (with_queue m dev n xs)) (ap (λ (xs : List (List ℕ)). drop 1 xs) left ∙ sym parts.1 ∙ ap (λ (j : ℕ). drop j (queue_of m dev n)) (sym count)),
+      takes.1 ∙ ap (λ (x : Machine). Some x) (with_queue-twice m dev n scans (out ∷ []) _ _)
+          ∙ ap (λ (xs : List (List ℕ)). Some (with_queue m dev n (scans ++ out ∷ []) xs)) (ap (λ (xs : List (List ℕ)). drop 1 xs) left ∙ sym parts.1 ∙ ap (λ (j : ℕ). drop j (queue_of m dev n)) (sym count)),
     )
 
 pub gave_more : (dev : ℕ) (told t t' : Option Machine) (s b b' : SeatRecord) (scans : List (List ℕ)) (out : List ℕ)
@@ -66,7 +66,7 @@ gave_more dev None t t' s b b' scans out gave takes shown = record { shown = sho
 gave_more dev (Some m) t t' s b b' scans out gave takes shown = record {
   shown = shown_more s b b' scans out gave.shown shown;
   from =
-      let at : Takes (with_queue m dev (seat_id s) (drop (length scans) (queue_of m dev (seat_id s)))) dev (seat_id b) Scan out t' = rw gave.from.1 at takes in
+      let at : Takes (with_queue m dev (seat_id s) scans (drop (length scans) (queue_of m dev (seat_id s)))) dev (seat_id b) Scan out t' = rw gave.from.1 at takes in
       told_more dev 0 m (seat_id s) out scans t' gave.from.0 (rw (ap (λ (x : SeatRecord). seat_id x) gave.shown) at at);
 }
 
@@ -140,13 +140,13 @@ rest_empty (suc k) (suc want) (x ∷ xs) e h = let r = rest_empty k want xs e (o
 
 -- the scans are those wanted, if nothing more was there
 from_all : (dev want : ℕ) (m : Machine) (t t' : Option Machine) (n : MemberId) (plugged : Bool) (scans : List (List ℕ))
-    → (take (length scans) (queue_of m dev n) ≡ scans) × (t ≡ Some (with_queue m dev n (drop (length scans) (queue_of m dev n))))
+    → (take (length scans) (queue_of m dev n) ≡ scans) × (t ≡ Some (with_queue m dev n scans (drop (length scans) (queue_of m dev n))))
     → FoundNothing dev n plugged t t' → length scans ≤ want
-    → (take want (queue_of m dev n) ≡ scans) × (t' ≡ Some (with_queue m dev n (drop want (queue_of m dev n))))
+    → (take want (queue_of m dev n) ≡ scans) × (t' ≡ Some (with_queue m dev n scans (drop want (queue_of m dev n))))
 from_all dev want m t t' n plugged scans before nothing most =
-    let now : FoundNothing dev n plugged (Some (with_queue m dev n (drop (length scans) (queue_of m dev n)))) t' = rw before.1 at nothing in
-    let rest = rest_empty (length scans) want (queue_of m dev n) (sym (queue_of-dropped m dev n (length scans)) ∙ now.0) most in
-    (rest.0 ∙ before.0, now.2 ∙ ap (λ (q : List (List ℕ)). Some (with_queue m dev n q)) (sym rest.1))
+    let now : FoundNothing dev n plugged (Some (with_queue m dev n scans (drop (length scans) (queue_of m dev n)))) t' = rw before.1 at nothing in
+    let rest = rest_empty (length scans) want (queue_of m dev n) (sym (queue_of-dropped m dev n scans (length scans)) ∙ now.0) most in
+    (rest.0 ∙ before.0, now.2 ∙ ap (λ (q : List (List ℕ)). Some (with_queue m dev n scans q)) (sym rest.1))
 
 -- nothing stands in the room exactly where nothing was taken
 none_taken : (dev want : ℕ) (told t : Option Machine) (s b : SeatRecord) (left end : ℕ) (room : List ℕ) (r : Reading dev want told t s b left end room)
@@ -182,9 +182,9 @@ same_but_tale s s' t e = e ∙ ap (λ (u : Option Tale). record s { tale = u }) 
 
 from_last : (dev want : ℕ) (told t t' : Option Machine) (s b : SeatRecord) (plugged : Bool) (scans : List (List ℕ))
     → seat_id b ≡ seat_id s
-    → IfSome told (λ (m : Machine). (take (length scans) (queue_of m dev (seat_id s)) ≡ scans) × (t ≡ Some (with_queue m dev (seat_id s) (drop (length scans) (queue_of m dev (seat_id s))))))
+    → IfSome told (λ (m : Machine). (take (length scans) (queue_of m dev (seat_id s)) ≡ scans) × (t ≡ Some (with_queue m dev (seat_id s) scans (drop (length scans) (queue_of m dev (seat_id s))))))
     → FoundNothing dev (seat_id b) plugged t t' → length scans ≤ want
-    → IfSome told (λ (m : Machine). (take want (queue_of m dev (seat_id s)) ≡ scans) × (t' ≡ Some (with_queue m dev (seat_id s) (drop want (queue_of m dev (seat_id s))))))
+    → IfSome told (λ (m : Machine). (take want (queue_of m dev (seat_id s)) ≡ scans) × (t' ≡ Some (with_queue m dev (seat_id s) scans (drop want (queue_of m dev (seat_id s))))))
 from_last dev want None t t' s b plugged scans same before nothing most = tt
 from_last dev want (Some m) t t' s b plugged scans same before nothing most =
     from_all dev want m t t' (seat_id s) plugged scans before (rw same at nothing) most
@@ -206,8 +206,8 @@ short_ended dev want gone told t t' s b s' left end room r nothing after some =
     }
 
 whole_from : (dev want : ℕ) (n : MemberId) (told t : Option Machine) (scans : List (List ℕ)) → length scans ≡ want
-    → IfSome told (λ (m : Machine). (take (length scans) (queue_of m dev n) ≡ scans) × (t ≡ Some (with_queue m dev n (drop (length scans) (queue_of m dev n)))))
-    → IfSome told (λ (m : Machine). (take want (queue_of m dev n) ≡ scans) × (t ≡ Some (with_queue m dev n (drop want (queue_of m dev n)))))
+    → IfSome told (λ (m : Machine). (take (length scans) (queue_of m dev n) ≡ scans) × (t ≡ Some (with_queue m dev n scans (drop (length scans) (queue_of m dev n)))))
+    → IfSome told (λ (m : Machine). (take want (queue_of m dev n) ≡ scans) × (t ≡ Some (with_queue m dev n scans (drop want (queue_of m dev n)))))
 whole_from dev want n None t scans e h = tt
 whole_from dev want n (Some m) t scans e h = rw (← e) h
 
@@ -234,12 +234,12 @@ some_ended dev want told t s b end room Empty e some = (e.4.scans, e.4.bytes, sh
 some_ended dev want told t s b end room Gone e some = (e.4.scans, e.4.bytes, short_ended dev want true told e.0 t s e.1 b e.2 end room e.4 e.5 e.6 some)
 
 from_first : (dev : ℕ) (n : MemberId) (plugged : Bool) (told t t' : Option Machine) (scans : List (List ℕ)) → scans ≡ []
-    → IfSome told (λ (m : Machine). (take (length scans) (queue_of m dev n) ≡ scans) × (t ≡ Some (with_queue m dev n (drop (length scans) (queue_of m dev n)))))
+    → IfSome told (λ (m : Machine). (take (length scans) (queue_of m dev n) ≡ scans) × (t ≡ Some (with_queue m dev n scans (drop (length scans) (queue_of m dev n)))))
     → FoundNothing dev n plugged t t' → FoundNothing dev n plugged told t'
 from_first dev n plugged None t t' scans e before nothing = tt
 from_first dev n plugged (Some m) t t' scans e before nothing =
-    let now : t ≡ Some (with_queue m dev n (drop (length scans) (queue_of m dev n))) = before.1 in
-    let first : t ≡ Some m = now ∙ ap (λ (xs : List (List ℕ)). Some (with_queue m dev n (drop (length xs) (queue_of m dev n)))) e ∙ ap (λ (x : Machine). Some x) (with_queue-same m dev n) in
+    let now : t ≡ Some (with_queue m dev n scans (drop (length scans) (queue_of m dev n))) = before.1 in
+    let first : t ≡ Some m = now ∙ ap (λ (xs : List (List ℕ)). Some (with_queue m dev n xs (drop (length xs) (queue_of m dev n)))) e ∙ ap (λ (x : Machine). Some x) (with_queue-same m dev n) in
     rw first at nothing
 
 first_ended : (dev want : ℕ) (gone : Bool) (told t t' : Option Machine) (s b s' : SeatRecord) (left end : ℕ) (room : List ℕ)

@@ -80,7 +80,7 @@ abbrev pub read_scans_of : Front → Machine → DeskRecord → Bare → ℕ →
 read_scans_of front m desk s want asked [] = refused (if is_plugged m s.dev then EAGAIN else ENODEV) m desk
 read_scans_of front m desk s want asked (x ∷ xs) = record {
   reply = Block (channel_count front s.dev) s.mask (x ∷ xs) asked;
-  machine = with_queue m s.dev (bare_id s) (drop want (queue_of m s.dev (bare_id s)));
+  machine = with_queue m s.dev (bare_id s) (x ∷ xs) (drop want (queue_of m s.dev (bare_id s)));
   desk = desk;
 }
 

@@ -16,8 +16,9 @@ use Rattle.iio_event.specs.Monitor.{is_holder, after_open, after_read, after_clo
 use Rattle.iio_device.specs.Active.{is_without_union}
 use Rattle.iio_device.specs.Site.{is_empty, attached, sampled, site_written, with_monitor}
 use Rattle.iio_device.specs.Stored.{attr_value}
+use Rattle.iio_device.specs.Totals.{with_left}
 use Rattle.iiod_session.specs.Front.{Front, shape_at, device_name, place_count}
-use Rattle.iiod_session.specs.Machine.{Member, Station, Machine, station_at, with_station, with_site, masks_of, without}
+use Rattle.iiod_session.specs.Machine.{Member, Station, Machine, station_at, with_station, with_site, lost_by, masks_of, without}
 use Rattle.iiod_session.specs.Opening.{join_refusals}
 
 -- an answer, and what stands then
@@ -62,7 +63,7 @@ newcomer mask capacity st = record { number = st.next; mask = mask; capacity = c
 -- a device with a member more: the first one's joining is a new attachment
 abbrev pub joined : ℕ → ℕ → Station → Station
 joined mask capacity st =
-    record { next = st.next + 1; members = st.members ++ newcomer mask capacity st ∷ []; site = attached (is_empty st.members) st.site }
+    record st { next = st.next + 1; members = st.members ++ newcomer mask capacity st ∷ []; site = attached (is_empty st.members) st.site }
 
 -- `open`: the new member's number
 unfoldable pub open_of : Front → Machine → ℕ → ℕ → ℕ → Outcome ℕ
@@ -70,9 +71,13 @@ open_of front m dev mask capacity =
     unless (joined mask capacity) dev m
     (unless_refused (station_at m dev).next (first_refusal (open_refusals front m.stations (shape_at front dev) (station_at m dev) mask)))
 
+-- a device with the member of that number less; what it lost is counted
+abbrev pub left : ℕ → Station → Station
+left number st = record st { totals = with_left (lost_by number st.members) st.totals; members = without number st.members }
+
 -- `close`
 unfoldable pub closed : Machine → ℕ → ℕ → Machine
-closed m dev number = with_station (λ st. record st { members = without number st.members }) dev m
+closed m dev number = with_station (left number) dev m
 
 -- ---- attributes
 

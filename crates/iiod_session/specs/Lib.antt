@@ -14,6 +14,7 @@ pub mod Performs
 pub mod Wanted
 pub mod Given
 pub mod Run
+pub mod PendingWrite
 pub mod Session
 pub mod Plain
 pub mod Targets

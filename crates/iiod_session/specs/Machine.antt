@@ -1,7 +1,9 @@
 -- What stands at the devices, where an `Iio` tells it: plain data, with members found by their numbers.
-use Rattle.std.specs.Prelude.{ℕ, ℤ, ◌==◌, ◌&&◌, not, Bool, List, [], ◌∷◌, map, filter, find, Option, None, unwrap_or, slice_get, if◌then◌else◌}
+use Rattle.std.specs.Prelude.{ℕ, ℤ, ◌==◌, ◌&&◌, not, Bool, List, [], ◌∷◌, map, filter, find, Option, None, option_map, unwrap_or, slice_get, if◌then◌else◌}
 use Rattle.std.specs.Option.{option_map_or}
+use Rattle.iio_device.specs.declared.totals.Totals.{Totals}
 use Rattle.iio_device.specs.Site.{Site, at_place, new_site, no_driver, unplugged}
+use Rattle.iio_device.specs.Totals.{no_totals, with_given}
 use Rattle.iiod_session.specs.Front.{no_shape}
 
 -- a member of a device: its number, its mask, how many scans its queue holds, those that wait, the oldest first, and how
@@ -13,10 +15,12 @@ pub record Member : Type 0 where
   pub scans : List (List ℕ)
   pub lost : ℕ
 
--- a device: the number of the next member, its members in the order of their joining, and what else stands at it. The
--- holder of its events is known by the number of its connection
+-- a device: the number of the next member, how many captures it made, what its queues gave and lost in all, its members in
+-- the order of their joining, and what else stands at it. The holder of its events is known by the number of its connection
 pub record Station : Type 0 where
   pub next : ℕ
+  pub captures : ℕ
+  pub totals : Totals
   pub members : List Member
   pub site : Site ℕ
 
@@ -28,7 +32,7 @@ pub record Machine : Type 0 where
 
 -- in the place of a device that isn't there
 abbrev pub no_station : Station
-no_station = record { next = 0; members = []; site = unplugged (new_site no_shape None no_driver) }
+no_station = record { next = 0; captures = 0; totals = no_totals; members = []; site = unplugged (new_site no_shape None no_driver) }
 
 abbrev pub station_in : List Station → ℕ → Station
 station_in stations dev = unwrap_or (slice_get stations dev) no_station
@@ -77,12 +81,16 @@ abbrev pub with_scans : MemberId → List (List ℕ) → List Member → List Me
 with_scans id scans [] = []
 with_scans id scans (x ∷ xs) = if is_id_of id x then record x { scans = scans } ∷ xs else x ∷ with_scans id scans xs
 
--- the queue of a member of a device, and the state with another one
+-- the queue of a member of a device, and the state once scans of it were given and these are left
 unfoldable pub queue_of : Machine → ℕ → MemberId → List (List ℕ)
 queue_of m dev id = scans_in id (station_at m dev).members
 
-unfoldable pub with_queue : Machine → ℕ → MemberId → List (List ℕ) → Machine
-with_queue m dev id scans = with_station (λ st. record st { members = with_scans id scans st.members }) dev m
+unfoldable pub with_queue : Machine → ℕ → MemberId → (given left : List (List ℕ)) → Machine
+with_queue m dev id given left = with_station (λ st. record st { totals = with_given given st.totals; members = with_scans id left st.members }) dev m
+
+-- how many scans were lost of the member of that number, where it is there
+abbrev pub lost_by : ℕ → List Member → Option ℕ
+lost_by number members = option_map (λ (x : Member). x.lost) (find (λ (x : Member). x.number == number) members)
 
 -- how many scans of a member were lost
 unfoldable pub lost_of : Machine → ℕ → MemberId → ℕ

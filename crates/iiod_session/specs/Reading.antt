@@ -24,7 +24,7 @@ pub record ReadSome (dev want : ℕ) (told told' : Option Machine) (s s' : SeatR
   pub reads : Reads want scans s.tale s'.tale
   pub same : s' ≡ record s { tale = s'.tale }
   pub from : IfSome told (λ m. (take want (queue_of m dev (seat_id s)) ≡ scans)
-      × (told' ≡ Some (with_queue m dev (seat_id s) (drop want (queue_of m dev (seat_id s))))))
+      × (told' ≡ Some (with_queue m dev (seat_id s) scans (drop want (queue_of m dev (seat_id s))))))
 
 -- a take found nothing, at a device that is plugged or isn't
 abbrev pub FoundNothing : ℕ → MemberId → Bool → Option Machine → Option Machine → Type 0

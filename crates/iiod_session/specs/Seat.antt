@@ -83,6 +83,6 @@ number_by seen (Err refusal) = Err refusal
 
 abbrev pub Takes : Machine → ℕ → MemberId → Took → List ℕ → Option Machine → Type 0
 Takes m dev id Scan scan told = (queue_of m dev id ≡ scan ∷ drop 1 (queue_of m dev id))
-    × (told ≡ Some (with_queue m dev id (drop 1 (queue_of m dev id))))
+    × (told ≡ Some (with_queue m dev id (scan ∷ []) (drop 1 (queue_of m dev id))))
 Takes m dev id Empty scan told = (queue_of m dev id ≡ []) × (is_plugged m dev ≡ true) × (told ≡ Some m)
 Takes m dev id Gone scan told = (queue_of m dev id ≡ []) × (is_plugged m dev ≡ false) × (told ≡ Some m)

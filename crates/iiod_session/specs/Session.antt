@@ -1,10 +1,10 @@
 -- A session as contracts see it.
-use Rattle.std.specs.Prelude.{◌≡◌, ℕ, false, drop, List, [], Option, Some, None, Result, Ok}
+use Rattle.std.specs.Prelude.{◌≡◌, ℕ, false, drop, List, [], Some, Result, Ok}
 use Rattle.iio_text.specs.declared.errors.Errno.TheVariants.{E2BIG}
 use Rattle.iiod_grammar.specs.declared.command.Refused.{Refused}
 use Rattle.iiod_grammar.specs.declared.lines.Ready.{Ready}
 use Rattle.iiod_grammar.specs.declared.lines.Ready.TheVariants.{More, Line, Payload, TooLong}
-use Rattle.iiod_grammar.specs.Command.{Command, Exit, Target, Write, command_of}
+use Rattle.iiod_grammar.specs.Command.{Command, Exit, Write, command_of}
 use Rattle.iiod_grammar.specs.Lines.{LinesRecord, after_piece}
 use Rattle.iiod_grammar.specs.Scans.{scanner_at}
 use Rattle.iiod_grammar.specs.Stream.{AtEnd, InLine, Scanned, Written, after_line, ended_by, no_item, one_item}
@@ -12,6 +12,7 @@ use Rattle.iiod_session.specs.declared.desk.Desk.{Desk}
 use Rattle.iiod_session.specs.declared.manner.Going.{Going}
 use Rattle.iiod_session.specs.declared.manner.Going.TheVariants.{On, Waits, Ended}
 use Rattle.iiod_session.specs.declared.manner.Manner.{Manner}
+use Rattle.iiod_session.specs.PendingWrite.{PendingRecord}
 
 -- how it is served, what the connection has, and its stream: the items that are whole and not answered yet, and where the
 -- stream stands after all bytes that came
@@ -22,21 +23,12 @@ pub record SessionRecord (S : Type 0) : Type 0 where
 
 -- ---- the stream by the session's fields
 
--- what a line writes to, where it is a WRITE
-abbrev pub device_by : Result Command Refused → List ℕ
-device_by (Ok (Write device target count)) = device
-device_by said = []
-
-abbrev pub target_by : Result Command Refused → Option Target
-target_by (Ok (Write device target count)) = target
-target_by said = None
-
--- where the stream stands: in a line or in the payload of the WRITE whose line is kept, before a READBUF that waits, which
+-- where the stream stands: in a line or in the payload of the WRITE that is kept, before a READBUF that waits, which
 -- is the last piece, or at its end
-abbrev pub stream_by : Going → LinesRecord → (write_line : List ℕ) → Scanned
-stream_by On lines write_line = scanner_at lines (device_by (command_of write_line)) (target_by (command_of write_line))
-stream_by (Waits dev) lines write_line = after_line lines.piece
-stream_by Ended lines write_line = no_item AtEnd
+abbrev pub stream_by : Going → LinesRecord → (pending : PendingRecord) → Scanned
+stream_by On lines pending = scanner_at lines pending.device pending.target
+stream_by (Waits dev) lines pending = after_line lines.piece
+stream_by Ended lines pending = no_item AtEnd
 
 -- a line that says neither EXIT nor WRITE: it is an item by itself
 abbrev pub IsPlain : Result Command Refused → Type 0
@@ -51,11 +43,11 @@ IsReady (Waits dev) lines = (lines ≡ after_piece lines.piece) × IsPlain (comm
 IsReady Ended lines = Unit {0}
 
 -- what a feed of `Lines` made whole, as the items that it is
-abbrev pub piece_by : Ready → LinesRecord → (write_line : List ℕ) → Scanned
-piece_by More lines write_line = stream_by On lines write_line
-piece_by Line lines write_line = after_line lines.piece
-piece_by Payload lines write_line = one_item (Written (device_by (command_of write_line)) (target_by (command_of write_line)) lines.piece)
-piece_by TooLong lines write_line = ended_by (Some E2BIG)
+abbrev pub piece_by : Ready → LinesRecord → (pending : PendingRecord) → Scanned
+piece_by More lines pending = stream_by On lines pending
+piece_by Line lines pending = after_line lines.piece
+piece_by Payload lines pending = one_item (Written pending.device pending.target lines.piece)
+piece_by TooLong lines pending = ended_by (Some E2BIG)
 
 -- a whole piece, after which nothing is begun; none where the line is too long
 abbrev pub IsWhole : Ready → LinesRecord → Type 0

@@ -12,7 +12,7 @@ use Rattle.iiod_reply.specs.Reply.{block_text}
 pub record Gave (dev : ℕ) (told told' : Option Machine) (s s' : SeatRecord) (scans : List (List ℕ)) : Type 0 where
   pub shown : s' ≡ record s { tale = option_map (after_scans scans) s.tale }
   pub from : IfSome told (λ m. (take (length scans) (queue_of m dev (seat_id s)) ≡ scans)
-      × (told' ≡ Some (with_queue m dev (seat_id s) (drop (length scans) (queue_of m dev (seat_id s))))))
+      × (told' ≡ Some (with_queue m dev (seat_id s) scans (drop (length scans) (queue_of m dev (seat_id s))))))
 
 -- and the room in which they stand: the first `end` bytes of it
 pub record Reading (dev want : ℕ) (told told' : Option Machine) (s s' : SeatRecord) (left end : ℕ) (room : List ℕ) : Type 0 where

@@ -15,11 +15,41 @@ use itoa::Buffer;
 // What want of memory is answered with.
 const ENOMEM: i64 = 12;
 
+// Appends bytes. After `Mem`, `out` is unchanged.
+fn push(out: &mut Vec<u8>, bytes: &[u8]) -> Result<(), Mem>
+    ensures { Appends bytes.now out.old.items result out.new.items }
+{
+    out.reserve(bytes.len())?;
+    append(bytes, out);
+    Ok(())
+}
+
+// The answer that is minus the error's number.
+fn refusal(errno: Errno) -> &'static [u8]
+    ensures { result.now ≡ text_of (Refusal errno) }
+{
+    match errno {
+        Errno::ENOENT => b"-2\n",
+        Errno::EIO => b"-5\n",
+        Errno::E2BIG => b"-7\n",
+        Errno::EBADF => b"-9\n",
+        Errno::EAGAIN => b"-11\n",
+        Errno::EACCES => b"-13\n",
+        Errno::EBUSY => b"-16\n",
+        Errno::ENODEV => b"-19\n",
+        Errno::EINVAL => b"-22\n",
+        Errno::EFBIG => b"-27\n",
+        Errno::ENOSPC => b"-28\n",
+        Errno::ERANGE => b"-34\n",
+        Errno::ENOSYS => b"-38\n",
+    }
+}
+
 /// Minus the error's number.
 pub(crate) fn push_refusal(out: &mut Vec<u8>, errno: Errno) -> Result<(), Mem>
     ensures { Appends (text_of (Refusal errno)) out.old.items result out.new.items }
 {
-    number(-errno.number(), out)
+    push(out, refusal(errno))
 }
 
 /// 0, or minus an error's number. In a script want of memory ends the call.

@@ -16,7 +16,6 @@ use crate::manner::{Manner, Performed};
 use crate::seats::{close_at, open_at, read_at};
 use iio_base::Mem;
 use iio_text::Errno;
-use std::alloc::Global;
 
 /// OPEN.
 pub(crate) fn open<I: Iio>(
@@ -71,7 +70,6 @@ pub(crate) fn close<I: Iio>(
 
 /// READBUF.
 pub(crate) fn read_buffer<I: Iio>(
-    alloc: Global,
     manner: Manner,
     desk: &mut Desk<I::Seat>,
     iio: &mut I,
@@ -89,7 +87,7 @@ pub(crate) fn read_buffer<I: Iio>(
     match iio.find(device) {
         None => finish(manner, out, Err(No::Errno(Errno::ENODEV))),
         Some(dev) => {
-            let took = read_at(alloc, desk, iio, dev, asked, out);
+            let took = read_at(desk, iio, dev, asked, out);
             finish_read(manner, dev, took, out)
         }
     }

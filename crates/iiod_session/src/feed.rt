@@ -1,16 +1,17 @@
 //! The items of a stream, carried out one after another.
-ghost use Rattle.std.specs.Prelude.{◌≡◌, ℕ, ◌≤◌, ◌++◌, List, [], IfOk, OnOk, drop, length};
+ghost use Rattle.std.specs.Prelude.{◌≡◌, ◌≤◌, ◌++◌, [], Ok, Err, IfOk, OnOk, drop, length};
 ghost use Rattle.iiod_grammar.specs.Command.{command_of};
 ghost use Rattle.iiod_grammar.specs.Lines.{LinesRecord, after_piece};
 ghost use Rattle.iiod_grammar.specs.Scans.{scan_on};
 ghost use Rattle.iiod_grammar.specs.Stream.{AtEnd, Written, after_line, ended_by, no_item};
-ghost use Rattle.iiod_grammar.specs.View.{line_view};
+ghost use Rattle.iiod_grammar.specs.View.{command_view};
 ghost use Rattle.iiod_reply.specs.Reply.{text_of};
 ghost use Rattle.iiod_session.specs.Acts.{end_reply};
 ghost use Rattle.iiod_session.specs.Desk.{IsDesk, desk_of, tales_of};
+ghost use Rattle.iiod_session.specs.PendingWrite.{PendingRecord};
 ghost use Rattle.iiod_session.specs.Performs.{Performs};
 ghost use Rattle.iiod_session.specs.Run.{Feeds, state_of};
-ghost use Rattle.iiod_session.specs.Session.{IsKept, IsPlain, IsReady, IsWhole, device_by, piece_by, stream_by, target_by, unread_of};
+ghost use Rattle.iiod_session.specs.Session.{IsKept, IsPlain, IsReady, IsWhole, piece_by, stream_by, unread_of};
 ghost use Rattle.iiod_session.specs.declared.manner.Going.{Going};
 ghost use Rattle.iiod_session.specs.declared.manner.Manner.{Manner};
 ghost use Rattle.iiod_grammar.specs.declared.lines.Ready.{Ready};
@@ -20,7 +21,8 @@ use crate::desk::Desk;
 use crate::iio::Iio;
 use crate::leave::leave;
 use crate::manner::{Going, Manner, Performed};
-use crate::perform::{perform, perform_written};
+use crate::pending_write::PendingWrite;
+use crate::perform::{perform, perform_refused, perform_written};
 use iio_base::Mem;
 use iio_text::Errno;
 use iiod_grammar::{Command, Lines, MAX_PAYLOAD, Ready, Refused, cut_anywhere, read_line};
@@ -55,40 +57,62 @@ fn end<I: Iio>(
     Ok(Going::Ended)
 }
 
-// A line that says neither EXIT nor WRITE.
+// A line that is no command.
+fn hear_refused<I: Iio>(
+    manner: Manner,
+    desk: &Desk<I::Seat>,
+    iio: &I,
+    why: Refused,
+    out: &mut Vec<u8>,
+) -> Result<Going, Mem>
+    ensures ready { (lines : LinesRecord) → lines ≡ after_piece lines.piece
+        → command_of lines.piece ≡ Err why → IfOk result (λ going. IsReady going lines) }
+    ensures feeds { (lines : LinesRecord) (pending : PendingRecord) → lines ≡ after_piece lines.piece
+        → command_of lines.piece ≡ Err why
+        → IfOk result (λ going. Feeds manner (I.front (I.kept iio.now)) (state_of I.seen (I.told iio.now) desk.now)
+        (after_line lines.piece) out.old.items out.new.items (state_of I.seen (I.told iio.now) desk.now)
+        (stream_by going lines pending) going) }
+{
+    match perform_refused(manner, desk, iio, why, out)? {
+        Performed::Done => Ok(Going::On),
+        Performed::Waits(dev) => Ok(Going::Waits(dev)),
+    }
+}
+
+// A command but EXIT and WRITE.
 fn hear_said<I: Iio>(
     alloc: Global,
     manner: Manner,
     desk: &mut Desk<I::Seat>,
     iio: &mut I,
-    said: Result<Command<'_>, Refused>,
+    command: Command<'_>,
     out: &mut Vec<u8>,
 ) -> Result<Going, Mem>
     requires desk { IsDesk I.seen (I.front (I.kept iio.old)) desk.old }
     ensures kept { I.kept iio.new ≡ I.kept iio.old }
     ensures desk { IsDesk I.seen (I.front (I.kept iio.new)) desk.new }
     ensures ready { (lines : LinesRecord) → lines ≡ after_piece lines.piece
-        → command_of lines.piece ≡ line_view said.entry → IsPlain (line_view said.entry) → IfOk result (λ going. IsReady going lines) }
-    ensures feeds { (lines : LinesRecord) (write_line : List ℕ) → lines ≡ after_piece lines.piece
-        → command_of lines.piece ≡ line_view said.entry → IsPlain (line_view said.entry)
+        → command_of lines.piece ≡ Ok (command_view command.entry) → IsPlain (Ok (command_view command.entry)) → IfOk result (λ going. IsReady going lines) }
+    ensures feeds { (lines : LinesRecord) (pending : PendingRecord) → lines ≡ after_piece lines.piece
+        → command_of lines.piece ≡ Ok (command_view command.entry) → IsPlain (Ok (command_view command.entry))
         → IfOk result (λ going. Feeds manner (I.front (I.kept iio.old)) (state_of I.seen (I.told iio.old) desk.old)
         (after_line lines.piece) out.old.items out.new.items (state_of I.seen (I.told iio.new) desk.new)
-        (stream_by going lines write_line) going) }
+        (stream_by going lines pending) going) }
 {
-    match perform(alloc, manner, desk, iio, said, out)? {
+    match perform(alloc, manner, desk, iio, command, out)? {
         Performed::Done => Ok(Going::On),
         Performed::Waits(dev) => Ok(Going::Waits(dev)),
     }
 }
 
-// A whole line. The line of a WRITE is kept until its payload has come.
+// A whole line. What a WRITE names is kept until its payload has come.
 fn hear_line<I: Iio>(
     alloc: Global,
     manner: Manner,
     desk: &mut Desk<I::Seat>,
     iio: &mut I,
     lines: &mut Lines,
-    write_line: &mut Vec<u8>,
+    pending: &mut PendingWrite,
     out: &mut Vec<u8>,
 ) -> Result<Going, Mem>
     requires piece { lines.old ≡ after_piece lines.old.piece }
@@ -98,34 +122,33 @@ fn hear_line<I: Iio>(
     ensures ready { IfOk result (λ going. IsReady going lines.new) }
     ensures feeds { IfOk result (λ going. Feeds manner (I.front (I.kept iio.old)) (state_of I.seen (I.told iio.old) desk.old)
         (after_line lines.old.piece) out.old.items out.new.items (state_of I.seen (I.told iio.new) desk.new)
-        (stream_by going lines.new write_line.new.items) going) }
+        (stream_by going lines.new pending.new) going) }
 {
     match read_line(lines.piece()) {
-        Err(refused) => hear_said(alloc, manner, desk, iio, Err(refused), out),
+        Err(why) => hear_refused(manner, desk, iio, why, out),
         Ok(command) => match command {
             Command::Exit => end(desk, iio, None, out),
-            Command::Write { count, .. } => {
+            Command::Write { dev, target, count } => {
                 if count > MAX_PAYLOAD {
                     return end(desk, iio, Some(Errno::EFBIG), out);
                 }
-                write_line.clear();
-                write_line.extend_from_slice(lines.piece())?;
+                pending.keep(dev, target)?;
                 lines.want(count);
                 Ok(Going::On)
             }
-            command => hear_said(alloc, manner, desk, iio, Ok(command), out),
+            command => hear_said(alloc, manner, desk, iio, command, out),
         },
     }
 }
 
-// A whole payload, of the WRITE whose line was kept.
+// A whole payload, of the WRITE that was kept.
 fn hear_payload<I: Iio>(
     alloc: Global,
     manner: Manner,
     desk: &mut Desk<I::Seat>,
     iio: &mut I,
     payload: &[u8],
-    write_line: &[u8],
+    pending: &PendingWrite,
     out: &mut Vec<u8>,
 ) -> Result<Performed, Mem>
     requires desk { IsDesk I.seen (I.front (I.kept iio.old)) desk.old }
@@ -133,15 +156,19 @@ fn hear_payload<I: Iio>(
     ensures desk { IsDesk I.seen (I.front (I.kept iio.new)) desk.new }
     ensures served { IfOk result (Performs manner (I.front (I.kept iio.old)) (I.told iio.old) (I.told iio.new)
         (desk_of I.seen desk.old) (tales_of I.seen desk.old.held.items)
-        (Written (device_by (command_of write_line.now)) (target_by (command_of write_line.now)) payload.now)
+        (Written pending.now.device pending.now.target payload.now)
         (desk_of I.seen desk.new) (tales_of I.seen desk.new.held.items) out.old.items out.new.items) }
 {
-    match read_line(write_line) {
-        Ok(Command::Write { dev, target, .. }) => {
-            perform_written(alloc, manner, desk, iio, dev, target, payload, out)
-        }
-        _ => perform_written(alloc, manner, desk, iio, b"", None, payload, out),
-    }
+    perform_written(
+        alloc,
+        manner,
+        desk,
+        iio,
+        pending.device(),
+        pending.target(),
+        payload,
+        out,
+    )
 }
 
 // A piece that is whole: a line, the payload of the WRITE before it, or a line that is too long.
@@ -151,7 +178,7 @@ fn hear_piece<I: Iio>(
     desk: &mut Desk<I::Seat>,
     iio: &mut I,
     lines: &mut Lines,
-    write_line: &mut Vec<u8>,
+    pending: &mut PendingWrite,
     ready: Ready,
     out: &mut Vec<u8>,
 ) -> Result<Going, Mem>
@@ -162,14 +189,14 @@ fn hear_piece<I: Iio>(
     ensures ready { IfOk result (λ going. IsReady going lines.new) }
     ensures payload { ready ≡ Ready.Payload → lines.new ≡ lines.old }
     ensures feeds { IfOk result (λ going. Feeds manner (I.front (I.kept iio.old)) (state_of I.seen (I.told iio.old) desk.old)
-        (piece_by ready lines.old write_line.old.items) out.old.items out.new.items (state_of I.seen (I.told iio.new) desk.new)
-        (stream_by going lines.new write_line.new.items) going) }
+        (piece_by ready lines.old pending.old) out.old.items out.new.items (state_of I.seen (I.told iio.new) desk.new)
+        (stream_by going lines.new pending.new) going) }
 {
     match ready {
         Ready::More => Ok(Going::On),
-        Ready::Line => hear_line(alloc, manner, desk, iio, lines, write_line, out),
+        Ready::Line => hear_line(alloc, manner, desk, iio, lines, pending, out),
         Ready::Payload => {
-            hear_payload(alloc, manner, desk, iio, lines.piece(), write_line, out)?;
+            hear_payload(alloc, manner, desk, iio, lines.piece(), pending, out)?;
             Ok(Going::On)
         }
         Ready::TooLong => end(desk, iio, Some(Errno::E2BIG), out),
@@ -183,7 +210,7 @@ fn carry_on<I: Iio>(
     desk: &mut Desk<I::Seat>,
     iio: &mut I,
     lines: &mut Lines,
-    write_line: &mut Vec<u8>,
+    pending: &mut PendingWrite,
     bytes: &[u8],
     out: &mut Vec<u8>,
 ) -> Result<(usize, Going), Mem>
@@ -194,9 +221,9 @@ fn carry_on<I: Iio>(
     ensures within { IfOk result (λ r. r.0 ≤ length bytes.now) }
     ensures ready { IfOk result (λ r. IsReady r.1 lines.new) }
     ensures feeds { IfOk result (λ r. Feeds manner (I.front (I.kept iio.old)) (state_of I.seen (I.told iio.old) desk.old)
-        (scan_on (stream_by Going.On lines.old write_line.old.items) bytes.now) out.old.items out.new.items (state_of I.seen (I.told iio.new) desk.new)
-        (scan_on (stream_by r.1 lines.new write_line.new.items) (drop r.0 bytes.now)) r.1) }
-    ensures all { IfOk result (λ r. r.1 ≡ Going.On → (r.0 ≡ length bytes.now) × ((stream_by Going.On lines.new write_line.new.items).items ≡ [])) }
+        (scan_on (stream_by Going.On lines.old pending.old) bytes.now) out.old.items out.new.items (state_of I.seen (I.told iio.new) desk.new)
+        (scan_on (stream_by r.1 lines.new pending.new) (drop r.0 bytes.now)) r.1) }
+    ensures all { IfOk result (λ r. r.1 ≡ Going.On → (r.0 ≡ length bytes.now) × ((stream_by Going.On lines.new pending.new).items ≡ [])) }
 {
     cut_anywhere();
     let mut at = 0;
@@ -206,7 +233,7 @@ fn carry_on<I: Iio>(
         if let Ready::More = ready {
             return Ok((at, Going::On));
         }
-        match hear_piece(alloc, manner, desk, iio, lines, write_line, ready, out)? {
+        match hear_piece(alloc, manner, desk, iio, lines, pending, ready, out)? {
             Going::On => {}
             going => return Ok((at, going)),
         }
@@ -221,7 +248,7 @@ pub(crate) fn carry_out<I: Iio>(
     desk: &mut Desk<I::Seat>,
     iio: &mut I,
     lines: &mut Lines,
-    write_line: &mut Vec<u8>,
+    pending: &mut PendingWrite,
     going: Going,
     bytes: &[u8],
     out: &mut Vec<u8>,
@@ -233,15 +260,15 @@ pub(crate) fn carry_out<I: Iio>(
     ensures within { IfOk result (λ r. r.0 ≤ length bytes.now) }
     ensures ready { IfOk result (λ r. IsReady r.1 lines.new) }
     ensures feeds { IfOk result (λ r. Feeds manner (I.front (I.kept iio.old)) (state_of I.seen (I.told iio.old) desk.old)
-        (scan_on (stream_by going lines.old write_line.old.items) bytes.now) out.old.items out.new.items (state_of I.seen (I.told iio.new) desk.new)
-        (scan_on (stream_by r.1 lines.new write_line.new.items) (drop r.0 bytes.now)) r.1) }
-    ensures all { IfOk result (λ r. r.1 ≡ Going.On → (r.0 ≡ length bytes.now) × ((stream_by Going.On lines.new write_line.new.items).items ≡ [])) }
+        (scan_on (stream_by going lines.old pending.old) bytes.now) out.old.items out.new.items (state_of I.seen (I.told iio.new) desk.new)
+        (scan_on (stream_by r.1 lines.new pending.new) (drop r.0 bytes.now)) r.1) }
+    ensures all { IfOk result (λ r. r.1 ≡ Going.On → (r.0 ≡ length bytes.now) × ((stream_by Going.On lines.new pending.new).items ≡ [])) }
 {
     match going {
-        Going::On => carry_on(alloc, manner, desk, iio, lines, write_line, bytes, out),
+        Going::On => carry_on(alloc, manner, desk, iio, lines, pending, bytes, out),
         Going::Ended => Ok((0, Going::Ended)),
-        Going::Waits(_) => match hear_line(alloc, manner, desk, iio, lines, write_line, out)? {
-            Going::On => carry_on(alloc, manner, desk, iio, lines, write_line, bytes, out),
+        Going::Waits(_) => match hear_line(alloc, manner, desk, iio, lines, pending, out)? {
+            Going::On => carry_on(alloc, manner, desk, iio, lines, pending, bytes, out),
             going => Ok((0, going)),
         },
     }
@@ -258,6 +285,18 @@ fn unread(going: Going, taken: usize, bytes: &[u8]) -> &[u8]
     }
 }
 
+// Puts the bytes that a READBUF keeps waiting behind those that wait already.
+fn keep_unread(left: &mut Vec<u8>, going: Going, taken: usize, bytes: &[u8]) -> Result<(), Mem>
+    requires { taken ≤ length bytes.now }
+    ensures { OnOk result (left.new.items ≡ left.old.items ++ unread_of going taken bytes.now) }
+{
+    match going {
+        Going::Waits(_) => left.extend_from_slice(&bytes[taken..])?,
+        Going::On | Going::Ended => {}
+    }
+    Ok(())
+}
+
 /// The same with the bytes that were kept waiting, and keeps those that wait now.
 pub(crate) fn hear<I: Iio>(
     alloc: Global,
@@ -265,7 +304,7 @@ pub(crate) fn hear<I: Iio>(
     desk: &mut Desk<I::Seat>,
     iio: &mut I,
     lines: &mut Lines,
-    write_line: &mut Vec<u8>,
+    pending: &mut PendingWrite,
     left: &mut Vec<u8>,
     was: Going,
     bytes: &[u8],
@@ -277,20 +316,18 @@ pub(crate) fn hear<I: Iio>(
     ensures desk { IsDesk I.seen (I.front (I.kept iio.new)) desk.new }
     ensures ready { IfOk result (λ going. IsKept going lines.new left.new.items) }
     ensures feeds { IfOk result (λ going. Feeds manner (I.front (I.kept iio.old)) (state_of I.seen (I.told iio.old) desk.old)
-        (scan_on (scan_on (stream_by was lines.old write_line.old.items) left.old.items) bytes.now) out.old.items out.new.items (state_of I.seen (I.told iio.new) desk.new)
-        (scan_on (stream_by going lines.new write_line.new.items) left.new.items) going) }
-    ensures all { IfOk result (λ going. going ≡ Going.On → (scan_on (stream_by going lines.new write_line.new.items) left.new.items).items ≡ []) }
+        (scan_on (scan_on (stream_by was lines.old pending.old) left.old.items) bytes.now) out.old.items out.new.items (state_of I.seen (I.told iio.new) desk.new)
+        (scan_on (stream_by going lines.new pending.new) left.new.items) going) }
+    ensures all { IfOk result (λ going. going ≡ Going.On → (scan_on (stream_by going lines.new pending.new) left.new.items).items ≡ []) }
 {
     if left.is_empty() {
-        let (taken, going) = carry_out(
-            alloc, manner, desk, iio, lines, write_line, was, bytes, out,
-        )?;
-        left.extend_from_slice(unread(going, taken, bytes))?;
+        let (taken, going) = carry_out(alloc, manner, desk, iio, lines, pending, was, bytes, out)?;
+        keep_unread(left, going, taken, bytes)?;
         return Ok(going);
     }
     cut_anywhere();
     left.extend_from_slice(bytes)?;
-    let (taken, going) = carry_out(alloc, manner, desk, iio, lines, write_line, was, left, out)?;
+    let (taken, going) = carry_out(alloc, manner, desk, iio, lines, pending, was, left, out)?;
     let rest = Vec::from_slice(alloc, unread(going, taken, left))?;
     *left = rest;
     Ok(going)

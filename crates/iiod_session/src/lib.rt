@@ -11,6 +11,7 @@ mod iio;
 mod leave;
 mod limits;
 mod manner;
+mod pending_write;
 mod perform;
 mod plain;
 mod reading;

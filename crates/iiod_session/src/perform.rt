@@ -1,7 +1,7 @@
 //! One item of a connection.
-ghost use Rattle.std.specs.Prelude.{◌≡◌, option_map, Ok, IfOk};
+ghost use Rattle.std.specs.Prelude.{◌≡◌, option_map, Ok, Err, IfOk};
 ghost use Rattle.iiod_grammar.specs.Stream.{Said, Written};
-ghost use Rattle.iiod_grammar.specs.View.{command_view, line_view, target_view};
+ghost use Rattle.iiod_grammar.specs.View.{command_view, target_view};
 ghost use Rattle.iiod_session.specs.Desk.{IsDesk, desk_of, tales_of};
 ghost use Rattle.iiod_session.specs.Performs.{Performs};
 ghost use Rattle.iiod_session.specs.declared.manner.Performed.{Performed};
@@ -53,7 +53,7 @@ fn perform_command<I: Iio>(
         Command::Read { dev, place, attr } => {
             read(alloc, manner, desk, iio, dev, place, attr, out)
         }
-        Command::ReadBuf { dev, bytes } => read_buffer(alloc, manner, desk, iio, dev, bytes, out),
+        Command::ReadBuf { dev, bytes } => read_buffer(manner, desk, iio, dev, bytes, out),
         Command::WriteBuf { dev, bytes } => write_buffer(manner, desk, iio, dev, bytes, out),
         Command::GetTrig { dev } => get_trigger(manner, desk, iio, dev, out),
         Command::SetTrig { dev, trigger } => set_trigger(manner, desk, iio, dev, trigger, out),
@@ -64,7 +64,7 @@ fn perform_command<I: Iio>(
     }
 }
 
-/// What a line says is performed, and answered at the end of `out`. EXIT and WRITE get no answer here: the one ends the
+/// A command is performed, and answered at the end of `out`. EXIT and WRITE get no answer here: the one ends the
 /// connection, the other is performed with its payload.
 ///
 /// A server answers want of memory, as long as there is the room for a short answer; a script ends with `Mem`.
@@ -73,21 +73,34 @@ pub(crate) fn perform<I: Iio>(
     manner: Manner,
     desk: &mut Desk<I::Seat>,
     iio: &mut I,
-    said: Result<Command<'_>, Refused>,
+    command: Command<'_>,
     out: &mut Vec<u8>,
 ) -> Result<Performed, Mem>
     requires desk { IsDesk I.seen (I.front (I.kept iio.old)) desk.old }
     ensures kept { I.kept iio.new ≡ I.kept iio.old }
     ensures desk { IsDesk I.seen (I.front (I.kept iio.new)) desk.new }
     ensures served { IfOk result (Performs manner (I.front (I.kept iio.old)) (I.told iio.old) (I.told iio.new)
-        (desk_of I.seen desk.old) (tales_of I.seen desk.old.held.items) (Said (line_view said.entry))
+        (desk_of I.seen desk.old) (tales_of I.seen desk.old.held.items) (Said (Ok (command_view command.entry)))
         (desk_of I.seen desk.new) (tales_of I.seen desk.new.held.items) out.old.items out.new.items) }
 {
     out.reserve(SHORT_ANSWER)?;
-    match said {
-        Err(why) => refuse(manner, why, out),
-        Ok(command) => perform_command(alloc, manner, desk, iio, command, out),
-    }
+    perform_command(alloc, manner, desk, iio, command, out)
+}
+
+/// A line that is no command is answered at the end of `out`, as by [`perform`].
+pub(crate) fn perform_refused<I: Iio>(
+    manner: Manner,
+    desk: &Desk<I::Seat>,
+    iio: &I,
+    why: Refused,
+    out: &mut Vec<u8>,
+) -> Result<Performed, Mem>
+    ensures { IfOk result (Performs manner (I.front (I.kept iio.now)) (I.told iio.now) (I.told iio.now)
+        (desk_of I.seen desk.now) (tales_of I.seen desk.now.held.items) (Said (Err why))
+        (desk_of I.seen desk.now) (tales_of I.seen desk.now.held.items) out.old.items out.new.items) }
+{
+    out.reserve(SHORT_ANSWER)?;
+    refuse(manner, why, out)
 }
 
 /// A WRITE is performed with its payload, and answered at the end of `out`, as by [`perform`].

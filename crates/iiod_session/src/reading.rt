@@ -1,5 +1,5 @@
 //! Scans taken from a seat.
-ghost use Rattle.std.specs.Prelude.{◌≡◌, ◌+◌, ◌*◌, ◌/◌, ◌≤◌, ◌<◌, ◌^◌, length, take, vec_capacity, true, ℕ};
+ghost use Rattle.std.specs.Prelude.{◌≡◌, ◌+◌, ◌*◌, ◌/◌, ◌≤◌, ◌<◌, ◌^◌, length, take, vec_capacity, true, ℕ, OnOk};
 ghost use Rattle.iio_layout.specs.Active.{has_data};
 ghost use Rattle.iio_layout.specs.Layout.{scan_size};
 ghost use Rattle.iio_layout.specs.Shape.{count_of};
@@ -46,7 +46,7 @@ fn widen(room: &mut Vec<u8>, next: usize, most: usize)
     }
 }
 
-// Takes up to so many scans, one behind the other into the empty room, whose memory is taken. Answers how many bytes they
+// Takes up to so many scans, one behind the other into the room, whose memory is taken. Answers how many bytes they
 // are, and the last take's answer.
 fn take_scans<I: Iio>(
     iio: &mut I,
@@ -81,7 +81,7 @@ fn take_scans<I: Iio>(
     (end, Took::Scan)
 }
 
-// The block of up to so many scans, at least one, which are taken into the empty `room`. There is room for it in `out`.
+// The block of up to so many scans, at least one, which are taken into `room`. There is room for it in `out`.
 fn read_into<I: Iio>(
     iio: &mut I,
     dev: u32,
@@ -115,9 +115,18 @@ fn read_into<I: Iio>(
     Took::Scan
 }
 
-/// What [`read_scans`] is, the bytes of a scan known.
+// Takes the memory for so many bytes of scans.
+fn take_room(room: &mut Vec<u8>, most: usize) -> Result<(), Mem>
+    ensures { OnOk result (most ≤ vec_capacity room.new) }
+{
+    if room.len() < most {
+        room.reserve(most - room.len())?;
+    }
+    Ok(())
+}
+
+/// What [`read_scans`] is, the bytes of a scan known. The scans are taken into `room` first.
 pub(crate) fn read_sized<I: Iio>(
-    alloc: Global,
     iio: &mut I,
     dev: u32,
     seat: &mut I::Seat,
@@ -125,6 +134,7 @@ pub(crate) fn read_sized<I: Iio>(
     capacity: u32,
     size: u32,
     asked: u32,
+    room: &mut Vec<u8>,
     out: &mut Vec<u8>,
 ) -> Result<Took, Mem>
     requires may_open { MayOpen (I.front (I.kept iio.old)) dev mask.bits capacity }
@@ -138,9 +148,9 @@ pub(crate) fn read_sized<I: Iio>(
 {
     let size = size as usize;
     let want = (asked as usize / size).min(capacity as usize);
-    let mut room = Vec::with_capacity(alloc, want * size)?;
+    take_room(room, want * size)?;
     out.reserve(want * size + BLOCK_FRAME)?;
-    Ok(read_into(iio, dev, seat, mask, size, want, asked, &mut room, out))
+    Ok(read_into(iio, dev, seat, mask, size, want, asked, room, out))
 }
 
 /// One READBUF of `asked` bytes at a seat that `open` gave for this mask and capacity: the block of as many scans as are
@@ -166,5 +176,6 @@ pub fn read_scans<I: Iio>(
         (I.told iio.old) (I.told iio.new) (I.seen seat.old) (I.seen seat.new) out.old.items out.new.items result }
 {
     let size = data_scan_size(iio.shape(dev), mask);
-    read_sized(alloc, iio, dev, seat, mask, capacity, size, asked, out)
+    let mut room = Vec::new(alloc);
+    read_sized(iio, dev, seat, mask, capacity, size, asked, &mut room, out)
 }

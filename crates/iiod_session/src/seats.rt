@@ -16,7 +16,6 @@ use crate::wanted::{Wanted, wanted_by};
 use iio_base::Mem;
 use iio_text::Errno;
 use iiod_reply::number;
-use std::alloc::Global;
 
 // The place of the seat at a device.
 fn find_held<S>(held: &[Held<S>], dev: u32) -> Option<usize>
@@ -144,10 +143,10 @@ pub(crate) fn close_at<I: Iio>(desk: &mut Desk<I::Seat>, iio: &mut I, dev: u32) 
 
 // READBUF at a seat.
 fn read_held<I: Iio>(
-    alloc: Global,
     iio: &mut I,
     h: &mut Held<I::Seat>,
     asked: u32,
+    room: &mut Vec<u8>,
     out: &mut Vec<u8>,
 ) -> Result<Took, Mem>
     requires { IsHeld I.seen (I.front (I.kept iio.old)) h.old }
@@ -162,7 +161,6 @@ fn read_held<I: Iio>(
         return Ok(Took::Scan);
     }
     read_sized(
-        alloc,
         iio,
         h.dev,
         &mut h.seat,
@@ -170,13 +168,13 @@ fn read_held<I: Iio>(
         h.capacity,
         h.size,
         asked,
+        room,
         out,
     )
 }
 
 /// READBUF. `EBADF` is answered where the connection has no seat at the device.
 pub(crate) fn read_at<I: Iio>(
-    alloc: Global,
     desk: &mut Desk<I::Seat>,
     iio: &mut I,
     dev: u32,
@@ -195,6 +193,6 @@ pub(crate) fn read_at<I: Iio>(
             push_refusal(out, Errno::EBADF)?;
             Ok(Took::Scan)
         }
-        Some(i) => read_held(alloc, iio, &mut desk.held[i], asked, out),
+        Some(i) => read_held(iio, &mut desk.held[i], asked, &mut desk.room, out),
     }
 }

@@ -13,8 +13,9 @@ use crate::feed::hear;
 use crate::iio::Iio;
 use crate::leave::leave;
 use crate::manner::{Going, Manner};
+use crate::pending_write::PendingWrite;
 use iio_base::Mem;
-use iiod_grammar::{Lines, MAX_LINE};
+use iiod_grammar::Lines;
 use std::alloc::Global;
 use std::marker::Model;
 
@@ -27,8 +28,8 @@ pub struct Session<S> {
     manner: Manner,
     desk: Desk<S>,
     lines: Lines,
-    // The line of the WRITE whose payload comes.
-    write_line: Vec<u8>,
+    // The WRITE whose payload comes.
+    pending: PendingWrite,
     going: Going,
     // The bytes behind a READBUF that waits.
     left: Vec<u8>,
@@ -43,7 +44,7 @@ impl<S> Model for Session<S> {
     ghost view = { λ x. record {
       manner = x.manner;
       desk = x.desk;
-      stream = scan_on (stream_by x.going x.lines x.write_line.items) x.left.items;
+      stream = scan_on (stream_by x.going x.lines x.pending) x.left.items;
     } };
 
     ghost invariant = { λ x. IsKept x.going x.lines x.left.items };
@@ -56,7 +57,6 @@ impl<S> Session<S> {
         ensures { IfOk result (IsFresh who manner) }
     {
         let lines = Lines::new(alloc)?;
-        let write_line = Vec::with_capacity(alloc, MAX_LINE)?;
         Ok(Session {
             manner,
             desk: Desk {
@@ -64,9 +64,10 @@ impl<S> Session<S> {
                 held: Vec::new(alloc),
                 buffers: Vec::new(alloc),
                 holdings: Vec::new(alloc),
+                room: Vec::new(alloc),
             },
             lines,
-            write_line,
+            pending: PendingWrite::new(alloc),
             going: Going::On,
             left: Vec::new(alloc),
         })
@@ -109,7 +110,7 @@ impl<S> Session<S> {
             &mut self.desk,
             iio,
             &mut self.lines,
-            &mut self.write_line,
+            &mut self.pending,
             &mut self.left,
             was,
             bytes,
@@ -142,7 +143,7 @@ impl<S> Session<S> {
             manner: _,
             mut desk,
             lines: _,
-            write_line: _,
+            pending: _,
             going: _,
             left: _,
         } = self;
@@ -152,6 +153,7 @@ impl<S> Session<S> {
             held,
             buffers: _,
             holdings: _,
+            room: _,
         } = desk;
         held.destroy_empty();
     }

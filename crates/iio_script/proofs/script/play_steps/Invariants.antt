@@ -9,8 +9,8 @@ use Rattle.iio_script.proofs.StepLaws.{SoFar}
 use Rattle.iio_script.proofs.script.play_steps.Given as goal
 
 -- a line costs no more than its bytes and one: 1,048,577
-abbrev pub invariant-loop-lines : goal.invariant-loop-lines
-invariant-loop-lines g l = record {
+abbrev pub invariant-loop-room : goal.invariant-loop-room
+invariant-loop-room g l = record {
   played : (s : Setup) → StandsFor (driver_of (λ b. (g.dyn-1.0.entry b.vtable).1.driver b.value)) s [] l.fn.system → FindsSame l.names s.desc
       → SoFar (driver_of (λ b. (g.dyn-1.0.entry b.vtable).1.driver b.value)) s l.system l.out.items l.first l.number l.fn.lines l.lines (g.S.Source.left l.fn.input) (g.S.Source.left l.input)
       (g.K.Sink.written l.fn.output) (g.K.Sink.written l.output);
@@ -23,5 +23,5 @@ invariant-loop-lines g l = record {
   silent : (IfNone (g.S.Source.left l.fn.input) (g.S.Source.left l.input ≡ None)) × (IfNone (g.K.Sink.written l.fn.output) (g.K.Sink.written l.output ≡ None));
 }
 
-abbrev pub decreases-loop-lines : goal.decreases-loop-lines
-decreases-loop-lines g l = 67108865 - l.lines.given
+abbrev pub decreases-loop-room : goal.decreases-loop-room
+decreases-loop-room g l = 67108865 - l.lines.given

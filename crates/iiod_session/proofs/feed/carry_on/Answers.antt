@@ -1,8 +1,7 @@
 use Rattle.std.proofs.Common.{rules, ◌≤◌, sym, ap, ◌∙◌, drop, length, arith, length-drop}
 use Rattle.std.proofs.lemmas.List.{take_rest}
-use Rattle.iiod_grammar.specs.Command.{command_of}
 use Rattle.iiod_grammar.specs.Scans.{scan_on}
-use Rattle.iiod_session.specs.Session.{device_by, stream_by, target_by}
+use Rattle.iiod_session.specs.Session.{stream_by}
 use Rattle.iiod_session.specs.declared.manner.Going.TheVariants.{On}
 use Rattle.iiod_session.proofs.HearLaws.{all_taken, more_feeds, none_after, on_fed, piece_scans, rest_after, stop_feeds}
 use Rattle.iiod_session.proofs.StreamLaws.{more_takes, more_waits}
@@ -10,8 +9,8 @@ use Rattle.iiod_session.proofs.feed.carry_on.Goals as goal
 
 pub returns-in-More-clause-feeds : goal.returns-in-More-clause-feeds
 returns-in-More-clause-feeds g c =
-    more_feeds _ _ _ _ _ _ _ c.loop-desk.lines c.feed-taken.new.self (device_by (command_of c.loop-desk.write_line.items)) (target_by (command_of c.loop-desk.write_line.items)) _ _ _
-    (rw c.in-More.is at (c.feed-taken.ensures.items (device_by (command_of c.loop-desk.write_line.items)) (target_by (command_of c.loop-desk.write_line.items))))
+    more_feeds _ _ _ _ _ _ _ c.loop-desk.lines c.feed-taken.new.self c.loop-desk.pending.device c.loop-desk.pending.target _ _ _
+    (rw c.in-More.is at (c.feed-taken.ensures.items c.loop-desk.pending.device c.loop-desk.pending.target))
     (take_rest c.args.bytes.now c.loop-desk.at)
     (none_after c.loop-desk.at c.feed-taken.result.0 c.args.bytes.now c.loop-desk.invariant.within
     (c.feed-taken.ensures.taken ∙ more_takes c.loop-desk.lines _ c.loop-desk.invariant.ready (sym c.feed-taken.ensures.ready ∙ c.in-More.is))) c.loop-desk.invariant.fed
@@ -32,8 +31,8 @@ loop-desk-preserved g c = record {
       omega (arith, length-drop c.loop-desk.at c.args.bytes.now, c.loop-desk.invariant.within);
   ready = rw c.in-On.is at c.in_ok-going.ensures.ready;
   fed = on_fed _ _ _ _ _ _ _ _ _ _ _ _ _ _
-      (ap (λ bs. scan_on (stream_by On c.loop-desk.lines c.loop-desk.write_line.items) bs) (sym (take_rest c.args.bytes.now c.loop-desk.at))
-      ∙ piece_scans c.cut_anywhere.ensures.items c.cut_anywhere.ensures.scanner c.loop-desk.lines c.feed-taken.new.self c.loop-desk.write_line.items _ c.feed-taken.result.0 c.feed-taken.result.1
+      (ap (λ bs. scan_on (stream_by On c.loop-desk.lines c.loop-desk.pending) bs) (sym (take_rest c.args.bytes.now c.loop-desk.at))
+      ∙ piece_scans c.cut_anywhere.ensures.items c.cut_anywhere.ensures.scanner c.loop-desk.lines c.feed-taken.new.self c.loop-desk.pending _ c.feed-taken.result.0 c.feed-taken.result.1
       c.in_default.not-More c.loop-desk.invariant.ready (c.feed-taken.ensures.items _ _))
       (rest_after c.loop-desk.at c.feed-taken.result.0 c.args.bytes.now) c.loop-desk.invariant.fed (rw (c.in-On.is, c.loop-desk.invariant.kept) at c.in_ok-going.ensures.feeds);
 }
@@ -41,7 +40,7 @@ loop-desk-preserved g c = record {
 pub returns-in_default-2-clause-feeds : goal.returns-in_default-2-clause-feeds
 returns-in_default-2-clause-feeds g c =
     stop_feeds _ _ _ _ _ _ _ _ _ _ _ _ _ _ c.in_ok-going.going c.in_default-2.not-On
-    (ap (λ bs. scan_on (stream_by On c.loop-desk.lines c.loop-desk.write_line.items) bs) (sym (take_rest c.args.bytes.now c.loop-desk.at))
-    ∙ piece_scans c.cut_anywhere.ensures.items c.cut_anywhere.ensures.scanner c.loop-desk.lines c.feed-taken.new.self c.loop-desk.write_line.items _ c.feed-taken.result.0 c.feed-taken.result.1
+    (ap (λ bs. scan_on (stream_by On c.loop-desk.lines c.loop-desk.pending) bs) (sym (take_rest c.args.bytes.now c.loop-desk.at))
+    ∙ piece_scans c.cut_anywhere.ensures.items c.cut_anywhere.ensures.scanner c.loop-desk.lines c.feed-taken.new.self c.loop-desk.pending _ c.feed-taken.result.0 c.feed-taken.result.1
     c.in_default.not-More c.loop-desk.invariant.ready (c.feed-taken.ensures.items _ _))
     (rest_after c.loop-desk.at c.feed-taken.result.0 c.args.bytes.now) c.loop-desk.invariant.fed (rw c.loop-desk.invariant.kept at c.in_ok-going.ensures.feeds)

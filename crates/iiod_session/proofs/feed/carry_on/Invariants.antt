@@ -13,8 +13,8 @@ invariant-loop-desk g l = let iio = g.I.Iio in record {
   desk : IsDesk iio.seen (iio.front (iio.kept l.fn.iio)) l.desk;
   within : l.at ≤ length l.bytes;
   ready : IsReady On l.lines;
-  fed : Fed l.manner (iio.front (iio.kept l.fn.iio)) (state_of iio.seen (iio.told l.fn.iio) l.fn.desk) (scan_on (stream_by On l.fn.lines l.fn.write_line.items) l.bytes)
-      l.fn.out.items l.out.items (state_of iio.seen (iio.told l.iio) l.desk) (scan_on (stream_by On l.lines l.write_line.items) (drop l.at l.bytes));
+  fed : Fed l.manner (iio.front (iio.kept l.fn.iio)) (state_of iio.seen (iio.told l.fn.iio) l.fn.desk) (scan_on (stream_by On l.fn.lines l.fn.pending) l.bytes)
+      l.fn.out.items l.out.items (state_of iio.seen (iio.told l.iio) l.desk) (scan_on (stream_by On l.lines l.pending) (drop l.at l.bytes));
 }
 
 abbrev pub decreases-loop-desk : goal.decreases-loop-desk

@@ -11,7 +11,7 @@ returns-in-Ended-clause-feeds g c = rw c.in-Ended.is (ended_feeds _ _ _ _ c.args
 pub returns-in-On-2-clause-feeds : goal.returns-in-On-2-clause-feeds
 returns-in-On-2-clause-feeds g c =
     rw c.in-Waits.is
-    (resumed _ _ _ _ _ _ _ _ _ _ c.args.bytes.now (λ r. scan_on (stream_by r.1 c.carry_on-in-On-2.new.lines c.carry_on-in-On-2.new.write_line.items) (drop r.0 c.args.bytes.now)) _
+    (resumed _ _ _ _ _ _ _ _ _ _ c.args.bytes.now (λ r. scan_on (stream_by r.1 c.carry_on-in-On-2.new.lines c.carry_on-in-On-2.new.pending) (drop r.0 c.args.bytes.now)) _
     (rw c.in-On-2.is at c.in_ok-going-in-Waits.ensures.feeds) (rw c.hear_line.ensures.kept at c.carry_on-in-On-2.ensures.feeds))
 
 pub returns-in_default-clause-feeds : goal.returns-in_default-clause-feeds

@@ -23,8 +23,8 @@ invariant_of-self c =
       roomy = roster.roomy;
     }
 
-pub returns : goal.returns
-returns c =
+pub returns-clause-takes : goal.returns-clause-takes
+returns-clause-takes c =
     let roster = c.args.self.now in
     let members = roster.members.items in
     let at = c.in_ok-at.at in

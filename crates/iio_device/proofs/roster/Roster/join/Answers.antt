@@ -8,8 +8,8 @@ use Rattle.iio_device.specs.Sound.{IsMember, bits_of}
 use Rattle.iio_device.proofs.SoundLemmas.{groups_within, sound_joins}
 use Rattle.iio_device.proofs.roster.Roster.join.Goals as goal
 
-pub remake_all-requires-clause-within : goal.remake_all-requires-clause-within
-remake_all-requires-clause-within g c =
+pub remake_for-requires-clause-within : goal.remake_for-requires-clause-within
+remake_for-requires-clause-within g c =
     let tail = g.Q.Tail in
     let roster = c.prepare.new.self in
     groups_within tail.taken tail.lost tail.size roster.shape _ c.in-Ok.made.0.bits roster.members.items roster.groups.items roster.sound.grouped (search rules)
@@ -26,9 +26,9 @@ invariant_of-self g c =
     let is : IsMember tail.taken tail.lost tail.size roster.shape roster.captures (roster.next + 1) m =
     record { numbered = omega arith; below = search rules; counted = omega (arith, fresh); sized = search rules } in
     record {
-      sound = rw (c.push_reserved.ensures.items, c.add_group.ensures, c.remake_all.ensures.remade)
+      sound = rw (c.push_reserved.ensures.items, c.add_group.ensures, c.remake_for.ensures.remade)
           (sound_joins tail.taken tail.lost tail.size roster.shape roster.active c.in-Ok.made.0 roster.captures roster.next roster.members.items roster.groups.items m c.in-Ok.made.1
           roster.sound found (search rules) (omega (arith, small, longer)) refl is c.in-Ok.ensures.group c.in-Ok.ensures.none);
-      sized = c.asked_size-self.ensures;
+      sized = c.asked_size_after-self.ensures;
       roomy = roster.roomy;
     }

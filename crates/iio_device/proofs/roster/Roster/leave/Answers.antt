@@ -1,8 +1,10 @@
-use Rattle.std.proofs.Common.{◌≡◌, ◌<◌, length, slice_index_or, IfSome, Some, option_map, true, refl, sym, ap, ◌∙◌}
+use Rattle.std.proofs.Common.{◌≡◌, ◌<◌, length, slice_index_or, IfSome, Some, option_map, unwrap_or, true, refl, sym, ap, ◌∙◌}
+use Rattle.std.proofs.lemmas.List.Elements.{All-filter}
 use Rattle.iio_mask.specs.Mask.{is_within, union_of_all}
 use Rattle.iio_device.specs.declared.membership.Membership.{Membership}
 use Rattle.iio_device.specs.Active.{active_for}
-use Rattle.iio_device.specs.Members.{masks_of, member_of, without}
+use Rattle.iio_device.specs.Groups.{GroupRecord, IsGroup}
+use Rattle.iio_device.specs.Members.{is_wanted, masks_of, member_of, without}
 use Rattle.iio_device.specs.Sound.{bits_of}
 use Rattle.iio_device.proofs.ApartLemmas.{removed_is}
 use Rattle.iio_device.proofs.MaskLemmas.{some_more}
@@ -17,6 +19,12 @@ remake_for-requires-clause-within g c =
     some_more (λ m. is_within (union_of_all (masks_of c.remove-tail.new.self.items)) m.bits ≡ true) _ c.active_for-active.result contains
     (λ m h. rw (c.keep_wanted.ensures, c.deref-3.ensures.value) (kept_within tail.taken tail.lost tail.size c.remove-tail.new.self.items c.args.self.now.groups.items m.bits h))
 
+pub remake_for-requires-clause-made : goal.remake_for-requires-clause-made
+remake_for-requires-clause-made g c =
+    let roster = c.args.self.now in
+    rw (c.keep_wanted.ensures, c.deref-3.ensures.value)
+    (All-filter (λ (x : GroupRecord). is_wanted c.remove-tail.new.self.items x.mask) (IsGroup roster.shape (unwrap_or (bits_of roster.active) 0)) roster.groups.items roster.sound.grouped.each)
+
 pub invariant_of-self-2 : goal.invariant_of-self-2
 invariant_of-self-2 g c =
     let tail = g.Q.Tail in
@@ -24,9 +32,9 @@ invariant_of-self-2 g c =
     let within : c.in_ok-at.at < length roster.members.items = rw (sym c.deref.ensures.value) c.in_ok-at.ensures.within in
     let ruled : bits_of c.active_for-active.result ≡ active_for roster.shape (masks_of c.remove-tail.new.self.items) = rw (sym c.deref-2.ensures.value) c.active_for-active.ensures.value in
     record {
-      sized = c.asked_size-self.ensures;
+      sized = c.asked_size_after-self.ensures;
       roomy = roster.roomy;
-      sound = rw (c.remake_for.ensures, c.keep_wanted.ensures, c.deref-3.ensures.value)
+      sound = rw (c.remake_for.ensures.remade, c.keep_wanted.ensures, c.deref-3.ensures.value)
           (sound_leaves_at tail.taken tail.lost tail.size roster.shape roster.active c.active_for-active.result roster.captures roster.next roster.members.items c.remove-tail.new.self.items
           c.in_ok-at.at c.remove-tail.result roster.groups.items roster.sound within c.remove-tail.ensures.value c.remove-tail.ensures.by_index.2 ruled c.active_for-active.ensures.below);
     }

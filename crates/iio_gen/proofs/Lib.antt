@@ -1,0 +1,7 @@
+pub mod Texts
+pub mod Several
+pub mod FeedLemmas
+pub mod DescriptionLaws
+pub mod StepLaws
+pub mod MadeLaws
+mod Worked

@@ -1,0 +1,29 @@
+-- Each input of this crate is in the grammar of descriptions and scripts.
+use Rattle.std.specs.Prelude.{◌≡◌, ℕ, ◌≤◌, List, [], length}
+use Rattle.iio_sensor.specs.Driver.{Driver}
+use Rattle.iio_desc.specs.Description.{Description}
+use Rattle.iio_history.specs.Input.{input_limit}
+use Rattle.iio_history.specs.Outcome.{Described, head_of, outcome_of}
+use Rattle.iio_history.specs.Script.{Finished, script_from}
+use Rattle.iio_gen.specs.declared.steps.TheConstants.{STEPS}
+use Rattle.iio_gen.specs.Input.{made}
+
+-- an input whose description may use so many drivers is played to its end, and has so many steps
+pub record IsPlayable (drivers steps : ℕ) (input : List ℕ) : Type 0 where
+  pub desc : Description
+  pub first : ℕ
+  pub lines : List (List ℕ)
+  -- no line of the description is refused; behind it stand these lines, the first of which has that number
+  pub described : head_of drivers input ≡ Described desc first lines
+  -- none of them is refused
+  pub finished : (script_from desc Finished [] first lines).ending ≡ Finished
+  pub count : length (script_from desc Finished [] first lines).steps ≡ steps
+  -- and the input is looked at whole
+  pub short : length input ≤ input_limit
+
+abbrev pub MadeIsPlayable : Type 0
+MadeIsPlayable = (n drivers : ℕ) → IsPlayable drivers STEPS (made n)
+
+-- in the words of `play`: whatever drivers are handed in, the outcome has no refusal, and isn't too long
+abbrev pub MadeFinishes : Type 0
+MadeFinishes = (n : ℕ) (drivers : List Driver) → (outcome_of drivers (made n)).ending ≡ Finished

@@ -1,0 +1,66 @@
+//! What was counted in a run.
+
+ghost use Rattle.std.specs.Prelude.{◌≡◌, ◌+◌, ◌%◌, ◌^◌, List};
+ghost use Rattle.iio_history.specs.Event.{Event};
+ghost use Rattle.iio_history.specs.Registry.{Setup};
+ghost use Rattle.iio_history.specs.Summary.{summary_of};
+ghost use Rattle.iio_system.specs.Standing.{StandsFor};
+ghost use Rattle.iio_system.specs.Station.{captures_by};
+ghost use Rattle.iio_system.specs.Tally.{bytes_by, devices_tally, overruns_by, scans_by, shown, tally_of};
+
+use crate::system::System;
+use iio_device::{Device, Plug};
+use iio_kfifo::Kfifo;
+use iio_sensor::Sensor;
+
+/// What was counted in a run. The first three stay at 2^64 - 1 when they get there.
+#[derive(Clone, Copy, Debug, PartialEq, Eq, Hash)]
+pub struct Tally {
+    /// Captures of all devices.
+    pub captures: u64,
+    /// Scans that READBUFs gave.
+    pub scans: u64,
+    /// Scans that were lost because a queue was full, of all members, also of those that have left.
+    pub overruns: u64,
+    /// The sum of all bytes of the scans that were given, modulo 2^64.
+    pub bytes: u64,
+}
+
+// Adds what a device counted.
+fn add_device(tally: &mut Tally, device: &Device<Kfifo>)
+    ensures captures { tally.new.captures ≡ shown (tally.old.captures + captures_by device.now) }
+    ensures scans { tally.new.scans ≡ shown (tally.old.scans + shown (scans_by device.now)) }
+    ensures overruns { tally.new.overruns ≡ shown (tally.old.overruns + shown (overruns_by device.now)) }
+    ensures bytes { tally.new.bytes ≡ (tally.old.bytes + bytes_by device.now % 2 ^ 64) % 2 ^ 64 }
+{
+    let totals = &device.core.totals;
+    tally.captures = tally.captures.saturating_add(device.captures());
+    tally.scans = tally.scans.saturating_add(totals.scans.get());
+    tally.overruns = tally.overruns.saturating_add(device.overruns());
+    tally.bytes = tally.bytes.wrapping_add(totals.bytes.wrapped());
+}
+
+// What devices counted.
+fn devices_tally(devices: &[Device<Kfifo>]) -> Tally
+    ensures { result ≡ devices_tally devices.now }
+{
+    let mut tally = Tally {
+        captures: 0,
+        scans: 0,
+        overruns: 0,
+        bytes: 0,
+    };
+    for device in devices {
+        add_device(&mut tally, device);
+    }
+    tally
+}
+
+impl System {
+    /// What was counted over the steps that were made.
+    pub fn tally(&self) -> Tally
+        ensures { (s : Setup) (h : List Event) → StandsFor ⟦<Plug as Sensor>⟧.driver s h self.now → result ≡ tally_of (summary_of s h) }
+    {
+        devices_tally(&self.bench.devices)
+    }
+}

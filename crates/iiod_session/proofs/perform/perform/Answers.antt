@@ -1,8 +1,0 @@
-use Rattle.std.proofs.Common.{Err}
-use Rattle.iiod_grammar.specs.Stream.{Said}
-use Rattle.iiod_session.specs.Desk.{desk_of, tales_of}
-use Rattle.iiod_session.proofs.PlainLaws.{kept}
-use Rattle.iiod_session.proofs.perform.perform.Goals as goal
-
-pub returns-in-Err-clause-served : goal.returns-in-Err-clause-served
-returns-in-Err-clause-served g c = rw c.in-Err.is (kept _ (g.I.Iio.front (g.I.Iio.kept c.args.iio.now)) (g.I.Iio.told c.args.iio.now) (desk_of g.I.Iio.seen c.args.desk.now) (tales_of g.I.Iio.seen c.args.desk.now.held.items) (Said (Err c.in-Err.why)) _ _ _ (rw c.reserve.ensures.items at c.refuse.ensures))

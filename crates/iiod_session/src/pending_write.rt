@@ -1,0 +1,131 @@
+//! The WRITE whose payload comes.
+ghost use Rattle.std.specs.Prelude.{◌≡◌, option_map, OnOk};
+ghost use Rattle.iiod_grammar.specs.View.{place_view, target_view};
+ghost use Rattle.iiod_session.specs.PendingWrite.{PendingRecord, place_by, target_of_parts};
+
+use iio_base::Mem;
+use iiod_grammar::Place;
+use std::alloc::Global;
+use std::marker::Model;
+
+/// Where an attribute stands, but for the ID of its channel.
+#[derive(Clone, Copy)]
+pub(crate) enum PlaceKind {
+    Device,
+    Buffer,
+    Debug,
+    Input,
+    Output,
+}
+
+/// What the WRITE whose payload comes names. Its words are kept in rooms that serve one WRITE after another.
+#[derive(Drop)]
+pub(crate) struct PendingWrite {
+    device: Vec<u8>,
+    // None where the words name nothing.
+    kind: Option<PlaceKind>,
+    channel: Vec<u8>,
+    has_attribute: bool,
+    attribute: Vec<u8>,
+}
+
+impl Model for PendingWrite {
+    ghost use Rattle.iiod_session.specs.PendingWrite.{PendingRecord, target_of_parts};
+
+    ghost Value = { PendingRecord };
+
+    ghost view = { λ x. record {
+      device = x.device.items;
+      target = target_of_parts x.kind x.channel.items x.has_attribute x.attribute.items;
+    } };
+}
+
+// A place without the ID of its channel, and that ID, which is empty where it has none.
+fn split_place<'a>(place: Place<'a>) -> (PlaceKind, &'a [u8])
+    ensures { place_by result.0 result.1.now ≡ place_view place.entry }
+{
+    match place {
+        Place::Device => (PlaceKind::Device, b""),
+        Place::Buffer => (PlaceKind::Buffer, b""),
+        Place::Debug => (PlaceKind::Debug, b""),
+        Place::Input(channel) => (PlaceKind::Input, channel),
+        Place::Output(channel) => (PlaceKind::Output, channel),
+    }
+}
+
+// The place of a kind, at a channel where it has one.
+fn join_place(kind: PlaceKind, channel: &[u8]) -> Place<'_>
+    ensures { place_view result ≡ place_by kind channel.now }
+{
+    match kind {
+        PlaceKind::Device => Place::Device,
+        PlaceKind::Buffer => Place::Buffer,
+        PlaceKind::Debug => Place::Debug,
+        PlaceKind::Input => Place::Input(channel),
+        PlaceKind::Output => Place::Output(channel),
+    }
+}
+
+// Puts a word into a room, in place of the one that stood there.
+fn replace(room: &mut Vec<u8>, word: &[u8]) -> Result<(), Mem>
+    ensures { OnOk result (room.new.items ≡ word.now) }
+{
+    room.clear();
+    room.extend_from_slice(word)?;
+    Ok(())
+}
+
+impl PendingWrite {
+    /// No WRITE yet.
+    pub(crate) fn new(alloc: Global) -> PendingWrite {
+        PendingWrite {
+            device: Vec::new(alloc),
+            kind: None,
+            channel: Vec::new(alloc),
+            has_attribute: false,
+            attribute: Vec::new(alloc),
+        }
+    }
+
+    /// Keeps what a WRITE names.
+    pub(crate) fn keep(
+        &mut self,
+        device: &[u8],
+        target: Option<(Place<'_>, Option<&[u8]>)>,
+    ) -> Result<(), Mem>
+        ensures { OnOk result (self.new ≡ record { device = device.now; target = option_map target_view target.entry }) }
+    {
+        replace(&mut self.device, device)?;
+        let Some((place, attribute)) = target else {
+            self.kind = None;
+            return Ok(());
+        };
+        let (kind, channel) = split_place(place);
+        self.kind = Some(kind);
+        replace(&mut self.channel, channel)?;
+        self.has_attribute = attribute.is_some();
+        replace(&mut self.attribute, attribute.unwrap_or(b""))
+    }
+
+    /// The device's name.
+    pub(crate) fn device(&self) -> &[u8]
+        ensures { result.now ≡ self.now.device }
+    {
+        &self.device
+    }
+
+    /// What is to be written.
+    pub(crate) fn target(&self) -> Option<(Place<'_>, Option<&[u8]>)>
+        ensures { option_map target_view result ≡ self.now.target }
+    {
+        let Some(kind) = self.kind else {
+            return None;
+        };
+        let attribute = if self.has_attribute {
+            Some(self.attribute.as_slice())
+        } else {
+            None
+        };
+        Some((join_place(kind, &self.channel), attribute))
+    }
+}
