@@ -74,7 +74,6 @@ copied_more active_size buffer_size start end entry later scan old new j order i
     ]
 
 -- all were
-pub copied_all : (end : ℕ) (scan old new : List ℕ) (j : ℕ) → (j < end → slice_index new j ≡ slice_index old j) → (end ≤ j → slice_index new j ≡ 0)
-    → slice_index new j ≡ so_far old end [] scan j
-copied_all end scan old new j kept zero =
-    elim (cases_lt j end) [ inl before ↦ rw (is_below j end before) (kept before) | inr after ↦ rw (is_above j end after) (zero after) ]
+pub copied_all : (end : ℕ) (scan written : List ℕ) (j : ℕ) → (end ≤ j → slice_index written j ≡ 0) → slice_index written j ≡ so_far written end [] scan j
+copied_all end scan written j zero =
+    elim (cases_lt j end) [ inl before ↦ rw (is_below j end before) refl | inr after ↦ rw (is_above j end after) (zero after) ]

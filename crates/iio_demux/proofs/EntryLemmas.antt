@@ -1,5 +1,5 @@
 -- The entries of the channels before a channel: one channel more, and where they lie.
-use Rattle.std.proofs.Common.{◌≡◌, ℕ, zero, suc, ◌+◌, ◌≤◌, true, false, cond, List, [], ◌∷◌, ◌++◌, map, filter, refl, sym, ap, ◌∙◌, inl, inr, arith, add-one, IsTrue}
+use Rattle.std.proofs.Common.{◌≡◌, ℕ, zero, suc, ◌+◌, ◌≤◌, max, true, false, cond, List, [], ◌∷◌, ◌++◌, map, filter, refl, sym, ap, ◌∙◌, inl, inr, arith, add-one, IsTrue}
 use Rattle.std.specs.Int.{next_multiple_of}
 use Rattle.std.specs.List.{range_with_len}
 use Rattle.std.proofs.lemmas.Bool.{cases_Bool, false≢true}
@@ -7,7 +7,7 @@ use Rattle.std.proofs.lemmas.List.{map-append, append-nil}
 use Rattle.std.proofs.lemmas.List.Elements.{filter-append}
 use Rattle.iio_mask.specs.Mask.{has}
 use Rattle.iio_layout.specs.Shape.{ShapeRecord, count_of, formats_of}
-use Rattle.iio_layout.specs.Layout.{end_below, place_of, scan_size, size_at}
+use Rattle.iio_layout.specs.Layout.{end_below, largest_below, place_of, scan_size, size_at}
 use Rattle.iio_layout.specs.Laws.{end_grows}
 use Rattle.iio_demux.specs.Table.{AreInOrder, IsCopyTable, channel_entries, channel_entry, channels_below, table_of}
 use Rattle.iio_demux.proofs.MergeLemmas.{merged_apart, merged_in_order}
@@ -49,6 +49,15 @@ end_more shape mask n end place size selected is_end is_size is_place = rw (is_p
 pub end_same : (shape : ShapeRecord) (mask n end : ℕ) → has mask n ≡ false → end ≡ end_below (formats_of shape) mask n
     → end ≡ end_below (formats_of shape) mask (n + 1)
 end_same shape mask n end other is_end = rw (is_end, add-one, other) refl
+
+-- the largest size of the channels up to a channel, selected or not
+pub largest_more : (shape : ShapeRecord) (mask n largest size : ℕ) → has mask n ≡ true → largest ≡ largest_below (formats_of shape) mask n
+    → size ≡ size_at (formats_of shape) n → max largest size ≡ largest_below (formats_of shape) mask (n + 1)
+largest_more shape mask n largest size selected is_largest is_size = rw (is_largest, is_size, add-one, selected) refl
+
+pub largest_same : (shape : ShapeRecord) (mask n largest : ℕ) → has mask n ≡ false → largest ≡ largest_below (formats_of shape) mask n
+    → largest ≡ largest_below (formats_of shape) mask (n + 1)
+largest_same shape mask n largest other is_largest = rw (is_largest, add-one, other) (omega arith)
 
 -- a channel that isn't in the active mask isn't in the buffer's
 pub outside : (active buffer n : ℕ) → ((c : ℕ) → IsTrue (has buffer c) → IsTrue (has active c)) → has active n ≡ false → has buffer n ≡ false

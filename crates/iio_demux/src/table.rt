@@ -1,15 +1,18 @@
 //! The copy table of one buffer.
 
 ghost use Rattle.std.specs.Prelude.{◌≡◌, ℕ, ℤ, ◌+◌, ◌-◌, ◌^◌, ◌<◌, ◌≤◌, ◌++◌, true, IfOk, IsTrue, List, [], ◌∷◌, length, slice_index, vec_capacity, vec_len};
+ghost use Rattle.std.specs.Int.{next_multiple_of};
 ghost use Rattle.iio_mask.specs.Mask.{has, is_within};
+ghost use Rattle.iio_scan_type.specs.declared.TheConstants.{MAX_CHANNEL_SIZE};
 ghost use Rattle.iio_layout.specs.Layout.{scan_size};
 ghost use Rattle.iio_layout.specs.Scan.{scan_of};
 ghost use Rattle.iio_layout.specs.Shape.{count_of, width_of};
 ghost use Rattle.iio_demux.specs.Table.{AreInOrder, AreMerged, channel_entries, continues, copied, covers, merged, source_of, table_of};
 
 use iio_base::Mem;
-use iio_layout::{MAX_CHANNELS, Shape, scan_size};
+use iio_layout::{MAX_CHANNELS, Shape};
 use iio_mask::Mask;
+use iio_scan_type::MAX_CHANNEL_SIZE;
 use std::alloc::Global;
 use std::marker::Model;
 
@@ -30,20 +33,22 @@ impl Entry {
             && next.to.checked_sub(self.to) == Some(self.length)
     }
 
-    // Copies the entry's bytes, with zero bytes before them from byte `start` on, and answers where they end.
+    // Copies the entry's bytes, and answers where they end. From byte `start` on, which is no byte behind them, all bytes
+    // are zero.
     fn copy(self, start: usize, scan: &[u8], out: &mut [u8]) -> usize
         requires start { start ≤ self.to }
         requires from { self.from + self.length ≤ length scan.now }
         requires to { self.to + self.length ≤ length out.old }
+        requires zero { (j : ℕ) → start ≤ j → slice_index out.old j ≡ 0 }
         ensures end { result ≡ self.to + self.length }
         ensures kept { (j : ℕ) → j < start → slice_index out.new j ≡ slice_index out.old j }
         ensures gap { (j : ℕ) → start ≤ j → j < self.to → slice_index out.new j ≡ 0 }
         ensures bytes { (j : ℕ) → covers self j ≡ true → slice_index out.new j ≡ source_of self scan.now j }
+        ensures later { (j : ℕ) → self.to + self.length ≤ j → slice_index out.new j ≡ 0 }
     {
         let from = self.from as usize;
         let to = self.to as usize;
         let length = self.length as usize;
-        out[start..to].fill(0);
         out[to..to + length].copy_from_slice(&scan[from..from + length]);
         to + length
     }
@@ -102,9 +107,9 @@ impl Table {
         let holds = buffer.within(active);
         prove!(holds);
         self.entries.clear();
-        push_entries(shape, active, buffer, &mut self.entries);
-        self.active_size = scan_size(shape, active);
-        self.buffer_size = scan_size(shape, buffer);
+        let sizes = push_entries(shape, active, buffer, &mut self.entries);
+        self.active_size = sizes.active;
+        self.buffer_size = sizes.buffer;
     }
 
     /// Writes the buffer's scan: each entry's bytes of the active scan at their place, and zero bytes elsewhere,
@@ -142,16 +147,40 @@ fn push_merged(entries: &mut Vec<Entry>, entry: Entry)
     entries.push_reserved(entry);
 }
 
-// Lists the entries of all channels of the buffer's mask, each of which is in the active mask.
-fn push_entries(shape: &Shape, active: Mask, buffer: Mask, entries: &mut Vec<Entry>)
+// The sizes of a table's two scans.
+#[derive(Clone, Copy)]
+struct Sizes {
+    active: u32,
+    buffer: u32,
+}
+
+// The size of a scan whose last channel ends there, and whose largest has that size: 0 where there is none.
+fn padded_size(end: u32, largest: u32) -> u32
+    requires end { end < 2 ^ 31 }
+    requires few { largest ≤ MAX_CHANNEL_SIZE }
+    ensures { result ≡ next_multiple_of end largest }
+{
+    if largest == 0 {
+        return end;
+    }
+    end.next_multiple_of(largest)
+}
+
+// Lists the entries of all channels of the buffer's mask, each of which is in the active mask, and answers the sizes of the
+// scans.
+fn push_entries(shape: &Shape, active: Mask, buffer: Mask, entries: &mut Vec<Entry>) -> Sizes
     requires within { (c : ℕ) → IsTrue (has buffer.bits c) → IsTrue (has active.bits c) }
     requires none { entries.old.items ≡ [] }
     requires room { MAX_CHANNELS ≤ vec_capacity entries.old }
     ensures items { entries.new.items ≡ merged (channel_entries shape.now active.bits buffer.bits (count_of shape.now)) }
+    ensures active { result.active ≡ scan_size shape.now active.bits }
+    ensures buffer { result.buffer ≡ scan_size shape.now buffer.bits }
     ensures capacity { vec_capacity entries.new ≡ vec_capacity entries.old }
 {
     let mut active_end: u32 = 0;
+    let mut active_largest: u32 = 0;
     let mut buffer_end: u32 = 0;
+    let mut buffer_largest: u32 = 0;
     for c in 0..shape.count() {
         if !active.contains(c) {
             continue;
@@ -159,21 +188,18 @@ fn push_entries(shape: &Shape, active: Mask, buffer: Mask, entries: &mut Vec<Ent
         let length = shape.scan_type(c).size();
         let from = active_end.next_multiple_of(length);
         active_end = from + length;
+        active_largest = active_largest.max(length);
         if buffer.contains(c) {
             let to = buffer_end.next_multiple_of(length);
             buffer_end = to + length;
+            buffer_largest = buffer_largest.max(length);
             push_merged(entries, Entry { from, to, length });
         }
     }
-}
-
-// Writes zero bytes from byte `start` on.
-fn zero_from(start: usize, out: &mut [u8])
-    requires { start ≤ length out.old }
-    ensures kept { (j : ℕ) → j < start → slice_index out.new j ≡ slice_index out.old j }
-    ensures zero { (j : ℕ) → start ≤ j → slice_index out.new j ≡ 0 }
-{
-    out[start..].fill(0);
+    Sizes {
+        active: padded_size(active_end, active_largest),
+        buffer: padded_size(buffer_end, buffer_largest),
+    }
 }
 
 // Writes what the entries make of the active scan.
@@ -181,9 +207,9 @@ fn copy_entries(entries: &[Entry], scan: &[u8], out: &mut [u8])
     requires { AreInOrder (length scan.now) (length out.old) 0 entries.now }
     ensures { out.new ≡ copied entries.now scan.now (length out.old) }
 {
+    out.fill(0);
     let mut end = 0;
     for entry in entries {
         end = entry.copy(end, scan, out);
     }
-    zero_from(end, out);
 }

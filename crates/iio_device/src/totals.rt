@@ -1,6 +1,6 @@
 //! What a device's queues gave and lost in all.
 
-ghost use Rattle.std.specs.Prelude.{◌≡◌, ◌<◌, ◌^◌, IfSome, length};
+ghost use Rattle.std.specs.Prelude.{◌≡◌, ◌<◌, ◌≤◌, ◌^◌, IfSome, length};
 ghost use Rattle.std.specs.List.{sum};
 ghost use Rattle.iio_device.specs.Totals.{no_totals, with_lost, with_scan, with_taken};
 
@@ -17,16 +17,34 @@ pub struct Totals {
     pub lost: Sum,
 }
 
+// So few bytes have a sum below 2^16.
+const PIECE: usize = 256;
+
+// The sum of at most that many bytes. In 16 bits it is reckoned for several bytes at once.
+fn piece_sum(bytes: &[u8]) -> u16
+    requires { length bytes.now ≤ PIECE }
+    ensures { result ≡ sum bytes.now }
+{
+    let mut total = 0;
+    for byte in bytes {
+        total += u16::from(*byte);
+    }
+    total
+}
+
 // The sum of some bytes.
 fn byte_sum(bytes: &[u8]) -> u64
     requires { length bytes.now < 2 ^ 32 }
     ensures { result ≡ sum bytes.now }
 {
     let mut total = 0;
-    for byte in bytes {
-        total += u64::from(*byte);
+    let mut rest = bytes;
+    while rest.len() > PIECE {
+        let (piece, later) = rest.split_at(PIECE);
+        total += u64::from(piece_sum(piece));
+        rest = later;
     }
-    total
+    total + u64::from(piece_sum(rest))
 }
 
 impl Totals {

@@ -4,4 +4,6 @@ pub mod FeedLemmas
 pub mod DescriptionLaws
 pub mod StepLaws
 pub mod MadeLaws
+pub mod TallyLaws
+pub mod SummaryLaws
 mod Worked

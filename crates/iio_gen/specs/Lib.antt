@@ -1,3 +1,4 @@
 pub mod Generator
 pub mod Input
 pub mod Law
+pub mod Summary

@@ -1,4 +1,4 @@
-//! A large input from a number: a description, and twenty thousand steps of a script.
+//! A large input from a number: a description, and twenty thousand steps of a script; and what it counts.
 #![tactic(auto)]
 
 ghost use Rattle.std.specs.Prelude.{◌≡◌, IfOk};
@@ -10,12 +10,14 @@ mod digits;
 mod feeds;
 mod generator;
 mod steps;
+mod summary;
 
 use crate::description::push_description;
 use crate::generator::Generator;
 use crate::steps::push_steps;
 pub use iio_base::Mem;
 use std::alloc::Global;
+pub use summary::gen_;
 
 // What most inputs need, in bytes.
 const ROOM: usize = 524_288;

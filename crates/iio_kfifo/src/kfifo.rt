@@ -1,17 +1,19 @@
 //! A queue of scans in one block of memory.
 
-ghost use Rattle.std.specs.Prelude.{◌≡◌, ℕ, ◌+◌, ◌*◌, ◌≤◌, ◌<◌, ◌-◌, ◌^◌, [], length, IfOk, MatchBool};
+ghost use Rattle.std.specs.Prelude.{◌≡◌, ℕ, ◌+◌, ◌*◌, ◌≤◌, ◌<◌, ◌-◌, ◌^◌, ◌++◌, [], length, take, drop, vec_capacity, IfOk, MatchBool};
+ghost use Rattle.iio_kfifo.specs.Ring.{first_after, slot_after};
 
 use crate::tail::{Offered, Tail};
-use circular_buffer::HeapCircularBuffer;
 use iio_base::Mem;
 use std::alloc::Global;
 use std::marker::Model;
 
-/// A queue of whole scans: the bytes of those that wait, one after another, in a ring.
+/// A queue of whole scans, in a ring of slots. A slot's bytes are there once a scan was written to it.
 #[derive(Debug, Drop)]
 pub struct Kfifo {
-    bytes: HeapCircularBuffer<u8>,
+    bytes: Vec<u8>,
+    // The slot of the oldest scan that waits; 0 where none does.
+    first: u32,
     waiting: u32,
     taken: u64,
     lost: u64,
@@ -20,14 +22,69 @@ pub struct Kfifo {
 }
 
 impl Model for Kfifo {
-    ghost use Rattle.std.specs.Prelude.{◌≡◌, ◌*◌, ◌≤◌, length};
+    ghost use Rattle.std.specs.Prelude.{◌*◌, length, vec_capacity};
     ghost use Rattle.iio_kfifo.specs.Queue.{Queue, scans_in};
+    ghost use Rattle.iio_kfifo.specs.Ring.{IsRing, bytes_from};
 
     ghost Value = { Queue };
 
-    ghost view = { λ q. record { scans = scans_in q.size q.waiting q.bytes.items; taken = q.taken; lost = q.lost; size = q.size; capacity = q.capacity } };
+    ghost view = { λ q. record { scans = scans_in q.size q.waiting (bytes_from (q.first * q.size) q.bytes.items); taken = q.taken; lost = q.lost; size = q.size; capacity = q.capacity } };
 
-    ghost invariant = { λ q. (length q.bytes.items ≡ q.waiting * q.size) × (q.bytes.capacity ≡ q.capacity * q.size) × (q.waiting ≤ q.capacity) };
+    ghost invariant = { λ q. IsRing q.first q.waiting q.size q.capacity (length q.bytes.items) (vec_capacity q.bytes) };
+}
+
+// The slot that comes so many after another, of so many slots in a ring.
+fn slot_after(slot: u32, count: u32, slots: u32) -> u32
+    requires slot { slot < slots }
+    requires count { count ≤ slots }
+    ensures value { result ≡ slot_after slot count slots }
+    ensures within { result < slots }
+{
+    let to_end = slots - slot;
+    if count < to_end {
+        slot + count
+    } else {
+        count - to_end
+    }
+}
+
+// The first scan's slot once that was taken, by how many scans are left. With none the ring begins anew, so that a queue
+// that is read often uses few bytes.
+fn first_after(first: u32, left: u32, slots: u32) -> u32
+    requires { first < slots }
+    ensures value { result ≡ first_after first left slots }
+    ensures within { result < slots }
+{
+    if left == 0 {
+        return 0;
+    }
+    slot_after(first, 1, slots)
+}
+
+// Writes a scan from byte `start` on, over the bytes that stand there. There may be fewer than it has.
+fn write_at(bytes: &mut Vec<u8>, start: usize, scan: &[u8])
+    requires start { start ≤ length bytes.old.items }
+    requires room { start + length scan.now ≤ vec_capacity bytes.old }
+    ensures items { bytes.new.items ≡ take start bytes.old.items ++ scan.now ++ drop (start + length scan.now) bytes.old.items }
+    ensures room { vec_capacity bytes.old ≤ vec_capacity bytes.new }
+{
+    if bytes.len() - start < scan.len() {
+        write_last(bytes, start, scan);
+    } else {
+        bytes[start..start + scan.len()].copy_from_slice(scan);
+    }
+}
+
+// Writes a scan from byte `start` on, as the last of the bytes.
+#[cold]
+fn write_last(bytes: &mut Vec<u8>, start: usize, scan: &[u8])
+    requires start { start ≤ length bytes.old.items }
+    requires room { start + length scan.now ≤ vec_capacity bytes.old }
+    ensures items { bytes.new.items ≡ take start bytes.old.items ++ scan.now }
+    ensures room { vec_capacity bytes.old ≤ vec_capacity bytes.new }
+{
+    bytes.truncate(start);
+    let _ = bytes.extend_from_slice(scan);
 }
 
 impl Kfifo {
@@ -46,9 +103,10 @@ impl Kfifo {
           capacity = capacity;
         }) }
     {
-        let bytes = HeapCircularBuffer::with_capacity(alloc, capacity as usize * size as usize)?;
+        let bytes = Vec::with_capacity(alloc, capacity as usize * size as usize)?;
         Ok(Kfifo {
             bytes,
+            first: 0,
             waiting: 0,
             taken: 0,
             lost: 0,
@@ -67,8 +125,11 @@ impl Kfifo {
         if self.waiting == 0 {
             return false;
         }
-        self.bytes.read_into(out);
+        let size = self.size as usize;
+        let start = self.first as usize * size;
+        out.copy_from_slice(&self.bytes[start..start + size]);
         self.waiting -= 1;
+        self.first = first_after(self.first, self.waiting, self.capacity);
         true
     }
 
@@ -99,7 +160,8 @@ impl Tail for Kfifo {
             self.lost += 1;
             return Offered::Lost;
         }
-        self.bytes.fill_from_slice(scan);
+        let slot = slot_after(self.first, self.waiting, self.capacity);
+        write_at(&mut self.bytes, slot as usize * self.size as usize, scan);
         self.waiting += 1;
         self.taken += 1;
         Offered::Taken

@@ -14,3 +14,4 @@ pub mod EndLaws
 pub mod StepLaws
 pub mod RunLaws
 pub mod OutcomeLaws
+pub mod TallyLaws

@@ -13,6 +13,7 @@ use Rattle.iio_history.specs.Event.{Event}
 use Rattle.iio_history.specs.Outcome.{Outcome, only_ending, outcome_of_script}
 use Rattle.iio_history.specs.Registry.{Setup}
 use Rattle.iio_history.specs.Script.{Ending, Finished, Refused, Script, ending_text, first_step, is_known, keeps_names, max_names, names_after, script_from, script_text, step_of}
+use Rattle.iio_script.specs.Steps.{with_steps}
 use Rattle.iio_history.specs.Transcript.{Step, Feed, Fire, Poll, Handle, Sense, SetClock, Drop, Unplug, lines_of_step, transcript, with_step}
 use Rattle.iio_system.specs.declared.system.System.{System}
 use Rattle.iio_system.specs.Standing.{StandsFor, has_room, names_by, names_with}
@@ -103,6 +104,7 @@ module _ {X : Type 0} {V : X → Type 0} (driver : Plug X V → Driver) where
     same = subst (AreSame []) (sym none) (record { known = λ name. refl; count = refl });
     printed = λ ending lines. refl;
     ends = λ ending lines. refl;
+    history = λ ending lines. refl;
   }
 
   -- a line that means nothing
@@ -119,6 +121,9 @@ module _ {X : Type 0} {V : X → Type 0} (driver : Plug X V → Driver) where
     ends = λ ending lines.
         sym (ap (λ (script : Script). script.ending) (means_nothing s.desc ending plays.names n line lines said)) ∙ plays.ends ending (line ∷ lines)
         ∙ sym (ap (λ ls. (script_from s.desc ending [] first ls).ending) (append_assoc given (line ∷ []) lines));
+    history = λ ending lines.
+        sym (ap (λ (script : Script). with_steps s plays.done script.steps) (means_nothing s.desc ending plays.names n line lines said)) ∙ plays.history ending (line ∷ lines)
+        ∙ sym (ap (λ ls. with_steps s [] (script_from s.desc ending [] first ls).steps) (append_assoc given (line ∷ []) lines));
   }
 
   -- a step that was made
@@ -147,6 +152,9 @@ module _ {X : Type 0} {V : X → Type 0} (driver : Plug X V → Driver) where
         ends = λ ending lines.
             sym (ap (λ (script : Script). script.ending) (says_step s.desc ending plays.names n line lines step said keeps)) ∙ plays.ends ending (line ∷ lines)
             ∙ sym (ap (λ ls. (script_from s.desc ending [] first ls).ending) (append_assoc given (line ∷ []) lines));
+        history = λ ending lines.
+            sym (ap (λ (script : Script). with_steps s plays.done script.steps) (says_step s.desc ending plays.names n line lines step said keeps)) ∙ plays.history ending (line ∷ lines)
+            ∙ sym (ap (λ ls. with_steps s [] (script_from s.desc ending [] first ls).steps) (append_assoc given (line ∷ []) lines));
       }
 
   -- ---- the end
@@ -187,6 +195,13 @@ module _ {X : Type 0} {V : X → Type 0} (driver : Plug X V → Driver) where
       → Finishes (outcome_of_script s (script_from s.desc ending [] first (given ++ line ∷ lines))) status [] after
   plays_long s x text after first n given line lines ending status long plays f =
       plays_refused s x text after first n given line lines Long ending status (rw long refl) plays f
+
+  -- and stands for the history of its steps
+  pub plays_done : (s : Setup) (x : System X V) (text : List ℕ) (first n : ℕ) (given : List (List ℕ)) (ending : Ending) → Plays driver s x text first n given
+      → StandsFor driver s (with_steps s [] (script_from s.desc ending [] first given).steps) x
+  plays_done s x text first n given ending plays =
+      subst (λ (h : List Event). StandsFor driver s h x)
+      (plays.history ending [] ∙ ap (λ ls. with_steps s [] (script_from s.desc ending [] first ls).steps) (append-nil given)) plays.stands
 
   -- what was printed is a front part of what any script prints that goes on so
   pub plays_front : (s : Setup) (x : System X V) (text : List ℕ) (first n : ℕ) (given lines : List (List ℕ)) (ending : Ending) → Plays driver s x text first n given

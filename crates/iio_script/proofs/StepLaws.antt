@@ -11,7 +11,9 @@ use Rattle.iio_history.specs.Input.{input_limit, is_overlong, looked_lines}
 use Rattle.iio_history.specs.Outcome.{Outcome, last_ending, only_ending, outcome_of_script}
 use Rattle.iio_history.specs.Registry.{Setup}
 use Rattle.iio_history.specs.Script.{Ending, Refused, script_from}
+use Rattle.iio_script.specs.Steps.{with_steps}
 use Rattle.iio_system.specs.declared.system.System.{System}
+use Rattle.iio_system.specs.Standing.{StandsFor}
 use Rattle.iio_script.specs.declared.line_reader.Found.TheVariants as found
 use Rattle.iio_script.specs.declared.status.Status.{Status}
 use Rattle.iio_script.specs.declared.status.Status.TheVariants as status
@@ -20,7 +22,7 @@ use Rattle.iio_script.specs.LineReader.{Follows, Hand, HasLine, IsCut, IsDone, I
 use Rattle.iio_script.specs.Plays.{EndsSteps, FinishesAt, IsFrontOf, IsRefusedWith, Plays, TakesFor}
 use Rattle.iio_script.proofs.EndLaws.{sends_more}
 use Rattle.iio_script.proofs.FollowLaws.{cut_line, follows_begin, long_line, near, next_line, no_line, takes_at_most, whole_lines}
-use Rattle.iio_script.proofs.PlayLaws.{behind_sent, plays_all, plays_front, plays_last, plays_long}
+use Rattle.iio_script.proofs.PlayLaws.{behind_sent, plays_all, plays_done, plays_front, plays_last, plays_long}
 
 pub same_rest : {A : Type 0} (front one other : List A) → front ++ one ≡ front ++ other → one ≡ other
 same_rest front one other same = sym (drop-append_seam front one) ∙ ap (drop (length front)) same ∙ drop-append_seam front other
@@ -211,6 +213,16 @@ module _ {X : Type 0} {V : X → Type 0} (driver : Plug X V → Driver) where
       let none = no_line input (front ++ so.given) h' left' is done now in
       ends_last s x kept kept' first n h h' left left' written written' front more input false status.Done looked so none.0 none.1
       (takes_at_most input (front ++ so.given) h' left' is now) (record { end = tt; ends = refl; printed = same ∙ sym (append-nil kept) })
+
+  -- the system then stands for the history of the script's steps
+  pub stands_done : (s : Setup) (x : System X V) (kept : List ℕ) (first n : ℕ) (h h' : Hand) (left left' written written' : Option (List ℕ)) (front more : List (List ℕ)) (input : List ℕ)
+      → IsHand h' → IsDone h' → Follows input front h left → looked_lines input ≡ front ++ more → SoFar s x kept first n h h' left left' written written'
+      → StandsFor driver s (with_steps s [] (script_from s.desc (last_ending (is_overlong input)) [] first more).steps) x
+  stands_done s x kept first n h h' left left' written written' front more input is done follows looked so =
+      let none = no_line input (front ++ so.given) h' left' is done (so.follows input front follows) in
+      let lines : more ≡ so.given = same_rest front more so.given (sym looked ∙ none.0) in
+      subst (λ (ls : List (List ℕ)). StandsFor driver s (with_steps s [] (script_from s.desc (last_ending (is_overlong input)) [] first ls).steps) x) (sym lines)
+      (plays_done driver s x (so.sent ++ kept) first n so.given (last_ending (is_overlong input)) so.plays)
 
   -- the end of what is looked at
   pub ends_cut : (s : Setup) (x : System X V) (kept kept' : List ℕ) (first n : ℕ) (h h' : Hand) (left left' written written' : Option (List ℕ)) (front more : List (List ℕ)) (input : List ℕ) (st : Status)

@@ -8,6 +8,7 @@ use Rattle.iio_history.specs.Input.{ended_part}
 use Rattle.iio_history.specs.Outcome.{Outcome, outcome_of_script}
 use Rattle.iio_history.specs.Registry.{Setup}
 use Rattle.iio_history.specs.Script.{Ending, Finished, Script, ending_text, is_known, script_from, script_text}
+use Rattle.iio_script.specs.Steps.{with_steps}
 use Rattle.iio_history.specs.Transcript.{transcript}
 use Rattle.iio_system.specs.declared.system.System.{System}
 use Rattle.iio_system.specs.Standing.{StandsFor, names_by}
@@ -35,6 +36,8 @@ module _ {X : Type 0} {V : X → Type 0} (driver : Plug X V → Driver) where
     pub same : AreSame names (names_by x)
     pub printed : (ending : Ending) (lines : List (List ℕ)) → text ++ text_after s done (script_from s.desc ending names n lines) ≡ script_text s (script_from s.desc ending [] first (given ++ lines))
     pub ends : (ending : Ending) (lines : List (List ℕ)) → (script_from s.desc ending names n lines).ending ≡ (script_from s.desc ending [] first (given ++ lines)).ending
+    pub history : (ending : Ending) (lines : List (List ℕ))
+        → with_steps s done (script_from s.desc ending names n lines).steps ≡ with_steps s [] (script_from s.desc ending [] first (given ++ lines)).steps
 
   -- a line was played; or it is refused, and its end was printed
   abbrev pub PlaysLine : Setup → System X V → (text : List ℕ) (first n : ℕ) (given : List (List ℕ)) → (line : List ℕ) → Option Status → Type 0

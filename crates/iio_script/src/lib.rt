@@ -10,6 +10,7 @@ mod script;
 mod status;
 mod step;
 mod step_word;
+mod stop;
 
 pub use digits::push_digits;
 pub use ends::{end_cut, end_refused, end_with, push_refused};
@@ -20,3 +21,4 @@ pub use opening::{Opening, open};
 pub use script::play;
 pub use status::Status;
 pub use step::read_step;
+pub use stop::{Stop, tally};

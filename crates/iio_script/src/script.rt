@@ -1,6 +1,6 @@
 //! Playing an input: its description, and then its steps.
 
-ghost use Rattle.std.specs.Prelude.{◌≡◌, ◌+◌, ◌*◌, ◌^◌, ◌≤◌, ◌<◌, [], ◌∷◌, ◌++◌, ℕ, Err, IfErr, IfOk, IfSome, IfNone, None, Some, List, OnErr, OnOk, Option, length, map};
+ghost use Rattle.std.specs.Prelude.{◌≡◌, ◌+◌, ◌*◌, ◌^◌, ◌≤◌, ◌<◌, [], ◌∷◌, ◌++◌, ℕ, Ok, Err, IfErr, IfOk, IfSome, IfNone, None, Some, List, OnErr, OnOk, Option, length, map};
 ghost use Rattle.iio_base.specs.Faults.{Rose};
 ghost use Rattle.iio_io.specs.Bytes.{TakesAtMost};
 ghost use Rattle.iio_desc.specs.WellFormed.{IsWellFormed};
@@ -9,6 +9,7 @@ ghost use Rattle.iio_history.specs.Input.{input_limit, is_overlong, looked_lines
 ghost use Rattle.iio_history.specs.Outcome.{last_ending, outcome_of, outcome_of_script};
 ghost use Rattle.iio_history.specs.Registry.{Setup};
 ghost use Rattle.iio_history.specs.Script.{keeps_names, script_from};
+ghost use Rattle.iio_script.specs.Steps.{with_steps};
 ghost use Rattle.iio_system.specs.Bench.{front_of};
 ghost use Rattle.iio_system.specs.Standing.{StandsFor, names_by};
 ghost use Rattle.iio_system.specs.Step.{step_view};
@@ -117,7 +118,7 @@ fn write_ready<K: Sink>(
 
 // The steps of a script from a line on, at a core before the first step. What is printed is written in pieces, and all of it
 // before a read. An `Ok` has bytes in `out` to be written yet; its status is that of the script, or tells a failed read.
-fn play_steps<S: Source, K: Sink>(
+pub(crate) fn play_steps<S: Source, K: Sink>(
     alloc: Global,
     system: &mut System,
     names: &Desc,
@@ -139,6 +140,9 @@ fn play_steps<S: Source, K: Sink>(
         → (sent : List ℕ) × (IfSome (K.written output.old) (λ written. K.written output.new ≡ Some (written ++ sent)))
         × EndsSteps s first front (outcome_of_script s (script_from s.desc (last_ending (is_overlong input')) [] first more)) input' result sent out.new.items (S.left input.new)
         × TakesAtMost input' (input_limit + 1) (S.left input.new) }
+    ensures stands { result ≡ Ok Status.Done → (s : Setup) (input' : List ℕ) (front more : List (List ℕ)) → StandsFor ⟦<Plug as Sensor>⟧.driver s [] system.old → FindsSame names.now s.desc
+        → Follows input' front lines.old (S.left input.old) → looked_lines input' ≡ front ++ more
+        → StandsFor ⟦<Plug as Sensor>⟧.driver s (with_steps s [] (script_from s.desc (last_ending (is_overlong input')) [] first more).steps) system.new }
     ensures over { IsOver result }
     ensures read_fault { result ≡ Ok Status.ReadFault → Rose (S.faults input.old) (S.faults input.new) }
     ensures steady { IfOk result (λ _. K.faults output.new ≡ K.faults output.old) }

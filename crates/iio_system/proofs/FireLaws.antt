@@ -31,7 +31,7 @@ use Rattle.iio_system.specs.Bench.{front_of as bench_front, machine_of as bench_
 use Rattle.iio_system.specs.Handling.{entry_answer, entry_machine}
 use Rattle.iio_system.specs.Lines.{handled_word, polled_words}
 use Rattle.iio_system.specs.Moves.{CanGoOn, HandlesAll, HandlesOne, InOrder, Plays, handling_of, handlings}
-use Rattle.iio_system.specs.Places.{TriggerRecord, entries_from, entry_of, first_trigger, handled, is_first, poll_answer, polled, trigger_of}
+use Rattle.iio_system.specs.Places.{TriggerRecord, entries_from, entry_of, first_due, first_trigger, handled, poll_answer, polled, trigger_of}
 use Rattle.iio_system.specs.Seat.{seen_of}
 use Rattle.iio_system.specs.Standing.{CanCapture, Holds, RiseBy, handed_by, trigger_by}
 use Rattle.iio_system.specs.Station.{front_by, station_by}
@@ -140,18 +140,22 @@ entries_in ts trigger = ap (λ (o : Option TriggerRecord). (unwrap_or o first_tr
     by None = refl
     by (Some t) = refl
 
--- a device that isn't the first one's comes before the entries that are left
-order_skip : (dev high : ℕ) (es : List Entry) → dev < high → is_first dev (map handed_by es) ≡ false → InOrder dev high es → InOrder (suc dev) high es
-order_skip dev high [] less other order = omega (arith, less)
-order_skip dev high (e ∷ es) less other order =
-    let h = order.0 in
-    let apart : e.device ≡ dev → ⊥ = λ same. absurd (grind (arith, nat_tests)) in
-    (grind (arith, nat_tests), order.1)
+no_first : (es : List Entry) → first_due (map handed_by es) ≡ None → es ≡ []
+no_first [] none = refl
+no_first (e ∷ es) none = absurd (cc)
+
+-- the first of entries below `high` is below it
+first_below : (dev low high : ℕ) (es : List Entry) → first_due (map handed_by es) ≡ Some dev → InOrder low high es → dev < high
+first_below dev low high [] first order = absurd (cc)
+first_below dev low high (e ∷ es) first order =
+    let same : e.device ≡ dev = cc in
+    let h = order_bound (suc e.device) high es order.1 in
+    omega (arith, h, same)
 
 -- ---- handlings one after another
 
 module _ {X : Type 0} {V : X → Type 0} (driver : Plug X V → Driver) where
-  -- the handlings of the devices below `low` are done: those of the entries that are left make up the rest
+  -- some handlings are done: those of the entries that are left, of devices from `low` on, make up the rest
   pub record IsLeft (s : Setup) (m : Told) (trigger low high : ℕ) (b : Bench X V) (cs : List (Connection Seat)) (before now : List ℕ) : Type 0 where
     pub state : Told
     pub entries : List Entry
@@ -165,87 +169,69 @@ module _ {X : Type 0} {V : X → Type 0} (driver : Plug X V → Driver) where
       → IsLeft s m trigger 0 high b cs before before
   left_first s m trigger high b cs before h order = record { state = m; entries = entries_at m.triggers trigger; there = refl; holds = h; order = order; text = refl; last = refl }
 
-  pub left_last : (s : Setup) (m : Told) (trigger low high : ℕ) (b : Bench X V) (cs : List (Connection Seat)) (before now : List ℕ) → high ≤ low → IsLeft s m trigger low high b cs before now
-      → Plays driver (handlings trigger) s m trigger b cs before now
-  left_last s m trigger low high b cs before now past x =
-      let none : x.entries ≡ [] = order_none low high x.entries past x.order in (
-        sym (x.text ∙ ap (λ (es : List Entry). now ++ texts s x.state (handlings trigger es)) none ∙ append-nil now),
-        subst (λ (n : Told). Holds driver s n b cs) (sym (x.last ∙ ap (λ (es : List Entry). steps s x.state (handlings trigger es)) none)) x.holds,
-      )
+  module _ (s : Setup) (m : Told) (trigger low high : ℕ) (b : Bench X V) (cs : List (Connection Seat)) (before now : List ℕ) (x : IsLeft s m trigger low high b cs before now) where
+    left_nothing : x.entries ≡ [] → Plays driver (handlings trigger) s m trigger b cs before now
+    left_nothing none = (
+      sym (x.text ∙ ap (λ (es : List Entry). now ++ texts s x.state (handlings trigger es)) none ∙ append-nil now),
+      subst (λ (n : Told). Holds driver s n b cs) (sym (x.last ∙ ap (λ (es : List Entry). steps s x.state (handlings trigger es)) none)) x.holds,
+    )
+
+    -- the first entry at the bench's trigger is the first that is left
+    first_left : first_due (trigger_in (triggers_of b) trigger).entries ≡ first_due (map handed_by x.entries)
+    first_left =
+        ap (λ (hs : List Handed). first_due hs)
+        (ap (λ (ts : List TriggerRecord). (trigger_in ts trigger).entries) x.holds.triggers ∙ entries_in x.state.triggers trigger ∙ ap (λ (es : List Entry). map handed_by es) x.there)
+
+    -- as many turns as there are devices leave none
+    pub left_last : high ≤ low → Plays driver (handlings trigger) s m trigger b cs before now
+    left_last past = left_nothing (order_none low high x.entries past x.order)
+
+    pub left_none : first_due (trigger_in (triggers_of b) trigger).entries ≡ None → Plays driver (handlings trigger) s m trigger b cs before now
+    left_none none = left_nothing (no_first x.entries (sym first_left ∙ none))
+
+    -- none is of a device that isn't there
+    pub left_past : (dev : ℕ) → first_due (trigger_in (triggers_of b) trigger).entries ≡ Some dev → high ≤ dev → Plays driver (handlings trigger) s m trigger b cs before now
+    left_past dev first past = let h = first_below dev low high x.entries (sym first_left ∙ first) x.order in absurd (omega (arith, h, past))
 
   -- what the handling of an entry, or of none, makes
   abbrev Took : Setup → Told → (trigger dev : ℕ) → Bench X V → List (Connection Seat) → (before after : List ℕ) → Option Entry → Type 0
   Took s n trigger dev b' cs before after o =
       (after ≡ before ++ texts s n (elim o [ None ↦ [] | Some e ↦ Handled trigger dev ∷ [] ])) × Holds driver s (steps s n (elim o [ None ↦ [] | Some e ↦ Handled trigger dev ∷ [] ])) b' cs
 
-  module _ (s : Setup) (m n : Told) (trigger dev high : ℕ) (b' : Bench X V) (cs : List (Connection Seat)) (before now after : List ℕ) where
-    next_by : (es : List Entry) → entries_at n.triggers trigger ≡ es → dev < high → InOrder dev high es
+  module _ (s : Setup) (m n : Told) (trigger dev low high : ℕ) (b' : Bench X V) (cs : List (Connection Seat)) (before now after : List ℕ) where
+    next_by : (es : List Entry) → entries_at n.triggers trigger ≡ es → first_due (map handed_by es) ≡ Some dev → InOrder low high es
         → before ++ texts s m (handlings trigger (entries_at m.triggers trigger)) ≡ now ++ texts s n (handlings trigger es)
         → steps s m (handlings trigger (entries_at m.triggers trigger)) ≡ steps s n (handlings trigger es)
-        → Took s n trigger dev b' cs now after (told_entry dev es) → IsLeft s m trigger (suc dev) high b' cs before after
-    next_by [] at less order text last took = record {
-      state = n;
-      entries = [];
-      there = at;
-      holds = took.1;
-      order = omega (arith, less);
-      text = text ∙ ap (λ (t : List ℕ). t ++ []) (sym (took.0 ∙ append-nil now));
-      last = last;
-    }
-    next_by (e ∷ es) at less order text last took = by (e.device == dev) refl
-      where
-        by : (c : Bool) → (e.device == dev) ≡ c → IsLeft s m trigger (suc dev) high b' cs before after
-        by true own =
-            let same : e.device ≡ dev = grind (arith, nat_tests) in
-            let took' = subst (λ (o : Option Entry). Took s n trigger dev b' cs now after o) (ap (λ (c : Bool). cond c (Some e) (told_entry dev es)) own) took in
-            let ev = event_text s n (Handled trigger dev) in
-            record {
-              state = step s n (Handled trigger dev);
-              entries = es;
-              there =
-                  ap (λ (ts : List Trigger). entries_at ts trigger) (triggers_are s n (Handled trigger dev)) ∙ entries_placed (told_handled dev) (told_without dev) (λ t. refl) trigger n.triggers (λ past. refl)
-                  ∙ ap (λ (xs : List Entry). told_without dev xs) at ∙ ap (λ (c : Bool). cond c (told_without dev es) (e ∷ told_without dev es)) own
-                  ∙ without_none dev es (entry_none dev (suc e.device) high es (omega (arith, same)) order.1);
-              holds = took'.1;
-              order = subst (λ (d : ℕ). InOrder (suc d) high es) same order.1;
-              text =
-                  text ∙ ap (λ (d : ℕ). now ++ (event_text s n (Handled trigger d) ++ texts s (step s n (Handled trigger d)) (handlings trigger es))) same
-                  ∙ sym (append_assoc now ev (texts s (step s n (Handled trigger dev)) (handlings trigger es)))
-                  ∙ ap (λ (t : List ℕ). t ++ texts s (step s n (Handled trigger dev)) (handlings trigger es)) (ap (λ (t : List ℕ). now ++ t) (sym (append-nil ev)) ∙ sym took'.0);
-              last = last ∙ ap (λ (d : ℕ). steps s (step s n (Handled trigger d)) (handlings trigger es)) same;
-            }
-        by false other =
-            let h = order.0 in
-            let apart : e.device ≡ dev → ⊥ = λ same. absurd (grind (arith, nat_tests)) in
-            let later : InOrder (suc dev) high (e ∷ es) = (grind (arith, nat_tests), order.1) in
-            let took' = subst (λ (o : Option Entry). Took s n trigger dev b' cs now after o) (entry_none dev (suc dev) high (e ∷ es) (omega arith) later) took in
-            record {
-              state = n;
-              entries = e ∷ es;
-              there = at;
-              holds = took'.1;
-              order = later;
-              text = text ∙ ap (λ (t : List ℕ). t ++ texts s n (handlings trigger (e ∷ es))) (sym (took'.0 ∙ append-nil now));
-              last = last;
-            }
+        → Took s n trigger dev b' cs now after (told_entry dev es) → IsLeft s m trigger (low + 1) high b' cs before after
+    next_by [] at first order text last took = absurd (cc)
+    next_by (e ∷ es) at first order text last took =
+        let same : e.device ≡ dev = cc in
+        let own : (e.device == dev) ≡ true = grind (arith, nat_tests) in
+        let from = order.0 in
+        let took' = subst (λ (o : Option Entry). Took s n trigger dev b' cs now after o) (ap (λ (c : Bool). cond c (Some e) (told_entry dev es)) own) took in
+        let ev = event_text s n (Handled trigger dev) in
+        record {
+          state = step s n (Handled trigger dev);
+          entries = es;
+          there =
+              ap (λ (ts : List Trigger). entries_at ts trigger) (triggers_are s n (Handled trigger dev)) ∙ entries_placed (told_handled dev) (told_without dev) (λ t. refl) trigger n.triggers (λ past. refl)
+              ∙ ap (λ (xs : List Entry). told_without dev xs) at ∙ ap (λ (c : Bool). cond c (told_without dev es) (e ∷ told_without dev es)) own
+              ∙ without_none dev es (entry_none dev (suc e.device) high es (omega (arith, same)) order.1);
+          holds = took'.1;
+          order = order_from (low + 1) (suc e.device) high es (omega (arith, from)) order.1;
+          text =
+              text ∙ ap (λ (d : ℕ). now ++ (event_text s n (Handled trigger d) ++ texts s (step s n (Handled trigger d)) (handlings trigger es))) same
+              ∙ sym (append_assoc now ev (texts s (step s n (Handled trigger dev)) (handlings trigger es)))
+              ∙ ap (λ (t : List ℕ). t ++ texts s (step s n (Handled trigger dev)) (handlings trigger es)) (ap (λ (t : List ℕ). now ++ t) (sym (append-nil ev)) ∙ sym took'.0);
+          last = last ∙ ap (λ (d : ℕ). steps s (step s n (Handled trigger d)) (handlings trigger es)) same;
+        }
 
-  pub left_next : (s : Setup) (m : Told) (trigger dev high : ℕ) (b b' : Bench X V) (cs : List (Connection Seat)) (before now after : List ℕ) → dev < high → IsLeft s m trigger dev high b cs before now
-      → HandlesOne driver trigger dev b b' cs now after → IsLeft s m trigger (dev + 1) high b' cs before after
-  left_next s m trigger dev high b b' cs before now after less x one =
-      let one_more : suc dev ≡ dev + 1 = omega arith in
-      subst (λ (d : ℕ). IsLeft s m trigger d high b' cs before after) one_more
-      (next_by s m x.state trigger dev high b' cs before now after x.entries x.there less x.order x.text x.last
-      (subst (λ (es : List Entry). Took s x.state trigger dev b' cs now after (told_entry dev es)) x.there
-      (one s x.state x.holds high less (subst (λ (es : List Entry). InOrder dev high es) (sym x.there) x.order))))
-
-  -- a device that isn't the first one's has none
-  pub plays_skipped : (s : Setup) (m : Told) (trigger dev high : ℕ) (b : Bench X V) (cs : List (Connection Seat)) (before : List ℕ) → is_first dev (trigger_in (triggers_of b) trigger).entries ≡ false
-      → Holds driver s m b cs → dev < high → InOrder dev high (entries_at m.triggers trigger) → Plays driver (handling_of trigger dev) s m trigger b cs before before
-  plays_skipped s m trigger dev high b cs before other h less order =
-      let es = entries_at m.triggers trigger in
-      let told : is_first dev (map handed_by es) ≡ false = sym (ap (λ (hs : List Handed). is_first dev hs) (ap (λ (ts : List TriggerRecord). (trigger_in ts trigger).entries) h.triggers ∙ entries_in m.triggers trigger)) ∙ other in
-      let none : told_entry dev es ≡ None = entry_none dev (suc dev) high es (omega arith) (order_skip dev high es less told order) in
-      subst (λ (o : Option Entry). Took s m trigger dev b cs before before o) (sym none) (sym (append-nil before), h)
+  -- the handling of the first entry that is left
+  pub left_next : (s : Setup) (m : Told) (trigger dev low high : ℕ) (b b' : Bench X V) (cs : List (Connection Seat)) (before now after : List ℕ) → IsLeft s m trigger low high b cs before now
+      → first_due (trigger_in (triggers_of b) trigger).entries ≡ Some dev → HandlesOne driver trigger dev b b' cs now after → IsLeft s m trigger (low + 1) high b' cs before after
+  left_next s m trigger dev low high b b' cs before now after x first one =
+      next_by s m x.state trigger dev low high b' cs before now after x.entries x.there (sym (first_left s m trigger low high b cs before now x) ∙ first) x.order x.text x.last
+      (subst (λ (es : List Entry). Took s x.state trigger dev b' cs now after (told_entry dev es)) x.there (one s x.state x.holds))
 
 -- ---- captures
 

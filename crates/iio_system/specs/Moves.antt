@@ -34,10 +34,10 @@ module _ {X : Type 0} {V : X → Type 0} (driver : Plug X V → Driver) where
   Plays events s m trigger b' cs before after =
       (after ≡ before ++ texts s m (events (entries_at m.triggers trigger))) × Holds driver s (steps s m (events (entries_at m.triggers trigger))) b' cs
 
-  -- the handling of a device's entry at a trigger, where no entry is of a device before it
+  -- the handling of a device's entry at a trigger
   abbrev pub HandlesOne : (trigger dev : ℕ) → (b b' : Bench X V) (cs : List (Connection Seat)) (before after : List ℕ) → Type 0
   HandlesOne trigger dev b b' cs before after =
-      (s : Setup) (m : Told) → Holds driver s m b cs → (high : ℕ) → dev < high → InOrder dev high (entries_at m.triggers trigger) → Plays (handling_of trigger dev) s m trigger b' cs before after
+      (s : Setup) (m : Told) → Holds driver s m b cs → Plays (handling_of trigger dev) s m trigger b' cs before after
 
   -- the handling of all entries at a trigger, which are of devices below `high` and in their order
   abbrev pub HandlesAll : (trigger high : ℕ) → (b b' : Bench X V) (cs : List (Connection Seat)) (before after : List ℕ) → Type 0

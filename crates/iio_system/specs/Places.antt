@@ -62,10 +62,10 @@ poll_answer made (e ∷ es) missed = Missed (missed_after (e ∷ es) missed)
 abbrev pub entry_of : ℕ → List Handed → Option Handed
 entry_of dev entries = find (λ (e : Handed). e.dev == dev) entries
 
--- whether the first of some entries is the device's
-abbrev pub is_first : ℕ → List Handed → Bool
-is_first dev [] = false
-is_first dev (e ∷ es) = e.dev == dev
+-- the device of the first of some entries
+abbrev pub first_due : List Handed → Option ℕ
+first_due [] = None
+first_due (e ∷ es) = Some e.dev
 
 -- the entries without the device's
 abbrev pub without_entry : ℕ → List Handed → List Handed

@@ -1,10 +1,11 @@
 //! The connections of a script.
-ghost use Rattle.std.specs.Prelude.{◌≡◌, ◌↔◌, ℕ, List, IfOk, IsTrue, OnOk, position};
+ghost use Rattle.std.specs.Prelude.{◌≡◌, ◌↔◌, ◌++◌, ℕ, List, IfOk, IsTrue, None, OnOk, position};
 ghost use Rattle.std.specs.Str.{bytes_eq};
 ghost use Rattle.iiod_grammar.specs.Stream.{AtEnd, Scanner, no_item};
 ghost use Rattle.iiod_session.specs.Desk.{IsDesk};
 ghost use Rattle.iio_history.specs.Registry.{Setup};
 ghost use Rattle.iio_history.specs.Told.{Told};
+ghost use Rattle.iio_history.specs.Transcript.{closed_line};
 ghost use Rattle.iio_system.specs.Connection.{HasHeard, IsHearing};
 ghost use Rattle.iio_system.specs.Feeding.{Feeds, IsOwning};
 
@@ -41,6 +42,18 @@ fn hear<I: Iio>(
     Ok(session.ended())
 }
 
+// A connection has ended. Appends the line of it.
+#[cold]
+#[inline(never)]
+fn end<S: Drop>(connection: &mut Connection<S>, out: &mut Vec<u8>) -> Result<(), Mem>
+    ensures name { connection.new.name ≡ connection.old.name }
+    ensures ended { connection.new.session ≡ None }
+    ensures printed { OnOk result (out.new.items ≡ out.old.items ++ closed_line connection.old.name) }
+{
+    connection.session = None;
+    push_closed(out, &connection.name)
+}
+
 // The lines of a feed, and what is left of the connection.
 pub(crate) fn feed_at<I: Iio>(
     alloc: Global,
@@ -66,8 +79,7 @@ where
     let ended = hear(alloc, iio, session, bytes, answers)?;
     push_feed(out, &connection.name, answers)?;
     if ended {
-        connection.session = None;
-        push_closed(out, &connection.name)?;
+        end(connection, out)?;
     }
     Ok(())
 }

@@ -45,6 +45,35 @@ fn connect(alloc: Global, who: usize, name: &Name) -> Result<Connection<Seat>, M
     })
 }
 
+// Feeds a connection that comes with this feed. It stands apart since its connection is large, and most feeds are others.
+#[cold]
+#[inline(never)]
+fn feed_first(
+    alloc: Global,
+    bench: &mut Bench,
+    connections: &mut Vec<Connection<Seat>>,
+    name: &Name,
+    bytes: &[u8],
+    answers: &mut Vec<u8>,
+    out: &mut Vec<u8>,
+) -> Result<(), Mem>
+    requires owned { AreOwning seen_of (front_of bench.old) connections.old.items }
+    requires few { length connections.old.items ≤ max_names }
+    requires absent { position (λ c. bytes_eq c.name name.now) connections.old.items ≡ None }
+    requires taken { has_room (map name_by connections.old.items) name.now ≡ true }
+    ensures kept { kept_of bench.new ≡ kept_of bench.old }
+    ensures owned { AreOwning seen_of (front_of bench.new) connections.new.items }
+    ensures few { length connections.new.items ≤ max_names }
+    ensures names { OnOk result (map name_by connections.new.items ≡ names_with (map name_by connections.old.items) (Feed name.now bytes.now)) }
+    ensures makes { OnOk result (MakesFeed ⟦<Plug as Sensor>⟧.driver name.now bytes.now bench.old bench.new connections.old.items connections.new.items out.old.items out.new.items) }
+{
+    connections.reserve(1)?;
+    let mut connection = connect(alloc, connections.len(), name)?;
+    let fed = feed_at(alloc, bench, &mut connection, bytes, answers, out);
+    connections.push_reserved(connection);
+    fed
+}
+
 /// Feeds the connection of that name, which comes with its first feed, and appends the lines of the feed. `answers` is
 /// room for the answers.
 pub(crate) fn feed(
@@ -67,13 +96,7 @@ pub(crate) fn feed(
 {
     match place(connections, name) {
         Some(at) => feed_at(alloc, bench, &mut connections[at], bytes, answers, out),
-        None => {
-            connections.reserve(1)?;
-            let mut connection = connect(alloc, connections.len(), name)?;
-            let fed = feed_at(alloc, bench, &mut connection, bytes, answers, out);
-            connections.push_reserved(connection);
-            fed
-        }
+        None => feed_first(alloc, bench, connections, name, bytes, answers, out),
     }
 }
 

@@ -6,7 +6,7 @@ ghost use Rattle.iiod_session.specs.Front.{shape_at};
 ghost use Rattle.iiod_session.specs.Machine.{is_plugged, station_at, with_station};
 ghost use Rattle.iio_system.specs.Bench.{captures_of, front_of, has_ended, machine_of, trigger_in, triggers_of};
 ghost use Rattle.iio_system.specs.Handling.{counted, entry_answer, entry_machine, sensed_answer, sensed_station, unplugged_station};
-ghost use Rattle.iio_system.specs.Places.{entries_from, entry_of, handled, is_first, poll_answer, polled};
+ghost use Rattle.iio_system.specs.Places.{entries_from, entry_of, first_due, handled, poll_answer, polled};
 
 use crate::bench::Bench;
 use crate::calls;
@@ -38,15 +38,12 @@ impl Bench {
         self.triggers[trigger as usize].poll(t)
     }
 
-    /// Whether the first entry at a trigger, in the order of devices, is that device's.
-    pub(crate) fn is_first(&self, trigger: u32, dev: u32) -> bool
+    /// The device of the first entry at a trigger, in the order of devices. `None` comes exactly where no entry is there.
+    pub(crate) fn first_due(&self, trigger: u32) -> Option<u32>
         requires { trigger < length (front_of self.now).triggers }
-        ensures { result ≡ is_first dev (trigger_in (triggers_of self.now) trigger).entries }
+        ensures { result ≡ first_due (trigger_in (triggers_of self.now) trigger).entries }
     {
-        match self.triggers[trigger as usize].first() {
-            None => false,
-            Some(first) => first == dev,
-        }
+        self.triggers[trigger as usize].first()
     }
 
     /// Handles the entry that a device has at a trigger: the device is asked where the entry is current, and the entry is

@@ -27,6 +27,3 @@ pub use seat::Seat;
 pub use step::Step;
 pub use system::System;
 pub use tally::Tally;
-
-#[cfg(test)]
-mod tests;

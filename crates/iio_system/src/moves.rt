@@ -107,7 +107,7 @@ pub(crate) fn handle(
     )
 }
 
-// Handles the entry that a device has at a trigger, where it has one. No entry there is of a device before it.
+// Handles the entry that a device has at a trigger, where it has one.
 fn handle_one(bench: &mut Bench, trigger: u32, dev: u32, out: &mut Vec<u8>) -> Result<(), Mem>
     requires trigger { trigger < length (front_of bench.old).triggers }
     requires dev { dev < length (front_of bench.old).devices }
@@ -116,9 +116,6 @@ fn handle_one(bench: &mut Bench, trigger: u32, dev: u32, out: &mut Vec<u8>) -> R
     ensures makes { OnOk result ((cs : List (Connection Seat)) → HandlesOne ⟦<Plug as Sensor>⟧.driver trigger dev bench.old bench.new cs out.old.items out.new.items) }
     ensures captures { RiseBy 1 (captures_of bench.old) (captures_of bench.new) }
 {
-    if !bench.is_first(trigger, dev) {
-        return Ok(());
-    }
     match bench.handle(trigger, dev) {
         None => Ok(()),
         Some(handled) => push_handle(
@@ -139,7 +136,14 @@ fn handle_all(bench: &mut Bench, trigger: u32, out: &mut Vec<u8>) -> Result<(), 
     ensures captures { RiseBy 32 (captures_of bench.old) (captures_of bench.new) }
 {
     let devices = device_count(bench);
-    for dev in 0..devices {
+    for _turn in 0..devices {
+        let Some(dev) = bench.first_due(trigger) else {
+            return Ok(());
+        };
+        // No entry is of a device that isn't there.
+        if dev >= devices {
+            return Ok(());
+        }
         handle_one(bench, trigger, dev, out)?;
     }
     Ok(())

@@ -3,3 +3,4 @@ mod Rows
 mod ScanLemmas
 mod StreamLaws
 mod TargetLemmas
+pub mod BlankLemmas

@@ -1,6 +1,7 @@
 //! What a connection sends to libiio 0.25's iiod, in its text protocol.
 #![tactic(auto)]
 
+mod blanks;
 mod command;
 mod line;
 mod lines;

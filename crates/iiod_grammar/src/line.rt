@@ -2,15 +2,14 @@
 
 ghost use Rattle.std.specs.Prelude.{◌≡◌, ◌≤◌, ◌∷◌, [], length, take, option_map};
 ghost use Rattle.iio_text.specs.Words.{words_of, is_blank};
-ghost use Rattle.iiod_grammar.specs.Command.{number, target_of, no_words, one_word, two_words, bare_form, timeout_form, open_form, cyclic_of, read_form, last_of, counted_word, counted_target, write_form, trigger_form, set_form, command_of_words, command_of, without_returns};
-ghost use Rattle.iiod_grammar.specs.Parts.{word_view, counted_view, split_view, pair_view};
+ghost use Rattle.iiod_grammar.specs.Command.{number, target_of, no_words, one_word, two_words, bare_form, timeout_form, open_form, cyclic_of, read_form, last_of, counted_word, counted_target, write_form, trigger_form, set_form, command_of, without_returns, bytes_form, ReadBuf};
+ghost use Rattle.iiod_grammar.specs.Parts.{command_form, word_view, counted_view, split_view, pair_view};
 ghost use Rattle.iiod_grammar.specs.View.{target_view, line_view, command_view};
 
+use crate::blanks::next_word;
 use crate::command::{Command, Place, Refused};
 use crate::words::{PlaceWord, Verb, is_word, place_word, verb_of};
-use iio_text::{Blanks, next_word, read_number};
-
-const BLANKS: Blanks = Blanks::SpacesAndTabs;
+use iio_text::read_number;
 
 type Target<'a> = (Place<'a>, Option<&'a [u8]>);
 
@@ -44,7 +43,7 @@ fn number(word: &[u8]) -> Result<u32, Refused>
 fn no_words(words: &[u8]) -> Result<(), Refused>
     ensures { result ≡ no_words (words_of is_blank words.now) }
 {
-    match next_word(words, BLANKS) {
+    match next_word(words) {
         None => Ok(()),
         Some(_) => Err(Refused::Shape),
     }
@@ -54,20 +53,22 @@ fn no_words(words: &[u8]) -> Result<(), Refused>
 fn one_word(words: &[u8]) -> Result<&[u8], Refused>
     ensures { word_view result ≡ one_word (words_of is_blank words.now) }
 {
-    let (word, rest) = next_word(words, BLANKS).ok_or(Refused::Shape)?;
-    if next_word(rest, BLANKS).is_some() {
+    let Some((word, rest)) = next_word(words) else {
         return Err(Refused::Shape);
+    };
+    match next_word(rest) {
+        None => Ok(word),
+        Some(_) => Err(Refused::Shape),
     }
-    Ok(word)
 }
 
 // Words that have to be two.
 fn two_words(words: &[u8]) -> Result<(&[u8], &[u8]), Refused>
     ensures { pair_view result ≡ two_words (words_of is_blank words.now) }
 {
-    let (first, rest) = next_word(words, BLANKS).ok_or(Refused::Shape)?;
-    let (second, rest) = next_word(rest, BLANKS).ok_or(Refused::Shape)?;
-    if next_word(rest, BLANKS).is_some() {
+    let (first, rest) = next_word(words).ok_or(Refused::Shape)?;
+    let (second, rest) = next_word(rest).ok_or(Refused::Shape)?;
+    if next_word(rest).is_some() {
         return Err(Refused::Shape);
     }
     Ok((first, second))
@@ -101,10 +102,10 @@ fn read_timeout(words: &[u8]) -> Result<Command<'_>, Refused>
 fn read_cyclic(words: &[u8]) -> Result<bool, Refused>
     ensures { result ≡ cyclic_of (words_of is_blank words.now) }
 {
-    let Some((word, rest)) = next_word(words, BLANKS) else {
+    let Some((word, rest)) = next_word(words) else {
         return Ok(false);
     };
-    if next_word(rest, BLANKS).is_some() || !is_word(word, b"CYCLIC") {
+    if next_word(rest).is_some() || !is_word(word, b"CYCLIC") {
         return Err(Refused::Shape);
     }
     Ok(true)
@@ -113,9 +114,9 @@ fn read_cyclic(words: &[u8]) -> Result<bool, Refused>
 fn read_open(words: &[u8]) -> Result<Command<'_>, Refused>
     ensures { line_view result ≡ open_form (words_of is_blank words.now) }
 {
-    let (dev, rest) = next_word(words, BLANKS).ok_or(Refused::Shape)?;
-    let (samples, rest) = next_word(rest, BLANKS).ok_or(Refused::Shape)?;
-    let (mask, rest) = next_word(rest, BLANKS).ok_or(Refused::Shape)?;
+    let (dev, rest) = next_word(words).ok_or(Refused::Shape)?;
+    let (samples, rest) = next_word(rest).ok_or(Refused::Shape)?;
+    let (mask, rest) = next_word(rest).ok_or(Refused::Shape)?;
     let cyclic = read_cyclic(rest)?;
     let samples = number(samples)?;
     Ok(Command::Open {
@@ -129,11 +130,11 @@ fn read_open(words: &[u8]) -> Result<Command<'_>, Refused>
 fn read_set_trigger(words: &[u8]) -> Result<Command<'_>, Refused>
     ensures { line_view result ≡ trigger_form (words_of is_blank words.now) }
 {
-    let (dev, rest) = next_word(words, BLANKS).ok_or(Refused::Shape)?;
-    let Some((trigger, rest)) = next_word(rest, BLANKS) else {
+    let (dev, rest) = next_word(words).ok_or(Refused::Shape)?;
+    let Some((trigger, rest)) = next_word(rest) else {
         return Ok(Command::SetTrig { dev, trigger: None });
     };
-    if next_word(rest, BLANKS).is_some() {
+    if next_word(rest).is_some() {
         return Err(Refused::Shape);
     }
     Ok(Command::SetTrig {
@@ -145,7 +146,7 @@ fn read_set_trigger(words: &[u8]) -> Result<Command<'_>, Refused>
 fn read_set(words: &[u8]) -> Result<Command<'_>, Refused>
     ensures { line_view result ≡ set_form (words_of is_blank words.now) }
 {
-    let (dev, rest) = next_word(words, BLANKS).ok_or(Refused::Shape)?;
+    let (dev, rest) = next_word(words).ok_or(Refused::Shape)?;
     let (what, count) = two_words(rest)?;
     if !is_word(what, b"BUFFERS_COUNT") {
         return Err(Refused::Shape);
@@ -156,6 +157,7 @@ fn read_set(words: &[u8]) -> Result<Command<'_>, Refused>
 
 // ---- targets
 
+#[inline]
 fn target_of_one(a: &[u8]) -> Option<Target<'_>>
     ensures { option_map target_view result ≡ target_of (a.now ∷ []) }
 {
@@ -167,6 +169,7 @@ fn target_of_one(a: &[u8]) -> Option<Target<'_>>
     }
 }
 
+#[inline]
 fn target_of_two<'a>(a: &[u8], b: &'a [u8]) -> Option<Target<'a>>
     ensures { option_map target_view result ≡ target_of (a.now ∷ b.now ∷ []) }
 {
@@ -181,6 +184,7 @@ fn target_of_two<'a>(a: &[u8], b: &'a [u8]) -> Option<Target<'a>>
     }
 }
 
+#[inline]
 fn target_of_three<'a>(a: &[u8], b: &'a [u8], c: &'a [u8]) -> Option<Target<'a>>
     ensures { option_map target_view result ≡ target_of (a.now ∷ b.now ∷ c.now ∷ []) }
 {
@@ -198,16 +202,16 @@ fn target_of_three<'a>(a: &[u8], b: &'a [u8], c: &'a [u8]) -> Option<Target<'a>>
 fn target(words: &[u8]) -> Option<Target<'_>>
     ensures { option_map target_view result ≡ target_of (words_of is_blank words.now) }
 {
-    let Some((a, rest)) = next_word(words, BLANKS) else {
+    let Some((a, rest)) = next_word(words) else {
         return Some((Place::Device, None));
     };
-    let Some((b, rest)) = next_word(rest, BLANKS) else {
+    let Some((b, rest)) = next_word(rest) else {
         return target_of_one(a);
     };
-    let Some((c, rest)) = next_word(rest, BLANKS) else {
+    let Some((c, rest)) = next_word(rest) else {
         return target_of_two(a, b);
     };
-    match next_word(rest, BLANKS) {
+    match next_word(rest) {
         None => target_of_three(a, b, c),
         Some(_) => None,
     }
@@ -216,9 +220,13 @@ fn target(words: &[u8]) -> Option<Target<'_>>
 fn read_read(words: &[u8]) -> Result<Command<'_>, Refused>
     ensures { line_view result ≡ read_form (words_of is_blank words.now) }
 {
-    let (dev, rest) = next_word(words, BLANKS).ok_or(Refused::Shape)?;
-    let (place, attr) = target(rest).ok_or(Refused::Shape)?;
-    Ok(Command::Read { dev, place, attr })
+    let Some((dev, rest)) = next_word(words) else {
+        return Err(Refused::Shape);
+    };
+    match target(rest) {
+        Some((place, attr)) => Ok(Command::Read { dev, place, attr }),
+        None => Err(Refused::Shape),
+    }
 }
 
 // The last word of a text, or `word` where it has none.
@@ -227,7 +235,7 @@ fn last_word<'a>(word: &'a [u8], words: &'a [u8]) -> &'a [u8]
 {
     let mut last = word;
     let mut rest = words;
-    while let Some((next, after)) = next_word(rest, BLANKS) {
+    while let Some((next, after)) = next_word(rest) {
         last = next;
         rest = after;
     }
@@ -238,19 +246,19 @@ fn last_word<'a>(word: &'a [u8], words: &'a [u8]) -> &'a [u8]
 fn counted_target(words: &[u8]) -> Result<(Option<Target<'_>>, &[u8]), Refused>
     ensures { split_view result ≡ counted_target (words_of is_blank words.now) }
 {
-    let Some((a, rest)) = next_word(words, BLANKS) else {
+    let Some((a, rest)) = next_word(words) else {
         return Err(Refused::Shape);
     };
-    let Some((b, rest)) = next_word(rest, BLANKS) else {
+    let Some((b, rest)) = next_word(rest) else {
         return Ok((Some((Place::Device, None)), a));
     };
-    let Some((c, rest)) = next_word(rest, BLANKS) else {
+    let Some((c, rest)) = next_word(rest) else {
         return Ok((target_of_one(a), b));
     };
-    let Some((d, rest)) = next_word(rest, BLANKS) else {
+    let Some((d, rest)) = next_word(rest) else {
         return Ok((target_of_two(a, b), c));
     };
-    match next_word(rest, BLANKS) {
+    match next_word(rest) {
         None => Ok((target_of_three(a, b, c), d)),
         Some((e, rest)) => Ok((None, last_word(e, rest))),
     }
@@ -259,18 +267,29 @@ fn counted_target(words: &[u8]) -> Result<(Option<Target<'_>>, &[u8]), Refused>
 fn read_write(words: &[u8]) -> Result<Command<'_>, Refused>
     ensures { line_view result ≡ write_form (words_of is_blank words.now) }
 {
-    let (dev, rest) = next_word(words, BLANKS).ok_or(Refused::Shape)?;
+    let Some((dev, rest)) = next_word(words) else {
+        return Err(Refused::Shape);
+    };
     let (target, count) = counted_target(rest)?;
-    let count = number(count)?;
-    Ok(Command::Write { dev, target, count })
+    match read_number(count) {
+        Some(count) => Ok(Command::Write { dev, target, count }),
+        None => Err(Refused::Number),
+    }
 }
 
-// A line without CRs at its end.
-fn read_words(line: &[u8]) -> Result<Command<'_>, Refused>
-    ensures { line_view result ≡ command_of_words (words_of is_blank line.now) }
+fn read_read_buffer(words: &[u8]) -> Result<Command<'_>, Refused>
+    ensures { line_view result ≡ bytes_form ReadBuf (words_of is_blank words.now) }
 {
-    let (word, words) = next_word(line, BLANKS).ok_or(Refused::Empty)?;
-    match verb_of(word).ok_or(Refused::Unknown)? {
+    let (dev, bytes) = device_and_number(words)?;
+    Ok(Command::ReadBuf { dev, bytes })
+}
+
+// The command of a verb, by the words after it. It stands apart, since the verbs that come most often need none of its room.
+#[inline(never)]
+fn read_by_verb(verb: Verb, words: &[u8]) -> Result<Command<'_>, Refused>
+    ensures { line_view result ≡ command_form verb (words_of is_blank words.now) }
+{
+    match verb {
         Verb::Help => bare(words, Command::Help),
         Verb::Exit => bare(words, Command::Exit),
         Verb::Version => bare(words, Command::Version),
@@ -280,10 +299,7 @@ fn read_words(line: &[u8]) -> Result<Command<'_>, Refused>
         Verb::Close => one_word(words).map(|dev| Command::Close { dev }),
         Verb::Read => read_read(words),
         Verb::Write => read_write(words),
-        Verb::ReadBuf => device_and_number(words).map(|(dev, bytes)| Command::ReadBuf {
-            dev,
-            bytes,
-        }),
+        Verb::ReadBuf => read_read_buffer(words),
         Verb::WriteBuf => device_and_number(words).map(|(dev, bytes)| Command::WriteBuf {
             dev,
             bytes,
@@ -301,8 +317,19 @@ fn read_words(line: &[u8]) -> Result<Command<'_>, Refused>
 /// elsewhere is a byte of a word. Numbers have one to ten digits, leading zeros allowed, and are at most 4,294,967,295.
 ///
 /// Of several refusals the first in the order of [`Refused`] is the answer.
+#[inline(never)]
 pub fn read_line(line: &[u8]) -> Result<Command<'_>, Refused>
     ensures { line_view result ≡ command_of line.now }
 {
-    read_words(without_returns(line))
+    let Some((word, words)) = next_word(without_returns(line)) else {
+        return Err(Refused::Empty);
+    };
+    match verb_of(word) {
+        None => Err(Refused::Unknown),
+        Some(Verb::Read) => read_read(words),
+        Some(Verb::Write) => read_write(words),
+        Some(Verb::ReadBuf) => read_read_buffer(words),
+        Some(Verb::Open) => read_open(words),
+        Some(verb) => read_by_verb(verb, words),
+    }
 }

@@ -36,10 +36,19 @@ pub(crate) enum Verb {
     EvClose,
 }
 
+// Byte by byte: where it is inlined the wanted word is known, and no loop is left.
 pub(crate) fn is_word(word: &[u8], wanted: &[u8]) -> bool
     ensures { result ≡ bytes_eq word.now wanted.now }
 {
-    word == wanted
+    if word.len() != wanted.len() {
+        return false;
+    }
+    for i in 0..wanted.len() {
+        if word[i] != wanted[i] {
+            return false;
+        }
+    }
+    true
 }
 
 pub(crate) fn place_word(word: &[u8]) -> Option<PlaceWord>

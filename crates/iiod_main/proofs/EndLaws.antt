@@ -1,12 +1,15 @@
 -- How a run ends whose ends failed nowhere, and of which words it is the run.
 use Rattle.std.proofs.Common.{◌≡◌, ℕ, List, [], ◌∷◌, Option, Some, None, IfSome, refl, sym, ap, ◌∙◌, subst, arith, get_or, map, String, string_bytes}
-use Rattle.std.specs.Prelude.{codes}
+use Rattle.std.specs.Prelude.{codes, decimal}
+use Rattle.std.proofs.lemmas.Fmt.{decimal_injective}
 use Rattle.iio_base.specs.Faults.{Rose}
 use Rattle.iio_history.specs.Outcome.{Outcome}
 use Rattle.iio_script.specs.declared.status.Status.{Status}
 use Rattle.iio_script.specs.declared.status.Status.TheVariants.{Done, Refused, Usage, ReadFault, WriteFault, Memory, TooLong}
 use Rattle.iio_script.specs.Ends.{Writes}
+use Rattle.iio_gen.specs.Summary.{EndsGen}
 use Rattle.iiod_main.specs.Complete.{Completes}
+use Rattle.iiod_main.specs.Usage.{IsGen}
 
 completes : (outcome : Outcome) (before : List ℕ) (status : Status) (after : Option (List ℕ)) (reads reads' writes writes' : ℕ)
     → Writes outcome before status after → (status ≡ ReadFault → Rose reads reads') → (status ≡ WriteFault → Rose writes writes') → reads ≡ reads' → writes ≡ writes'
@@ -36,3 +39,21 @@ named P words device mask device' mask' one other h =
     let first : device ≡ device' = ap (λ (l : List (List ℕ)). get_or l 1 []) same in
     let second : mask ≡ mask' = ap (λ (l : List (List ℕ)). get_or l 2 []) same in
     subst (λ (d : List ℕ). P d mask') first (subst (λ (m : List ℕ). P device m) second h)
+
+-- ---- of the words `gen N`
+
+-- what is so of the number that some words name is so of any that they name
+pub numbered : {A : Type 0} (P : ℕ → Type 0) (words : List (String A)) (n n' : ℕ) → IsGen words n → IsGen words n' → P n → P n'
+numbered P words n n' (fits, one) (fits', other) h =
+    let same : decimal n ≡ decimal n' = ap (λ (l : List (List ℕ)). get_or l 1 []) (sym one ∙ other) in
+    subst P (decimal_injective n n' fits fits' same) h
+
+gen_no_read_fault : (status : Status) → EndsGen status → status ≡ ReadFault → ⊥
+gen_no_read_fault status ends is = subst EndsGen is ends
+
+pub gen_completes : (outcome : Outcome) (written : Option (List ℕ)) (status : Status) (after : Option (List ℕ)) (writes writes' : ℕ) → EndsGen status
+    → IfSome written (λ before. Writes outcome before status after) → (status ≡ WriteFault → Rose writes writes') → writes ≡ writes'
+    → IfSome written (λ before. Completes outcome before status after)
+gen_completes outcome None status after writes writes' ends wrote write w = tt
+gen_completes outcome (Some before) status after writes writes' ends wrote write w =
+    completes outcome before status after 0 0 writes writes' wrote (λ is. absurd (gen_no_read_fault status ends is)) write refl w

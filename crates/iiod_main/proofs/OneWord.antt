@@ -1,9 +1,10 @@
--- Lists of one word, and of three.
-use Rattle.std.proofs.Common.{◌≡◌, ◌↔◌, ◌<◌, ◌≤◌, ◌∙◌, ℕ, Bool, true, false, not, IsTrue, refl, List, [], ◌∷◌, length, get_or, slice_index_or, arith, ap, sym}
+-- Lists of one word, of two, and of three, and texts of numbers.
+use Rattle.std.proofs.Common.{◌≡◌, ◌↔◌, ◌<◌, ◌≤◌, ◌^◌, ◌∙◌, ℕ, Bool, true, false, not, IsTrue, Option, Some, None, IfSome, Result, Ok, Err, refl, List, [], ◌∷◌, length, get_or, slice_index_or, arith, ap, sym}
 use Rattle.std.proofs.lemmas.Bool.{false≢true}
 use Rattle.std.proofs.lemmas.Slice.Eq.{bytes_eq-Decides}
 use Rattle.std.specs.Str.{bytes_eq}
-use Rattle.std.specs.Prelude.{map, String, string_bytes}
+use Rattle.std.specs.Prelude.{codes, decimal, map, String, string_bytes}
+use Rattle.iiod_main.specs.Usage.{IsGen}
 
 one_word : {A : Type 0} (words : List (String A)) (w : String A) → 1 ≤ length words → length words < 2 → w ≡ slice_index_or words 0 w
     → map string_bytes words ≡ string_bytes w ∷ []
@@ -24,6 +25,21 @@ says words w text r some one e h =
     let word = one_word words w some one e in
     ((λ t. word ∙ ap (λ (v : List ℕ). v ∷ []) (same_text (string_bytes w) text r h t)), (λ same. same_as (string_bytes w) text r h (sym word ∙ same)))
 
+not_false : (b : Bool) → not b ≡ false → b ≡ true
+not_false true h = refl
+not_false false h = absurd (false≢true (sym h))
+
+-- a first word that isn't other than the text
+first_is : (bs text : List ℕ) (r : Bool) → r ≡ not (bytes_eq bs text) → r ≡ false → bs ≡ text
+first_is bs text r test said = (bytes_eq-Decides bs text).0 (not_false (bytes_eq bs text) (sym test ∙ said))
+
+two_words : {A : Type 0} (words : List (String A)) (u v : String A) → 2 ≤ length words → length words < 3
+    → u ≡ slice_index_or words 0 u → v ≡ slice_index_or words 1 v → map string_bytes words ≡ string_bytes u ∷ string_bytes v ∷ []
+two_words [] u v some few a b = absurd (omega arith)
+two_words (x ∷ []) u v some few a b = absurd (omega arith)
+two_words (x ∷ y ∷ []) u v some few a b = rw (a, b) refl
+two_words (x ∷ y ∷ z ∷ zs) u v some few a b = absurd (omega arith)
+
 three_words : {A : Type 0} (words : List (String A)) (u v w : String A) → 3 ≤ length words → length words < 4
     → u ≡ slice_index_or words 0 u → v ≡ slice_index_or words 1 v → w ≡ slice_index_or words 2 w
     → map string_bytes words ≡ string_bytes u ∷ string_bytes v ∷ string_bytes w ∷ []
@@ -39,9 +55,32 @@ pub says_three : {A : Type 0} (words : List (String A)) (u v w : String A) (text
     → r ≡ not (bytes_eq (string_bytes u) text) → r ≡ false → device ≡ string_bytes v → mask ≡ string_bytes w
     → map string_bytes words ≡ text ∷ device ∷ mask ∷ []
 says_three words u v w text device mask r some few a b c test said second third =
-    let first : string_bytes u ≡ text = (bytes_eq-Decides (string_bytes u) text).0 (not_false (bytes_eq (string_bytes u) text) (sym test ∙ said)) in
+    let first : string_bytes u ≡ text = first_is (string_bytes u) text r test said in
     rw (second, third, ← first) (three_words words u v w some few a b c)
+
+-- ---- the words `gen N`
+
+-- of two words, the first of which isn't other than `gen`, the number that the second spells is theirs
+pub says_gen : {A : Type 0} (words : List (String A)) (u v : String A) (number : List ℕ) (r : Bool) (spelled : Option ℕ) → 2 ≤ length words → length words < 3
+    → u ≡ slice_index_or words 0 u → v ≡ slice_index_or words 1 v → r ≡ not (bytes_eq (string_bytes u) (codes "gen")) → r ≡ false → number ≡ string_bytes v
+    → IfSome spelled (λ n. (n < 2 ^ 64) × (number ≡ decimal n)) → IfSome spelled (λ n. IsGen words n)
+says_gen words u v number r None some few a b test said second h = tt
+says_gen words u v number r (Some n) some few a b test said second (fits, is) =
+    let first : string_bytes u ≡ codes "gen" = first_is (string_bytes u) (codes "gen") r test said in
+    (fits, two_words words u v some few a b ∙ ap (λ (t : List ℕ). t ∷ string_bytes v ∷ []) first ∙ ap (λ (t : List ℕ). codes "gen" ∷ t ∷ []) (sym second ∙ is))
+
+-- ---- texts of numbers
+
+-- a text that was found other isn't the same
+pub not_other : (bs text : List ℕ) (r : Bool) → r ≡ not (bytes_eq bs text) → r ≡ true → bs ≡ text → ⊥
+not_other bs text r test said same = not_true (bytes_eq bs text) (sym test ∙ said) ((bytes_eq-Decides bs text).1 same)
   where
-    not_false : (b : Bool) → not b ≡ false → b ≡ true
-    not_false true h = refl
-    not_false false h = absurd (false≢true (sym h))
+    not_true : (b : Bool) → not b ≡ true → b ≡ true → ⊥
+    not_true true h is = false≢true h
+    not_true false h is = false≢true is
+
+pub same_number : {E : Type 0} (r : Result ℕ E) (m n : ℕ) → r ≡ Ok m → r ≡ Ok n → m ≡ n
+same_number r m n one other = cc
+
+pub no_number : {E : Type 0} (r : Result ℕ E) (e : E) (n : ℕ) → r ≡ Err e → r ≡ Ok n → ⊥
+no_number r e n one other = absurd (cc)

@@ -1,5 +1,6 @@
 -- The program's words, and what it prints where they are no command. (This project's own.)
-use Rattle.std.specs.Prelude.{◌≡◌, ◌⊎◌, ℕ, List, [], ◌∷◌, ◌++◌, map, codes, String, string_bytes, Option, Some}
+use Rattle.std.specs.Prelude.{◌≡◌, ◌⊎◌, ℕ, ◌^◌, ◌<◌, List, [], ◌∷◌, ◌++◌, map, codes, String, string_bytes, Option, Some}
+use Rattle.std.specs.Fmt.{decimal}
 use Rattle.iio_io.specs.Bytes.{WritesPart}
 use Rattle.iio_script.specs.declared.status.Status.{Status}
 use Rattle.iio_script.specs.declared.status.Status.TheVariants.{Usage, WriteFault}
@@ -12,9 +13,13 @@ IsPlay words = map string_bytes words ≡ codes "play" ∷ []
 abbrev pub IsLayout : {A : Type 0} → List (String A) → (device mask : List ℕ) → Type 0
 IsLayout words device mask = map string_bytes words ≡ codes "layout" ∷ device ∷ mask ∷ []
 
+-- the two words `gen N`, where N is the one decimal spelling of a number up to 2^64 - 1
+abbrev pub IsGen : {A : Type 0} → List (String A) → ℕ → Type 0
+IsGen words n = (n < 2 ^ 64) × (map string_bytes words ≡ codes "gen" ∷ decimal n ∷ [])
+
 -- other words, or none
 abbrev pub IsOther : {A : Type 0} → List (String A) → Type 0
-IsOther words = (IsPlay words → ⊥) × ((device mask : List ℕ) → IsLayout words device mask → ⊥)
+IsOther words = (IsPlay words → ⊥) × ((device mask : List ℕ) → IsLayout words device mask → ⊥) × ((n : ℕ) → IsGen words n → ⊥)
 
 -- the line that names the commands
 abbrev pub usage_line : List ℕ

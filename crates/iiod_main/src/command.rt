@@ -1,6 +1,7 @@
 //! What the program does for its words.
 
 ghost use Rattle.std.specs.Prelude.{◌≡◌, ℕ, ◌+◌, ◌^◌, ◌<◌, ◌≤◌, ◌↔◌, List, None, IsNone, IsTrue, IfSome, IfNone, length, map};
+ghost use Rattle.std.specs.Fmt.{decimal};
 ghost use Rattle.iio_base.specs.Faults.{Rose};
 ghost use Rattle.iio_io.specs.Bytes.{TakesAtMost};
 ghost use Rattle.iio_device.specs.declared.plug.Plug.TheVariants.{Given};
@@ -10,15 +11,18 @@ ghost use Rattle.iio_script.specs.Ends.{HasStatus, ShowsFaults, Writes};
 ghost use Rattle.iio_script.specs.LineReader.{TakesBlocks};
 ghost use Rattle.iio_script.specs.Plays.{TakesFor};
 ghost use Rattle.iio_script.specs.Taken.{WritesLines};
+ghost use Rattle.iio_gen.specs.Summary.{EndsGen, summarized};
 ghost use Rattle.iiod_main.specs.Complete.{Completes};
 ghost use Rattle.iiod_main.specs.Layout.{TakesForLine, layout_of};
-ghost use Rattle.iiod_main.specs.Usage.{IsPlay, IsLayout, IsOther, IsUsage, PrintsUsage};
+ghost use Rattle.iiod_main.specs.Usage.{IsPlay, IsLayout, IsGen, IsOther, IsUsage, PrintsUsage};
 
 use crate::layout::layout;
 use iio_device::Plug;
+use iio_gen::gen_;
 use iio_io::{Sink, Source, write_whole};
 use iio_script::{Status, play};
 use iio_sensor::Sensor;
+use itoa::Buffer;
 use std::alloc::Global;
 
 const USAGE: &[u8] = b"usage: play | solo NAME | layout DEVICE MASK | gen N\n";
@@ -46,6 +50,34 @@ fn layout_words(words: &[String]) -> Option<(&[u8], &[u8])>
     Some((device.as_bytes(), mask.as_bytes()))
 }
 
+// The number that a text is the one decimal spelling of. None exactly for other texts.
+fn read_spelled(text: &str) -> Option<u64>
+    ensures found { IfSome result (λ n. (n < 2 ^ 64) × (text.now ≡ decimal n)) }
+    ensures none { IsNone result → (n : ℕ) → n < 2 ^ 64 → text.now ≡ decimal n → ⊥ }
+{
+    let Ok(n) = text.parse::<u64>() else {
+        return None;
+    };
+    if Buffer::new().format(n) != text {
+        return None;
+    }
+    Some(n)
+}
+
+// The number of the words `gen N`. None exactly for other words.
+fn gen_words(words: &[String]) -> Option<u64>
+    ensures found { IfSome result (λ n. IsGen words.now n) }
+    ensures none { IsNone result → (n : ℕ) → IsGen words.now n → ⊥ }
+{
+    let [word, number] = words else {
+        return None;
+    };
+    if word.as_str() != "gen" {
+        return None;
+    }
+    read_spelled(number.as_str())
+}
+
 // Names the commands.
 fn print_usage<K: Sink>(output: &mut K) -> Status
     ensures status { IsUsage result }
@@ -63,7 +95,8 @@ fn print_usage<K: Sink>(output: &mut K) -> Status
 /// Does what the words after the program's name say. `play` plays the input that the source has left, with the drivers
 /// that its description names by their numbers. `layout DEVICE MASK` reads the description of that input alone, and
 /// prints where the channels of the mask stand in a scan of the device; an unknown device and a wrong mask are refused at
-/// line 0. Other words, and none, print the line that names the commands, and leave the input alone.
+/// line 0. `gen N` makes an input from a number, plays it without drivers, and prints what is counted in it. Other words,
+/// and none, print the line that names the commands. Like `gen N`, they leave the input alone.
 pub fn run<S: Source, K: Sink>(
     alloc: Global,
     words: &[String],
@@ -96,6 +129,15 @@ pub fn run<S: Source, K: Sink>(
     ensures layout_nothing { (device mask : List ℕ) → IsLayout words.now device mask → result ≡ Status.ReadFault → output.new ≡ output.old }
     ensures layout_words { (device mask : List ℕ) → IsLayout words.now device mask → result ≡ Status.Usage → ⊥ }
 
+    // `gen N` prints what is counted in the input that the number makes.
+    ensures generated { (n : ℕ) → IsGen words.now n → IfSome (K.written output.old) (λ written.
+        Writes (summarized n) written result (K.written output.new)) }
+    ensures generated_complete { (n : ℕ) → IsGen words.now n → K.faults output.old ≡ K.faults output.new →
+        IfSome (K.written output.old) (λ written. Completes (summarized n) written result (K.written output.new)) }
+    ensures generated_status { (n : ℕ) → IsGen words.now n → EndsGen result }
+    ensures generated_words { (n : ℕ) → IsGen words.now n → result ≡ Status.Usage → ⊥ }
+    ensures generated_unread { (n : ℕ) → IsGen words.now n → input.new ≡ input.old }
+
     ensures usage { IsOther words.now → IsUsage result }
     ensures usage_line { IsOther words.now → IfSome (K.written output.old) (λ written.
         PrintsUsage written result (K.written output.new)) }
@@ -111,6 +153,9 @@ pub fn run<S: Source, K: Sink>(
             return Status::Memory;
         };
         return layout(alloc, count, device, mask, input, output);
+    }
+    if let Some(n) = gen_words(words) {
+        return gen_(alloc, n, output);
     }
     print_usage(output)
 }

@@ -1,6 +1,7 @@
 //! The program over sources and sinks in memory. Expected texts by hand.
 
 mod commands;
+mod generated;
 mod more;
 mod playing;
 mod refused;
@@ -14,7 +15,8 @@ use self::more::MORE;
 use self::playing::{joined, run_words};
 use self::worked::WORKED;
 use iio_io::{MemSink, MemSource, read_whole};
-use iio_script::Status;
+use iio_script::{Status, Stop, tally};
+use iio_text::Why;
 use std::alloc::Global;
 use std::process::Abort;
 use std::test::Fail;
@@ -32,6 +34,10 @@ const OVERRUN: &[u8] =
 
 const OVERRUN_PRINTED: &[u8] =
     b"poll t accepted 0\nA \"-9\\n-22\\n-19\\n-22\\n0\\n-16\\n0\\n-11\\n-22\\n\"\npoll t accepted 1\nhandle t d captured\npoll t accepted 1\nhandle t d captured\npoll t accepted 1\nhandle t d captured\npoll t accepted 1\nhandle t d captured\npoll t accepted 1\nhandle t d captured\nA \"4\\n00000001\\nA\\x00B\\x004\\n00000001\\nC\\x00D\\x000\\n\"\n";
+
+// Four captures for a queue of one scan, which gives two of them.
+const COUNTED: &[u8] =
+    b"trigger t0 2\ndevice y t0\nchannel voltage0 le:u8/8>>0\nrow 1 65\nrow 2 66\nrow 3 67\nrow 4 68\n%%\nA \"SET y BUFFERS_COUNT 1\\nOPEN y 1 00000001\\n\"\nfire t0 1\nfire t0 2\nfire t0 3\nA \"READBUF y 1\\n\"\nA \"READ y BUFFER overruns\\n\"\nfire t0 4\nA \"READBUF y 2\\n\"\nA \"READBUF y 1\\n\"\n";
 
 // Three lines: a trigger, a device and its channel.
 const DEVICE: &[u8] = b"trigger t 1\ndevice d t\nchannel voltage0 le:u8/16>>0\n";
@@ -98,6 +104,29 @@ fn examples_are_played(rt: HostRuntime) -> Result<(), Fail> {
         );
         assert_eq!(rt; bytes.written(), printed);
     }
+    Ok(())
+}
+
+// What is counted in a text that is played, and the first line that fails.
+#[test]
+fn tally_of_a_run(rt: HostRuntime) -> Result<(), Fail> {
+    let alloc = rt.alloc();
+    match tally(alloc, COUNTED) {
+        Ok(counted) => {
+            assert_eq!(rt; counted.captures, 4);
+            assert_eq!(rt; counted.scans, 2);
+            assert_eq!(rt; counted.overruns, 2);
+            assert_eq!(rt; counted.bytes, 133);
+        }
+        Err(_) => return Err(Fail::from("not counted")),
+    }
+    assert_eq!(rt;
+        tally(alloc, b"x\n").err(),
+        Some(Stop::Refused {
+            line: 1,
+            why: Why::Word,
+        })
+    );
     Ok(())
 }
 
@@ -210,7 +239,13 @@ fn other_words_name_the_commands(rt: HostRuntime) -> Result<(), Fail> {
         "Layout d 1",
         "play d 1",
         "gen",
-        "gen 1",
+        "gen ",
+        "gen 01",
+        "gen +1",
+        "gen x",
+        "gen 1 2",
+        "Gen 1",
+        "gen 18446744073709551616",
         "serve a 10",
     ] {
         let mut words = Vec::new(alloc);

@@ -85,16 +85,16 @@ fn hear_said<I: Iio>(
     manner: Manner,
     desk: &mut Desk<I::Seat>,
     iio: &mut I,
-    command: Command<'_>,
+    command: &Command<'_>,
     out: &mut Vec<u8>,
 ) -> Result<Going, Mem>
     requires desk { IsDesk I.seen (I.front (I.kept iio.old)) desk.old }
     ensures kept { I.kept iio.new ≡ I.kept iio.old }
     ensures desk { IsDesk I.seen (I.front (I.kept iio.new)) desk.new }
     ensures ready { (lines : LinesRecord) → lines ≡ after_piece lines.piece
-        → command_of lines.piece ≡ Ok (command_view command.entry) → IsPlain (Ok (command_view command.entry)) → IfOk result (λ going. IsReady going lines) }
+        → command_of lines.piece ≡ Ok (command_view command.now) → IsPlain (Ok (command_view command.now)) → IfOk result (λ going. IsReady going lines) }
     ensures feeds { (lines : LinesRecord) (pending : PendingRecord) → lines ≡ after_piece lines.piece
-        → command_of lines.piece ≡ Ok (command_view command.entry) → IsPlain (Ok (command_view command.entry))
+        → command_of lines.piece ≡ Ok (command_view command.now) → IsPlain (Ok (command_view command.now))
         → IfOk result (λ going. Feeds manner (I.front (I.kept iio.old)) (state_of I.seen (I.told iio.old) desk.old)
         (after_line lines.piece) out.old.items out.new.items (state_of I.seen (I.told iio.new) desk.new)
         (stream_by going lines pending) going) }
@@ -124,15 +124,16 @@ fn hear_line<I: Iio>(
         (after_line lines.old.piece) out.old.items out.new.items (state_of I.seen (I.told iio.new) desk.new)
         (stream_by going lines.new pending.new) going) }
 {
-    match read_line(lines.piece()) {
-        Err(why) => hear_refused(manner, desk, iio, why, out),
+    match &read_line(lines.piece()) {
+        Err(why) => hear_refused(manner, desk, iio, *why, out),
         Ok(command) => match command {
             Command::Exit => end(desk, iio, None, out),
             Command::Write { dev, target, count } => {
-                if count > MAX_PAYLOAD {
+                if *count > MAX_PAYLOAD {
                     return end(desk, iio, Some(Errno::EFBIG), out);
                 }
-                pending.keep(dev, target)?;
+                let count = *count;
+                pending.keep(dev, *target)?;
                 lines.want(count);
                 Ok(Going::On)
             }

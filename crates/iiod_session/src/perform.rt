@@ -27,17 +27,17 @@ fn perform_command<I: Iio>(
     manner: Manner,
     desk: &mut Desk<I::Seat>,
     iio: &mut I,
-    command: Command<'_>,
+    command: &Command<'_>,
     out: &mut Vec<u8>,
 ) -> Result<Performed, Mem>
     requires desk { IsDesk I.seen (I.front (I.kept iio.old)) desk.old }
     ensures kept { I.kept iio.new ≡ I.kept iio.old }
     ensures desk { IsDesk I.seen (I.front (I.kept iio.new)) desk.new }
     ensures served { IfOk result (Performs manner (I.front (I.kept iio.old)) (I.told iio.old) (I.told iio.new)
-        (desk_of I.seen desk.old) (tales_of I.seen desk.old.held.items) (Said (Ok (command_view command.entry)))
+        (desk_of I.seen desk.old) (tales_of I.seen desk.old.held.items) (Said (Ok (command_view command.now)))
         (desk_of I.seen desk.new) (tales_of I.seen desk.new.held.items) out.old.items out.new.items) }
 {
-    match command {
+    match *command {
         Command::Help => help(manner, out),
         Command::Exit | Command::Write { .. } => Ok(Performed::Done),
         Command::Version => version(manner, out),
@@ -73,14 +73,14 @@ pub(crate) fn perform<I: Iio>(
     manner: Manner,
     desk: &mut Desk<I::Seat>,
     iio: &mut I,
-    command: Command<'_>,
+    command: &Command<'_>,
     out: &mut Vec<u8>,
 ) -> Result<Performed, Mem>
     requires desk { IsDesk I.seen (I.front (I.kept iio.old)) desk.old }
     ensures kept { I.kept iio.new ≡ I.kept iio.old }
     ensures desk { IsDesk I.seen (I.front (I.kept iio.new)) desk.new }
     ensures served { IfOk result (Performs manner (I.front (I.kept iio.old)) (I.told iio.old) (I.told iio.new)
-        (desk_of I.seen desk.old) (tales_of I.seen desk.old.held.items) (Said (Ok (command_view command.entry)))
+        (desk_of I.seen desk.old) (tales_of I.seen desk.old.held.items) (Said (Ok (command_view command.now)))
         (desk_of I.seen desk.new) (tales_of I.seen desk.new.held.items) out.old.items out.new.items) }
 {
     out.reserve(SHORT_ANSWER)?;

@@ -30,11 +30,12 @@ loop-entry-preserved c =
           c.loop-entry.invariant.bytes j ∙ ap (λ es. so_far c.loop-entry.out c.loop-entry.end es c.args.scan.now j) more
           ∙ copied_more (length c.args.scan.now) (length c.args.out.now) c.loop-entry.end c.copy-end.result entry later c.args.scan.now c.loop-entry.out c.copy-end.new.out j order c.copy-end.ensures.end (c.copy-end.ensures.kept j)
           (c.copy-end.ensures.gap j) (c.copy-end.ensures.bytes j);
+      zero = λ j past. c.copy-end.ensures.later j (omega (arith, past, c.copy-end.ensures.end));
     }
 
 pub returns : goal.returns
 returns c =
     let none = drop_all c.loop-entry.entry-index c.args.entries.now c.loop-entry-test.false in
-    fill_by_all (byte_at c.args.entries.now c.args.scan.now) c.zero_from.new.out (length c.args.out.now) 0 (omega arith)
-    (λ j below. copied_all c.loop-entry.end c.args.scan.now c.loop-entry.out c.zero_from.new.out j (c.zero_from.ensures.kept j) (c.zero_from.ensures.zero j)
+    fill_by_all (byte_at c.args.entries.now c.args.scan.now) c.loop-entry.out (length c.args.out.now) 0 (omega arith)
+    (λ j below. copied_all c.loop-entry.end c.args.scan.now c.loop-entry.out j (c.loop-entry.invariant.zero j)
     ∙ sym (c.loop-entry.invariant.bytes j ∙ ap (λ es. so_far c.loop-entry.out c.loop-entry.end es c.args.scan.now j) none))

@@ -1,9 +1,10 @@
-use Rattle.std.proofs.Common.{◌≡◌, sym, ap, ◌∙◌, arith}
+use Rattle.std.proofs.Common.{◌≡◌, ◌≤◌, sym, ap, ◌∙◌, arith}
+use Rattle.iio_scan_type.specs.declared.TheConstants.{MAX_CHANNEL_SIZE}
 use Rattle.iio_scan_type.specs.Format.{size_of}
 use Rattle.iio_layout.specs.Layout.{size_at}
 use Rattle.iio_layout.specs.Shape.{formats_of}
 use Rattle.iio_demux.specs.Table.{channel_entries, merged}
-use Rattle.iio_demux.proofs.EntryLemmas.{end_more, end_same, entries_same, outside, pushed_entry}
+use Rattle.iio_demux.proofs.EntryLemmas.{end_more, end_same, entries_same, largest_more, largest_same, outside, pushed_entry}
 use Rattle.iio_demux.proofs.table.push_entries.Goals as goal
 use Rattle.iio_demux.proofs.table.push_entries.Goals.{then-contains, else-contains}
 
@@ -18,8 +19,12 @@ loop-c-preserved-then-not-contains c =
     record {
       active_end = end_same shape active n c.loop-c.active_end other c.loop-c.invariant.active_end;
       active_few = omega arith;
+      active_largest = largest_same shape active n c.loop-c.active_largest other c.loop-c.invariant.active_largest;
+      active_most = c.loop-c.invariant.active_most;
       buffer_end = end_same shape buffer n c.loop-c.buffer_end none c.loop-c.invariant.buffer_end;
       buffer_few = omega arith;
+      buffer_largest = largest_same shape buffer n c.loop-c.buffer_largest none c.loop-c.invariant.buffer_largest;
+      buffer_most = c.loop-c.invariant.buffer_most;
       entries = c.loop-c.invariant.entries ∙ ap merged (entries_same shape active buffer n none);
       few = omega arith;
       capacity = c.loop-c.invariant.capacity;
@@ -38,6 +43,8 @@ loop-c-preserved c =
     let from = c.next_multiple_of-from.ensures.value in
     let most = c.size-length.ensures.few in
     let active_end = end_more shape active n c.loop-c.active_end c.next_multiple_of-from.result length selected so_far.active_end size from in
+    let active_largest = c.max-active_largest.ensures ∙ largest_more shape active n c.loop-c.active_largest length selected so_far.active_largest size in
+    let active_most : c.max-active_largest.result ≤ MAX_CHANNEL_SIZE = omega (arith, c.max-active_largest.ensures, most, so_far.active_most) in
     elim c.if-contains.branch [
       | then-contains w ↦
           let own = sym c.contains-in-loop-c.ensures ∙ w.if-contains.true in
@@ -45,8 +52,12 @@ loop-c-preserved c =
           record {
             active_end = active_end;
             active_few = omega (arith, most);
+            active_largest = active_largest;
+            active_most = active_most;
             buffer_end = w.buffer_end-is ∙ end_more shape buffer n c.loop-c.buffer_end w.next_multiple_of-to.result length own so_far.buffer_end size to;
             buffer_few = omega (arith, most);
+            buffer_largest = w.buffer_largest-is ∙ w.max-buffer_largest.ensures ∙ largest_more shape buffer n c.loop-c.buffer_largest length own so_far.buffer_largest size;
+            buffer_most = rw w.buffer_largest-is (omega (arith, w.max-buffer_largest.ensures, most, so_far.buffer_most));
             entries =
                 ap (λ entries. entries.items) w.entries-is ∙ w.push_merged.ensures.items (channel_entries shape active buffer n) so_far.entries
                 ∙ ap merged (pushed_entry shape active buffer n c.loop-c.active_end c.loop-c.buffer_end c.next_multiple_of-from.result w.next_multiple_of-to.result length own
@@ -59,8 +70,12 @@ loop-c-preserved c =
           record {
             active_end = active_end;
             active_few = omega (arith, most);
+            active_largest = active_largest;
+            active_most = active_most;
             buffer_end = w.buffer_end-is ∙ end_same shape buffer n c.loop-c.buffer_end none so_far.buffer_end;
             buffer_few = omega arith;
+            buffer_largest = w.buffer_largest-is ∙ largest_same shape buffer n c.loop-c.buffer_largest none so_far.buffer_largest;
+            buffer_most = rw w.buffer_largest-is so_far.buffer_most;
             entries = ap (λ entries. entries.items) w.entries-is ∙ so_far.entries ∙ ap merged (entries_same shape active buffer n none);
             few = rw w.entries-is (omega arith);
             capacity = rw w.entries-is so_far.capacity;

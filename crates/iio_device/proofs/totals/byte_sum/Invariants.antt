@@ -1,9 +1,12 @@
-use Rattle.std.proofs.Common.{◌≡◌, ◌*◌, ◌≤◌, take}
+use Rattle.std.proofs.Common.{◌≡◌, ◌+◌, ◌*◌, ◌≤◌, length}
 use Rattle.std.specs.List.{sum}
 use Rattle.iio_device.proofs.totals.byte_sum.Given as goal
 
-abbrev pub invariant-loop-byte : goal.invariant-loop-byte
-invariant-loop-byte l = record {
-  is : l.total ≡ sum (take l.byte-index l.bytes);
-  few : l.total ≤ 255 * l.byte-index;
+abbrev pub invariant-loop-rest : goal.invariant-loop-rest
+invariant-loop-rest l = record {
+  is : l.total + sum l.rest ≡ sum l.bytes;
+  few : l.total + 65535 * length l.rest ≤ 65535 * length l.bytes;
 }
+
+abbrev pub decreases-loop-rest : goal.decreases-loop-rest
+decreases-loop-rest l = length l.rest

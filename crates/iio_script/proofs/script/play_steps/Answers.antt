@@ -2,7 +2,7 @@ use Rattle.std.proofs.Common.{◌≡◌, refl, Err, ◌∙◌, arith, rules}
 use Rattle.iio_script.specs.declared.status.Status.TheVariants.{Memory}
 use Rattle.iio_script.proofs.EndLaws.{silent_first, silent_more}
 use Rattle.iio_script.proofs.PlayLaws.{plays_first}
-use Rattle.iio_script.proofs.StepLaws.{ends_cut, ends_done, ends_fault, ends_long, ends_read_fault, ends_refused, ends_sent_fault, so_far_first, so_far_found, so_far_played, so_far_sent}
+use Rattle.iio_script.proofs.StepLaws.{ends_cut, ends_done, ends_fault, ends_long, ends_read_fault, ends_refused, ends_sent_fault, so_far_first, so_far_found, so_far_played, so_far_sent, stands_done}
 use Rattle.iio_script.proofs.script.play_steps.Goals as goal
 
 pub loop-room-init : goal.loop-room-init
@@ -45,6 +45,14 @@ returns-in-Ok-Long-clause-played g c = λ s input front more stands finds follow
 pub returns-in-Ok-End-clause-played : goal.returns-in-Ok-End-clause-played
 returns-in-Ok-End-clause-played g c = λ s input front more stands finds follows at looked.
     ends_done _ s c.loop-room.system c.write_ready.new.out.items c.write_ready.new.out.items c.args.first c.loop-room.number c.args.lines.now c.find_on.new.self (g.S.Source.left c.args.input.now) (g.S.Source.left c.find_on.new.source) (g.K.Sink.written c.args.output.now) (g.K.Sink.written c.write_ready.new.output) front more input c.find_on.ensures.hand (rw c.in-Ok-End.field-0-is at c.in-Ok-End.ensures.found) follows looked refl
+    (so_far_found _ s c.loop-room.system c.write_ready.new.out.items c.args.first c.loop-room.number c.args.lines.now c.write_ready.new.lines c.find_on.new.self (g.S.Source.left c.args.input.now) (g.S.Source.left c.loop-room.input) (g.S.Source.left c.find_on.new.source) (g.K.Sink.written c.args.output.now) (g.K.Sink.written c.write_ready.new.output)
+    c.find_on.ensures.follows
+    (so_far_sent _ s c.loop-room.system c.loop-room.out.items c.write_ready.new.out.items c.args.first c.loop-room.number c.args.lines.now c.loop-room.lines c.write_ready.new.lines (g.S.Source.left c.args.input.now) (g.S.Source.left c.loop-room.input) (g.K.Sink.written c.args.output.now) (g.K.Sink.written c.loop-room.output) (g.K.Sink.written c.write_ready.new.output)
+    c.write_ready.ensures.follows c.in_ok-seen.ensures.sends (c.loop-room.invariant.played s stands finds)))
+
+pub returns-in-Ok-End-clause-stands : goal.returns-in-Ok-End-clause-stands
+returns-in-Ok-End-clause-stands g c = λ is s input front more stands finds follows looked.
+    stands_done _ s c.loop-room.system c.write_ready.new.out.items c.args.first c.loop-room.number c.args.lines.now c.find_on.new.self (g.S.Source.left c.args.input.now) (g.S.Source.left c.find_on.new.source) (g.K.Sink.written c.args.output.now) (g.K.Sink.written c.write_ready.new.output) front more input c.find_on.ensures.hand (rw c.in-Ok-End.field-0-is at c.in-Ok-End.ensures.found) follows looked
     (so_far_found _ s c.loop-room.system c.write_ready.new.out.items c.args.first c.loop-room.number c.args.lines.now c.write_ready.new.lines c.find_on.new.self (g.S.Source.left c.args.input.now) (g.S.Source.left c.loop-room.input) (g.S.Source.left c.find_on.new.source) (g.K.Sink.written c.args.output.now) (g.K.Sink.written c.write_ready.new.output)
     c.find_on.ensures.follows
     (so_far_sent _ s c.loop-room.system c.loop-room.out.items c.write_ready.new.out.items c.args.first c.loop-room.number c.args.lines.now c.loop-room.lines c.write_ready.new.lines (g.S.Source.left c.args.input.now) (g.S.Source.left c.loop-room.input) (g.K.Sink.written c.args.output.now) (g.K.Sink.written c.loop-room.output) (g.K.Sink.written c.write_ready.new.output)

@@ -2,11 +2,12 @@ use Rattle.std.proofs.Common.{rules, true, false, sym, append-nil}
 use Rattle.iio_system.proofs.FeedingLaws.{feeds_as, has_fed}
 use Rattle.iio_system.proofs.connection.feed_at.Goals as goal
 
-pub returns-in_ok-push_closed-clause-fed : goal.returns-in_ok-push_closed-clause-fed
-returns-in_ok-push_closed-clause-fed g c =
-    feeds_as g.I.Iio.seen _ _ _ c.args.connection.now.name c.args.bytes.now _ _ c.in-Some.session _ _ (search rules)
+pub returns-in_ok-end-clause-fed : goal.returns-in_ok-end-clause-fed
+returns-in_ok-end-clause-fed g c =
+    rw c.end.ensures.ended
+    (feeds_as g.I.Iio.seen _ _ _ c.args.connection.now.name c.args.bytes.now _ _ c.in-Some.session _ _ (search rules)
     (has_fed g.I.Iio.seen _ _ _ c.args.connection.now.name c.args.bytes.now _ c.push_feed.new.out.items _ _ _ c.in-Some.session c.hear.new.session true
-    c.clear.ensures.items c.in_ok-ended.ensures.heard (search rules) (search rules) (search rules))
+    c.clear.ensures.items c.in_ok-ended.ensures.heard (search rules) (search rules) (search rules)))
 
 pub returns-else-ended-clause-fed : goal.returns-else-ended-clause-fed
 returns-else-ended-clause-fed g c =

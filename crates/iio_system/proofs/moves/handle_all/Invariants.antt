@@ -10,11 +10,11 @@ use Rattle.iio_system.specs.Standing.{Holds, RiseBy}
 use Rattle.iio_system.proofs.FireLaws.{IsLeft}
 use Rattle.iio_system.proofs.moves.handle_all.Given as goal
 
-abbrev pub invariant-loop-dev : goal.invariant-loop-dev
-invariant-loop-dev g l = let drive = driver_of (λ b. (g.dyn-1.0.entry b.vtable).1.driver b.value) in record {
+abbrev pub invariant-loop-turn : goal.invariant-loop-turn
+invariant-loop-turn g l = let drive = driver_of (λ b. (g.dyn-1.0.entry b.vtable).1.driver b.value) in record {
   front : front_of l.bench ≡ front_of l.fn.bench;
-  within : l.dev ≤ l.devices;
-  captures : RiseBy l.dev (captures_of l.fn.bench) (captures_of l.bench);
+  within : l._turn ≤ l.devices;
+  captures : RiseBy l._turn (captures_of l.fn.bench) (captures_of l.bench);
   left : (cs : List (Connection Seat)) (s : Setup) (m : Told) → Holds drive s m l.fn.bench cs → InOrder 0 (length (front_of l.fn.bench).devices) (entries_at m.triggers l.fn.trigger)
-      → IsLeft drive s m l.fn.trigger l.dev (length (front_of l.fn.bench).devices) l.bench cs l.fn.out.items l.out.items;
+      → IsLeft drive s m l.fn.trigger l._turn (length (front_of l.fn.bench).devices) l.bench cs l.fn.out.items l.out.items;
 }

@@ -1,20 +1,15 @@
-use Rattle.std.proofs.Common.{sym, ◌∙◌}
 use Rattle.std.proofs.lemmas.Result.{on_ok_weaker}
 use Rattle.iio_device.specs.Plug.{driver_of}
 use Rattle.iio_system.specs.Bench.{captures_of}
-use Rattle.iio_system.proofs.FireLaws.{plays_none, plays_skipped, plays_some}
+use Rattle.iio_system.proofs.FireLaws.{plays_none, plays_some}
 use Rattle.iio_system.proofs.MoveLaws.{not_ended, rise_counted}
 use Rattle.iio_system.proofs.moves.handle_one.Goals as goal
-
-pub returns-then-not-is_first-clause-makes : goal.returns-then-not-is_first-clause-makes
-returns-then-not-is_first-clause-makes g c = λ cs s m h high less order.
-    plays_skipped (driver_of (λ b. (g.dyn-1.0.entry b.vtable).1.driver b.value)) s m c.args.trigger c.args.dev high c.args.bench.now cs c.args.out.now.items (sym c.is_first.ensures ∙ c.if-not-is_first.true) h less order
 
 pub returns-in-None-clause-makes : goal.returns-in-None-clause-makes
 returns-in-None-clause-makes g c =
     let last = not_ended (captures_of c.args.bench.now) c.args.dev c.requires.captures in
     let told = rw last at c.in-None.ensures.told in
-    λ cs s m h high less order. plays_none (driver_of (λ b. (g.dyn-1.0.entry b.vtable).1.driver b.value)) c.args.trigger c.args.dev c.args.bench.now c.handle.new.self cs c.requires.dev c.in-None.ensures.front told c.in-None.ensures.triggers s m h c.args.out.now.items (rw last at c.in-None.ensures.answer)
+    λ cs s m h. plays_none (driver_of (λ b. (g.dyn-1.0.entry b.vtable).1.driver b.value)) c.args.trigger c.args.dev c.args.bench.now c.handle.new.self cs c.requires.dev c.in-None.ensures.front told c.in-None.ensures.triggers s m h c.args.out.now.items (rw last at c.in-None.ensures.answer)
 
 pub returns-in-None-clause-captures : goal.returns-in-None-clause-captures
 returns-in-None-clause-captures g c = rise_counted c.handle.result c.args.dev _ _ c.handle.ensures.captures
@@ -24,7 +19,7 @@ returns-in-Some-clause-makes g c =
     let last = not_ended (captures_of c.args.bench.now) c.args.dev c.requires.captures in
     let told = rw last at c.in-Some.ensures.told in
     on_ok_weaker c.push_handle.result
-    (λ line cs s m h high less order. plays_some (driver_of (λ b. (g.dyn-1.0.entry b.vtable).1.driver b.value)) c.args.trigger c.args.dev c.args.bench.now c.handle.new.self cs c.requires.dev c.in-Some.ensures.front told c.in-Some.ensures.triggers s m h
+    (λ line cs s m h. plays_some (driver_of (λ b. (g.dyn-1.0.entry b.vtable).1.driver b.value)) c.args.trigger c.args.dev c.args.bench.now c.handle.new.self cs c.requires.dev c.in-Some.ensures.front told c.in-Some.ensures.triggers s m h
     c.args.out.now.items c.push_handle.new.out.items c.trigger_name.result.now c.device_name.result.now c.in-Some.handled c.trigger_name.ensures c.device_name.ensures (rw last at c.in-Some.ensures.answer) line) c.push_handle.ensures
 
 pub returns-in-Some-clause-captures : goal.returns-in-Some-clause-captures

@@ -1,8 +1,9 @@
 use Rattle.std.proofs.Common.{◌≡◌, ℕ, length, IfSome, subst, ◌∙◌}
 use Rattle.iio_history.specs.Outcome.{outcome_of}
 use Rattle.iio_script.specs.Ends.{Writes}
+use Rattle.iio_gen.specs.Summary.{summarized}
 use Rattle.iiod_main.specs.Layout.{layout_of}
-use Rattle.iiod_main.proofs.EndLaws.{completes_told, named}
+use Rattle.iiod_main.proofs.EndLaws.{completes_told, gen_completes, named, numbered}
 use Rattle.iiod_main.proofs.command.run.Goals as goal
 
 pub returns-then-is_play-clause-complete : goal.returns-then-is_play-clause-complete
@@ -28,3 +29,15 @@ returns-in-Some-clause-layout_complete g c = λ device mask words reads writes.
     (subst (λ (drivers : ℕ). IfSome (g.S.Source.left c.args.input.now) (λ left. IfSome (g.K.Sink.written c.args.output.now)
     (λ written. Writes (layout_of drivers left c.in-Some.device.now c.in-Some.mask.now) written c.layout.result (g.K.Sink.written c.layout.new.output)))) many c.layout.ensures.lines))
     c.layout.ensures.faults.read_fault c.layout.ensures.faults.write_fault reads writes
+
+pub returns-in-Some-gen_words-clause-generated : goal.returns-in-Some-gen_words-clause-generated
+returns-in-Some-gen_words-clause-generated g c = λ n words.
+    numbered (λ n. IfSome (g.K.Sink.written c.args.output.now) (λ written. Writes (summarized n) written c.gen_.result (g.K.Sink.written c.gen_.new.output)))
+    c.args.words.now c.in-Some-gen_words.n n c.in-Some-gen_words.ensures.found words c.gen_.ensures.lines
+
+pub returns-in-Some-gen_words-clause-generated_complete : goal.returns-in-Some-gen_words-clause-generated_complete
+returns-in-Some-gen_words-clause-generated_complete g c = λ n words writes.
+    gen_completes (summarized n) (g.K.Sink.written c.args.output.now) c.gen_.result (g.K.Sink.written c.gen_.new.output) _ _ c.gen_.ensures.status
+    (numbered (λ n. IfSome (g.K.Sink.written c.args.output.now) (λ written. Writes (summarized n) written c.gen_.result (g.K.Sink.written c.gen_.new.output)))
+    c.args.words.now c.in-Some-gen_words.n n c.in-Some-gen_words.ensures.found words c.gen_.ensures.lines)
+    c.gen_.ensures.write_fault writes

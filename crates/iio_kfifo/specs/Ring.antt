@@ -1,0 +1,23 @@
+-- A ring of slots, each with room for one scan. Cited by the model of this crate's queue and its private functions alone.
+use Rattle.std.specs.Prelude.{ℕ, zero, suc, ◌+◌, ◌-◌, ◌*◌, ◌≤◌, ◌<◌, nat_lt, min, List, ◌++◌, drop, if◌then◌else◌}
+
+-- the slot that comes so many after another, of so many slots in a ring
+abbrev pub slot_after : (slot count slots : ℕ) → ℕ
+slot_after slot count slots = if nat_lt (slot + count) slots then slot + count else slot + count - slots
+
+-- the first scan's slot once that was taken, by how many scans are left: with none the ring begins anew
+abbrev pub first_after : (first left slots : ℕ) → ℕ
+first_after first zero slots = 0
+first_after first (suc left) slots = slot_after first 1 slots
+
+-- the bytes of a ring from that byte on: those up to its end, and then those from its start
+abbrev pub bytes_from : ℕ → List ℕ → List ℕ
+bytes_from start bytes = drop start bytes ++ bytes
+
+-- scans wait in so many slots from the first on. Of the ring's bytes the first `length` were written, and there is memory for `room`
+pub record IsRing (first waiting size slots length room : ℕ) : Type 0 where
+  pub begins : first < slots
+  pub most : waiting ≤ slots
+  pub written : min (first + waiting) slots * size ≤ length
+  pub within : length ≤ slots * size
+  pub enough : slots * size ≤ room

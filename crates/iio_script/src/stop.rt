@@ -1,0 +1,115 @@
+//! What is counted in a text that is played.
+
+ghost use Rattle.std.specs.Prelude.{◌≡◌, ◌+◌, ◌≤◌, [], ◌++◌, List, ℕ, length, None};
+ghost use Rattle.iio_desc.specs.WellFormed.{IsWellFormed};
+ghost use Rattle.iio_history.specs.Input.{input_limit, is_overlong, looked_lines};
+ghost use Rattle.iio_history.specs.Outcome.{last_ending};
+ghost use Rattle.iio_history.specs.Script.{Finished, script_from};
+ghost use Rattle.iio_script.specs.LineReader.{Follows, IsHand};
+ghost use Rattle.iio_script.specs.Tallies.{Tallies, TalliesScript};
+
+use crate::line_reader::LineReader;
+use crate::opening::{Opening, open};
+use crate::outline::outline;
+use crate::script::play_steps;
+use crate::status::Status;
+use iio_desc::Desc;
+use iio_io::{Failed, MemSource, Sink, Source};
+use iio_system::{System, Tally};
+use iio_text::Why;
+use std::alloc::Global;
+
+/// Why a text isn't counted.
+#[derive(Clone, Copy, Debug, PartialEq, Eq)]
+pub enum Stop {
+    /// The line of that number, counted from 1, is the first that fails.
+    Refused { line: u32, why: Why },
+    /// Memory ran out.
+    Mem,
+}
+
+// A sink that lets go of all bytes.
+#[derive(Drop)]
+struct NoSink;
+
+impl Sink for NoSink {
+    ghost written = { λ s. None };
+
+    ghost faults = { λ s. 0 };
+
+    fn write(&mut self, bytes: &[u8]) -> Result<usize, Failed> {
+        Ok(bytes.len())
+    }
+}
+
+// What the steps of a script count, from a line on, without drivers.
+fn tally_steps<S: Source>(
+    alloc: Global,
+    desc: Desc,
+    lines: &mut LineReader,
+    first: u32,
+    input: &mut S,
+) -> Result<Tally, Stop>
+    requires sound { IsWellFormed 0 desc }
+    requires begun { first ≤ lines.old.given + 1 }
+    requires hand { IsHand lines.old }
+    ensures { (text : List ℕ) (front more : List (List ℕ)) → Follows text front lines.old (S.left input.old) → first ≡ length front + 1 → looked_lines text ≡ front ++ more
+        → TalliesScript (record { desc = desc; drivers = [] }) (script_from desc (last_ending (is_overlong text)) [] first more) result }
+{
+    let Ok(names) = outline(alloc, &desc) else {
+        return Err(Stop::Mem);
+    };
+    let Ok(mut system) = System::new(alloc, desc, Vec::new(alloc)) else {
+        return Err(Stop::Mem);
+    };
+    let mut out = Vec::new(alloc);
+    match play_steps(
+        alloc,
+        &mut system,
+        &names,
+        lines,
+        first,
+        input,
+        &mut NoSink,
+        &mut out,
+    ) {
+        Ok(Status::Done) => Ok(system.tally()),
+        Ok(Status::Refused { line, why }) => Err(Stop::Refused { line, why }),
+        _ => Err(Stop::Mem),
+    }
+}
+
+// What a description counts that the input's end ends.
+fn tally_alone(alloc: Global, desc: Desc) -> Result<Tally, Stop>
+    requires { IsWellFormed 0 desc }
+    ensures { (first : ℕ) → TalliesScript (record { desc = desc; drivers = [] }) (script_from desc Finished [] first []) result }
+{
+    match System::new(alloc, desc, Vec::new(alloc)) {
+        Ok(system) => Ok(system.tally()),
+        Err(_) => Err(Stop::Mem),
+    }
+}
+
+/// What is counted in a text that is played without drivers: the description at its head, and then the steps of its script.
+/// `Refused` comes at the first line that fails.
+pub fn tally(alloc: Global, text: &[u8]) -> Result<Tally, Stop>
+    requires { length text.now ≤ input_limit }
+    ensures { Tallies text.now result }
+{
+    let Ok(bytes) = text.to_vec(alloc) else {
+        return Err(Stop::Mem);
+    };
+    let mut source = MemSource::new(bytes, text.len().max(1), Vec::new(alloc));
+    let Ok(mut lines) = LineReader::new(alloc) else {
+        return Err(Stop::Mem);
+    };
+    match open(alloc, &mut lines, &mut source, 0) {
+        Ok(Opening::Described { desc, first }) => {
+            tally_steps(alloc, desc, &mut lines, first, &mut source)
+        }
+        Ok(Opening::Alone { desc }) => tally_alone(alloc, desc),
+        Ok(Opening::Refused { line, why }) => Err(Stop::Refused { line, why }),
+        Ok(Opening::Cut) => Err(Stop::Mem),
+        Err(_) => Err(Stop::Mem),
+    }
+}
