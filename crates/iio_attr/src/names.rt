@@ -1,6 +1,6 @@
 //! Names of triggers, devices and connections.
 
-ghost use Rattle.std.specs.Prelude.{◌≡◌, ◌≤◌, ◌↔◌, true, IsTrue, length};
+ghost use Rattle.std.specs.Prelude.{◌≡◌, ◌≤◌, ◌↔◌, true, IsTrue, length, take};
 ghost use Rattle.std.specs.List.{list_all};
 ghost use Rattle.iio_attr.specs.Name.{is_name_byte, is_name, name_of};
 
@@ -86,6 +86,16 @@ impl Name {
         ensures within { length self.now ≤ 32 }
     {
         &self.buffer[..self.len]
+    }
+
+    /// The bytes of the name, and behind them others, of which nothing is said: always 32 bytes, so that they are cheap to copy.
+    #[inline(always)]
+    pub fn padded(&self) -> &[u8]
+        ensures bytes { take (length self.now) result.now ≡ self.now }
+        ensures size { length result.now ≡ 32 }
+        ensures within { length self.now ≤ 32 }
+    {
+        &self.buffer
     }
 
     /// Whether both are one name.

@@ -9,6 +9,7 @@ fn names(rt: HostRuntime) -> Result<(), Fail> {
         let name = Name::new(text).ok_or("a name")?;
         let again = name.copy();
         assert!(rt; again.bytes() == text && again.same(&name), "{text:?}");
+        assert!(rt; name.padded().starts_with(text), "{text:?}");
     }
     let too_long = [b'a'; 33];
     let wrong = [

@@ -1,7 +1,7 @@
 //! The copy table of one buffer.
 
-ghost use Rattle.std.specs.Prelude.{◌≡◌, ℕ, ℤ, ◌+◌, ◌-◌, ◌^◌, ◌<◌, ◌≤◌, ◌++◌, true, IfOk, IsTrue, List, [], ◌∷◌, length, slice_index, vec_capacity, vec_len};
-ghost use Rattle.std.specs.Int.{next_multiple_of};
+ghost use Rattle.std.specs.Prelude.{◌≡◌, ◌≢◌, ℕ, ℤ, ◌+◌, ◌-◌, ◌^◌, ◌<◌, ◌≤◌, ◌++◌, true, IfOk, IsTrue, List, [], ◌∷◌, length, slice_index, vec_capacity, vec_len};
+ghost use Rattle.std.specs.Int.{IsPowerOfTwo, next_multiple_of};
 ghost use Rattle.iio_mask.specs.Mask.{has, is_within};
 ghost use Rattle.iio_scan_type.specs.declared.TheConstants.{MAX_CHANNEL_SIZE};
 ghost use Rattle.iio_layout.specs.Layout.{scan_size};
@@ -10,7 +10,7 @@ ghost use Rattle.iio_layout.specs.Shape.{count_of, width_of};
 ghost use Rattle.iio_demux.specs.Table.{AreInOrder, AreMerged, channel_entries, continues, copied, covers, merged, source_of, table_of};
 
 use iio_base::Mem;
-use iio_layout::{MAX_CHANNELS, Shape};
+use iio_layout::{MAX_CHANNELS, Shape, aligned};
 use iio_mask::Mask;
 use iio_scan_type::MAX_CHANNEL_SIZE;
 use std::alloc::Global;
@@ -122,6 +122,20 @@ impl Table {
         copy_entries(&self.entries, scan, out);
     }
 
+    /// The bytes of a scan under the mask that it copies from.
+    pub fn active_size(&self) -> u32
+        ensures { result ≡ self.now.active_size }
+    {
+        self.active_size
+    }
+
+    /// The bytes of a scan under the buffer's mask.
+    pub fn buffer_size(&self) -> u32
+        ensures { result ≡ self.now.buffer_size }
+    {
+        self.buffer_size
+    }
+
     /// The entries, in the order of their channels. Channels that are neighbours in both scans are in one.
     pub fn entries(&self) -> &[Entry]
         ensures entries { result.now ≡ self.now.entries }
@@ -158,12 +172,13 @@ struct Sizes {
 fn padded_size(end: u32, largest: u32) -> u32
     requires end { end < 2 ^ 31 }
     requires few { largest ≤ MAX_CHANNEL_SIZE }
+    requires power { largest ≢ 0 → IsPowerOfTwo largest }
     ensures { result ≡ next_multiple_of end largest }
 {
     if largest == 0 {
         return end;
     }
-    end.next_multiple_of(largest)
+    aligned(end, largest)
 }
 
 // Lists the entries of all channels of the buffer's mask, each of which is in the active mask, and answers the sizes of the
@@ -186,11 +201,11 @@ fn push_entries(shape: &Shape, active: Mask, buffer: Mask, entries: &mut Vec<Ent
             continue;
         }
         let length = shape.scan_type(c).size();
-        let from = active_end.next_multiple_of(length);
+        let from = aligned(active_end, length);
         active_end = from + length;
         active_largest = active_largest.max(length);
         if buffer.contains(c) {
-            let to = buffer_end.next_multiple_of(length);
+            let to = aligned(buffer_end, length);
             buffer_end = to + length;
             buffer_largest = buffer_largest.max(length);
             push_merged(entries, Entry { from, to, length });

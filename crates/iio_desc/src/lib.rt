@@ -15,6 +15,3 @@ pub use crate::reader::{DescFault, DescReader, is_end, read_desc};
 pub use iio_attr::Name;
 pub use iio_base::Mem;
 pub use iio_layout::{Rows, Shape};
-
-#[cfg(test)]
-mod tests;

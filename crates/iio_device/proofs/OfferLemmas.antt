@@ -1,7 +1,8 @@
 -- What a capture makes of members and groups.
-use Rattle.std.proofs.Common.{◌≡◌, ◌==◌, ◌||◌, ℕ, ◌+◌, ◌^◌, ◌<◌, Bool, true, false, List, [], ◌∷◌, ◌++◌, length, map, take, drop, find, slice_index_or, option_map, unwrap_or, Option, Some, None, if◌then◌else◌, ℤ, subst, refl, sym, ap, ◌∙◌, arith}
+use Rattle.std.proofs.Common.{◌≡◌, ◌==◌, ◌||◌, ℕ, ◌+◌, ◌^◌, ◌<◌, Bool, true, false, List, [], ◌∷◌, ◌++◌, length, map, take, drop, find, slice_index_or, option_map, unwrap_or, Option, Some, None, if◌then◌else◌, ℤ, subst, refl, sym, ap, ◌∙◌, inl, inr, arith}
 use Rattle.std.specs.List.{All, AllZip, IsDistinct}
 use Rattle.std.specs.Option.{option_map_or}
+use Rattle.std.proofs.lemmas.Bool.{cases_Bool}
 use Rattle.std.proofs.lemmas.List.Elements.{All-nil, All-cons, All-head, All-tail, All-map, All-weaker, length_all_zip}
 use Rattle.std.proofs.Math.Seq.{take-append_seam}
 use Rattle.std.proofs.lemmas.List.FromFn.{length-map-range_with_len}
@@ -18,7 +19,7 @@ use Rattle.iio_demux.specs.Table.{byte_at, copied, table_of}
 use Rattle.iio_demux.proofs.ScanLemmas.{table_scans}
 use Rattle.iio_kfifo.specs.declared.tail.Offered.{Offered}
 use Rattle.iio_device.specs.declared.membership.Membership.{Membership}
-use Rattle.iio_device.specs.Groups.{GroupRecord, IsGroup, has_group, laid_out, scan_under}
+use Rattle.iio_device.specs.Groups.{GroupRecord, IsGroup, has_group, laid_out, scan_for, scan_under}
 use Rattle.iio_device.specs.Active.{active_for}
 use Rattle.iio_device.specs.Members.{WasOffered, is_wanted, mask_of, masks_of}
 use Rattle.iio_device.proofs.ApartLemmas.{distinct_map, kept_key}
@@ -36,39 +37,54 @@ rule_contains shape wanted m found = by (matching_mask shape.listed (data_part s
         let is : with_stamp shape wanted x ≡ m = cc in
         subst (λ k. is_within wanted k ≡ true) is (active_contains shape wanted x (matching_mask_contains shape.listed (data_part shape wanted) x e))
 
--- what is made of a table's scan by the group of a mask
-pub scan_found : (shape : ShapeRecord) (active mask : ℕ) (union : List ℕ) (groups : List GroupRecord) → All (IsGroup shape active) groups → has_group groups mask ≡ true
-    → scan_under (map (laid_out union) groups) mask ≡ copied (table_of shape active mask).entries union (scan_size shape mask)
-scan_found shape active mask union [] each there = absurd (cc)
-scan_found shape active mask union (g ∷ gs) each there =
-    by (λ h. scan_found shape active mask union gs (All-tail (IsGroup shape active) g gs each) h) (g.mask == mask) refl there
+-- a group whose scan is laid out keeps its mask
+laid_mask : (active : ℕ) (union : List ℕ) (g : GroupRecord) → (laid_out active union g).mask ≡ g.mask
+laid_mask active union g = elim (cases_Bool (g.mask == active)) [ inl own ↦ rw own refl | inr other ↦ rw other refl ]
+
+-- what is made of a table's scan by the group of a mask that isn't the active one
+scan_found : (shape : ShapeRecord) (active mask : ℕ) (union : List ℕ) (groups : List GroupRecord) → (mask == active) ≡ false → All (IsGroup shape active) groups → has_group groups mask ≡ true
+    → scan_under (map (laid_out active union) groups) mask ≡ copied (table_of shape active mask).entries union (scan_size shape mask)
+scan_found shape active mask union [] other each there = absurd (cc)
+scan_found shape active mask union (g ∷ gs) other each there =
+    rw (laid_mask active union g) (by (λ h. scan_found shape active mask union gs other (All-tail (IsGroup shape active) g gs each) h) (g.mask == mask) refl there)
   where
     first : IsGroup shape active g
     first = All-head (IsGroup shape active) g gs each
 
-    laid : g.mask ≡ mask → copied g.table.entries union g.table.buffer_size ≡ copied (table_of shape active mask).entries union (scan_size shape mask)
-    laid same = ap (λ t. copied t.entries union t.buffer_size) (first.table ∙ ap (table_of shape active) same)
+    laid : g.mask ≡ mask → (laid_out active union g).scan ≡ copied (table_of shape active mask).entries union (scan_size shape mask)
+    laid same =
+        let apart : (g.mask == active) ≡ false = rw same other in
+        rw apart (ap (λ t. copied t.entries union t.buffer_size) (first.table ∙ ap (table_of shape active) same))
 
-    by : (has_group gs mask ≡ true → scan_under (map (laid_out union) gs) mask ≡ copied (table_of shape active mask).entries union (scan_size shape mask))
+    by : (has_group gs mask ≡ true → scan_under (map (laid_out active union) gs) mask ≡ copied (table_of shape active mask).entries union (scan_size shape mask))
         → (b : Bool) → (g.mask == mask) ≡ b → (b || has_group gs mask) ≡ true
-        → option_map_or (λ (x : GroupRecord). x.scan) (if b then Some (laid_out union g) else find (λ (x : GroupRecord). x.mask == mask) (map (laid_out union) gs)) []
+        → option_map_or (λ (x : GroupRecord). x.scan) (if b then Some (laid_out active union g) else find (λ (x : GroupRecord). x.mask == mask) (map (laid_out active union) gs)) []
         ≡ copied (table_of shape active mask).entries union (scan_size shape mask)
     by later true e h = let same : g.mask ≡ mask = grind (arith, e) in laid same
     by later false e h = later h
 
--- it has the mask's size, and it is the scan of the capture
+-- a scan has the mask's size, and it is that of the capture
 pub scan_found-size : (shape : ShapeRecord) (active mask : ℕ) (union : List ℕ) (groups : List GroupRecord) → All (IsGroup shape active) groups → has_group groups mask ≡ true
-    → length (scan_under (map (laid_out union) groups) mask) ≡ scan_size shape mask
-scan_found-size shape active mask union groups each there =
-    ap length (scan_found shape active mask union groups each there) ∙ length-map-range_with_len (λ j. byte_at (table_of shape active mask).entries union j) 0 (scan_size shape mask)
+    → length union ≡ scan_size shape active → length (scan_for active union (map (laid_out active union) groups) mask) ≡ scan_size shape mask
+scan_found-size shape active mask union groups each there sized =
+    elim (cases_Bool (mask == active)) [
+      | inl same ↦ let is : mask ≡ active = grind (arith, same) in rw same (sized ∙ ap (scan_size shape) (sym is))
+      | inr other ↦
+          rw other (ap length (scan_found shape active mask union groups other each there)
+          ∙ length-map-range_with_len (λ j. byte_at (table_of shape active mask).entries union j) 0 (scan_size shape mask))
+    ]
 
 pub scan_found-is : (shape : ShapeRecord) (active mask : ℕ) (union : List ℕ) (groups : List GroupRecord) (values : List ℤ) (t : ℤ) → All (IsGroup shape active) groups → has_group groups mask ≡ true
     → is_within mask active ≡ true → length values ≡ width_of shape → union ≡ scan_of shape active values t
-    → scan_under (map (laid_out union) groups) mask ≡ scan_of shape mask values t
+    → scan_for active union (map (laid_out active union) groups) mask ≡ scan_of shape mask values t
 scan_found-is shape active mask union groups values t each there within wide is =
-    scan_found shape active mask union groups each there
-    ∙ ap (λ u. copied (table_of shape active mask).entries u (scan_size shape mask)) is
-    ∙ table_scans shape active mask values t (has-within mask active within) wide
+    elim (cases_Bool (mask == active)) [
+      | inl same ↦ let own : mask ≡ active = grind (arith, same) in rw same (is ∙ ap (λ m. scan_of shape m values t) (sym own))
+      | inr other ↦
+          rw other (scan_found shape active mask union groups other each there
+          ∙ ap (λ u. copied (table_of shape active mask).entries u (scan_size shape mask)) is
+          ∙ table_scans shape active mask values t (has-within mask active within) wide)
+    ]
 
 -- ---- lists that change together
 
@@ -132,14 +148,20 @@ module _ {Q : Type 0} (R : Membership Q → Membership Q → Type 0) (same_mask 
 
 -- ---- groups whose scans are laid out
 
-laid_group : (shape : ShapeRecord) (active : ℕ) (union : List ℕ) (g : GroupRecord) → IsGroup shape active g → IsGroup shape active (laid_out union g)
-laid_group shape active union g is = record {
-  table = is.table;
-  room = length-map-range_with_len (λ j. byte_at g.table.entries union j) 0 g.table.buffer_size ∙ ap (λ t. t.buffer_size) is.table;
-}
+laid_group : (shape : ShapeRecord) (active : ℕ) (union : List ℕ) (g : GroupRecord) → IsGroup shape active g → IsGroup shape active (laid_out active union g)
+laid_group shape active union g is =
+    elim (cases_Bool (g.mask == active)) [
+      | inl own ↦ rw own is
+      | inr other ↦
+          rw other (record {
+            table = is.table;
+            room = length-map-range_with_len (λ j. byte_at g.table.entries union j) 0 g.table.buffer_size ∙ ap (λ t. t.buffer_size) is.table;
+          })
+    ]
 
 sound_laid : {Q : Type 0} (taken lost size : Q → ℕ) (shape : ShapeRecord) (active : Option Mask) (captures next : ℕ) (members : List (Membership Q)) (groups : List GroupRecord) (union : List ℕ)
-    → IsSound taken lost size shape active captures next members groups → IsSound taken lost size shape active captures next members (map (laid_out union) groups)
+    → IsSound taken lost size shape active captures next members groups
+    → IsSound taken lost size shape active captures next members (map (laid_out (unwrap_or (bits_of active) 0) union) groups)
 sound_laid {Q = Q} taken lost size shape active captures next members groups union sound =
     let mask = unwrap_or (bits_of active) 0 in
     record {
@@ -150,11 +172,14 @@ sound_laid {Q = Q} taken lost size shape active captures next members groups uni
       numbers = sound.numbers;
       each = sound.each;
       grouped = record {
-        each = All-map (IsGroup shape mask) (laid_out union) groups (All-weaker (IsGroup shape mask) (λ g. IsGroup shape mask (laid_out union g)) (laid_group shape mask union) groups sound.grouped.each);
-        there = All-weaker (λ (m : Membership Q). has_group groups m.mask.bits ≡ true) (λ (m : Membership Q). has_group (map (laid_out union) groups) m.mask.bits ≡ true)
-            (λ m there. kept_key (λ (g : GroupRecord). g.mask) (laid_out union) (λ g. refl) groups m.mask.bits ∙ there) members sound.grouped.there;
-        used = All-map (λ (g : GroupRecord). is_wanted members g.mask ≡ true) (laid_out union) groups sound.grouped.used;
-        apart = distinct_map (λ (g : GroupRecord). g.mask) (laid_out union) (λ g. refl) groups sound.grouped.apart;
+        each = All-map (IsGroup shape mask) (laid_out mask union) groups
+            (All-weaker (IsGroup shape mask) (λ g. IsGroup shape mask (laid_out mask union g)) (laid_group shape mask union) groups sound.grouped.each);
+        there = All-weaker (λ (m : Membership Q). has_group groups m.mask.bits ≡ true) (λ (m : Membership Q). has_group (map (laid_out mask union) groups) m.mask.bits ≡ true)
+            (λ m there. kept_key (λ (g : GroupRecord). g.mask) (laid_out mask union) (laid_mask mask union) groups m.mask.bits ∙ there) members sound.grouped.there;
+        used = All-map (λ (g : GroupRecord). is_wanted members g.mask ≡ true) (laid_out mask union) groups
+            (All-weaker (λ (g : GroupRecord). is_wanted members g.mask ≡ true) (λ (g : GroupRecord). is_wanted members (laid_out mask union g).mask ≡ true)
+            (λ g wanted. ap (is_wanted members) (laid_mask mask union g) ∙ wanted) groups sound.grouped.used);
+        apart = distinct_map (λ (g : GroupRecord). g.mask) (laid_out mask union) (laid_mask mask union) groups sound.grouped.apart;
       };
     }
 
@@ -184,17 +209,19 @@ module _ {Q : Type 0} (taken lost size capacity : Q → ℕ) (offer_gives : Q �
         }
 
     pub sound_captures : (shape : ShapeRecord) (active : Option Mask) (captures next : ℕ) (old new : List (Membership Q)) (groups : List GroupRecord) (union : List ℕ)
-        → IsSound taken lost size shape active captures next old groups → AllZip Moves old new → IsSound taken lost size shape active (captures + 1) next new (map (laid_out union) groups)
+        → IsSound taken lost size shape active captures next old groups → AllZip Moves old new
+        → IsSound taken lost size shape active (captures + 1) next new (map (laid_out (unwrap_or (bits_of active) 0) union) groups)
     sound_captures shape active captures next old new groups union sound zip =
         sound_laid taken lost size shape active (captures + 1) next new groups union
         (sound_moves Moves offered_mask (λ a b r. ap (λ (m : Membership Q). m.number) r.same) taken lost size shape active captures (captures + 1) next old new groups (offered_member shape captures next) sound zip)
 
   -- each scan that is offered has its queue's size, and no count comes to its end
   pub all_sized : (shape : ShapeRecord) (active : Option Mask) (captures next : ℕ) (members : List (Membership Q)) (groups : List GroupRecord) (union : List ℕ)
-      → IsSound taken lost size shape active captures next members groups → All (λ (m : Membership Q). length (scan_under (map (laid_out union) groups) m.mask.bits) ≡ size m.tail) members
-  all_sized shape active captures next members groups union sound = λ k d within.
+      → IsSound taken lost size shape active captures next members groups → length union ≡ scan_size shape (unwrap_or (bits_of active) 0)
+      → All (λ (m : Membership Q). length (scan_for (unwrap_or (bits_of active) 0) union (map (laid_out (unwrap_or (bits_of active) 0) union) groups) m.mask.bits) ≡ size m.tail) members
+  all_sized shape active captures next members groups union sound sized = λ k d within.
       let m = slice_index_or members k d in
-      scan_found-size shape (unwrap_or (bits_of active) 0) m.mask.bits union groups sound.grouped.each (sound.grouped.there k d within) ∙ sym ((sound.each k d within).sized)
+      scan_found-size shape (unwrap_or (bits_of active) 0) m.mask.bits union groups sound.grouped.each (sound.grouped.there k d within) sized ∙ sym ((sound.each k d within).sized)
 
   pub all_fewer : (shape : ShapeRecord) (active : Option Mask) (captures next : ℕ) (members : List (Membership Q)) (groups : List GroupRecord) → captures < 18446744073709551615
       → IsSound taken lost size shape active captures next members groups → All (λ (m : Membership Q). taken m.tail + lost m.tail < 18446744073709551615) members

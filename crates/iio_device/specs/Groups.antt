@@ -1,5 +1,5 @@
 -- Members of the same mask share a copy table, and the scan that it makes of a capture.
-use Rattle.std.specs.Prelude.{◌≡◌, ◌==◌, ℕ, Bool, List, [], length, find}
+use Rattle.std.specs.Prelude.{◌≡◌, ◌==◌, ℕ, Bool, if◌then◌else◌, List, [], length, find}
 use Rattle.std.specs.List.{list_any}
 use Rattle.std.specs.Option.{option_map_or}
 use Rattle.iio_layout.specs.Layout.{scan_size}
@@ -25,10 +25,14 @@ pub record IsGroup (shape : ShapeRecord) (active : ℕ) (g : GroupRecord) : Type
 abbrev pub remade : ShapeRecord → ℕ → GroupRecord → GroupRecord
 remade shape active g = record g { table = table_of shape active g.mask }
 
--- the scan of an active one is laid out
-abbrev pub laid_out : List ℕ → GroupRecord → GroupRecord
-laid_out union g = record g { scan = copied g.table.entries union g.table.buffer_size }
+-- the scan of an active one is laid out, where the group isn't of the active mask itself
+abbrev pub laid_out : ℕ → List ℕ → GroupRecord → GroupRecord
+laid_out active union g = if g.mask == active then g else record g { scan = copied g.table.entries union g.table.buffer_size }
 
 -- the scan of the group of that mask
 abbrev pub scan_under : List GroupRecord → ℕ → List ℕ
 scan_under groups mask = option_map_or (λ g. g.scan) (find (λ g. g.mask == mask) groups) []
+
+-- the scan under a mask: the active one itself, or that of the group of the mask
+abbrev pub scan_for : ℕ → List ℕ → List GroupRecord → ℕ → List ℕ
+scan_for active union groups mask = if mask == active then union else scan_under groups mask

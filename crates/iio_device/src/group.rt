@@ -5,11 +5,11 @@ ghost use Rattle.iio_mask.specs.Mask.{is_within};
 ghost use Rattle.iio_layout.specs.Layout.{scan_size};
 ghost use Rattle.iio_layout.specs.Shape.{count_of};
 ghost use Rattle.iio_demux.specs.Table.{table_of};
-ghost use Rattle.iio_device.specs.Groups.{GroupRecord, IsGroup, has_group, laid_out, remade, scan_under};
+ghost use Rattle.iio_device.specs.Groups.{GroupRecord, IsGroup, has_group, laid_out, remade, scan_for, scan_under};
 
 use iio_base::Mem;
 use iio_demux::Table;
-use iio_layout::{Shape, scan_size};
+use iio_layout::Shape;
 use iio_mask::Mask;
 use std::alloc::Global;
 use std::marker::Model;
@@ -40,7 +40,7 @@ impl Group {
         ensures group { IfOk result (λ g. IsGroup shape.now active.bits g) }
     {
         let table = Table::build(alloc, shape, active, mask)?;
-        let scan = vec![in alloc; 0u8; scan_size(shape, mask) as usize]?;
+        let scan = vec![in alloc; 0u8; table.buffer_size() as usize]?;
         Ok(Group { mask, table, scan })
     }
 
@@ -53,19 +53,28 @@ impl Group {
         self.table.remake(shape, active, self.mask);
     }
 
-    /// Lays out the scan of an active one.
-    fn lay_out(&mut self, union: &[u8])
+    /// Lays out the scan of the active one, where the group isn't of the active mask itself.
+    fn lay_out_under(&mut self, active: Mask, union: &[u8])
         requires union { length union.now ≡ self.old.table.active_size }
         requires room { length self.old.scan ≡ self.old.table.buffer_size }
-        ensures { self.new ≡ laid_out union.now self.old }
+        ensures { self.new ≡ laid_out active.bits union.now self.old }
     {
-        self.table.apply(union, &mut self.scan);
+        if self.mask != active {
+            self.table.apply(union, &mut self.scan);
+        }
     }
 
     fn is_of(&self, mask: Mask) -> bool
         ensures { result ≡ (self.now.mask == mask.bits) }
     {
         self.mask == mask
+    }
+
+    /// The bytes of the scan that its table copies from.
+    pub(crate) fn active_size(&self) -> u32
+        ensures { result ≡ self.now.table.active_size }
+    {
+        self.table.active_size()
     }
 
     /// The mask that the group is of.
@@ -88,19 +97,34 @@ pub(crate) fn remake_all(groups: &mut Vec<Group>, shape: &Shape, active: Mask)
     }
 }
 
-/// Lays out each group's scan of an active one.
-pub(crate) fn lay_out_all(groups: &mut Vec<Group>, union: &[u8])
+/// Lays out each group's scan of the active one. A group of the active mask itself has no scan of its own to lay out.
+pub(crate) fn lay_out_all(groups: &mut Vec<Group>, active: Mask, union: &[u8])
     requires union { All (λ (g : GroupRecord). length union.now ≡ g.table.active_size) groups.old.items }
     requires room { All (λ (g : GroupRecord). length g.scan ≡ g.table.buffer_size) groups.old.items }
-    ensures { groups.new.items ≡ map (laid_out union.now) groups.old.items }
+    ensures { groups.new.items ≡ map (laid_out active.bits union.now) groups.old.items }
 {
     for i in 0..groups.len() {
-        groups[i].lay_out(union);
+        groups[i].lay_out_under(active, union);
     }
 }
 
-/// The scan of the group of that mask.
-pub(crate) fn scan_under(groups: &[Group], mask: Mask) -> &[u8]
+/// The scan under a mask: the active one, or that of the group of the mask.
+pub(crate) fn scan_for<'a>(
+    groups: &'a [Group],
+    active: Mask,
+    union: &'a [u8],
+    mask: Mask,
+) -> &'a [u8]
+    ensures { result.now ≡ scan_for active.bits union.now groups.now mask.bits }
+{
+    if mask == active {
+        return union;
+    }
+    scan_under(groups, mask)
+}
+
+// The scan of the group of that mask.
+fn scan_under(groups: &[Group], mask: Mask) -> &[u8]
     ensures { result.now ≡ scan_under groups.now mask.bits }
 {
     for group in groups {

@@ -25,6 +25,3 @@ pub use plug::Plug;
 pub use roster::{JoinFault, JoinRefused, Roster};
 pub use stored::{ChannelValues, Stored};
 pub use totals::Totals;
-
-#[cfg(test)]
-mod tests;

@@ -5,10 +5,10 @@ ghost use Rattle.std.specs.List.{AllZip, IsDistinct};
 ghost use Rattle.iio_mask.specs.Mask.{union_of_all};
 ghost use Rattle.iio_kfifo.specs.Queue.{Queue};
 ghost use Rattle.iio_device.specs.declared.membership.Membership.{Membership};
-ghost use Rattle.iio_device.specs.Groups.{scan_under};
+ghost use Rattle.iio_device.specs.Groups.{scan_for};
 ghost use Rattle.iio_device.specs.Members.{Drains, WasOffered, is_live, is_wanted, masks_of, member_of};
 
-use crate::group::{Group, scan_under};
+use crate::group::{Group, scan_for};
 use crate::membership::Membership;
 use iio_kfifo::{Kfifo, Tail};
 use iio_mask::Mask;
@@ -80,23 +80,30 @@ pub(crate) fn position_of<Q>(members: &[Membership<Q>], number: u64) -> Option<u
     walk_to(members, number)
 }
 
-// Offers a member the scan of its group.
-fn offer_one<Q: Tail>(member: &mut Membership<Q>, groups: &[Group])
-    requires sized { length (scan_under groups.now member.old.mask.bits) ≡ Q.size member.old.tail }
+// Offers a member its scan of the active one.
+fn offer_one<Q: Tail>(member: &mut Membership<Q>, groups: &[Group], active: Mask, union: &[u8])
+    requires sized { length (scan_for active.bits union.now groups.now member.old.mask.bits) ≡ Q.size member.old.tail }
     requires fewer { Q.taken member.old.tail + Q.lost member.old.tail < 2 ^ 64 - 1 }
-    ensures { WasOffered Q.taken Q.lost Q.size Q.capacity Q.offer_gives (scan_under groups.now member.old.mask.bits) member.old member.new }
+    ensures { WasOffered Q.taken Q.lost Q.size Q.capacity Q.offer_gives (scan_for active.bits union.now groups.now member.old.mask.bits) member.old member.new }
 {
-    member.tail.offer(scan_under(groups, member.mask));
+    member
+        .tail
+        .offer(scan_for(groups, active, union, member.mask));
 }
 
-/// Offers each member the scan of its group, once.
-pub(crate) fn offer_all<Q: Tail>(members: &mut Vec<Membership<Q>>, groups: &[Group])
-    requires sized { All (λ (m : Membership Q). length (scan_under groups.now m.mask.bits) ≡ Q.size m.tail) members.old.items }
+/// Offers each member its scan of the active one, once.
+pub(crate) fn offer_all<Q: Tail>(
+    members: &mut Vec<Membership<Q>>,
+    groups: &[Group],
+    active: Mask,
+    union: &[u8],
+)
+    requires sized { All (λ (m : Membership Q). length (scan_for active.bits union.now groups.now m.mask.bits) ≡ Q.size m.tail) members.old.items }
     requires fewer { All (λ (m : Membership Q). Q.taken m.tail + Q.lost m.tail < 2 ^ 64 - 1) members.old.items }
-    ensures { AllZip (λ (a b : Membership Q). WasOffered Q.taken Q.lost Q.size Q.capacity Q.offer_gives (scan_under groups.now a.mask.bits) a b) members.old.items members.new.items }
+    ensures { AllZip (λ (a b : Membership Q). WasOffered Q.taken Q.lost Q.size Q.capacity Q.offer_gives (scan_for active.bits union.now groups.now a.mask.bits) a b) members.old.items members.new.items }
 {
     for i in 0..members.len() {
-        offer_one(&mut members[i], groups);
+        offer_one(&mut members[i], groups, active, union);
     }
 }
 

@@ -291,6 +291,7 @@ impl<Q: Tail> Roster<Q> {
     }
 
     // Offers each member its own scan of a capture, whose scan under the active mask is the first `size` bytes of the room.
+    #[inline(never)]
     fn capture(&mut self, size: usize)
         requires size { size ≡ scan_size self.old.shape (unwrap_or (bits_of self.old.active) 0) }
         requires room { size ≤ length self.old.room.items }
@@ -299,8 +300,10 @@ impl<Q: Tail> Roster<Q> {
             → AllZip (λ (a b : Membership Q). WasOffered Q.taken Q.lost Q.size Q.capacity Q.offer_gives (scan_of self.old.shape a.mask.bits values t) a b) self.old.members.items self.new.members.items }
         ensures rest { standing_of self.new ≡ with_capture self.new.members.items (standing_of self.old) }
     {
-        lay_out_all(&mut self.groups, &self.room[..size]);
-        offer_all(&mut self.members, &self.groups);
+        let active = self.asked();
+        let union = &self.room[..size];
+        lay_out_all(&mut self.groups, active, union);
+        offer_all(&mut self.members, &self.groups, active, union);
         self.captures += 1;
     }
 

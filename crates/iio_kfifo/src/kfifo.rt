@@ -76,7 +76,7 @@ fn write_at(bytes: &mut Vec<u8>, start: usize, scan: &[u8])
 }
 
 // Writes a scan from byte `start` on, as the last of the bytes.
-#[cold]
+#[inline]
 fn write_last(bytes: &mut Vec<u8>, start: usize, scan: &[u8])
     requires start { start ≤ length bytes.old.items }
     requires room { start + length scan.now ≤ vec_capacity bytes.old }

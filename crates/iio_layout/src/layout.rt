@@ -1,7 +1,7 @@
 //! Where channels stand in a scan.
 
 ghost use Rattle.std.specs.Prelude.{◌≡◌, ◌≢◌, ℕ, ◌+◌, ◌*◌, ◌^◌, ◌<◌, ◌≤◌, true};
-ghost use Rattle.std.specs.Int.{IsPowerOfTwo};
+ghost use Rattle.std.specs.Int.{IsPowerOfTwo, next_multiple_of};
 ghost use Rattle.iio_mask.specs.Mask.{has};
 ghost use Rattle.iio_layout.specs.Layout.{end_below, largest_below, place_of, scan_size, size_at};
 ghost use Rattle.iio_layout.specs.Shape.{count_of, formats_of};
@@ -30,13 +30,23 @@ pub fn scan_size(shape: &Shape, mask: Mask) -> u32
     ensures few { result ≤ MAX_CHANNEL_SIZE * count_of shape.now }
     ensures some { (c : ℕ) → c < count_of shape.now → has mask.bits c ≡ true → 1 ≤ result }
 {
-    let end = end_below(shape, mask, shape.count());
-    let largest = largest(shape, mask);
+    let Extent { end, largest } = extent_of(shape, mask);
     if largest == 0 {
         end
     } else {
-        end.next_multiple_of(largest)
+        aligned(end, largest)
     }
+}
+
+/// The least multiple of a power of two that isn't below a number (kernel, `ALIGN`).
+#[inline]
+pub fn aligned(end: u32, size: u32) -> u32
+    requires power { IsPowerOfTwo size }
+    requires fits { next_multiple_of end size < 2 ^ 32 }
+    ensures { result ≡ next_multiple_of end size }
+{
+    let mask = size - 1;
+    end + ((size - (end & mask)) & mask)
 }
 
 // Where the last selected channel before channel `c` ends.
@@ -48,28 +58,42 @@ fn end_below(shape: &Shape, mask: Mask, c: u32) -> u32
 {
     let mut end: u32 = 0;
     for k in 0..c {
+        let size = shape.scan_type(k).size();
+        let after = aligned(end, size) + size;
         if mask.contains(k) {
-            let size = shape.scan_type(k).size();
-            end = end.next_multiple_of(size) + size;
+            end = after;
         }
     }
     end
 }
 
-// The size of the largest selected channel, or 0 where there is none.
-fn largest(shape: &Shape, mask: Mask) -> u32
-    ensures value { result ≡ largest_below (formats_of shape.now) mask.bits (count_of shape.now) }
-    ensures few { result ≤ MAX_CHANNEL_SIZE }
-    ensures power { result ≢ 0 → IsPowerOfTwo result }
+// Where the selected channels end, and the size of the largest of them, or 0 where there is none.
+#[derive(Clone, Copy)]
+struct Extent {
+    end: u32,
+    largest: u32,
+}
+
+// The extent of the channels that the mask selects.
+fn extent_of(shape: &Shape, mask: Mask) -> Extent
+    ensures end { result.end ≡ end_below (formats_of shape.now) mask.bits (count_of shape.now) }
+    ensures largest { result.largest ≡ largest_below (formats_of shape.now) mask.bits (count_of shape.now) }
+    ensures few { result.end ≤ MAX_CHANNEL_SIZE * count_of shape.now }
+    ensures fits { MAX_CHANNEL_SIZE * count_of shape.now < 2 ^ 32 }
+    ensures small { result.largest ≤ MAX_CHANNEL_SIZE }
+    ensures power { result.largest ≢ 0 → IsPowerOfTwo result.largest }
+    ensures some { (k : ℕ) → k < count_of shape.now → has mask.bits k ≡ true → 1 ≤ result.end }
 {
-    let mut largest = 0;
+    let mut end: u32 = 0;
+    let mut largest: u32 = 0;
     for c in 0..shape.count() {
+        let size = shape.scan_type(c).size();
+        let after = aligned(end, size) + size;
+        let larger = largest.max(size);
         if mask.contains(c) {
-            let size = shape.scan_type(c).size();
-            if size > largest {
-                largest = size;
-            }
+            end = after;
+            largest = larger;
         }
     }
-    largest
+    Extent { end, largest }
 }

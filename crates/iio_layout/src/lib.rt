@@ -12,7 +12,7 @@ mod values;
 pub use active_mask::active;
 pub use channel::{Channel, Direction, Kind, Suffix, read_id, write_id};
 pub use iio_base::Mem;
-pub use layout::{place, scan_size};
+pub use layout::{aligned, place, scan_size};
 pub use rows::Rows;
 pub use scan::{fill, fill_from};
 pub use shape::{MAX_CHANNELS, Shape};

@@ -127,23 +127,32 @@ fn put_stamp(shape: &Shape, c: u32, t: i64, end: usize, out: &mut [u8]) -> usize
 #[inline]
 fn padded_place(size: usize, end: usize, out: &mut [u8]) -> usize
     requires power { IsPowerOfTwo size }
-    requires room { next_multiple_of end size ≤ length out.old }
+    requires room { next_multiple_of end size + size ≤ length out.old }
     ensures place { result ≡ next_multiple_of end size }
     ensures bytes { take result out.new ≡ padded (take end out.old) size }
 {
     let place = aligned(end, size);
     if end < place {
-        put_zeros(&mut out[end..place]);
+        put_gap(size, place - end, &mut out[end..]);
     }
     place
 }
 
-// Most channels follow the one before without a gap.
-#[cold]
-fn put_zeros(out: &mut [u8])
-    ensures { out.new ≡ replicate (length out.old) 0 }
+// Writes zero bytes over the gap before a channel of that size, which is larger than the gap. Nothing is said of the bytes
+// behind it: a fixed number of them is written faster than a small one.
+#[inline]
+fn put_gap(size: usize, gap: usize, out: &mut [u8])
+    requires gap { gap < size }
+    requires room { size ≤ length out.old }
+    ensures { take gap out.new ≡ replicate gap 0 }
 {
-    out.fill(0);
+    if size == 8 {
+        out[..8].fill(0);
+    } else if size == 4 {
+        out[..4].fill(0);
+    } else {
+        out[..gap].fill(0);
+    }
 }
 
 // The least multiple of a power of two that isn't below a number (kernel, `ALIGN`).

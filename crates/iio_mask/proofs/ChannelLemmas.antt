@@ -1,13 +1,12 @@
 -- The channels of a mask in their order, and what unions do to them.
-use Rattle.std.proofs.Common.{◌≡◌, ℕ, zero, suc, ◌+◌, ◌-◌, ◌*◌, ◌%◌, ◌^◌, ◌<◌, ◌≤◌, ◌&&◌, Bool, true, false, not, [], ◌∷◌, refl, ap, ◌∙◌, inl, inr, arith}
+use Rattle.std.proofs.Common.{◌≡◌, ℕ, zero, suc, ◌+◌, ◌-◌, ◌^◌, ◌<◌, ◌≤◌, ◌&&◌, Bool, true, false, not, [], ◌∷◌, refl, ap, ◌∙◌, inl, inr, arith, bit_and}
 use Rattle.std.specs.Prelude.{filter}
 use Rattle.std.specs.List.{range_with_len}
 use Rattle.std.specs.Int.{bit_at, trailing_zeros, w64}
-use Rattle.std.proofs.Math.Pow.{pow-lt}
 use Rattle.std.proofs.lemmas.Bool.{cases_lt, eq-eqb, ne_eqb}
-use Rattle.std.proofs.lemmas.Nat.Bits.{bit_at_above, bit_at-trailing_zeros}
+use Rattle.std.proofs.lemmas.Nat.Bits.{bit_at-trailing_zeros}
 use Rattle.iio_mask.specs.Mask.{has, channels_of}
-use Rattle.iio_mask.proofs.PlaceLemmas.{has-minus}
+use Rattle.iio_mask.proofs.PlaceLemmas.{and_one_less, has-minus}
 
 -- what passes one test passes the other, of the numbers after c
 filter_after : (p q : ℕ → Bool) (c a n : ℕ) → ((i : ℕ) → c < i → q i ≡ p i) → c < a → filter p (range_with_len a n) ≡ filter q (range_with_len a n)
@@ -60,25 +59,14 @@ channels_of-first bits some fits =
     and_not_false false = refl
 
 -- the first channel is a bit of the mask
-pub first_within : (bits : ℕ) → 0 < bits → bits < 2 ^ 64 → (trailing_zeros w64 bits < 64) × (2 ^ trailing_zeros w64 bits ≤ bits)
-first_within bits some fits =
-    let lowest = bit_at-trailing_zeros w64 bits some fits in (
-      lowest.0,
-      elim (cases_lt bits (2 ^ trailing_zeros w64 bits)) [
-        | inl small ↦ let none = bit_at_above bits (trailing_zeros w64 bits) (trailing_zeros w64 bits) small (omega arith) in absurd (omega (arith, lowest.1, none))
-        | inr whole ↦ whole
-      ],
-    )
-
 pub first_has : (bits : ℕ) → 0 < bits → bits < 2 ^ 64 → has bits (trailing_zeros w64 bits) ≡ true
 first_has bits some fits = eq-eqb (bit_at bits (trailing_zeros w64 bits)) 1 (bit_at-trailing_zeros w64 bits some fits).1
 
--- its bit as a word's shift makes it
-pub first_bit : (bits : ℕ) → 0 < bits → bits < 2 ^ 64 → 1 * 2 ^ trailing_zeros w64 bits % 2 ^ 64 ≡ 2 ^ trailing_zeros w64 bits
-first_bit bits some fits =
-    let low = first_within bits some fits in
-    let less : 2 ^ trailing_zeros w64 bits < 2 ^ 64 = pow-lt {i = trailing_zeros w64 bits} {j = 64} low.0 in
-    omega arith
+-- the mask without it as a word's operations make it
+pub without_first : (bits : ℕ) → 0 < bits → bits < 2 ^ 64 → bit_and bits (bits - 1) ≡ bits - 2 ^ trailing_zeros w64 bits
+without_first bits some fits =
+    let lowest = bit_at-trailing_zeros w64 bits some fits in
+    and_one_less bits (trailing_zeros w64 bits) lowest.1 lowest.2
 
 -- the empty mask has no channel
 pub channels_of-none : channels_of 0 ≡ []

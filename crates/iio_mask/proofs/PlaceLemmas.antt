@@ -1,8 +1,8 @@
 -- What the operations on numbers do to the places of their one bits.
-use Rattle.std.proofs.Common.{◌≡◌, ℕ, zero, suc, ◌+◌, ◌-◌, ◌*◌, ◌/◌, ◌%◌, ◌^◌, ◌<◌, ◌≤◌, ◌==◌, ◌&&◌, ◌||◌, max, Bool, true, false, not, IsTrue, refl, sym, ap, ◌∙◌, inl, inr, arith, bit_and, bit_or}
+use Rattle.std.proofs.Common.{◌≡◌, ℕ, zero, suc, ◌+◌, ◌-◌, ◌*◌, ◌/◌, ◌%◌, ◌^◌, ◌<◌, ◌≤◌, ◌==◌, ◌&&◌, ◌||◌, max, Bool, true, false, not, IsTrue, refl, sym, ap, ◌∙◌, inl, inr, arith, bit_and, bit_or, pow-suc}
 use Rattle.std.specs.Int.{bit_at}
 use Rattle.std.proofs.lemmas.Bool.{cases_Bool, cases_eq, cases_lt, cases_order, eqb-true, eq-eqb, ne_eqb}
-use Rattle.std.proofs.lemmas.Nat.Bits.{bit_at_and, bit_at_or, bit_at-lt, bit_at_above, same_from_bits, bit_at_cat_low, bit_at_cat_high, bit_at-suc, bit_at_lowest}
+use Rattle.std.proofs.lemmas.Nat.Bits.{bit_at_and, bit_at_or, bit_at-lt, bit_at-zero, bit_at_above, bit_at-pow_same, bit_at-pow_other, bit_at_ones_above, same_from_bits, same_from_bits_below, bit_at_cat_low, bit_at_cat_high, bit_at-suc, bit_at_lowest}
 use Rattle.std.proofs.lemmas.Nat.{pow_pos}
 use Rattle.std.proofs.Math.Nat.{mul_comm}
 use Rattle.iio_mask.specs.Mask.{has, is_within, without_channel}
@@ -137,3 +137,64 @@ has-without n c k =
             | inr other ↦ let is = ne_eqb k c other in rw is (and_true (has n k))
           ])
     ]
+
+-- ---- a number without its lowest one bit
+
+one_less : (n q p : ℕ) → 1 ≤ p → n ≡ q + p → n - 1 ≡ q + (p - 1)
+one_less n q p some is = omega arith
+
+none_left : (n q p : ℕ) → n ≡ q + p → n - p ≡ q + 0
+none_left n q p is = omega arith
+
+-- what is above the lowest one bit c, and that bit
+lowest_parts : (n c : ℕ) → bit_at n c ≡ 1 → ((i : ℕ) → i < c → bit_at n i ≡ 0) → n ≡ n / 2 ^ suc c * 2 ^ suc c + 2 ^ c
+lowest_parts n c one none =
+    let above = pow_pos (suc c) in
+    let whole = split_at_bit n (suc c) in
+    let rest : n % 2 ^ suc c < 2 ^ suc c = omega arith in
+    let low : n % 2 ^ suc c ≡ 2 ^ c =
+    same_from_bits_below (suc c) (n % 2 ^ suc c) (2 ^ c) rest (omega (arith, pow-suc 2 c, pow_pos c))
+    (λ i within. sym (bit_at_cat_low (n / 2 ^ suc c) (suc c) (n % 2 ^ suc c) i within) ∙ sym (ap (λ m. bit_at m i) whole) ∙ (elim (cases_lt i c) [
+      | inl below ↦ none i below ∙ sym (bit_at-pow_other c i (λ e. omega arith))
+      | inr from ↦ let same : i ≡ c = omega arith in rw same (one ∙ sym (bit_at-pow_same c))
+    ])) in
+    whole ∙ ap (λ r. n / 2 ^ suc c * 2 ^ suc c + r) low
+
+-- a number and the one below it have the same bits, but for those up to the lowest one
+pub and_one_less : (n c : ℕ) → bit_at n c ≡ 1 → ((i : ℕ) → i < c → bit_at n i ≡ 0) → bit_and n (n - 1) ≡ n - 2 ^ c
+and_one_less n c one none =
+    same_from_bits (bit_and n (n - 1)) (n - 2 ^ c) (λ i. bit_at_and n (n - 1) i ∙ (elim (cases_lt i (suc c)) [
+      | inl within ↦
+          let left : bit_at (n - 2 ^ c) i ≡ 0 = ap (λ m. bit_at m i) rest ∙ bit_at_cat_low high (suc c) 0 i within ∙ bit_at-zero i in
+          elim (cases_lt i c) [
+            | inl below ↦ let no_bit = none i below in omega (arith, no_bit, left)
+            | inr from ↦
+                let no_bit : bit_at (n - 1) i ≡ 0 =
+                ap (λ m. bit_at m i) less ∙ bit_at_cat_low high (suc c) (2 ^ c - 1) i within ∙ bit_at_ones_above c i from in
+                omega (arith, no_bit, left)
+          ]
+      | inr above ↦
+          let here : bit_at n i ≡ bit_at high (i - suc c) = ap (λ m. bit_at m i) parts ∙ bit_at_cat_high high (suc c) (2 ^ c) i (omega (arith, wider, some)) above in
+          let below : bit_at (n - 1) i ≡ bit_at high (i - suc c) =
+          ap (λ m. bit_at m i) less ∙ bit_at_cat_high high (suc c) (2 ^ c - 1) i (omega (arith, wider, some)) above in
+          let left : bit_at (n - 2 ^ c) i ≡ bit_at high (i - suc c) = ap (λ m. bit_at m i) rest ∙ bit_at_cat_high high (suc c) 0 i (omega (arith, wider, some)) above in
+          omega (arith, here, below, left)
+    ]))
+  where
+    high : ℕ
+    high = n / 2 ^ suc c
+
+    some : 1 ≤ 2 ^ c
+    some = pow_pos c
+
+    wider : 2 ^ suc c ≡ 2 * 2 ^ c
+    wider = omega (arith, pow-suc 2 c)
+
+    parts : n ≡ high * 2 ^ suc c + 2 ^ c
+    parts = lowest_parts n c one none
+
+    less : n - 1 ≡ high * 2 ^ suc c + (2 ^ c - 1)
+    less = one_less n (high * 2 ^ suc c) (2 ^ c) some parts
+
+    rest : n - 2 ^ c ≡ high * 2 ^ suc c + 0
+    rest = none_left n (high * 2 ^ suc c) (2 ^ c) parts

@@ -86,7 +86,7 @@ impl Mask {
             return None;
         }
         let first = self.bits.trailing_zeros();
-        self.bits -= 1 << first;
+        self.bits &= self.bits - 1;
         Some(first)
     }
 

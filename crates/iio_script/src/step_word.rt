@@ -1,8 +1,24 @@
 //! The first words of steps.
 ghost use Rattle.std.specs.Prelude.{◌≡◌, option_map};
+ghost use Rattle.std.specs.Str.{bytes_eq};
 ghost use Rattle.iiod_grammar.specs.Command.{entry_of};
 ghost use Rattle.iio_history.specs.Script.{step_words};
 ghost use Rattle.iio_script.specs.Step.{form_of};
+
+// Byte by byte: where it is inlined the wanted word is known, and no loop is left.
+fn is_word(word: &[u8], wanted: &[u8]) -> bool
+    ensures { result ≡ bytes_eq word.now wanted.now }
+{
+    if word.len() != wanted.len() {
+        return false;
+    }
+    for i in 0..wanted.len() {
+        if word[i] != wanted[i] {
+            return false;
+        }
+    }
+    true
+}
 
 /// A word with which a step begins; none of them is a connection's name in a feed.
 #[derive(Clone, Copy, Debug, PartialEq, Eq)]
@@ -21,19 +37,19 @@ impl StepWord {
     pub(crate) fn of(word: &[u8]) -> Option<StepWord>
         ensures { option_map form_of result ≡ entry_of step_words word.now }
     {
-        if word == b"fire".as_slice() {
+        if is_word(word, b"fire") {
             Some(StepWord::Fire)
-        } else if word == b"poll".as_slice() {
+        } else if is_word(word, b"poll") {
             Some(StepWord::Poll)
-        } else if word == b"handle".as_slice() {
+        } else if is_word(word, b"handle") {
             Some(StepWord::Handle)
-        } else if word == b"sense".as_slice() {
+        } else if is_word(word, b"sense") {
             Some(StepWord::Sense)
-        } else if word == b"clock".as_slice() {
+        } else if is_word(word, b"clock") {
             Some(StepWord::Clock)
-        } else if word == b"drop".as_slice() {
+        } else if is_word(word, b"drop") {
             Some(StepWord::Drop)
-        } else if word == b"unplug".as_slice() {
+        } else if is_word(word, b"unplug") {
             Some(StepWord::Unplug)
         } else {
             None

@@ -29,3 +29,4 @@ pub mod MoveLaws
 pub mod FireLaws
 pub mod StepLaws
 pub mod TallyLaws
+pub mod RoomLemmas

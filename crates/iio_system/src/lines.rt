@@ -1,5 +1,5 @@
 //! The lines that steps print, appended to what was printed before.
-ghost use Rattle.std.specs.Prelude.{◌≡◌, ◌++◌, [], ◌∷◌, OnOk, codes};
+ghost use Rattle.std.specs.Prelude.{◌≡◌, ◌+◌, ◌++◌, ◌≤◌, [], ◌∷◌, OnOk, codes, length, take};
 ghost use Rattle.std.specs.Fmt.{decimal, signed_decimal};
 ghost use Rattle.iio_text.specs.Escape.{quoted};
 ghost use Rattle.iio_history.specs.Transcript.{closed_line, printed};
@@ -12,23 +12,59 @@ use iio_text::escape_to;
 use iio_trigger::Polled;
 use itoa::Buffer;
 
-// The digits of a number.
-fn push_count(out: &mut Vec<u8>, n: u64) -> Result<(), Mem>
-    ensures { OnOk result (out.new.items ≡ out.old.items ++ decimal n) }
+// The room in which a line is put together: two names of 32 bytes and the words beside them.
+const ROOM: usize = 96;
+
+// Puts a text at a place over what stands there, and answers where it ends.
+#[inline(always)]
+fn put(out: &mut Vec<u8>, at: usize, text: &[u8]) -> usize
+    requires { at + length text.now ≤ length out.old.items }
+    ensures end { result ≡ at + length text.now }
+    ensures text { take result out.new.items ≡ take at out.old.items ++ text.now }
+    ensures size { length out.new.items ≡ length out.old.items }
 {
-    let mut buffer = Buffer::new();
-    out.extend_from_slice(buffer.format(n).as_bytes())?;
-    Ok(())
+    out[at..at + text.len()].copy_from_slice(text);
+    at + text.len()
 }
 
-// Bytes, and a count that ends their line.
-fn push_counted(out: &mut Vec<u8>, before: &[u8], n: u64) -> Result<(), Mem>
-    ensures { OnOk result (out.new.items ≡ out.old.items ++ before.now ++ decimal n ++ codes "\n") }
+// The same of a name. All bytes in place are copied, since a copy of a known length is cheap.
+#[inline(always)]
+fn put_name(out: &mut Vec<u8>, at: usize, name: &Name) -> usize
+    requires { at + 32 ≤ length out.old.items }
+    ensures end { (at ≤ result) × (result ≤ at + 32) }
+    ensures text { take result out.new.items ≡ take at out.old.items ++ name.now }
+    ensures size { length out.new.items ≡ length out.old.items }
 {
-    out.extend_from_slice(before)?;
-    push_count(out, n)?;
-    out.push(b'\n')?;
-    Ok(())
+    put(out, at, name.padded());
+    at + name.bytes().len()
+}
+
+// A count of more than one digit, and the end of its line.
+#[cold]
+#[inline(never)]
+fn put_long_count(out: &mut Vec<u8>, at: usize, n: u64) -> usize
+    requires { at + 21 ≤ length out.old.items }
+    ensures end { result ≤ length out.new.items }
+    ensures text { take result out.new.items ≡ take at out.old.items ++ decimal n ++ codes "\n" }
+    ensures size { length out.new.items ≡ length out.old.items }
+{
+    let mut buffer = Buffer::new();
+    let end = put(out, at, buffer.format(n).as_bytes());
+    put(out, end, b"\n")
+}
+
+// A count, and the end of its line. Most have one digit.
+#[inline(always)]
+fn put_count(out: &mut Vec<u8>, at: usize, n: u64) -> usize
+    requires { at + 21 ≤ length out.old.items }
+    ensures end { result ≤ length out.new.items }
+    ensures text { take result out.new.items ≡ take at out.old.items ++ decimal n ++ codes "\n" }
+    ensures size { length out.new.items ≡ length out.old.items }
+{
+    if n >= 10 {
+        return put_long_count(out, at, n);
+    }
+    put(out, at, &[b'0' + n as u8, b'\n'])
 }
 
 // A word that ends its line.
@@ -40,54 +76,95 @@ fn push_last(out: &mut Vec<u8>, word: &[u8]) -> Result<(), Mem>
     Ok(())
 }
 
-/// `poll TRIGGER accepted N`, with how many entries it made; or `poll TRIGGER missed N`, with how many polls were missed.
-pub(crate) fn push_poll(out: &mut Vec<u8>, trigger: &[u8], polled: Polled) -> Result<(), Mem>
-    ensures { OnOk result (out.new.items ≡ out.old.items ++ printed (codes "poll" ∷ trigger.now ∷ polled_words polled)) }
+// The line of a poll, put at a place; answers where it ends.
+#[inline(always)]
+fn put_poll(out: &mut Vec<u8>, at: usize, trigger: &Name, polled: Polled) -> usize
+    requires { at + ROOM ≤ length out.old.items }
+    ensures text { take result out.new.items ≡ take at out.old.items ++ printed (codes "poll" ∷ trigger.now ∷ polled_words polled) }
 {
-    out.extend_from_slice(b"poll ")?;
-    out.extend_from_slice(trigger)?;
+    let at = put(out, at, b"poll ");
+    let at = put_name(out, at, trigger);
     match polled {
-        Polled::Accepted(entries) => push_counted(out, b" accepted ", u64::from(entries)),
-        Polled::Missed(missed) => push_counted(out, b" missed ", missed),
+        Polled::Accepted(entries) => {
+            let at = put(out, at, b" accepted ");
+            put_count(out, at, u64::from(entries))
+        }
+        Polled::Missed(missed) => {
+            let at = put(out, at, b" missed ");
+            put_count(out, at, missed)
+        }
     }
 }
 
-// What became of an entry, as a line ends.
-fn handled_end(handled: Option<Handled>) -> &'static [u8]
-    ensures { result.now ≡ codes " " ++ handled_word handled ++ codes "\n" }
+/// `poll TRIGGER accepted N`, with how many entries it made; or `poll TRIGGER missed N`, with how many polls were missed.
+pub(crate) fn push_poll(out: &mut Vec<u8>, trigger: &Name, polled: Polled) -> Result<(), Mem>
+    ensures { OnOk result (out.new.items ≡ out.old.items ++ printed (codes "poll" ∷ trigger.now ∷ polled_words polled)) }
 {
+    let start = out.len();
+    out.resize(start + ROOM, 0)?;
+    let end = put_poll(out, start, trigger, polled);
+    out.truncate(end);
+    Ok(())
+}
+
+// The line of an entry that was handled, put at a place; answers where it ends.
+#[inline(always)]
+fn put_handle(
+    out: &mut Vec<u8>,
+    at: usize,
+    trigger: &Name,
+    device: &Name,
+    handled: Option<Handled>,
+) -> usize
+    requires { at + ROOM ≤ length out.old.items }
+    ensures text { take result out.new.items ≡ take at out.old.items ++ printed (codes "handle" ∷ trigger.now ∷ device.now ∷ handled_word handled ∷ []) }
+{
+    let at = put(out, at, b"handle ");
+    let at = put_name(out, at, trigger);
+    let at = put(out, at, b" ");
+    let at = put_name(out, at, device);
     match handled {
-        None => b" none\n",
-        Some(Handled::Captured(_)) => b" captured\n",
-        Some(Handled::Fault) => b" fault\n",
-        Some(Handled::Idle) => b" idle\n",
+        None => put(out, at, b" none\n"),
+        Some(Handled::Captured(_)) => put(out, at, b" captured\n"),
+        Some(Handled::Fault) => put(out, at, b" fault\n"),
+        Some(Handled::Idle) => put(out, at, b" idle\n"),
     }
 }
 
 /// `handle TRIGGER DEVICE` and what became of the entry.
 pub(crate) fn push_handle(
     out: &mut Vec<u8>,
-    trigger: &[u8],
-    device: &[u8],
+    trigger: &Name,
+    device: &Name,
     handled: Option<Handled>,
 ) -> Result<(), Mem>
     ensures { OnOk result (out.new.items ≡ out.old.items ++ printed (codes "handle" ∷ trigger.now ∷ device.now ∷ handled_word handled ∷ [])) }
 {
-    out.extend_from_slice(b"handle ")?;
-    out.extend_from_slice(trigger)?;
-    out.push(b' ')?;
-    out.extend_from_slice(device)?;
-    out.extend_from_slice(handled_end(handled))?;
+    let start = out.len();
+    out.resize(start + ROOM, 0)?;
+    let end = put_handle(out, start, trigger, device, handled);
+    out.truncate(end);
     Ok(())
 }
 
+// A count that ends its line.
+fn push_count(out: &mut Vec<u8>, n: u64) -> Result<(), Mem>
+    ensures { OnOk result (out.new.items ≡ out.old.items ++ decimal n ++ codes "\n") }
+{
+    let mut buffer = Buffer::new();
+    push_last(out, buffer.format(n).as_bytes())
+}
+
 /// `DEVICE sensed N`, with how many events fired; or `DEVICE fault`, `DEVICE gone`.
-pub(crate) fn push_sense(out: &mut Vec<u8>, device: &[u8], sensed: Sensed) -> Result<(), Mem>
+pub(crate) fn push_sense(out: &mut Vec<u8>, device: &Name, sensed: Sensed) -> Result<(), Mem>
     ensures { OnOk result (out.new.items ≡ out.old.items ++ printed (device.now ∷ sensed_words sensed)) }
 {
-    out.extend_from_slice(device)?;
+    out.extend_from_slice(device.bytes())?;
     match sensed {
-        Sensed::Fired(events) => return push_counted(out, b" sensed ", u64::from(events)),
+        Sensed::Fired(events) => {
+            out.extend_from_slice(b" sensed ")?;
+            push_count(out, u64::from(events))?;
+        }
         Sensed::Fault => out.extend_from_slice(b" fault\n")?,
         Sensed::Gone => out.extend_from_slice(b" gone\n")?,
     }
@@ -120,10 +197,10 @@ pub(crate) fn push_drop(out: &mut Vec<u8>, name: &[u8], was_live: bool) -> Resul
 }
 
 /// `DEVICE unplugged`, or `DEVICE gone` where it was unplugged before.
-pub(crate) fn push_unplug(out: &mut Vec<u8>, device: &[u8], was_plugged: bool) -> Result<(), Mem>
+pub(crate) fn push_unplug(out: &mut Vec<u8>, device: &Name, was_plugged: bool) -> Result<(), Mem>
     ensures { OnOk result (out.new.items ≡ out.old.items ++ printed (device.now ∷ unplugged_word was_plugged ∷ [])) }
 {
-    out.extend_from_slice(device)?;
+    out.extend_from_slice(device.bytes())?;
     out.push(b' ')?;
     push_last(
         out,

@@ -12,25 +12,26 @@ ghost use Rattle.iio_system.specs.Standing.{CanCapture, Makes, RiseBy};
 
 use crate::bench::Bench;
 use crate::lines::{push_clock, push_handle, push_poll, push_sense, push_unplug};
+use iio_attr::Name;
 use iio_base::Mem;
 use iio_device::Plug;
 use iio_sensor::Sensor;
 use iio_trigger::Polled;
 
 // The name of a trigger.
-fn trigger_name(bench: &Bench, trigger: u32) -> &[u8]
+fn trigger_name(bench: &Bench, trigger: u32) -> &Name
     requires { trigger < length (front_of bench.now).triggers }
     ensures { result.now ≡ trigger_name (front_of bench.now) trigger }
 {
-    bench.described[trigger as usize].name.bytes()
+    &bench.described[trigger as usize].name
 }
 
 // The name of a device.
-fn device_name(bench: &Bench, dev: u32) -> &[u8]
+fn device_name(bench: &Bench, dev: u32) -> &Name
     requires { dev < length (front_of bench.now).devices }
     ensures { result.now ≡ device_name (front_of bench.now) dev }
 {
-    bench.devices[dev as usize].core.name.bytes()
+    &bench.devices[dev as usize].core.name
 }
 
 // How many devices there are.

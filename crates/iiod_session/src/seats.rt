@@ -2,6 +2,7 @@
 ghost use Rattle.std.specs.Prelude.{◌≡◌, ◌==◌, ◌<◌, ◌≤◌, ◌++◌, ℕ, length, IfSome, IfOk, Some, None, is_some, Bool, List};
 ghost use Rattle.std.specs.List.{position};
 ghost use Rattle.iiod_session.specs.Acts.{close_at, joined_at, open_at};
+ghost use Rattle.iiod_session.specs.Front.{size_at};
 ghost use Rattle.iiod_session.specs.Desk.{IsDesk, IsHeld, bare_of, buffers_of, desk_of, place_of, seats_of, tale_of, tales_of};
 ghost use Rattle.iiod_session.specs.Performs.{Comes, JoinsBy, LeavesBy, ReadAt, ReadHeld, reply_by};
 ghost use Rattle.iiod_session.specs.Seat.{MayOpen};
@@ -11,7 +12,7 @@ ghost use Rattle.iiod_session.specs.declared.desk.Held.{Held};
 use crate::answers::push_refusal;
 use crate::desk::{BuffersCount, Desk, FIRST_BUFFERS, Held};
 use crate::iio::{Iio, No, Took};
-use crate::reading::{data_scan_size, read_sized};
+use crate::reading::read_sized;
 use crate::wanted::{Wanted, wanted_by};
 use iio_base::Mem;
 use iio_text::Errno;
@@ -48,6 +49,8 @@ fn buffers_of(buffers: &[BuffersCount], dev: u32) -> u32
 // The last part of OPEN: a seat more. The room for it is taken first.
 fn join<I: Iio>(desk: &mut Desk<I::Seat>, iio: &mut I, dev: u32, wanted: Wanted) -> Result<(), No>
     requires may_open { MayOpen (I.front (I.kept iio.old)) dev wanted.mask.bits wanted.capacity }
+    requires size { wanted.size ≡ size_at (I.front (I.kept iio.old)) dev wanted.mask.bits }
+    requires some { 1 ≤ wanted.size }
     requires free { place_of dev (seats_of I.seen desk.old.held.items) ≡ None }
     requires desk { IsDesk I.seen (I.front (I.kept iio.old)) desk.old }
     ensures kept { I.kept iio.new ≡ I.kept iio.old }
@@ -61,8 +64,11 @@ fn join<I: Iio>(desk: &mut Desk<I::Seat>, iio: &mut I, dev: u32, wanted: Wanted)
     if desk.held.reserve(1).is_err() {
         return Err(No::Mem);
     }
-    let Wanted { mask, capacity } = wanted;
-    let size = data_scan_size(iio.shape(dev), mask);
+    let Wanted {
+        mask,
+        capacity,
+        size,
+    } = wanted;
     match iio.open(dev, mask, capacity) {
         Err(no) => Err(no),
         Ok(seat) => {

@@ -2,6 +2,7 @@
 ghost use Rattle.std.specs.Prelude.{◌≡◌, ◌<◌, ◌≤◌, ◌^◌, ℕ, true, IfOk, Ok, false, length};
 ghost use Rattle.iio_base.specs.Refusals.{ensure};
 ghost use Rattle.iio_layout.specs.Active.{has_data};
+ghost use Rattle.iio_layout.specs.Layout.{scan_size};
 ghost use Rattle.iiod_session.specs.Wanted.{wanted_view};
 ghost use Rattle.iiod_session.specs.Desk.{wanted_of};
 ghost use Rattle.iiod_session.specs.Front.{Front, shape_at};
@@ -9,15 +10,17 @@ ghost use Rattle.iiod_session.specs.Opening.{is_excess};
 ghost use Rattle.iiod_session.specs.Seat.{MayOpen};
 
 use crate::limits::{MAX_BYTES, MAX_SCANS};
-use iio_layout::{Shape, scan_size};
+use crate::reading::data_scan_size;
+use iio_layout::Shape;
 use iio_mask::Mask;
 use iio_text::Errno;
 
-/// A mask, and how many scans the queue is to hold.
+/// A mask, how many scans the queue is to hold, and the bytes of one.
 #[derive(Clone, Copy, Debug, PartialEq, Eq)]
 pub(crate) struct Wanted {
     pub(crate) mask: Mask,
     pub(crate) capacity: u32,
+    pub(crate) size: u32,
 }
 
 // Whether a mask has a data channel.
@@ -64,6 +67,8 @@ pub(crate) fn wanted_by(
 ) -> Result<Wanted, Errno>
     ensures value { wanted_view result ≡ wanted_of is_open plugged shape.now buffers samples text.now cyclic }
     ensures free { IfOk result (λ x. is_open ≡ false) }
+    ensures size { IfOk result (λ x. x.size ≡ scan_size shape.now x.mask.bits) }
+    ensures some { IfOk result (λ x. 1 ≤ x.size) }
     ensures may_open { (front : Front) (dev : ℕ) → shape.now ≡ shape_at front dev → dev < length front.devices → IfOk result (λ x. MayOpen front dev x.mask.bits x.capacity) }
 {
     ensure(plugged, Errno::ENODEV)?;
@@ -71,10 +76,12 @@ pub(crate) fn wanted_by(
     let mask = Mask::read(text, shape.count()).ok_or(Errno::EINVAL)?;
     ensure(has_data(shape, mask), Errno::EINVAL)?;
     let capacity = u64::from(samples) * u64::from(buffers);
-    ensure(!is_excess(capacity, scan_size(shape, mask)), Errno::EINVAL)?;
+    let size = data_scan_size(shape, mask);
+    ensure(!is_excess(capacity, size), Errno::EINVAL)?;
     ensure(!is_open, Errno::EBUSY)?;
     Ok(Wanted {
         mask,
         capacity: capacity as u32,
+        size,
     })
 }

@@ -56,6 +56,33 @@ attr voltage7 thresh_falling_en 1
 row 0 10 20
 ";
 
+/// Four channels and a timestamp.
+const FOUR: &str = "trigger t0 2
+device d t0
+channel voltage0 le:u16/16>>0
+channel voltage1 le:u16/16>>0
+channel voltage2 le:u16/16>>0
+channel voltage3 le:u16/16>>0
+timestamp
+row 0 1 2 3 4
+";
+
+/// A signed channel with a small value at the moment 1.
+const BIASED: &str = "trigger t0 2
+device d t0
+channel accel_x be:s16/16>>0
+row 1 -3
+";
+
+/// As many listed masks as there may be, and a context with a line feed.
+const SIXTEEN_MASKS: &str = r#"context "<a\x41\n/>"
+trigger t0 2
+device d t0
+channel voltage0 le:u8/8>>0
+channel voltage1 le:u8/8>>0
+masks 00000001 00000001 00000001 00000001 00000001 00000001 00000001 00000001 00000001 00000001 00000001 00000001 00000001 00000001 00000001 00000001
+"#;
+
 /// A rising edge of one channel, and both edges of another.
 const WATCHED: &str = "device e -
 channel accel_x le:s8/8>>0
@@ -453,6 +480,66 @@ A "16\n\x00\x00\x00\x00\x00\x00\x01\x00\x05\x00\x00\x00\x00\x00\x00\x00-11\n"
 e sensed 1
 e unplugged
 e gone
+"#,
+    ),
+    (
+        "who_stays_is_given_the_same",
+        FOUR,
+        r#"A "OPEN d 1 00000011\n"
+B "OPEN d 1 00000011\n"
+C "OPEN d 1 0000001f\n"
+fire t0 258
+A "CLOSE d\n"
+fire t0 258
+C "CLOSE d\n"
+fire t0 258
+B "READBUF d 64\nCLOSE d\n"
+fire t0 258
+"#,
+        r#"A "0\n"
+B "0\n"
+C "0\n"
+poll t0 accepted 1
+handle t0 d captured
+A "0\n"
+poll t0 accepted 1
+handle t0 d captured
+C "0\n"
+poll t0 accepted 1
+handle t0 d captured
+B "48\n00000011\n\x01\x00\x00\x00\x00\x00\x00\x00\x02\x01\x00\x00\x00\x00\x00\x00\x01\x00\x00\x00\x00\x00\x00\x00\x02\x01\x00\x00\x00\x00\x00\x00\x01\x00\x00\x00\x00\x00\x00\x00\x02\x01\x00\x00\x00\x00\x00\x000\n0\n"
+poll t0 accepted 0
+"#,
+    ),
+    (
+        "bias_stays_within_the_type",
+        BIASED,
+        r#"clock 1
+A "READ d INPUT accel_x raw\n"
+A "WRITE d INPUT accel_x calibbias 6\n-32764READ d INPUT accel_x raw\n"
+A "WRITE d INPUT accel_x calibbias 6\n-32768READ d INPUT accel_x raw\n"
+A "WRITE d INPUT accel_x calibbias 10\n2147483647READ d INPUT accel_x raw\n"
+A "OPEN d 1 00000001\nWRITE d INPUT accel_x calibbias 1\n1"
+fire t0 1
+A "READBUF d 2\n"
+"#,
+        r#"clock 1
+A "2\n-3\n"
+A "6\n6\n-32767\n"
+A "6\n6\n-32768\n"
+A "10\n5\n32767\n"
+A "0\n1\n"
+poll t0 accepted 1
+handle t0 d captured
+A "2\n00000001\n\xff\xfe"
+"#,
+    ),
+    (
+        "sixteen_listed_masks_and_an_escaped_context",
+        SIXTEEN_MASKS,
+        r#"A "PRINT\nOPEN d 1 00000002\nOPEN d 1 00000001\n"
+"#,
+        r#"A "6\n<aA\n/>\n-22\n0\n"
 "#,
     ),
     (

@@ -327,6 +327,50 @@ fn worked_scripts(rt: HostRuntime) -> Result<(), Fail> {
     Ok(())
 }
 
+/// Masks of `FIVE`, the bytes of three scans under each, and a scan at the moment 258.
+const SHARED: [(&str, u32, &str); 3] = [
+    (
+        "00000021",
+        48,
+        r"\x01\x00\x00\x00\x00\x00\x00\x00\x02\x01\x00\x00\x00\x00\x00\x00",
+    ),
+    ("0000000a", 12, r"\x02\x00\x04\x00"),
+    (
+        "0000003f",
+        72,
+        r"\x01\x00\x02\x00\x03\x00\x04\x00\x05\x00\x00\x00\x00\x00\x00\x00\x02\x01\x00\x00\x00\x00\x00\x00",
+    ),
+];
+
+const THREE_FIRES: &str = "fire t0 258\nfire t0 258\nfire t0 258\n";
+
+// As many connections as may have names, on one device: each reads its own scans.
+#[test]
+fn sixty_four_connections(rt: HostRuntime) -> Result<(), Fail> {
+    let alloc = rt.alloc();
+    let mut text = joined(alloc, &[FIVE, "%%\n"])?;
+    let mut printed = Vec::new(alloc);
+    for number in 0..64usize {
+        let (mask, _, _) = SHARED[number % 3];
+        let step = format!(in alloc; "c{number} \"OPEN d 1 {mask}\\n\"\n")?;
+        text.extend_from_slice(step.as_bytes())?;
+        let line = format!(in alloc; "c{number} \"0\\n\"\n")?;
+        printed.extend_from_slice(line.as_bytes())?;
+    }
+    text.extend_from_slice(THREE_FIRES.as_bytes())?;
+    for _ in 0..3u32 {
+        printed.extend_from_slice(b"poll t0 accepted 1\nhandle t0 d captured\n")?;
+    }
+    for number in 0..64usize {
+        let (mask, bytes, scan) = SHARED[number % 3];
+        let step = format!(in alloc; "c{number} \"READBUF d {bytes}\\n\"\n")?;
+        text.extend_from_slice(step.as_bytes())?;
+        let line = format!(in alloc; "c{number} \"{bytes}\\n{mask}\\n{scan}{scan}{scan}\"\n")?;
+        printed.extend_from_slice(line.as_bytes())?;
+    }
+    check_play(&rt, rt.alloc(), "sixty_four", text, printed.as_slice(), 0)
+}
+
 // ---- a connection's stream in pieces
 
 /// The lines of a usual session before two captures and after them, and what each is answered.

@@ -7,7 +7,7 @@ ghost use Rattle.iio_layout.specs.Rows.{IsRecording};
 use crate::iio::{Counts, Iio, No, Took};
 use iio_attr::{Attr, Name, Value};
 use iio_desc::{DeviceDesc, TriggerDesc, read_desc};
-use iio_device::{Device, Handled, JoinFault, JoinRefused, Member, Plug, RawFault, Sensed};
+use iio_device::{Device, Handled, JoinFault, JoinRefused, Member, Plug, RawFault};
 use iio_event::EventData;
 use iio_kfifo::Kfifo;
 use iio_layout::{Shape, scan_size};
@@ -19,27 +19,6 @@ use std::alloc::Global;
 use std::process::Abort;
 use std::test::Fail;
 
-/// Three channels and a timestamp.
-pub(super) const ADC: &str = "trigger t0 2
-device adc0 t0
-channel voltage0 le:u12/16>>4
-channel voltage1 le:u12/16>>4
-channel accel_x be:s16/16>>0
-timestamp
-row 0 1 2 -3
-";
-
-/// The same, and its sensor is asked for the first two channels alone.
-pub(super) const LISTED: &str = "trigger t0 2
-device adc0 t0
-channel voltage0 le:u12/16>>4
-channel voltage1 le:u12/16>>4
-channel accel_x be:s16/16>>0
-timestamp
-masks 00000003
-row 0 1 2 -3
-";
-
 /// One channel of one byte, which is another letter at each moment.
 pub(super) const LETTERS: &str = "trigger t0 2
 device adc0 t0
@@ -49,20 +28,6 @@ row 2 66
 row 3 67
 row 4 68
 row 5 69
-";
-
-/// Nine channels of eight bytes.
-pub(super) const WIDE: &str = "trigger t0 2
-device adc0 t0
-channel voltage0 le:s64/64>>0
-channel voltage1 le:s64/64>>0
-channel voltage2 le:s64/64>>0
-channel voltage3 le:s64/64>>0
-channel voltage4 le:s64/64>>0
-channel voltage5 le:s64/64>>0
-channel voltage6 le:s64/64>>0
-channel voltage7 le:s64/64>>0
-channel voltage8 le:s64/64>>0
 ";
 
 // What a short text says of its last device.
@@ -117,24 +82,8 @@ impl Station {
         assert!(rt; self.trigger.done(due));
     }
 
-    // Looks at the thresholds.
-    pub(super) fn sense(&mut self, t: i64) -> Sensed {
-        self.device.sense(t)
-    }
-
     pub(super) fn unplug(&mut self) -> bool {
         self.device.unplug()
-    }
-
-    // Other devices take both places at the trigger, or leave them.
-    pub(super) fn fill(&mut self, full: bool) {
-        for dev in [1, 2] {
-            if full {
-                let _ = self.trigger.attach(dev, 1);
-            } else {
-                self.trigger.detach(dev);
-            }
-        }
     }
 
     // Whether the device has no member, and its events go to nobody.
@@ -237,8 +186,9 @@ pub(super) struct Bench {
 }
 
 impl Bench {
-    // The device of that text, with that driver.
-    pub(super) fn with(alloc: Global, text: &str, plug: Plug) -> Result<Bench, Fail> {
+    // The device of that text, with the rows of the text.
+    pub(super) fn new(alloc: Global, text: &str) -> Result<Bench, Fail> {
+        let plug = Plug::Own(Recorded::new(described(alloc, text)?.rows));
         let desc = described(alloc, text)?;
         let name = desc.name.copy();
         let shape = desc.shape.copy(alloc)?;
@@ -258,12 +208,6 @@ impl Bench {
             },
             given: Vec::new(alloc),
         })
-    }
-
-    // The device of that text, with the rows of the text.
-    pub(super) fn new(alloc: Global, text: &str) -> Result<Bench, Fail> {
-        let rows = described(alloc, text)?.rows;
-        Bench::with(alloc, text, Plug::Own(Recorded::new(rows)))
     }
 
     // Checks the scans, joined, that the seat gave that was closed last.

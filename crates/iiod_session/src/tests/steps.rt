@@ -4,7 +4,6 @@ ghost use Rattle.iiod_session.specs.Desk.{IsDesk};
 
 use super::bench::{Bench, Seat};
 use crate::{Going, Iio, Manner, Session};
-use iio_device::Sensed;
 use std::alloc::Global;
 use std::process::Abort;
 use std::test::Fail;
@@ -13,8 +12,6 @@ use std::test::Fail;
 pub(super) enum Step {
     /// Bytes, after which the answers are these, and it goes on.
     Feed(&'static [u8], &'static [u8]),
-    /// Bytes, whose answers are looked at later.
-    Part(&'static [u8]),
     /// Bytes, after which the answers are these, and a READBUF waits.
     Waits(&'static [u8], &'static [u8]),
     /// A READBUF that finds nothing, and its block once a scan came. A script asks again.
@@ -23,11 +20,7 @@ pub(super) enum Step {
     Ends(&'static [u8], &'static [u8]),
     /// The trigger fires at this moment.
     Fire(i64),
-    /// At this moment one threshold fires.
-    Sense(i64),
     Unplug,
-    /// Whether others have all places at the trigger.
-    Full(bool),
     /// The seat that was closed last gave these scans.
     Gave(&'static [u8]),
 }
@@ -93,9 +86,6 @@ fn carry_one(
         Step::Feed(bytes, answers) => {
             hear(rt, alloc, session, bench, out, bytes, answers, Going::On)?;
         }
-        Step::Part(bytes) => {
-            session.feed(alloc, bench, bytes, out)?;
-        }
         Step::Waits(bytes, answers) => {
             hear(
                 rt,
@@ -116,9 +106,7 @@ fn carry_one(
             assert!(rt; bench.station.is_left());
         }
         Step::Fire(t) => bench.station.fire(rt, t),
-        Step::Sense(t) => assert_eq!(rt; bench.station.sense(t), Sensed::Fired(1)),
         Step::Unplug => assert!(rt; bench.station.unplug()),
-        Step::Full(full) => bench.station.fill(full),
         Step::Gave(scans) => bench.check_given(rt, scans)?,
     }
     Ok(())

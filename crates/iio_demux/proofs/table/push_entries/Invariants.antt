@@ -1,4 +1,5 @@
-use Rattle.std.proofs.Common.{◌≡◌, ◌*◌, ◌≤◌, vec_capacity, vec_len}
+use Rattle.std.proofs.Common.{◌≡◌, ◌≢◌, ◌*◌, ◌≤◌, vec_capacity, vec_len}
+use Rattle.std.specs.Int.{IsPowerOfTwo}
 use Rattle.iio_scan_type.specs.declared.TheConstants.{MAX_CHANNEL_SIZE}
 use Rattle.iio_layout.specs.Layout.{end_below, largest_below}
 use Rattle.iio_layout.specs.Shape.{formats_of}
@@ -12,10 +13,12 @@ invariant-loop-c l = record {
   active_few : l.active_end ≤ 32 * l.c;
   active_largest : l.active_largest ≡ largest_below (formats_of l.shape) l.active.bits l.c;
   active_most : l.active_largest ≤ MAX_CHANNEL_SIZE;
+  active_power : l.active_largest ≢ 0 → IsPowerOfTwo l.active_largest;
   buffer_end : l.buffer_end ≡ end_below (formats_of l.shape) l.buffer.bits l.c;
   buffer_few : l.buffer_end ≤ 32 * l.c;
   buffer_largest : l.buffer_largest ≡ largest_below (formats_of l.shape) l.buffer.bits l.c;
   buffer_most : l.buffer_largest ≤ MAX_CHANNEL_SIZE;
+  buffer_power : l.buffer_largest ≢ 0 → IsPowerOfTwo l.buffer_largest;
   entries : l.entries.items ≡ merged (channel_entries l.shape l.active.bits l.buffer.bits l.c);
   few : vec_len l.entries ≤ l.c;
   capacity : vec_capacity l.entries ≡ vec_capacity l.fn.entries;

@@ -9,8 +9,8 @@ returns-in-Ok-clause-desk g c = record {
       (All-push (IsHeld g.I.Iio.seen (g.I.Iio.front (g.I.Iio.kept c.args.iio.now))) c.args.desk.now.held.items _ c.requires.desk.seats
       (record {
         opened = c.requires.may_open;
-        sized = rw c.shape.ensures at c.data_scan_size-size.ensures.value;
-        some = c.data_scan_size-size.ensures.some;
+        sized = c.requires.size;
+        some = c.requires.some;
         owned = c.in-Ok.ensures.seat.owned;
       }));
   holdings = rw c.in-Ok.ensures.kept c.requires.desk.holdings;

@@ -11,4 +11,4 @@ returns-in-Err-clause-told g c =
 pub returns-in-Ok-clause-told : goal.returns-in-Ok-clause-told
 returns-in-Ok-clause-told g c =
     opens _ _ _ (desk_of g.I.Iio.seen c.args.desk.now) _ c.args.dev c.args.samples c.args.text.now c.args.cyclic c.is_some-is_open.result c.plugged-plugged.result c.shape.result.now
-    c.buffers_of-buffers.result _ _ (search rules) c.plugged-plugged.ensures c.shape.ensures (search rules) (search rules) c.join.ensures.told
+    c.buffers_of-buffers.result c.in-Ok.wanted _ (search rules) c.plugged-plugged.ensures c.shape.ensures (search rules) (search rules) c.join.ensures.told
