@@ -43,6 +43,7 @@ fn moment_word(word: &[u8]) -> Result<i64, Why>
 }
 
 // `TRIGGER T`
+#[inline]
 fn trigger_and_moment(desc: &Desc, words: &[u8]) -> Result<(u32, i64), Why>
     ensures value { (step : ℕ → ℤ → HistoryStep) → MatchResult result
         (λ r. trigger_step step desc.now (words_of is_space words.now) ≡ Ok (step r.0 r.1))
@@ -56,6 +57,7 @@ fn trigger_and_moment(desc: &Desc, words: &[u8]) -> Result<(u32, i64), Why>
 }
 
 // `TRIGGER DEVICE`
+#[inline(never)]
 fn read_handle(desc: &Desc, words: &[u8]) -> Result<Step, Why>
     ensures value { read_view result ≡ handle_step desc.now (words_of is_space words.now) }
     ensures valid { IfOk result (IsValid (length desc.now.triggers) (length desc.now.devices)) }
@@ -67,6 +69,7 @@ fn read_handle(desc: &Desc, words: &[u8]) -> Result<Step, Why>
 }
 
 // `DEVICE T`
+#[inline(never)]
 fn read_sense(desc: &Desc, words: &[u8]) -> Result<Step, Why>
     ensures value { read_view result ≡ sense_step desc.now (words_of is_space words.now) }
     ensures valid { IfOk result (IsValid (length desc.now.triggers) (length desc.now.devices)) }
@@ -78,6 +81,7 @@ fn read_sense(desc: &Desc, words: &[u8]) -> Result<Step, Why>
 }
 
 // `T`
+#[inline(never)]
 fn read_clock(words: &[u8]) -> Result<Step, Why>
     ensures value { (desc : Description) → read_view result ≡ clock_step desc (words_of is_space words.now) }
     ensures valid { (triggers devices : ℕ) → IfOk result (IsValid triggers devices) }
@@ -88,6 +92,7 @@ fn read_clock(words: &[u8]) -> Result<Step, Why>
 }
 
 // `NAME`
+#[inline(never)]
 fn read_drop(words: &[u8]) -> Result<Step, Why>
     ensures value { (desc : Description) → read_view result ≡ drop_step desc (words_of is_space words.now) }
     ensures valid { (triggers devices : ℕ) → IfOk result (IsValid triggers devices) }
@@ -98,6 +103,7 @@ fn read_drop(words: &[u8]) -> Result<Step, Why>
 }
 
 // `DEVICE`
+#[inline(never)]
 fn read_unplug(desc: &Desc, words: &[u8]) -> Result<Step, Why>
     ensures value { read_view result ≡ unplug_step desc.now (words_of is_space words.now) }
     ensures valid { IfOk result (IsValid (length desc.now.triggers) (length desc.now.devices)) }

@@ -1,7 +1,10 @@
 -- Lines that are put together in room behind what was printed.
-use Rattle.std.proofs.Common.{◌≡◌, ◌+◌, ◌++◌, ◌≤◌, ◌∙◌, ℕ, List, length, take, drop, ap, sym, arith}
+use borrow.Rule.Slice.PartMut.{mid_of, put_mid, post_of}
+use lib.Lanes.{chunk, put_chunk}
+use Rattle.std.proofs.Common.{◌≡◌, ◌+◌, ◌-◌, ◌++◌, ◌≤◌, ◌∙◌, ℕ, List, length, take, drop, ap, sym, arith}
 use Rattle.std.proofs.Math.Seq.{take-append-add, take-append_seam}
-use Rattle.std.proofs.lemmas.List.{length-take-le, take-append-drop, take-append-le, take_all}
+use Rattle.std.proofs.lemmas.List.{append_assoc, length-append, length-drop, length-take-le, take-append-drop, take-append-le, take-take, take_all}
+use Rattle.std.proofs.lemmas.Simd.{put_chunk_is}
 
 -- of a text that was put behind the first bytes, its first bytes
 pub shorter : (before after text name : List ℕ) (at end : ℕ) → at ≤ length before → end ≤ length after → at + length name ≤ end → take end after ≡ take at before ++ text → take (length name) text ≡ name
@@ -23,3 +26,36 @@ line_stands old more room after final line start n end long is put cut =
     let all : take (start + n) old ≡ old = take_all (start + n) old (omega (arith, long)) in
     let kept : take start room ≡ old = ap (λ xs. take start xs) (is ∙ ap (λ xs. xs ++ more) all) ∙ ap (λ k. take k (old ++ more)) long ∙ take-append_seam old more in
     cut ∙ put ∙ ap (λ xs. xs ++ line) kept
+
+-- the first bytes of a block that stands at the begin of a room, whatever comes behind it
+block_first : (room block after tail : List ℕ) (n k : ℕ) → n ≤ length room → n ≤ length block → k ≤ n → take k ((put_chunk 0 room (chunk 0 n block) ++ after) ++ tail) ≡ take k block
+block_first room block after tail n k fits whole most =
+    let lanes = take n block in
+    let rest = drop (length lanes) room in
+    let long : length lanes ≡ n = length-take-le n block whole in
+    let joined : length (lanes ++ rest) ≡ length lanes + length rest = length-append lanes rest in
+    let more : length ((lanes ++ rest) ++ after) ≡ length (lanes ++ rest) + length after = length-append (lanes ++ rest) after in
+    ap (λ xs. take k ((xs ++ after) ++ tail)) (put_chunk_is 0 room lanes (omega (arith, long, fits)))
+    ∙ take-append-le k ((lanes ++ rest) ++ after) tail (omega (arith, most, long, joined, more))
+    ∙ take-append-le k (lanes ++ rest) after (omega (arith, most, long, joined))
+    ∙ take-append-le k lanes rest (omega (arith, most, long))
+    ∙ take-take k n block most
+
+-- what stands before a place, and the first bytes of a block that was put there
+pub block_stands : (items room block tail : List ℕ) (at n k len : ℕ) → room ≡ items → len ≡ length items → at + n ≤ length items → n ≤ length block → k ≤ n
+    → take (at + k) (take len (put_mid at (length room - at) room (put_chunk 0 (mid_of at (length room - at) room) (chunk 0 n block)) ++ tail)) ≡ take at items ++ take k block
+block_stands items room block tail at n k len same whole fits filled most =
+    let front = take at room in
+    let behind = mid_of at (length room - at) room in
+    let after = post_of at (length room - at) room in
+    let middle = put_chunk 0 behind (chunk 0 n block) in
+    let as_long : length room ≡ length items = ap length same in
+    let long : length front ≡ at = length-take-le at room (omega (arith, as_long, fits)) in
+    let left : length (drop at room) ≡ length room - at = length-drop at room in
+    let wide : length behind ≡ length room - at = length-take-le (length room - at) (drop at room) (omega (arith, left)) in
+    take-take (at + k) len (put_mid at (length room - at) room middle ++ tail) (omega (arith, whole, fits, most))
+    ∙ ap (take (at + k)) (append_assoc front (middle ++ after) tail)
+    ∙ ap (λ l. take (l + k) (front ++ ((middle ++ after) ++ tail))) (sym long)
+    ∙ take-append-add front ((middle ++ after) ++ tail) k
+    ∙ ap (λ xs. front ++ xs) (block_first behind block after tail n k (omega (arith, wide, as_long, fits)) filled most)
+    ∙ ap (λ xs. take at xs ++ take k block) same

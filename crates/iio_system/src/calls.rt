@@ -215,6 +215,7 @@ pub(crate) fn counts(device: &Device<Kfifo>, number: u64, mask: Mask) -> Counts
 }
 
 // Handles an entry of the device that was handed out.
+#[inline(always)]
 fn handle_due(device: &mut Device<Kfifo>, due: &Due) -> Handled
     requires { due.now.dev ≡ device.old.core.number }
     ensures answer { Some result ≡ entry_answer (Some due.now) (is_last device.old.core.roster.captures) (station_by ⟦<Plug as Sensor>⟧.driver device.old) }
@@ -227,6 +228,7 @@ fn handle_due(device: &mut Device<Kfifo>, due: &Due) -> Handled
 
 /// Handles the entry that the device, whose number is `dev`, has at a trigger, and takes it off. `None` comes exactly where
 /// it has none.
+#[inline(always)]
 pub(crate) fn handle(device: &mut Device<Kfifo>, trigger: &mut Trigger, dev: u32) -> Option<Handled>
     requires number { dev ≡ device.old.core.number }
     requires idle { has_in_hand trigger.old.outstanding ≡ false }

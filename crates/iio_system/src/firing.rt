@@ -49,6 +49,7 @@ impl Bench {
     /// Handles the entry that a device has at a trigger: the device is asked where the entry is current, and the entry is
     /// taken off. `None` comes exactly where it has none, and then nothing changes. A device that has made 2^64 - 1
     /// captures is asked nothing.
+    #[inline(always)]
     pub fn handle(&mut self, trigger: u32, dev: u32) -> Option<Handled>
         requires trigger { trigger < length (front_of self.old).triggers }
         requires dev { dev < length (front_of self.old).devices }

@@ -11,9 +11,13 @@ use iio_device::{Handled, Sensed};
 use iio_text::escape_to;
 use iio_trigger::Polled;
 use itoa::Buffer;
+use std::simd::prelude::*;
 
 // The room in which a line is put together: two names of 32 bytes and the words beside them.
 const ROOM: usize = 96;
+
+// The room in which the head of a feed's line is put together: a name and a word.
+const HEAD_ROOM: usize = 48;
 
 // Puts a text at a place over what stands there, and answers where it ends.
 #[inline(always)]
@@ -27,7 +31,21 @@ fn put(out: &mut Vec<u8>, at: usize, text: &[u8]) -> usize
     at + text.len()
 }
 
-// The same of a name. All bytes in place are copied, since a copy of a known length is cheap.
+// The same of the first bytes of a word, which is filled up with spaces: all sixteen are copied, since a copy of a known
+// length is cheap.
+#[inline(always)]
+fn put_word(out: &mut Vec<u8>, at: usize, word: &[u8; 16], len: usize) -> usize
+    requires len { len ≤ 16 }
+    requires room { at + 16 ≤ length out.old.items }
+    ensures end { result ≡ at + len }
+    ensures text { take result out.new.items ≡ take at out.old.items ++ take len word.now }
+    ensures size { length out.new.items ≡ length out.old.items }
+{
+    Simd::<u8, 16>::from_slice(word).copy_to_slice(&mut out[at..]);
+    at + len
+}
+
+// The same of a name, of which all bytes in place are copied.
 #[inline(always)]
 fn put_name(out: &mut Vec<u8>, at: usize, name: &Name) -> usize
     requires { at + 32 ≤ length out.old.items }
@@ -35,7 +53,7 @@ fn put_name(out: &mut Vec<u8>, at: usize, name: &Name) -> usize
     ensures text { take result out.new.items ≡ take at out.old.items ++ name.now }
     ensures size { length out.new.items ≡ length out.old.items }
 {
-    put(out, at, name.padded());
+    Simd::<u8, 32>::from_slice(name.padded()).copy_to_slice(&mut out[at..]);
     at + name.bytes().len()
 }
 
@@ -82,21 +100,22 @@ fn put_poll(out: &mut Vec<u8>, at: usize, trigger: &Name, polled: Polled) -> usi
     requires { at + ROOM ≤ length out.old.items }
     ensures text { take result out.new.items ≡ take at out.old.items ++ printed (codes "poll" ∷ trigger.now ∷ polled_words polled) }
 {
-    let at = put(out, at, b"poll ");
+    let at = put_word(out, at, b"poll            ", 5);
     let at = put_name(out, at, trigger);
     match polled {
         Polled::Accepted(entries) => {
-            let at = put(out, at, b" accepted ");
+            let at = put_word(out, at, b" accepted       ", 10);
             put_count(out, at, u64::from(entries))
         }
         Polled::Missed(missed) => {
-            let at = put(out, at, b" missed ");
+            let at = put_word(out, at, b" missed         ", 8);
             put_count(out, at, missed)
         }
     }
 }
 
 /// `poll TRIGGER accepted N`, with how many entries it made; or `poll TRIGGER missed N`, with how many polls were missed.
+#[inline(always)]
 pub(crate) fn push_poll(out: &mut Vec<u8>, trigger: &Name, polled: Polled) -> Result<(), Mem>
     ensures { OnOk result (out.new.items ≡ out.old.items ++ printed (codes "poll" ∷ trigger.now ∷ polled_words polled)) }
 {
@@ -119,19 +138,20 @@ fn put_handle(
     requires { at + ROOM ≤ length out.old.items }
     ensures text { take result out.new.items ≡ take at out.old.items ++ printed (codes "handle" ∷ trigger.now ∷ device.now ∷ handled_word handled ∷ []) }
 {
-    let at = put(out, at, b"handle ");
+    let at = put_word(out, at, b"handle          ", 7);
     let at = put_name(out, at, trigger);
-    let at = put(out, at, b" ");
+    let at = put_word(out, at, b"                ", 1);
     let at = put_name(out, at, device);
     match handled {
-        None => put(out, at, b" none\n"),
-        Some(Handled::Captured(_)) => put(out, at, b" captured\n"),
-        Some(Handled::Fault) => put(out, at, b" fault\n"),
-        Some(Handled::Idle) => put(out, at, b" idle\n"),
+        None => put_word(out, at, b" none\n          ", 6),
+        Some(Handled::Captured(_)) => put_word(out, at, b" captured\n      ", 10),
+        Some(Handled::Fault) => put_word(out, at, b" fault\n         ", 7),
+        Some(Handled::Idle) => put_word(out, at, b" idle\n          ", 6),
     }
 }
 
 /// `handle TRIGGER DEVICE` and what became of the entry.
+#[inline(always)]
 pub(crate) fn push_handle(
     out: &mut Vec<u8>,
     trigger: &Name,
@@ -212,12 +232,33 @@ pub(crate) fn push_unplug(out: &mut Vec<u8>, device: &Name, was_plugged: bool) -
     )
 }
 
+// A name and an opening quote, put at a place; answers where they end.
+#[inline(always)]
+fn put_feed_head(out: &mut Vec<u8>, at: usize, name: &Name) -> usize
+    requires { at + HEAD_ROOM ≤ length out.old.items }
+    ensures text { take result out.new.items ≡ take at out.old.items ++ name.now ++ codes " \"" }
+{
+    let at = put_name(out, at, name);
+    put_word(out, at, b" \"              ", 2)
+}
+
+// The line of a feed up to its opening quote.
+#[inline(always)]
+fn push_feed_head(out: &mut Vec<u8>, name: &Name) -> Result<(), Mem>
+    ensures { OnOk result (out.new.items ≡ out.old.items ++ name.now ++ codes " \"") }
+{
+    let start = out.len();
+    out.resize(start + HEAD_ROOM, 0)?;
+    let end = put_feed_head(out, start, name);
+    out.truncate(end);
+    Ok(())
+}
+
 /// `NAME "answers"`
 pub(crate) fn push_feed(out: &mut Vec<u8>, name: &Name, answers: &[u8]) -> Result<(), Mem>
     ensures { OnOk result (out.new.items ≡ out.old.items ++ printed (name.now ∷ quoted answers.now ∷ [])) }
 {
-    out.extend_from_slice(name.bytes())?;
-    out.extend_from_slice(b" \"")?;
+    push_feed_head(out, name)?;
     escape_to(out, answers)?;
     out.extend_from_slice(b"\"\n")?;
     Ok(())

@@ -1,4 +1,5 @@
 //! The steps of a script that no connection makes: what they make of a bench, and the lines that they print.
+//! The large ones are never inlined, so that a step doesn't pay for the locals of another.
 
 ghost use Rattle.std.specs.Prelude.{◌≡◌, ◌<◌, ◌≤◌, List, OnOk, length};
 ghost use Rattle.iio_desc.specs.declared.limits.TheConstants.{MAX_DEVICES};
@@ -64,6 +65,7 @@ pub(crate) fn unplug(bench: &mut Bench, dev: u32, out: &mut Vec<u8>) -> Result<(
 }
 
 /// `sense DEVICE T`: looks at a device's thresholds.
+#[inline(never)]
 pub(crate) fn sense(bench: &mut Bench, dev: u32, t: i64, out: &mut Vec<u8>) -> Result<(), Mem>
     requires { dev < length (front_of bench.old).devices }
     ensures front { front_of bench.new ≡ front_of bench.old }
@@ -75,6 +77,7 @@ pub(crate) fn sense(bench: &mut Bench, dev: u32, t: i64, out: &mut Vec<u8>) -> R
 }
 
 /// `poll TRIGGER T`: polls a trigger.
+#[inline(never)]
 pub(crate) fn poll(bench: &mut Bench, trigger: u32, t: i64, out: &mut Vec<u8>) -> Result<(), Mem>
     requires { trigger < length (front_of bench.old).triggers }
     ensures front { front_of bench.new ≡ front_of bench.old }
@@ -86,6 +89,7 @@ pub(crate) fn poll(bench: &mut Bench, trigger: u32, t: i64, out: &mut Vec<u8>) -
 }
 
 /// `handle TRIGGER DEVICE`: handles the entry that a device has at a trigger.
+#[inline(never)]
 pub(crate) fn handle(
     bench: &mut Bench,
     trigger: u32,
@@ -152,6 +156,7 @@ fn handle_all(bench: &mut Bench, trigger: u32, out: &mut Vec<u8>) -> Result<(), 
 
 /// `fire TRIGGER T`: polls a trigger, and where the poll is accepted handles each entry that it made, in the order of
 /// devices.
+#[inline(never)]
 pub(crate) fn fire(bench: &mut Bench, trigger: u32, t: i64, out: &mut Vec<u8>) -> Result<(), Mem>
     requires trigger { trigger < length (front_of bench.old).triggers }
     requires captures { CanCapture (captures_of bench.old) }
