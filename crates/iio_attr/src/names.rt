@@ -2,8 +2,10 @@
 
 ghost use Rattle.std.specs.Prelude.{◌≡◌, ◌≤◌, ◌↔◌, true, IsTrue, length, take};
 ghost use Rattle.std.specs.List.{list_all};
+ghost use Rattle.std.specs.Str.{bytes_eq};
 ghost use Rattle.iio_attr.specs.Name.{is_name_byte, is_name, name_of};
 
+use iio_text::is_word;
 use std::marker::Model;
 
 /// The most bytes that a name has.
@@ -98,10 +100,19 @@ impl Name {
         &self.buffer
     }
 
+    /// Whether these are the bytes of the name. Most names of one length differ in their last byte, so it is looked at first.
+    #[inline(always)]
+    pub fn is(&self, bytes: &[u8]) -> bool
+        ensures { result ≡ bytes_eq self.now bytes.now }
+    {
+        let own = self.bytes();
+        own.last() == bytes.last() && is_word(own, bytes)
+    }
+
     /// Whether both are one name.
     pub fn same(&self, other: &Name) -> bool
         ensures { IsTrue result ↔ (self.now ≡ other.now) }
     {
-        self.bytes() == other.bytes()
+        self.is(other.bytes())
     }
 }

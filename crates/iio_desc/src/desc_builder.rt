@@ -57,7 +57,7 @@ impl Model for DescBuilder {
 fn is_trigger_named(trigger: &TriggerDesc, name: &[u8]) -> bool
     ensures { result ≡ bytes_eq trigger.now.name name.now }
 {
-    trigger.name.bytes() == name
+    trigger.name.is(name)
 }
 
 fn has_trigger(triggers: &[TriggerDesc], name: &[u8]) -> bool
@@ -69,7 +69,7 @@ fn has_trigger(triggers: &[TriggerDesc], name: &[u8]) -> bool
 fn is_device_named(device: &DeviceDesc, name: &[u8]) -> bool
     ensures { result ≡ bytes_eq device.now.name name.now }
 {
-    device.name.bytes() == name
+    device.name.is(name)
 }
 
 fn has_device(devices: &[DeviceDesc], name: &[u8]) -> bool

@@ -68,14 +68,14 @@ pub(crate) fn trigger_number(triggers: &[TriggerDesc], name: &[u8]) -> Option<us
     ensures value { result ≡ trigger_number triggers.now name.now }
     ensures within { IfSome result (λ number. number < length triggers.now) }
 {
-    triggers.iter().position(|t| t.name.bytes() == name)
+    triggers.iter().position(|t| t.name.is(name))
 }
 
 fn device_number(devices: &[DeviceDesc], name: &[u8]) -> Option<usize>
     ensures value { result ≡ position (λ d. bytes_eq d.name name.now) devices.now }
     ensures within { IfSome result (λ number. number < length devices.now) }
 {
-    devices.iter().position(|d| d.name.bytes() == name)
+    devices.iter().position(|d| d.name.is(name))
 }
 
 impl Desc {

@@ -286,7 +286,7 @@ impl DeviceBuilder {
     pub(crate) fn is_named(&self, name: &[u8]) -> bool
         ensures { result ≡ bytes_eq self.now.name name.now }
     {
-        self.name.bytes() == name
+        self.name.is(name)
     }
 
     /// Whether it has a channel.

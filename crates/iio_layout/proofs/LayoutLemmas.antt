@@ -43,6 +43,32 @@ next_multiple-le x y m some within whole =
           omega (arith, next)
     ]
 
+-- what is left of a number between a multiple and the next one, without its remainder
+multiple_is : (y l q : ℕ) → y * q ≤ l → l < y * (q + 1) → l - l % y ≡ y * q
+multiple_is y l q from below =
+    elim (cases_lt (l / y) q) [
+      | inl less ↦ let next : y * (l / y + 1) ≤ y * q = mul-le-mul_left y (omega arith) in absurd (omega arith)
+      | inr more ↦ elim (cases_eq (l / y) q) [
+        | inl same ↦ let whole = ap (λ p. y * p) same in omega (arith, whole)
+        | inr apart ↦ let next : y * (q + 1) ≤ y * (l / y) = mul-le-mul_left y (omega arith) in absurd (omega arith)
+      ]
+    ]
+
+-- the last multiple that begins before the least one at or above a number ends is that one
+pub last_multiple : (x y : ℕ) → 0 < y → x + (y - 1) - (x + (y - 1)) % y ≡ next_multiple_of x y
+last_multiple x y some =
+    elim (cases_eq (x % y) 0) [
+      | inl on ↦
+          let gap : y - x % y ≡ y = omega arith in
+          let none : (y - x % y) % y ≡ 0 = rw gap (mod_self y) in
+          let is = multiple_is y (x + (y - 1)) (x / y) (omega arith) (omega arith) in
+          omega (arith, is, none)
+      | inr off ↦
+          let rest : (y - x % y) % y ≡ y - x % y = mod-eq_of_lt (omega arith) in
+          let is = multiple_is y (x + (y - 1)) (x / y + 1) (omega arith) (omega arith) in
+          omega (arith, is, rest)
+    ]
+
 -- a multiple of nothing
 pub next_multiple-zero : (x : ℕ) → next_multiple_of x 0 ≡ x
 next_multiple-zero x = let none = zero-mod 0 in let all = mod-zero x in omega (arith, none, all)

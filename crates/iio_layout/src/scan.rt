@@ -159,11 +159,12 @@ fn put_gap(size: usize, gap: usize, out: &mut [u8])
 #[inline]
 fn aligned(end: usize, size: usize) -> usize
     requires power { IsPowerOfTwo size }
-    requires fits { next_multiple_of end size < 2 ^ 64 }
+    requires fits { next_multiple_of end size + size < 2 ^ 64 }
     ensures { result ≡ next_multiple_of end size }
 {
     let mask = size - 1;
-    end + ((size - (end & mask)) & mask)
+    let last = end + mask;
+    last - (last & mask)
 }
 
 // Writes the elements of data channel `c`, at the front of bytes of which there may be more. Nothing is said of those

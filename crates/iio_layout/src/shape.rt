@@ -197,10 +197,11 @@ fn first_with(channels: &[Channel], kind: Kind, suffix: Suffix) -> Option<usize>
         .position(|channel| has_id(channel, kind, suffix))
 }
 
+// Most channels of a device are of one kind, so the suffix is looked at first.
 fn has_id(channel: &Channel, kind: Kind, suffix: Suffix) -> bool
     ensures { result ≡ same_id (id_at channel.now) (kind, suffix) }
 {
-    channel.kind == kind && channel.suffix == suffix
+    channel.suffix == suffix && channel.kind == kind
 }
 
 // Whether no two channels have the same kind, suffix and direction.

@@ -1,24 +1,10 @@
 //! The first words of steps.
 ghost use Rattle.std.specs.Prelude.{◌≡◌, option_map};
-ghost use Rattle.std.specs.Str.{bytes_eq};
 ghost use Rattle.iiod_grammar.specs.Command.{entry_of};
 ghost use Rattle.iio_history.specs.Script.{step_words};
 ghost use Rattle.iio_script.specs.Step.{form_of};
 
-// Byte by byte: where it is inlined the wanted word is known, and no loop is left.
-fn is_word(word: &[u8], wanted: &[u8]) -> bool
-    ensures { result ≡ bytes_eq word.now wanted.now }
-{
-    if word.len() != wanted.len() {
-        return false;
-    }
-    for i in 0..wanted.len() {
-        if word[i] != wanted[i] {
-            return false;
-        }
-    }
-    true
-}
+use iio_text::is_word;
 
 /// A word with which a step begins; none of them is a connection's name in a feed.
 #[derive(Clone, Copy, Debug, PartialEq, Eq)]

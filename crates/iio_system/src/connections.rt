@@ -24,21 +24,11 @@ use std::alloc::Global;
 /// The most names of connections that a script may feed.
 pub const MAX_NAMES: usize = 64;
 
-// Whether the connection has that name. Most names of one length differ in their last byte.
-#[inline(always)]
-fn is_named(connection: &Connection<Seat>, name: &Name) -> bool
-    ensures { result ≡ bytes_eq connection.now.name name.now }
-{
-    let own = connection.name.bytes();
-    let name = name.bytes();
-    own.len() == name.len() && own.last() == name.last() && own == name
-}
-
 /// The place of the connection of that name.
 pub(crate) fn place(connections: &[Connection<Seat>], name: &Name) -> Option<usize>
     ensures { result ≡ position (λ c. bytes_eq c.name name.now) connections.now }
 {
-    connections.iter().position(|c| is_named(c, name))
+    connections.iter().position(|c| c.name.is(name.bytes()))
 }
 
 // A connection that sent nothing yet. By its number the devices know whose their events are.

@@ -21,28 +21,11 @@ use iio_sensor::Sensor;
 use iio_text::Fixed;
 use iiod_session::{Counts, Iio, No, Took};
 
-// Whether both are the same bytes. Names have few, so a loop takes less time than a call that is made for many. Most names of
-// one length differ in their last byte.
-#[inline(always)]
-fn is_same(name: &[u8], other: &[u8]) -> bool
-    ensures { result ≡ bytes_eq name.now other.now }
-{
-    if name.len() != other.len() || name.last() != other.last() {
-        return false;
-    }
-    for i in 0..name.len() {
-        if name[i] != other[i] {
-            return false;
-        }
-    }
-    true
-}
-
 // Whether a device has that name.
 fn is_named(device: &Device<Kfifo>, name: &[u8]) -> bool
     ensures { result ≡ bytes_eq device.now.core.name name.now }
 {
-    is_same(device.core.name.bytes(), name)
+    device.core.name.is(name)
 }
 
 // The number of the device of that name.
@@ -63,7 +46,7 @@ fn trigger_number(triggers: &[TriggerDesc], name: &[u8]) -> Option<usize>
     ensures value { result ≡ trigger_number triggers.now name.now }
     ensures within { IfSome result (λ number. number < length triggers.now) }
 {
-    triggers.iter().position(|t| t.name.bytes() == name)
+    triggers.iter().position(|t| t.name.is(name))
 }
 
 impl Iio for Bench {

@@ -1,11 +1,12 @@
 -- Lemmas on escaped texts.
-use borrow.Rule.Slice.PartMut.{mid_of}
+use borrow.Rule.Slice.PartMut.{put_mid, mid_of}
 use Rattle.std.proofs.Common.{◌≡◌, ℕ, zero, suc, ◌+◌, ◌-◌, ◌*◌, ◌/◌, ◌%◌, ◌<◌, ◌≤◌, Bool, true, false, not, cond, eqb, List, [], ◌∷◌, ◌++◌, length, get_or, take, drop, Some, Result, Ok, Err, refl, arith, ap, inl, inr, ◌∙◌, sym, subst, add-zero, add-one, append_assoc, length-append, length-drop, append-nil, None, Fits, w8}
 use Rattle.std.specs.Char.{digit_char}
 use Rattle.std.specs.List.{prefix_len, position_or_len}
 use Rattle.std.proofs.Math.Seq.{take-append_seam, drop-append_seam}
 use Rattle.std.proofs.lemmas.List.{drop-drop, drop_all}
 use Rattle.std.proofs.lemmas.Bool.Decides.{nat_tests, eqb_tells}
+use Rattle.iio_text.proofs.PrintedLemmas.{take_grown}
 use Rattle.iio_text.specs.Escape.{is_plain, escaped_byte, escaped, hex_value, hex_byte, piece_of, piece_then, before, unescaped, unescaped_from, between_quotes, quoted, quoted_of}
 
 -- the bytes that belong to the piece before mean nothing
@@ -162,6 +163,15 @@ run_more text out items place n k so_far is same all =
     rw (all, same, e) (so_far ∙ ap (before out) (plain_run place after)
     ∙ before-before out (take len after) _
     ∙ ap (λ s. before (out ++ take len after) (unescaped_from (place + len) 0 s)) (drop-drop len place text))
+
+-- the same, where the bytes are copied into a room that has what was read so far
+pub copied_more : (text out grown room after : List ℕ) (place len n m k : ℕ) → unescaped text ≡ before (take len out) (unescaped_from place 0 (drop place text)) → n ≡ position_or_len (λ b. not (is_plain b)) (drop place text)
+    → grown ≡ out → take n room ≡ take n (drop place text) → len ≤ length out → n ≤ length room → len + n ≤ m
+    → unescaped text ≡ before (take (len + n) (take m (put_mid len k grown room ++ after))) (unescaped_from (place + n) 0 (drop (place + n) text))
+copied_more text out grown room after place len n m k so_far is same copied inside fits within =
+    let written : take (len + n) (take m (put_mid len k grown room ++ after)) ≡ take len out ++ mid_of place n text =
+    take_grown len k n m grown room after (rw same inside) fits within ∙ ap (λ t. take len t ++ take n room) same ∙ ap (λ t. take len out ++ t) copied in
+    run_more text (take len out) (take (len + n) (take m (put_mid len k grown room ++ after))) place n n so_far is refl written
 
 -- a text that is read to its end
 pub whole_read : (text out : List ℕ) (place : ℕ) → unescaped text ≡ before out (unescaped_from place 0 (drop place text)) → length text ≤ place → unescaped text ≡ Ok out

@@ -3,12 +3,12 @@ use Rattle.std.proofs.Common.{◌≡◌, ℕ, zero, suc, ◌+◌, ◌-◌, ◌*�
 use Rattle.std.specs.List.{list_all, position_or_len, before_first, after_first}
 use Rattle.std.specs.Char.{digit_value, is_ascii_digit}
 use Rattle.std.specs.Str.Parse.{digits_value}
-use Rattle.std.proofs.Math.Nat.{pow-le-pow_right}
+use Rattle.std.proofs.Math.Nat.{pow-le-pow_right, pow-suc, mul_assoc, mul_comm, div-add-mod, mod-lt, mod-eq_of_lt, mul-add-mod_self_left}
 use Rattle.std.proofs.Math.ListN.{get_or-append}
 use Rattle.std.proofs.Math.Seq.{get_or-append_right, take-append_seam, drop-append-add}
 use Rattle.std.proofs.lemmas.Bool.{cases_lt}
 use Rattle.std.proofs.lemmas.Bool.Decides.{nat_tests, eqb_tells}
-use Rattle.std.proofs.lemmas.Fmt.{decimal_is_IsNumeral}
+use Rattle.std.proofs.lemmas.Fmt.{decimal_is_IsNumeral, decimal_digit, decimal_step}
 use Rattle.std.proofs.lemmas.Grind.{common_steps}
 use Rattle.std.proofs.lemmas.Int.Digits.{digits_value_more, digits_value_push}
 use Rattle.std.proofs.lemmas.List.{get_or-replicate, length_push}
@@ -184,3 +184,53 @@ pub fixed_of-printed_fixed : (v : Fixed) → IsFixed v → fixed_of v.form (prin
 fixed_of-printed_fixed v h =
     let numeral = decimal_is_IsNumeral v.whole (omega (arith, h.whole)) in
     read_text v.form v.negative (decimal v.whole) v.whole v.part (are_digits (decimal v.whole) numeral.0.1) numeral.0.0 numeral.1 h.sign h.whole h.part
+
+-- ---- the digits behind a leading 1
+led_step : (x q : ℕ) → ((x * 10 + q) / 10 ≡ x + q / 10) × ((x * 10 + q) % 10 ≡ q % 10)
+led_step x q = (omega arith, omega arith)
+
+led_digits : (k q : ℕ) → k ≤ 9 → q < 10 ^ k → decimal (10 ^ k + q) ≡ 49 ∷ last_digits k q
+led_digits zero zero few h = decimal_digit 1 (omega arith)
+led_digits zero (suc q) few h = absurd (omega arith)
+led_digits (suc k) q few h =
+    let x = 10 ^ k in
+    let e : 10 ^ suc k ≡ x * 10 = pow-suc 10 k in
+    let some : 1 ≤ x = pow-le-pow_right {n = 10} (omega arith) {i = 0} {j = k} (omega arith) in
+    let most : x ≤ 100000000 = small_power k (omega arith) in
+    let step = decimal_step (x * 10 + q) (omega arith) (omega (arith, h, e)) in
+    let rest = led_digits k (q / 10) (omega arith) (omega (arith, h, e)) in
+    ap (λ y. decimal (y + q)) e ∙ step
+    ∙ ap (λ n. decimal n ++ (48 + (x * 10 + q) % 10) ∷ []) (led_step x q).0
+    ∙ ap (λ n. decimal (x + q / 10) ++ (48 + n) ∷ []) (led_step x q).1
+    ∙ ap (λ ds. ds ++ (48 + q % 10) ∷ []) rest
+
+-- the digits of what is left behind a power of ten
+kept_digit : (x p : ℕ) → 0 < x → (p % (x * 10) / 10 ≡ p / 10 % x) × (p % (x * 10) % 10 ≡ p % 10)
+kept_digit x p some =
+    let c = p / (x * 10) in
+    let r = p % (x * 10) in
+    let parts : x * 10 * c + r ≡ p = div-add-mod p (x * 10) in
+    let whole : x * 10 * c ≡ x * c * 10 = mul_assoc x 10 c ∙ ap (λ n. x * n) (mul_comm 10 c) ∙ sym (mul_assoc x c 10) in
+    let small : r < x * 10 = mod-lt p (omega (arith, some)) in
+    let tenth : p / 10 ≡ x * c + r / 10 = omega (arith, parts, whole) in
+    let last : p % 10 ≡ r % 10 = omega (arith, parts, whole) in
+    (sym (ap (λ n. n % x) tenth ∙ mul-add-mod_self_left x c (r / 10) ∙ mod-eq_of_lt (omega (arith, small))), sym last)
+
+kept_digits : (k p : ℕ) → last_digits k (p % 10 ^ k) ≡ last_digits k p
+kept_digits zero p = refl
+kept_digits (suc k) p =
+    let some : 0 < 10 ^ k = pow-le-pow_right {n = 10} (omega arith) {i = 0} {j = k} (omega arith) in
+    let kept = kept_digit (10 ^ k) p some in
+    ap (λ n. last_digits (suc k) (p % n)) (pow-suc 10 k)
+    ∙ ap (λ n. last_digits k n ++ (48 + p % (10 ^ k * 10) % 10) ∷ []) kept.0
+    ∙ ap (λ n. last_digits k (p / 10 % 10 ^ k) ++ (48 + n) ∷ []) kept.1
+    ∙ ap (λ ds. ds ++ (48 + p % 10) ∷ []) (kept_digits k (p / 10))
+
+behind_first : (k p : ℕ) → k ≤ 9 → 0 < 10 ^ k → drop 1 (decimal (10 ^ k + p % 10 ^ k)) ≡ last_digits k p
+behind_first k p few some = ap (drop 1) (led_digits k (p % 10 ^ k) few (mod-lt p some)) ∙ kept_digits k p
+
+pub micro_digits : (p : ℕ) → drop 1 (decimal (1000000 + p % 1000000)) ≡ last_digits 6 p
+micro_digits p = behind_first 6 p (omega arith) (omega arith)
+
+pub nano_digits : (p : ℕ) → drop 1 (decimal (1000000000 + p % 1000000000)) ≡ last_digits 9 p
+nano_digits p = behind_first 9 p (omega arith) (omega arith)

@@ -1,13 +1,13 @@
 -- Lemmas on how bytes are printed from a table, into a room.
 use borrow.Rule.Slice.PartMut.{put_mid, mid_of, post_of}
 use lib.Lanes.{chunk, put_chunk}
-use Rattle.std.proofs.Common.{◌≡◌, ℕ, ◌+◌, ◌-◌, ◌*◌, ◌<◌, ◌≤◌, ◌++◌, Bool, true, eqb, leb, List, [], length, take, drop, get_or, refl, ap, sym, ◌∙◌, arith}
+use Rattle.std.proofs.Common.{◌≡◌, ℕ, ◌+◌, ◌-◌, ◌*◌, ◌<◌, ◌≤◌, ◌++◌, Bool, true, eqb, leb, List, [], length, length-append, take, drop, get_or, refl, ap, sym, ◌∙◌, arith}
 use Rattle.std.specs.Str.{bytes_eq}
 use Rattle.std.proofs.Math.Seq.{take-add, take-append-add}
 use Rattle.std.proofs.lemmas.Bool.{agree_below, agree_below_at, leb-true}
 use Rattle.std.proofs.lemmas.Grind.{flat_map-append}
 use Rattle.std.proofs.lemmas.Simd.{put_chunk_is}
-use Rattle.std.proofs.lemmas.List.{length-take, take-take, take-append-le, length-take-le, take_more, flat_map_more}
+use Rattle.std.proofs.lemmas.List.{length-take, take-take, take_all, take-append-le, length-take-le, take_more, flat_map_more}
 use Rattle.std.proofs.lemmas.Slice.Eq.{bytes_eq-Decides}
 use Rattle.iio_text.specs.Escape.{escaped, escaped_byte, is_plain}
 use Rattle.iio_text.specs.declared.escapes.TheConstants.{PRINTED, PRINTED_LENS}
@@ -72,6 +72,24 @@ take_into a k n xs ys h m =
     ap (λ l. take (l + n) (put_mid a k xs ys)) (sym (length-take-le a xs h))
     ∙ take-append-add (take a xs) (ys ++ post_of a k xs) n
     ∙ ap (λ t. take a xs ++ t) (take-append-le n ys (post_of a k xs) m)
+
+-- the same, of a vector that grew for the part, and is cut behind it
+pub take_grown : (a k n m : ℕ) (xs ys after : List ℕ) → a ≤ length xs → n ≤ length ys → a + n ≤ m → take (a + n) (take m (put_mid a k xs ys ++ after)) ≡ take a xs ++ take n ys
+take_grown a k n m xs ys after h l within =
+    let long : a + n ≤ length (put_mid a k xs ys) = omega (arith, length-append (take a xs) (ys ++ post_of a k xs), length-append ys (post_of a k xs), length-take-le a xs h) in
+    take-take (a + n) m (put_mid a k xs ys ++ after) within ∙ take-append-le (a + n) (put_mid a k xs ys) after long ∙ take_into a k n xs ys h l
+
+-- a part that is written doesn't change how long a vector is
+pub length_written : (a m : ℕ) (xs ys after : List ℕ) → a ≤ length xs → length ys ≡ length xs - a → m ≡ length xs → length (take m (put_mid a (length xs - a) xs ys ++ after)) ≡ m
+length_written a m xs ys after h same all =
+    let post = post_of a (length xs - a) xs in
+    length-take-le m (put_mid a (length xs - a) xs ys ++ after)
+    (omega (arith, length-append (put_mid a (length xs - a) xs ys) after, length-append (take a xs) (ys ++ post), length-append ys post, length-take-le a xs h))
+
+-- what a vector had before it grew
+pub take_kept : (xs ys : List ℕ) (a m : ℕ) → a ≡ length xs → take a (take (a + m) xs ++ ys) ≡ xs
+take_kept xs ys a m e =
+    ap (λ t. take a (t ++ ys)) (take_all (a + m) xs (omega (arith, e))) ∙ take-append-le a xs ys (omega (arith, e)) ∙ take_all a xs (omega (arith, e))
 
 -- bytes up to a place, and from there on to another one
 pub escaped_on : (bytes : List ℕ) (place end : ℕ) → place ≤ end → escaped (take place bytes) ++ escaped (mid_of place (end - place) bytes) ≡ escaped (take end bytes)

@@ -1,8 +1,9 @@
 //! Values from their texts, and their texts.
 
-ghost use Rattle.std.specs.Prelude.{◌≡◌, true, ◌+◌, ◌/◌, ◌≤◌, ◌++◌, ◌^◌, ◌<◌, ℕ, All, Ok, IfOk, OnOk, OnErr, IsOkAnd, length, decimal, replicate, slice_index, string_bytes};
+ghost use Rattle.std.specs.Prelude.{◌≡◌, true, ◌+◌, ◌/◌, ◌≤◌, ◌++◌, ◌∷◌, ◌^◌, ◌<◌, if◌then◌else◌, ℕ, All, Ok, IfOk, OnOk, OnErr, IsOkAnd, length, drop, decimal, replicate, slice_index, string_bytes};
 ghost use Rattle.std.specs.List.{position_or_len, list_all};
 ghost use Rattle.std.specs.Char.{digit_value, is_ascii_digit};
+ghost use Rattle.iio_text.specs.declared.errors.Errno.TheVariants.{EINVAL, ERANGE};
 ghost use Rattle.iio_text.specs.Fixed.{places_of, IsFixed, without_last, is_minus, unsigned_of, is_point, whole_digits, part_digits, are_right, part_value, fixed_of, last_digits, part_text, printed_fixed, fixed_int};
 
 use crate::errors::Errno;
@@ -89,6 +90,19 @@ fn are_right(whole: &[u8], part: &[u8]) -> bool
     are_digits(whole) && are_digits(part)
 }
 
+// Why a text says no value, where its whole part is no number that fits.
+#[cold]
+#[inline(never)]
+fn refusal(whole: &[u8], part: &[u8]) -> Errno
+    ensures { result ≡ (if are_right whole.now part.now then ERANGE else EINVAL) }
+{
+    if are_right(whole, part) {
+        Errno::ERANGE
+    } else {
+        Errno::EINVAL
+    }
+}
+
 // The digit at a place; past the end it is 0.
 fn digit_at(digits: &[u8], place: usize) -> u32
     requires { list_all is_ascii_digit digits.now ≡ true }
@@ -129,14 +143,14 @@ pub fn read_fixed(text: &[u8], form: Form) -> Result<Fixed, Errno>
 {
     let body = without_last(without_last(text, 0), b'\n');
     let (minus, digits) = split_sign(body);
-    let (whole, part) = split_point(digits, form);
-    if !are_right(whole, part) {
+    let (whole_digits, part_digits) = split_point(digits, form);
+    let Some(whole) = value_up_to(whole_digits, 2_147_483_647) else {
+        return Err(refusal(whole_digits, part_digits));
+    };
+    if whole_digits.is_empty() && part_digits.is_empty() || !are_digits(part_digits) {
         return Err(Errno::EINVAL);
     }
-    let Some(whole) = value_up_to(whole, 2_147_483_647) else {
-        return Err(Errno::ERANGE);
-    };
-    let part = part_value(part, places(form));
+    let part = part_value(part_digits, places(form));
     Ok(Fixed {
         negative: minus && (whole != 0 || part != 0),
         whole: whole as u32,
@@ -145,16 +159,25 @@ pub fn read_fixed(text: &[u8], form: Form) -> Result<Fixed, Errno>
     })
 }
 
-// Puts the last `count` digits of a number at the end of a text.
-fn push_digits(text: &mut String, number: u32, count: usize) -> Result<(), Mem>
-    ensures { OnOk result (string_bytes text.new ≡ string_bytes text.old ++ last_digits count number) }
+// Puts a point and the digits of a number behind its first one at the end of a text.
+fn push_behind_first(text: &mut String, number: u32) -> Result<(), Mem>
+    ensures { OnOk result (string_bytes text.new ≡ string_bytes text.old ++ 46 ∷ drop 1 (decimal number)) }
 {
-    if count == 0 {
-        return Ok(());
-    }
-    push_digits(text, number / 10, count - 1)?;
-    text.push(char::from(b'0' + (number % 10) as u8))?;
+    text.push('.')?;
+    text.push_str(&Buffer::new().format(number)[1..])?;
     Ok(())
+}
+
+// Puts the point and the digits behind it at the end of a text. A leading 1 keeps the zeros that they begin with.
+#[tactic(auto, using(crate::proofs::FixedLemmas::micro_digits, crate::proofs::FixedLemmas::nano_digits))]
+fn push_part(text: &mut String, form: Form, part: u32) -> Result<(), Mem>
+    ensures { OnOk result (string_bytes text.new ≡ string_bytes text.old ++ part_text form part) }
+{
+    match form {
+        Form::Int => Ok(()),
+        Form::Micro => push_behind_first(text, 1_000_000 + part % 1_000_000),
+        Form::Nano => push_behind_first(text, 1_000_000_000 + part % 1_000_000_000),
+    }
 }
 
 /// The one text of a value: a `-` where it is negative, its whole part, and for `Micro` and `Nano` a
@@ -168,10 +191,7 @@ pub fn print_fixed(alloc: Global, v: &Fixed) -> Result<String, Mem>
         text.push('-')?;
     }
     text.push_str(Buffer::new().format(v.whole))?;
-    if v.form != Form::Int {
-        text.push('.')?;
-        push_digits(&mut text, v.part, places(v.form))?;
-    }
+    push_part(&mut text, v.form, v.part)?;
     Ok(text)
 }
 

@@ -4,7 +4,7 @@ ghost use Rattle.std.specs.Prelude.{◌≡◌, not, ◌*◌, ◌<◌, ◌≤◌,
 ghost use Rattle.iio_text.specs.Escape.{is_plain, escaped_byte, escaped, hex_value, pair_of, piece_of, unescaped, Explains, between_quotes, quoted, quoted_of};
 
 use crate::faults::Unescape;
-use crate::runs::{ByteTest, first_place, first_set};
+use crate::runs::{ByteTest, copy_before};
 use iio_base::Mem;
 use std::alloc::Global;
 use std::simd::prelude::*;
@@ -56,10 +56,10 @@ const PRINTED_LENS: [usize; 256] = [
     4, 4, 4, 4, 4, 4, 4, 4, 4, 4, 4, 4, 4, 4, 4, 4, 4, 4, 4, 4, 4, 4, 4, 4, 4, 4, 4, 4, 4, 4, 4, 4,
 ];
 
-// How many bytes are printed before they are put into a vector.
-const CHUNK: usize = 128;
+// How many bytes are printed at a time. Room for all that they may take is made at the vector's end first.
+const CHUNK: usize = 500;
 
-// The most bytes of a short text: a number's, say. A chunk's room would take longer to clear than such a text to print.
+// The most bytes of a short text: a number's, say. It has room of one length, which is made at once.
 const SHORT: usize = 16;
 
 // How many bytes are printed in one turn of a loop.
@@ -121,9 +121,23 @@ fn short_escape_to(out: &mut Vec<u8>, bytes: &[u8]) -> Result<(), Mem>
     ensures ok { OnOk result (out.new.items ≡ out.old.items ++ escaped bytes.now) }
     ensures err { OnErr result (out.new.items ≡ out.old.items) }
 {
-    let mut room = [0; 4 * SHORT];
-    let len = put_each_escaped(bytes, &mut room);
-    out.extend_from_slice(&room[..len])?;
+    let start = out.len();
+    out.resize(start + 4 * SHORT, 0)?;
+    let len = put_each_escaped(bytes, &mut out[start..]);
+    out.truncate(start + len);
+    Ok(())
+}
+
+// The same of more bytes.
+fn chunk_escape_to(out: &mut Vec<u8>, bytes: &[u8]) -> Result<(), Mem>
+    requires { length bytes.now ≤ CHUNK }
+    ensures ok { OnOk result (out.new.items ≡ out.old.items ++ escaped bytes.now) }
+    ensures err { OnErr result (out.new.items ≡ out.old.items) }
+{
+    let start = out.len();
+    out.resize(start + 4 * bytes.len(), 0)?;
+    let len = put_all_escaped(bytes, &mut out[start..]);
+    out.truncate(start + len);
     Ok(())
 }
 
@@ -136,12 +150,10 @@ pub fn escape_to(out: &mut Vec<u8>, bytes: &[u8]) -> Result<(), Mem>
     if bytes.len() <= SHORT {
         return short_escape_to(out, bytes);
     }
-    let mut room = [0; 4 * CHUNK];
     let mut place = 0;
     while place < bytes.len() {
         let end = bytes.len().min(place + CHUNK);
-        let len = put_all_escaped(&bytes[place..end], &mut room);
-        out.extend_from_slice(&room[..len])?;
+        chunk_escape_to(out, &bytes[place..end])?;
         place = end;
     }
     Ok(())
@@ -213,13 +225,13 @@ impl ByteTest for Special {
     }
 
     #[inline(always)]
-    fn first_in_lanes(&self, text: &[u8], place: usize) -> usize {
+    fn passing_in_lanes(&self, text: &[u8], place: usize) -> u64 {
         let lanes = u8x16::from_slice(&text[place..]);
         let special = lanes.simd_lt(u8x16::splat(b' '))
             | lanes.simd_gt(u8x16::splat(b'~'))
             | lanes.simd_eq(u8x16::splat(b'"'))
             | lanes.simd_eq(u8x16::splat(b'\\'));
-        first_set(special.to_bitmask())
+        special.to_bitmask()
     }
 }
 
@@ -238,28 +250,26 @@ pub fn unescape_into(mut out: Vec<u8>, text: &[u8]) -> Result<Vec<u8>, Unescape>
     ensures ok { IfOk result (λ v. unescaped text.now ≡ Ok v.items) }
     ensures err { IfErr result (λ e. Explains e (unescaped text.now)) }
 {
-    out.clear();
-    let Ok(()) = out.reserve(text.len()) else {
+    let Ok(()) = out.resize(text.len(), 0) else {
         return Err(Unescape::Mem);
     };
+    let mut len = 0;
     let mut place = 0;
     'pieces: while place < text.len() {
-        let plain = first_place(&Special, &text[place..]);
-        if out.extend_from_slice(&text[place..place + plain]).is_err() {
-            return Err(Unescape::Mem);
-        }
+        let plain = copy_before(&Special, &text[place..], &mut out[len..]);
+        len += plain;
         place += plain;
         if place == text.len() {
-            return Ok(out);
+            break;
         }
         let Some((byte, more)) = piece(&text[place..]) else {
             return Err(Unescape::BadEscape(place));
         };
-        if out.push(byte).is_err() {
-            return Err(Unescape::Mem);
-        }
+        out[len] = byte;
+        len += 1;
         place += more + 1;
     }
+    out.truncate(len);
     Ok(out)
 }
 

@@ -1,16 +1,24 @@
 //! The lines of a text, and the checks that come before all others.
 
-ghost use Rattle.std.specs.Prelude.{◌≡◌, ◌<◌, ◌≤◌, ◌↔◌, [], ◌∷◌, length, Ok, IsNone, IfSome, IfNone, IfOk, IfErr, Err};
+ghost use Rattle.std.specs.Prelude.{◌≡◌, ◌+◌, ◌<◌, ◌≤◌, ◌↔◌, [], ◌∷◌, length, Ok, IsNone, IfSome, IfNone, IfOk, IfErr, Err};
 ghost use Rattle.std.specs.List.{list_all, position_or_len};
+ghost use Rattle.std.specs.Simd.Lanes.{chunk};
 ghost use Rattle.iio_text.specs.Words.{words_of, is_space, IsFirstWord};
 ghost use Rattle.iio_text.specs.Lines.{is_line_end, lines_of, is_printable, fits_line, is_comment, words_of_line};
 
 use crate::refusals::{Why, ensure};
 use crate::words::{Blanks, next_word};
 use memchr::memchr;
+use std::simd::prelude::*;
 
 /// The most bytes of a line, without its LF.
 pub const MAX_LINE_BYTES: usize = 1_048_576;
+
+// How many bytes are looked at at once.
+const LANES: usize = 16;
+
+// The same, of a short line.
+const FEW: usize = 8;
 
 /// How many bytes of a text stand before its first LF; all of them where it has none.
 pub fn line_len(text: &[u8]) -> usize
@@ -60,8 +68,31 @@ fn is_printable(byte: u8) -> bool
     matches!(byte, 0x20..=0x7e)
 }
 
-// Whether each byte of a line is printable ASCII. It looks at all of them, many at once.
-fn is_printable_text(line: &[u8]) -> bool
+// Whether all of the bytes that are looked at from a place on are printable ASCII.
+#[inline(always)]
+fn lanes_are_printable(line: &[u8], place: usize) -> bool
+    requires { place + LANES ≤ length line.now }
+    ensures { result ≡ list_all is_printable (chunk place LANES line.now) }
+{
+    let lanes = u8x16::from_slice(&line[place..]);
+    let others = lanes.simd_lt(u8x16::splat(b' ')) | lanes.simd_gt(u8x16::splat(b'~'));
+    others.to_bitmask() == 0
+}
+
+// The same, of few bytes.
+#[inline(always)]
+fn few_are_printable(line: &[u8], place: usize) -> bool
+    requires { place + FEW ≤ length line.now }
+    ensures { result ≡ list_all is_printable (chunk place FEW line.now) }
+{
+    let lanes = u8x8::from_slice(&line[place..]);
+    let others = lanes.simd_lt(u8x8::splat(b' ')) | lanes.simd_gt(u8x8::splat(b'~'));
+    others.to_bitmask() == 0
+}
+
+// Whether each byte of a short line is printable ASCII, with the bytes looked at one by one.
+#[inline(always)]
+fn each_is_printable(line: &[u8]) -> bool
     ensures { result ≡ list_all is_printable line.now }
 {
     let mut printable = true;
@@ -71,10 +102,33 @@ fn is_printable_text(line: &[u8]) -> bool
     printable
 }
 
+// Whether each byte of a line is printable ASCII. It looks at many at once, and at some twice: at those that are
+// among the last of the line.
+fn is_printable_text(line: &[u8]) -> bool
+    ensures { result ≡ list_all is_printable line.now }
+{
+    if line.len() < FEW {
+        return each_is_printable(line);
+    }
+    if line.len() < LANES {
+        return few_are_printable(line, 0) && few_are_printable(line, line.len() - FEW);
+    }
+    let last = line.len() - LANES;
+    let mut place = 0;
+    while place < last {
+        if !lanes_are_printable(line, place) {
+            return false;
+        }
+        place += LANES;
+    }
+    lanes_are_printable(line, last)
+}
+
 /// Takes the first word off a line of a description or of a script, without its LF, and gives the line after it too.
 /// None comes for a line that means nothing: a comment, whose first byte is `#`, and a line without a word. It is
 /// `long` where the line has more than [`MAX_LINE_BYTES`] bytes, and then, where it means anything, `text` where a byte
 /// of it is outside 0x20 to 0x7e.
+#[inline]
 pub fn first_word(line: &[u8]) -> Result<Option<(&[u8], &[u8])>, Why>
     ensures refused { IfErr result (λ why. words_of_line line.now ≡ Err why) }
     ensures blank { IfOk result (λ first. IfNone first (words_of_line line.now ≡ Ok [])) }

@@ -1,9 +1,11 @@
 //! The first byte of a text that passes a test, with sixteen bytes looked at at once.
 
-ghost use Rattle.std.specs.Prelude.{◌≡◌, ◌+◌, ◌≤◌, ℕ, Bool, length};
+ghost use Rattle.std.specs.Prelude.{◌≡◌, ◌+◌, ◌≤◌, ℕ, Bool, map, length, take};
 ghost use Rattle.std.specs.List.{position_or_len};
-ghost use Rattle.std.specs.Simd.Lanes.{chunk};
+ghost use Rattle.std.specs.Simd.Lanes.{chunk, mask_l};
 ghost use Rattle.iio_text.specs.Runs.{first_set};
+
+use std::simd::prelude::*;
 
 // How many bytes are looked at at once.
 const LANES: usize = 16;
@@ -15,10 +17,10 @@ pub(crate) trait ByteTest {
     fn passes_at(&self, byte: u8) -> bool
         ensures { result ≡ passes self.now byte };
 
-    // How many of the sixteen bytes from a place on stand before the first that passes.
-    fn first_in_lanes(&self, text: &[u8], place: usize) -> usize
+    // Which of the sixteen bytes from a place on pass, as a mask.
+    fn passing_in_lanes(&self, text: &[u8], place: usize) -> u64
         requires { place + LANES ≤ length text.now }
-        ensures { result ≡ position_or_len (passes self.now) (chunk place LANES text.now) };
+        ensures { result ≡ mask_l (map (passes self.now) (chunk place LANES text.now)) };
 }
 
 /// The place of the lowest bit of a mask of sixteen, or sixteen where none is set.
@@ -33,33 +35,27 @@ pub(crate) fn first_set(mask: u64) -> usize
     }
 }
 
-// The place of the first byte that passes, or the length, with the bytes looked at one by one.
+/// Copies the bytes of a text before the first that passes, or all, to the begin of a room, and answers how many these
+/// are.
 #[inline(always)]
-fn first_of_few<T: ByteTest>(test: &T, text: &[u8]) -> usize
+pub(crate) fn copy_before<T: ByteTest>(test: &T, text: &[u8], room: &mut [u8]) -> usize
+    requires { length text.now ≤ length room.old }
     ensures within { result ≤ length text.now }
     ensures value { result ≡ position_or_len (T.passes test.now) text.now }
-{
-    for (i, byte) in text.iter().enumerate() {
-        if test.passes_at(*byte) {
-            return i;
-        }
-    }
-    text.len()
-}
-
-/// The place of the first byte that passes, or the length.
-#[inline(always)]
-pub(crate) fn first_place<T: ByteTest>(test: &T, text: &[u8]) -> usize
-    ensures within { result ≤ length text.now }
-    ensures value { result ≡ position_or_len (T.passes test.now) text.now }
+    ensures copied { take result room.new ≡ take result text.now }
 {
     let mut place = 0;
     while text.len() - place >= LANES {
-        let before = test.first_in_lanes(text, place);
-        place += before;
-        if before < LANES {
-            return place;
+        let passing = test.passing_in_lanes(text, place);
+        u8x16::from_slice(&text[place..]).copy_to_slice(&mut room[place..]);
+        if passing != 0 {
+            return place + first_set(passing);
         }
+        place += LANES;
     }
-    place + first_of_few(test, &text[place..])
+    while place < text.len() && !test.passes_at(text[place]) {
+        room[place] = text[place];
+        place += 1;
+    }
+    place
 }

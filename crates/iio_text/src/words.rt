@@ -2,6 +2,7 @@
 
 ghost use Rattle.std.specs.Prelude.{◌≡◌, ◌≤◌, ◌↔◌, ◌&&◌, not, IsNone, IfSome, [], length, option_map};
 ghost use Rattle.std.specs.List.{prefix_len, position_or_len};
+ghost use Rattle.std.specs.Str.{bytes_eq};
 ghost use Rattle.iio_text.specs.Words.{blank_test, is_space, words_of, IsFirstWord, one_of, two_of, three_of, from_word};
 
 /// What parts the words of a line.
@@ -120,4 +121,20 @@ pub fn from_word(text: &[u8]) -> &[u8]
         rest = more;
     }
     rest
+}
+
+/// Whether a word is that one. Byte by byte, since words are short: where the wanted one is known, no loop is left.
+#[inline(always)]
+pub fn is_word(word: &[u8], wanted: &[u8]) -> bool
+    ensures { result ≡ bytes_eq word.now wanted.now }
+{
+    if word.len() != wanted.len() {
+        return false;
+    }
+    for i in 0..wanted.len() {
+        if word[i] != wanted[i] {
+            return false;
+        }
+    }
+    true
 }

@@ -4,3 +4,4 @@ mod ScanLemmas
 mod StreamLaws
 mod TargetLemmas
 pub mod BlankLemmas
+pub mod MarkLemmas

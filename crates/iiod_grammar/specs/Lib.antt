@@ -1,5 +1,6 @@
 pub mod Command
 pub mod Lines
+pub mod Marks
 pub mod Parts
 pub mod Scans
 pub mod Stream

@@ -1,18 +1,20 @@
 //! The words of a command line, with many bytes looked at at once.
 
-ghost use Rattle.std.specs.Prelude.{◌≡◌, ◌+◌, ◌==◌, ◌≤◌, ◌↔◌, IsNone, IfSome, [], if◌then◌else◌, length, drop};
+ghost use Rattle.std.specs.Prelude.{◌≡◌, ◌+◌, ◌==◌, ◌≤◌, ◌<◌, ◌∷◌, ◌↔◌, IsNone, IfSome, [], if◌then◌else◌, length, drop};
 ghost use Rattle.std.specs.Int.{w64, trailing_zeros};
 ghost use Rattle.std.specs.List.{prefix_len, position_or_len};
 ghost use Rattle.std.specs.Simd.Lanes.{chunk};
 ghost use Rattle.iio_text.specs.Words.{is_blank, words_of, IsFirstWord};
+ghost use Rattle.iiod_grammar.specs.Marks.{marks_of};
 
+use std::marker::Model;
 use std::simd::prelude::*;
 
 // How many bytes are looked at at once.
 const LANES: usize = 16;
 
-// The same, of few bytes.
-const FEW: usize = 8;
+// The most bytes of a text whose marks are kept.
+const MARKED: usize = 63;
 
 fn is_blank(byte: u8) -> bool
     ensures { result ≡ is_blank byte }
@@ -43,17 +45,6 @@ fn first_in_lanes(text: &[u8], place: usize) -> usize
     first_set(blanks.to_bitmask(), LANES)
 }
 
-// The same, of few bytes.
-#[inline(always)]
-fn first_in_few(text: &[u8], place: usize) -> usize
-    requires { place + FEW ≤ length text.now }
-    ensures { result ≡ position_or_len is_blank (chunk place FEW text.now) }
-{
-    let lanes = u8x8::from_slice(&text[place..]);
-    let blanks = lanes.simd_eq(u8x8::splat(b' ')) | lanes.simd_eq(u8x8::splat(b'\t'));
-    first_set(blanks.to_bitmask(), FEW)
-}
-
 // The place of the first blank from a place on, or the length, with the bytes looked at one by one.
 fn next_blank(text: &[u8], from: usize) -> usize
     requires { from ≤ length text.now }
@@ -65,22 +56,6 @@ fn next_blank(text: &[u8], from: usize) -> usize
         place += 1;
     }
     place
-}
-
-// The same, with a few bytes looked at at once first.
-fn next_blank_of_few(text: &[u8], from: usize) -> usize
-    requires { from ≤ length text.now }
-    ensures within { result ≤ length text.now }
-    ensures value { result ≡ from + position_or_len is_blank (drop from text.now) }
-{
-    if text.len() - from < FEW {
-        return next_blank(text, from);
-    }
-    let before = first_in_few(text, from);
-    if before < FEW {
-        return from + before;
-    }
-    next_blank(text, from + FEW)
 }
 
 // How many bytes stand before the first blank.
@@ -96,7 +71,7 @@ fn word_len(text: &[u8]) -> usize
             return place;
         }
     }
-    next_blank_of_few(text, place)
+    next_blank(text, place)
 }
 
 // How many blanks the text begins with.
@@ -112,9 +87,9 @@ fn blanks_len(text: &[u8]) -> usize
     text.len()
 }
 
-/// The first word of a command line, and the text after it, as by iio_text's `next_word` with spaces and tabs. None where
-/// the text has no word.
-pub(crate) fn next_word(text: &[u8]) -> Option<(&[u8], &[u8])>
+// The first word of a command line, and the text after it, as by iio_text's `next_word` with spaces and tabs. None where
+// the text has no word.
+fn next_word(text: &[u8]) -> Option<(&[u8], &[u8])>
     ensures none { IsNone result ↔ (words_of is_blank text.now ≡ []) }
     ensures found { IfSome result (λ r. IsFirstWord is_blank text.now r.0.now r.1.now) }
 {
@@ -123,4 +98,159 @@ pub(crate) fn next_word(text: &[u8]) -> Option<(&[u8], &[u8])>
         return None;
     }
     Some(begun.split_at(word_len(begun)))
+}
+
+// The marks of the bytes of a text that are no blanks: bit i is byte i's. Of 32 bytes that stand from a place on.
+#[inline(always)]
+fn marks_of_32(text: &[u8], place: usize) -> u64
+    requires { place + 32 ≤ length text.now }
+    ensures { result ≡ marks_of (chunk place 32 text.now) }
+{
+    let lanes = u8x32::from_slice(&text[place..]);
+    (lanes.simd_ne(u8x32::splat(b' ')) & lanes.simd_ne(u8x32::splat(b'\t'))).to_bitmask()
+}
+
+// The same, of 16 bytes.
+#[inline(always)]
+fn marks_of_16(text: &[u8], place: usize) -> u64
+    requires { place + 16 ≤ length text.now }
+    ensures { result ≡ marks_of (chunk place 16 text.now) }
+{
+    let lanes = u8x16::from_slice(&text[place..]);
+    (lanes.simd_ne(u8x16::splat(b' ')) & lanes.simd_ne(u8x16::splat(b'\t'))).to_bitmask()
+}
+
+// The same, of 8 bytes.
+#[inline(always)]
+fn marks_of_8(text: &[u8], place: usize) -> u64
+    requires { place + 8 ≤ length text.now }
+    ensures { result ≡ marks_of (chunk place 8 text.now) }
+{
+    let lanes = u8x8::from_slice(&text[place..]);
+    (lanes.simd_ne(u8x8::splat(b' ')) & lanes.simd_ne(u8x8::splat(b'\t'))).to_bitmask()
+}
+
+// The same, of all bytes one by one.
+fn marks_of_few(text: &[u8]) -> u64
+    requires { length text.now < 8 }
+    ensures { result ≡ marks_of text.now }
+{
+    let mut marks = 0;
+    let mut place = text.len();
+    while place > 0 {
+        place -= 1;
+        marks = marks * 2 + u64::from(!is_blank(text[place]));
+    }
+    marks
+}
+
+// The same, of all bytes. The last bytes are looked at together with those before them that the first ones hold already.
+#[inline(always)]
+fn marks_of(text: &[u8]) -> u64
+    requires { length text.now ≤ MARKED }
+    ensures { result ≡ marks_of text.now }
+{
+    let len = text.len();
+    if len >= 32 {
+        let first = marks_of_32(text, 0);
+        if len > 48 {
+            first | marks_of_32(text, len - 32) << (len - 32)
+        } else {
+            first | marks_of_16(text, len - 16) << (len - 16)
+        }
+    } else if len >= 16 {
+        marks_of_16(text, 0) | marks_of_16(text, len - 16) << (len - 16)
+    } else if len >= 8 {
+        marks_of_8(text, 0) | marks_of_8(text, len - 8) << (len - 8)
+    } else {
+        marks_of_few(text)
+    }
+}
+
+/// The words of a command line that were not taken yet.
+#[derive(Drop)]
+pub(crate) struct Words<'a> {
+    text: &'a [u8],
+    // The marks of the text, or 0 where it has more than 63 bytes.
+    marks: u64,
+}
+
+impl<'a> Model for Words<'a> {
+    ghost use Rattle.std.specs.Prelude.{◌≡◌, ℕ, List};
+    ghost use Rattle.iio_text.specs.Words.{words_of, is_blank};
+    ghost use Rattle.iiod_grammar.specs.Marks.{kept_marks};
+
+    ghost Value = { List (List ℕ) };
+
+    ghost view = { λ x. words_of is_blank x.text.now };
+
+    ghost invariant = { λ x. x.marks ≡ kept_marks x.text.now };
+}
+
+impl<'a> Words<'a> {
+    #[inline]
+    pub(crate) fn of(text: &'a [u8]) -> Words<'a>
+        ensures { result ≡ words_of is_blank text.now }
+    {
+        Words {
+            text,
+            marks: if text.len() <= MARKED {
+                marks_of(text)
+            } else {
+                0
+            },
+        }
+    }
+
+    /// Takes the first word. None where there is none.
+    #[inline(always)]
+    pub(crate) fn next(&mut self) -> Option<&'a [u8]>
+        ensures none { IsNone result ↔ (self.old ≡ []) }
+        ensures found { IfSome result (λ word. self.old ≡ word.now ∷ self.new) }
+    {
+        if self.marks == 0 {
+            if self.text.len() <= MARKED {
+                return None;
+            }
+            return self.next_unmarked();
+        }
+        let start = self.marks.trailing_zeros();
+        let (_, begun) = self.text.split_at(start as usize);
+        let marks = self.marks >> start;
+        let len = marks.trailing_ones();
+        let (word, rest) = begun.split_at(len as usize);
+        *self = Words {
+            text: rest,
+            marks: marks >> len,
+        };
+        Some(word)
+    }
+
+    // The same, without the marks.
+    #[inline(always)]
+    fn next_unmarked(&mut self) -> Option<&'a [u8]>
+        ensures none { IsNone result ↔ (self.old ≡ []) }
+        ensures found { IfSome result (λ word. self.old ≡ word.now ∷ self.new) }
+    {
+        match next_of_long(self.text) {
+            None => None,
+            Some((word, rest)) => {
+                *self = rest;
+                Some(word)
+            }
+        }
+    }
+}
+
+// The first word of a text, and the words after it. It stands apart, since few lines are so long that they come here.
+#[cold]
+#[inline(never)]
+fn next_of_long(text: &[u8]) -> Option<(&[u8], Words<'_>)>
+    ensures none { IsNone result ↔ (words_of is_blank text.now ≡ []) }
+    ensures found { IfSome result (λ r. words_of is_blank text.now ≡ r.0.now ∷ r.1) }
+{
+    match next_word(text) {
+        None => None,
+        Some((word, rest)) => Some((word, Words::of(rest))),
+    }
 }

@@ -13,6 +13,3 @@ pub use iio_base::Mem;
 pub use line::{read_line, without_returns};
 pub use lines::{Lines, MAX_LINE, MAX_PAYLOAD, Ready};
 pub use stream::cut_anywhere;
-
-#[cfg(test)]
-mod tests;

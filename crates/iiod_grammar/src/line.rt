@@ -1,15 +1,14 @@
 //! Lines as commands.
 
 ghost use Rattle.std.specs.Prelude.{◌≡◌, ◌≤◌, ◌∷◌, [], length, take, option_map};
-ghost use Rattle.iio_text.specs.Words.{words_of, is_blank};
-ghost use Rattle.iiod_grammar.specs.Command.{number, target_of, no_words, one_word, two_words, bare_form, timeout_form, open_form, cyclic_of, read_form, last_of, counted_word, counted_target, write_form, trigger_form, set_form, command_of, without_returns, bytes_form, ReadBuf};
-ghost use Rattle.iiod_grammar.specs.Parts.{command_form, word_view, counted_view, split_view, pair_view};
+ghost use Rattle.iiod_grammar.specs.Command.{number, target_of, no_words, one_word, two_words, bare_form, timeout_form, open_form, cyclic_of, read_form, last_of, counted_word, counted_target, write_form, trigger_form, set_form, command_of, without_returns, bytes_form, ReadBuf, WriteBuf};
+ghost use Rattle.iiod_grammar.specs.Parts.{word_view, counted_view, split_view, pair_view};
 ghost use Rattle.iiod_grammar.specs.View.{target_view, line_view, command_view};
 
-use crate::blanks::next_word;
+use crate::blanks::Words;
 use crate::command::{Command, Place, Refused};
-use crate::words::{PlaceWord, Verb, is_word, place_word, verb_of};
-use iio_text::read_number;
+use crate::words::{PlaceWord, Verb, place_word, verb_of};
+use iio_text::{is_word, read_number};
 
 type Target<'a> = (Place<'a>, Option<&'a [u8]>);
 
@@ -40,43 +39,47 @@ fn number(word: &[u8]) -> Result<u32, Refused>
 }
 
 // Words that have to be none.
-fn no_words(words: &[u8]) -> Result<(), Refused>
-    ensures { result ≡ no_words (words_of is_blank words.now) }
+#[inline(always)]
+fn no_words<'a>(words: &mut Words<'a>) -> Result<(), Refused>
+    ensures { result ≡ no_words (words.old) }
 {
-    match next_word(words) {
+    match words.next() {
         None => Ok(()),
         Some(_) => Err(Refused::Shape),
     }
 }
 
 // Words that have to be one.
-fn one_word(words: &[u8]) -> Result<&[u8], Refused>
-    ensures { word_view result ≡ one_word (words_of is_blank words.now) }
+#[inline(always)]
+fn one_word<'a>(words: &mut Words<'a>) -> Result<&'a [u8], Refused>
+    ensures { word_view result ≡ one_word (words.old) }
 {
-    let Some((word, rest)) = next_word(words) else {
+    let Some(word) = words.next() else {
         return Err(Refused::Shape);
     };
-    match next_word(rest) {
+    match words.next() {
         None => Ok(word),
         Some(_) => Err(Refused::Shape),
     }
 }
 
 // Words that have to be two.
-fn two_words(words: &[u8]) -> Result<(&[u8], &[u8]), Refused>
-    ensures { pair_view result ≡ two_words (words_of is_blank words.now) }
+#[inline(always)]
+fn two_words<'a>(words: &mut Words<'a>) -> Result<(&'a [u8], &'a [u8]), Refused>
+    ensures { pair_view result ≡ two_words (words.old) }
 {
-    let (first, rest) = next_word(words).ok_or(Refused::Shape)?;
-    let (second, rest) = next_word(rest).ok_or(Refused::Shape)?;
-    if next_word(rest).is_some() {
+    let first = words.next().ok_or(Refused::Shape)?;
+    let second = words.next().ok_or(Refused::Shape)?;
+    if words.next().is_some() {
         return Err(Refused::Shape);
     }
     Ok((first, second))
 }
 
 // Words that have to be a device and a number.
-fn device_and_number(words: &[u8]) -> Result<(&[u8], u32), Refused>
-    ensures { counted_view result ≡ counted_word (words_of is_blank words.now) }
+#[inline(always)]
+fn device_and_number<'a>(words: &mut Words<'a>) -> Result<(&'a [u8], u32), Refused>
+    ensures { counted_view result ≡ counted_word (words.old) }
 {
     let (dev, count) = two_words(words)?;
     let count = number(count)?;
@@ -84,40 +87,44 @@ fn device_and_number(words: &[u8]) -> Result<(&[u8], u32), Refused>
 }
 
 // A command of one word.
-fn bare<'a>(words: &[u8], command: Command<'a>) -> Result<Command<'a>, Refused>
-    ensures { line_view result ≡ bare_form (command_view command.entry) (words_of is_blank words.now) }
+#[inline(always)]
+fn bare<'a>(words: &mut Words<'a>, command: Command<'a>) -> Result<Command<'a>, Refused>
+    ensures { line_view result ≡ bare_form (command_view command.entry) (words.old) }
 {
     no_words(words)?;
     Ok(command)
 }
 
-fn read_timeout(words: &[u8]) -> Result<Command<'_>, Refused>
-    ensures { line_view result ≡ timeout_form (words_of is_blank words.now) }
+#[inline(always)]
+fn read_timeout<'a>(words: &mut Words<'a>) -> Result<Command<'a>, Refused>
+    ensures { line_view result ≡ timeout_form (words.old) }
 {
     let ms = number(one_word(words)?)?;
     Ok(Command::Timeout { ms })
 }
 
 // Whether CYCLIC stands at an OPEN's end, where else nothing may stand.
-fn read_cyclic(words: &[u8]) -> Result<bool, Refused>
-    ensures { result ≡ cyclic_of (words_of is_blank words.now) }
+#[inline(always)]
+fn read_cyclic<'a>(words: &mut Words<'a>) -> Result<bool, Refused>
+    ensures { result ≡ cyclic_of (words.old) }
 {
-    let Some((word, rest)) = next_word(words) else {
+    let Some(word) = words.next() else {
         return Ok(false);
     };
-    if next_word(rest).is_some() || !is_word(word, b"CYCLIC") {
+    if words.next().is_some() || !is_word(word, b"CYCLIC") {
         return Err(Refused::Shape);
     }
     Ok(true)
 }
 
-fn read_open(words: &[u8]) -> Result<Command<'_>, Refused>
-    ensures { line_view result ≡ open_form (words_of is_blank words.now) }
+#[inline(always)]
+fn read_open<'a>(words: &mut Words<'a>) -> Result<Command<'a>, Refused>
+    ensures { line_view result ≡ open_form (words.old) }
 {
-    let (dev, rest) = next_word(words).ok_or(Refused::Shape)?;
-    let (samples, rest) = next_word(rest).ok_or(Refused::Shape)?;
-    let (mask, rest) = next_word(rest).ok_or(Refused::Shape)?;
-    let cyclic = read_cyclic(rest)?;
+    let dev = words.next().ok_or(Refused::Shape)?;
+    let samples = words.next().ok_or(Refused::Shape)?;
+    let mask = words.next().ok_or(Refused::Shape)?;
+    let cyclic = read_cyclic(words)?;
     let samples = number(samples)?;
     Ok(Command::Open {
         dev,
@@ -127,14 +134,15 @@ fn read_open(words: &[u8]) -> Result<Command<'_>, Refused>
     })
 }
 
-fn read_set_trigger(words: &[u8]) -> Result<Command<'_>, Refused>
-    ensures { line_view result ≡ trigger_form (words_of is_blank words.now) }
+#[inline(always)]
+fn read_set_trigger<'a>(words: &mut Words<'a>) -> Result<Command<'a>, Refused>
+    ensures { line_view result ≡ trigger_form (words.old) }
 {
-    let (dev, rest) = next_word(words).ok_or(Refused::Shape)?;
-    let Some((trigger, rest)) = next_word(rest) else {
+    let dev = words.next().ok_or(Refused::Shape)?;
+    let Some(trigger) = words.next() else {
         return Ok(Command::SetTrig { dev, trigger: None });
     };
-    if next_word(rest).is_some() {
+    if words.next().is_some() {
         return Err(Refused::Shape);
     }
     Ok(Command::SetTrig {
@@ -143,11 +151,12 @@ fn read_set_trigger(words: &[u8]) -> Result<Command<'_>, Refused>
     })
 }
 
-fn read_set(words: &[u8]) -> Result<Command<'_>, Refused>
-    ensures { line_view result ≡ set_form (words_of is_blank words.now) }
+#[inline(always)]
+fn read_set<'a>(words: &mut Words<'a>) -> Result<Command<'a>, Refused>
+    ensures { line_view result ≡ set_form (words.old) }
 {
-    let (dev, rest) = next_word(words).ok_or(Refused::Shape)?;
-    let (what, count) = two_words(rest)?;
+    let dev = words.next().ok_or(Refused::Shape)?;
+    let (what, count) = two_words(words)?;
     if !is_word(what, b"BUFFERS_COUNT") {
         return Err(Refused::Shape);
     }
@@ -157,7 +166,7 @@ fn read_set(words: &[u8]) -> Result<Command<'_>, Refused>
 
 // ---- targets
 
-#[inline]
+#[inline(always)]
 fn target_of_one(a: &[u8]) -> Option<Target<'_>>
     ensures { option_map target_view result ≡ target_of (a.now ∷ []) }
 {
@@ -169,7 +178,7 @@ fn target_of_one(a: &[u8]) -> Option<Target<'_>>
     }
 }
 
-#[inline]
+#[inline(always)]
 fn target_of_two<'a>(a: &[u8], b: &'a [u8]) -> Option<Target<'a>>
     ensures { option_map target_view result ≡ target_of (a.now ∷ b.now ∷ []) }
 {
@@ -184,7 +193,7 @@ fn target_of_two<'a>(a: &[u8], b: &'a [u8]) -> Option<Target<'a>>
     }
 }
 
-#[inline]
+#[inline(always)]
 fn target_of_three<'a>(a: &[u8], b: &'a [u8], c: &'a [u8]) -> Option<Target<'a>>
     ensures { option_map target_view result ≡ target_of (a.now ∷ b.now ∷ c.now ∷ []) }
 {
@@ -199,137 +208,145 @@ fn target_of_three<'a>(a: &[u8], b: &'a [u8], c: &'a [u8]) -> Option<Target<'a>>
 }
 
 // What these words name, where each but the first may be missing.
-fn target(words: &[u8]) -> Option<Target<'_>>
-    ensures { option_map target_view result ≡ target_of (words_of is_blank words.now) }
+#[inline(always)]
+fn target<'a>(words: &mut Words<'a>) -> Option<Target<'a>>
+    ensures { option_map target_view result ≡ target_of (words.old) }
 {
-    let Some((a, rest)) = next_word(words) else {
+    let Some(a) = words.next() else {
         return Some((Place::Device, None));
     };
-    let Some((b, rest)) = next_word(rest) else {
+    let Some(b) = words.next() else {
         return target_of_one(a);
     };
-    let Some((c, rest)) = next_word(rest) else {
+    let Some(c) = words.next() else {
         return target_of_two(a, b);
     };
-    match next_word(rest) {
+    match words.next() {
         None => target_of_three(a, b, c),
         Some(_) => None,
     }
 }
 
-fn read_read(words: &[u8]) -> Result<Command<'_>, Refused>
-    ensures { line_view result ≡ read_form (words_of is_blank words.now) }
+#[inline(always)]
+fn read_read<'a>(words: &mut Words<'a>) -> Result<Command<'a>, Refused>
+    ensures { line_view result ≡ read_form (words.old) }
 {
-    let Some((dev, rest)) = next_word(words) else {
+    let Some(dev) = words.next() else {
         return Err(Refused::Shape);
     };
-    match target(rest) {
+    match target(words) {
         Some((place, attr)) => Ok(Command::Read { dev, place, attr }),
         None => Err(Refused::Shape),
     }
 }
 
 // The last word of a text, or `word` where it has none.
-fn last_word<'a>(word: &'a [u8], words: &'a [u8]) -> &'a [u8]
-    ensures { result.now ≡ last_of word.now (words_of is_blank words.now) }
+#[inline(always)]
+fn last_word<'a>(word: &'a [u8], words: &mut Words<'a>) -> &'a [u8]
+    ensures { result.now ≡ last_of word.now (words.old) }
 {
     let mut last = word;
-    let mut rest = words;
-    while let Some((next, after)) = next_word(rest) {
+    while let Some(next) = words.next() {
         last = next;
-        rest = after;
     }
     last
 }
 
 // The target before a count, and the count, of words after the device.
-fn counted_target(words: &[u8]) -> Result<(Option<Target<'_>>, &[u8]), Refused>
-    ensures { split_view result ≡ counted_target (words_of is_blank words.now) }
+#[inline(always)]
+fn counted_target<'a>(words: &mut Words<'a>) -> Result<(Option<Target<'a>>, &'a [u8]), Refused>
+    ensures { split_view result ≡ counted_target (words.old) }
 {
-    let Some((a, rest)) = next_word(words) else {
+    let Some(a) = words.next() else {
         return Err(Refused::Shape);
     };
-    let Some((b, rest)) = next_word(rest) else {
+    let Some(b) = words.next() else {
         return Ok((Some((Place::Device, None)), a));
     };
-    let Some((c, rest)) = next_word(rest) else {
+    let Some(c) = words.next() else {
         return Ok((target_of_one(a), b));
     };
-    let Some((d, rest)) = next_word(rest) else {
+    let Some(d) = words.next() else {
         return Ok((target_of_two(a, b), c));
     };
-    match next_word(rest) {
+    match words.next() {
         None => Ok((target_of_three(a, b, c), d)),
-        Some((e, rest)) => Ok((None, last_word(e, rest))),
+        Some(e) => Ok((None, last_word(e, words))),
     }
 }
 
-fn read_write(words: &[u8]) -> Result<Command<'_>, Refused>
-    ensures { line_view result ≡ write_form (words_of is_blank words.now) }
+#[inline(always)]
+fn read_write<'a>(words: &mut Words<'a>) -> Result<Command<'a>, Refused>
+    ensures { line_view result ≡ write_form (words.old) }
 {
-    let Some((dev, rest)) = next_word(words) else {
+    let Some(dev) = words.next() else {
         return Err(Refused::Shape);
     };
-    let (target, count) = counted_target(rest)?;
+    let (target, count) = counted_target(words)?;
     match read_number(count) {
         Some(count) => Ok(Command::Write { dev, target, count }),
         None => Err(Refused::Number),
     }
 }
 
-fn read_read_buffer(words: &[u8]) -> Result<Command<'_>, Refused>
-    ensures { line_view result ≡ bytes_form ReadBuf (words_of is_blank words.now) }
+#[inline(always)]
+fn read_read_buffer<'a>(words: &mut Words<'a>) -> Result<Command<'a>, Refused>
+    ensures { line_view result ≡ bytes_form ReadBuf (words.old) }
 {
     let (dev, bytes) = device_and_number(words)?;
     Ok(Command::ReadBuf { dev, bytes })
 }
 
-// The command of a verb, by the words after it. It stands apart, since the verbs that come most often need none of its room.
-#[inline(never)]
-fn read_by_verb(verb: Verb, words: &[u8]) -> Result<Command<'_>, Refused>
-    ensures { line_view result ≡ command_form verb (words_of is_blank words.now) }
+#[inline(always)]
+fn read_write_buffer<'a>(words: &mut Words<'a>) -> Result<Command<'a>, Refused>
+    ensures { line_view result ≡ bytes_form WriteBuf words.old }
 {
-    match verb {
-        Verb::Help => bare(words, Command::Help),
-        Verb::Exit => bare(words, Command::Exit),
-        Verb::Version => bare(words, Command::Version),
-        Verb::Print => bare(words, Command::Print),
-        Verb::Timeout => read_timeout(words),
-        Verb::Open => read_open(words),
-        Verb::Close => one_word(words).map(|dev| Command::Close { dev }),
-        Verb::Read => read_read(words),
-        Verb::Write => read_write(words),
-        Verb::ReadBuf => read_read_buffer(words),
-        Verb::WriteBuf => device_and_number(words).map(|(dev, bytes)| Command::WriteBuf {
-            dev,
-            bytes,
-        }),
-        Verb::GetTrig => one_word(words).map(|dev| Command::GetTrig { dev }),
-        Verb::SetTrig => read_set_trigger(words),
-        Verb::Set => read_set(words),
-        Verb::EvOpen => one_word(words).map(|dev| Command::EvOpen { dev }),
-        Verb::EvRead => one_word(words).map(|dev| Command::EvRead { dev }),
-        Verb::EvClose => one_word(words).map(|dev| Command::EvClose { dev }),
-    }
+    let (dev, bytes) = device_and_number(words)?;
+    Ok(Command::WriteBuf { dev, bytes })
 }
 
 /// The command of a line, without its LF. Words are parted by spaces and tabs; CRs at the line's end don't count, and a CR
 /// elsewhere is a byte of a word. Numbers have one to ten digits, leading zeros allowed, and are at most 4,294,967,295.
 ///
 /// Of several refusals the first in the order of [`Refused`] is the answer.
-#[inline(never)]
+#[inline]
 pub fn read_line(line: &[u8]) -> Result<Command<'_>, Refused>
     ensures { line_view result ≡ command_of line.now }
 {
-    let Some((word, words)) = next_word(without_returns(line)) else {
+    let mut words = Words::of(without_returns(line));
+    let Some(word) = words.next() else {
         return Err(Refused::Empty);
     };
-    match verb_of(word) {
-        None => Err(Refused::Unknown),
-        Some(Verb::Read) => read_read(words),
-        Some(Verb::Write) => read_write(words),
-        Some(Verb::ReadBuf) => read_read_buffer(words),
-        Some(Verb::Open) => read_open(words),
-        Some(verb) => read_by_verb(verb, words),
+    let Some(verb) = verb_of(word) else {
+        return Err(Refused::Unknown);
+    };
+    match verb {
+        Verb::Help => bare(&mut words, Command::Help),
+        Verb::Exit => bare(&mut words, Command::Exit),
+        Verb::Version => bare(&mut words, Command::Version),
+        Verb::Print => bare(&mut words, Command::Print),
+        Verb::Timeout => read_timeout(&mut words),
+        Verb::Open => read_open(&mut words),
+        Verb::Close => Ok(Command::Close {
+            dev: one_word(&mut words)?,
+        }),
+        Verb::Read => read_read(&mut words),
+        Verb::Write => read_write(&mut words),
+        Verb::ReadBuf => read_read_buffer(&mut words),
+        Verb::WriteBuf => read_write_buffer(&mut words),
+        Verb::GetTrig => Ok(Command::GetTrig {
+            dev: one_word(&mut words)?,
+        }),
+        Verb::SetTrig => read_set_trigger(&mut words),
+        Verb::Set => read_set(&mut words),
+        Verb::EvOpen => Ok(Command::EvOpen {
+            dev: one_word(&mut words)?,
+        }),
+        Verb::EvRead => Ok(Command::EvRead {
+            dev: one_word(&mut words)?,
+        }),
+        Verb::EvClose => Ok(Command::EvClose {
+            dev: one_word(&mut words)?,
+        }),
     }
 }

@@ -1,9 +1,10 @@
 //! The words that stand for something in a command line.
 
 ghost use Rattle.std.specs.Prelude.{◌≡◌, drop, option_map};
-ghost use Rattle.std.specs.Str.{bytes_eq};
 ghost use Rattle.iiod_grammar.specs.Command.{entry_of, places, commands};
 ghost use Rattle.iiod_grammar.specs.Parts.{place_form, command_form};
+
+use iio_text::is_word;
 
 /// A word for a place, which is never an attribute's name.
 #[derive(Clone, Copy)]
@@ -36,21 +37,7 @@ pub(crate) enum Verb {
     EvClose,
 }
 
-// Byte by byte: where it is inlined the wanted word is known, and no loop is left.
-pub(crate) fn is_word(word: &[u8], wanted: &[u8]) -> bool
-    ensures { result ≡ bytes_eq word.now wanted.now }
-{
-    if word.len() != wanted.len() {
-        return false;
-    }
-    for i in 0..wanted.len() {
-        if word[i] != wanted[i] {
-            return false;
-        }
-    }
-    true
-}
-
+#[inline(always)]
 pub(crate) fn place_word(word: &[u8]) -> Option<PlaceWord>
     ensures { option_map place_form result ≡ entry_of places word.now }
 {

@@ -47,7 +47,8 @@ fn widen(room: &mut Vec<u8>, next: usize, most: usize)
 }
 
 // Takes up to so many scans, one behind the other into the room, whose memory is taken. Answers how many bytes they
-// are, and the last take's answer.
+// are, and the last take's answer. It is a call of its own, so that commands that read no scans don't pay for it.
+#[inline(never)]
 fn take_scans<I: Iio>(
     iio: &mut I,
     dev: u32,

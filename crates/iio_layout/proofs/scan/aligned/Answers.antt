@@ -1,11 +1,12 @@
-use Rattle.std.proofs.Common.{◌-◌, ◌%◌, refl}
+use Rattle.std.proofs.Common.{◌+◌, ◌-◌, ◌<◌}
+use Rattle.std.proofs.lemmas.Nat.{pow_pos}
+use Rattle.iio_layout.proofs.LayoutLemmas.{last_multiple}
 use Rattle.iio_layout.proofs.ScanLemmas.{and_size}
 use Rattle.iio_layout.proofs.scan.aligned.Goals as goal
 
 pub returns : goal.returns
 returns c =
+    let end = c.args.end in
     let size = c.args.size in
-    rw (and_size c.args.end size c.requires.power, and_size (size - c.args.end % size) size c.requires.power) refl
-
-pub overflow_add-result : goal.overflow_add-result
-overflow_add-result c = record { fits = rw (returns c) c.requires.fits }
+    let some : 0 < size = rw c.requires.power.1 (pow_pos c.requires.power.0) in
+    rw (and_size (end + (size - 1)) size c.requires.power) (last_multiple end size some)

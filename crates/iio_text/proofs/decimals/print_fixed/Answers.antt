@@ -6,5 +6,5 @@ use Rattle.iio_text.proofs.decimals.print_fixed.Goals as goal
 
 pub returns-clause-read_back : goal.returns-clause-read_back
 returns-clause-read_back c sound =
-    let text : string_bytes c.if-ne.text ≡ printed_fixed c.args.v.now = grind (arith, common_steps) in
+    let text : string_bytes c.push_part.new.text ≡ printed_fixed c.args.v.now = grind (arith, common_steps) in
     rw text (fixed_of-printed_fixed c.args.v.now sound)

@@ -7,5 +7,5 @@ loop-place-preserved c =
     let on = escaped_on c.args.bytes.now c.loop-place.place c.min-end.result (search rules) in
     record {
       within = search rules;
-      printed = rw (c.in_ok-extend_from_slice.ensures.items, c.put_all_escaped-len.ensures.text, c.loop-place.invariant.printed, append_assoc, on) (search rules);
+      printed = rw (c.in_ok-chunk_escape_to.ensures.ok, c.loop-place.invariant.printed, append_assoc, on) (search rules);
     }

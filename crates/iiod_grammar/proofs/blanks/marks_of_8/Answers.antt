@@ -1,13 +1,12 @@
 use Rattle.std.proofs.Common.{ℕ, refl, arith}
 use Rattle.std.proofs.lemmas.Simd.{zip2_of_maps, zip2_splat, length-chunk}
 use lib.Lanes.{chunk}
-use Rattle.iio_text.specs.Words.{is_blank}
-use Rattle.iiod_grammar.proofs.BlankLemmas.{lanes_place}
-use Rattle.iiod_grammar.proofs.blanks.first_in_few.Goals as goal
+use Rattle.iiod_grammar.proofs.MarkLemmas.{lanes_marks}
+use Rattle.iiod_grammar.proofs.blanks.marks_of_8.Goals as goal
 
 pub returns : goal.returns
 returns c =
     let v = chunk c.args.place 8 c.args.text.now in
     let long = length-chunk c.args.place 8 c.args.text.now c.requires in
-    lanes_place is_blank c.args.text.now 8 c.args.place _ _ (omega arith) c.requires c.type_inv.text c.first_set.ensures _
+    lanes_marks c.args.text.now 8 c.args.place _ _ (omega arith) c.requires c.type_inv.text refl _
     (zip2_of_maps _ _ _ v (zip2_splat {Y = ℕ} _ v 8 32 long) (zip2_splat {Y = ℕ} _ v 8 9 long)) refl
