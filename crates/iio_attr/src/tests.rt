@@ -93,22 +93,6 @@ fn names_by_scope(rt: HostRuntime) {
 }
 
 #[test]
-fn values_at_first(rt: HostRuntime) {
-    let rows = [
-        (Attr::SamplingFrequency, Some((1, Form::Int))),
-        (Attr::Scale, Some((1, Form::Micro))),
-        (Attr::Calibscale, Some((1, Form::Nano))),
-        (Attr::Calibbias, Some((0, Form::Int))),
-        (Attr::ThreshRisingEn, Some((0, Form::Int))),
-        (Attr::Length, None),
-    ];
-    for (attr, want) in rows {
-        let got = first_value(attr).map(|v| (v.whole, v.form));
-        assert_eq!(rt; got, want);
-    }
-}
-
-#[test]
 fn values_checked(rt: HostRuntime) {
     let rows = [
         (Attr::Raw, "1", Err(Errno::EACCES)),

@@ -56,28 +56,6 @@ fn check_table(
     Ok(())
 }
 
-#[test]
-fn timestamp_moves_with_mask(rt: HostRuntime) -> Result<(), Fail> {
-    let shape = device(rt.alloc(), &["le:u16/16>>0"; 5])?;
-    let scan = b"\x01\x00\x02\x00\x03\x00\x04\x00\x05\x00\0\0\0\0\0\0\x02\x01\0\0\0\0\0\0";
-    check_table(
-        &rt,
-        rt.alloc(),
-        &shape,
-        ("0000003f", "00000021"),
-        &[entry(0, 0, 2), entry(16, 8, 8)],
-        (scan, b"\x01\0\0\0\0\0\0\0\x02\x01\0\0\0\0\0\0"),
-    )?;
-    check_table(
-        &rt,
-        rt.alloc(),
-        &shape,
-        ("0000003f", "0000000a"),
-        &[entry(2, 0, 2), entry(6, 2, 2)],
-        (scan, b"\x02\x00\x04\x00"),
-    )
-}
-
 // Neighbours in both scans are one entry; a channel between them that isn't copied, or padding, parts them.
 #[test]
 fn merged_tables(rt: HostRuntime) -> Result<(), Fail> {
@@ -99,91 +77,6 @@ fn merged_tables(rt: HostRuntime) -> Result<(), Fail> {
             ("0000003f", buffer),
             entries,
             (scan, want),
-        )?;
-    }
-    Ok(())
-}
-
-/// Channels of 1, 4, 2 and 8 bytes: byte 0, bytes 4 to 7, 8 to 9, 16 to 23; a timestamp stands after them.
-const MIXED: [&str; 4] = [
-    "le:u8/8>>0",
-    "le:s32/32>>0",
-    "be:u16/16>>0",
-    "le:s32/32X2>>0",
-];
-
-// What stands in the padding isn't copied.
-#[test]
-fn sizes_are_mixed(rt: HostRuntime) -> Result<(), Fail> {
-    let shape = device(rt.alloc(), &MIXED)?;
-    let scan = b"a\xee\xee\xeebcdefg\xee\xee\xee\xee\xee\xeehijklmnopqrstuvw";
-    let cases: [(&str, &[Entry], &[u8]); 5] = [
-        (
-            "00000015",
-            &[entry(0, 0, 1), entry(8, 2, 2), entry(24, 8, 8)],
-            b"a\0fg\0\0\0\0pqrstuvw",
-        ),
-        ("00000006", &[entry(4, 0, 6)], b"bcdefg\0\0"),
-        (
-            "00000009",
-            &[entry(0, 0, 1), entry(16, 8, 8)],
-            b"a\0\0\0\0\0\0\0hijklmno",
-        ),
-        ("00000000", &[], b""),
-        (
-            "0000001f",
-            &[entry(0, 0, 1), entry(4, 4, 6), entry(16, 16, 16)],
-            b"a\0\0\0bcdefg\0\0\0\0\0\0hijklmnopqrstuvw",
-        ),
-    ];
-    for (buffer, entries, want) in cases {
-        check_table(
-            &rt,
-            rt.alloc(),
-            &shape,
-            ("0000001f", buffer),
-            entries,
-            (scan, want),
-        )?;
-    }
-    Ok(())
-}
-
-// 63 channels and the timestamp: the first and the last, all of them, and every second channel.
-#[test]
-fn sixty_four_channels(rt: HostRuntime) -> Result<(), Fail> {
-    let shape = device(rt.alloc(), &["le:u8/8>>0"; 63])?;
-    let mut scan = [0u8; 72];
-    let mut seconds = [0u8; 40];
-    let mut apart = [entry(64, 32, 8); 33];
-    for c in 0u8..32 {
-        scan[2 * c as usize] = c + 1;
-        seconds[c as usize] = c + 1;
-        apart[c as usize] = entry(2 * u32::from(c), u32::from(c), 1);
-    }
-    scan[64] = 7;
-    seconds[32] = 7;
-    let cases: [(&str, &[Entry], &[u8]); 3] = [
-        (
-            "8000000000000001",
-            &[entry(0, 0, 1), entry(64, 8, 8)],
-            b"\x01\0\0\0\0\0\0\0\x07\0\0\0\0\0\0\0",
-        ),
-        (
-            "ffffffffffffffff",
-            &[entry(0, 0, 63), entry(64, 64, 8)],
-            &scan,
-        ),
-        ("d555555555555555", &apart, &seconds),
-    ];
-    for (buffer, entries, want) in cases {
-        check_table(
-            &rt,
-            rt.alloc(),
-            &shape,
-            ("ffffffffffffffff", buffer),
-            entries,
-            (&scan, want),
         )?;
     }
     Ok(())

@@ -22,7 +22,7 @@ use Rattle.iio_device.specs.declared.membership.Membership.{Membership}
 use Rattle.iio_device.specs.Groups.{GroupRecord, IsGroup, has_group, laid_out, scan_for, scan_under}
 use Rattle.iio_device.specs.Active.{active_for}
 use Rattle.iio_device.specs.Members.{WasOffered, is_wanted, mask_of, masks_of}
-use Rattle.iio_device.proofs.ApartLemmas.{distinct_map, kept_key}
+use Rattle.iio_device.proofs.ApartLemmas.{AreDistinct, distinct_map, found_at, kept_key}
 use Rattle.iio_device.proofs.MaskLemmas.{wanted_within, within_trans}
 use Rattle.iio_device.proofs.SoundLemmas.{wanted_at}
 use Rattle.iio_device.specs.Sound.{IsMember, IsSound, bits_of, is_nil}
@@ -38,7 +38,7 @@ rule_contains shape wanted m found = by (matching_mask shape.listed (data_part s
         subst (λ k. is_within wanted k ≡ true) is (active_contains shape wanted x (matching_mask_contains shape.listed (data_part shape wanted) x e))
 
 -- a group whose scan is laid out keeps its mask
-laid_mask : (active : ℕ) (union : List ℕ) (g : GroupRecord) → (laid_out active union g).mask ≡ g.mask
+pub laid_mask : (active : ℕ) (union : List ℕ) (g : GroupRecord) → (laid_out active union g).mask ≡ g.mask
 laid_mask active union g = elim (cases_Bool (g.mask == active)) [ inl own ↦ rw own refl | inr other ↦ rw other refl ]
 
 -- what is made of a table's scan by the group of a mask that isn't the active one
@@ -85,6 +85,11 @@ scan_found-is shape active mask union groups values t each there within wide is 
           ∙ ap (λ u. copied (table_of shape active mask).entries u (scan_size shape mask)) is
           ∙ table_scans shape active mask values t (has-within mask active within) wide)
     ]
+
+-- the scan of a group that stands at a place
+pub scan_at : (groups : List GroupRecord) (place : ℕ) (d : GroupRecord) → AreDistinct (λ (g : GroupRecord). g.mask) groups → place < length groups
+    → scan_under groups (slice_index_or groups place d).mask ≡ (slice_index_or groups place d).scan
+scan_at groups place d apart within = ap (λ g. option_map_or (λ (x : GroupRecord). x.scan) g []) (found_at (λ (g : GroupRecord). g.mask) groups place d apart within)
 
 -- ---- lists that change together
 

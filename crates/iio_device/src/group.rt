@@ -1,6 +1,7 @@
 //! Members of the same mask share a copy table.
 
-ghost use Rattle.std.specs.Prelude.{◌≡◌, ◌==◌, ℕ, ◌+◌, ◌^◌, ◌<◌, true, All, IfOk, length, map, find, vec_len, vec_capacity};
+ghost use Rattle.std.specs.Prelude.{◌≡◌, ◌==◌, ℕ, ◌+◌, ◌^◌, ◌<◌, true, All, IfOk, length, map, find, slice_index_or, vec_len, vec_capacity};
+ghost use Rattle.std.specs.List.{IsDistinct};
 ghost use Rattle.iio_mask.specs.Mask.{is_within};
 ghost use Rattle.iio_layout.specs.Layout.{scan_size};
 ghost use Rattle.iio_layout.specs.Shape.{count_of};
@@ -70,6 +71,12 @@ impl Group {
         self.mask == mask
     }
 
+    fn scan(&self) -> &[u8]
+        ensures { result.now ≡ self.now.scan }
+    {
+        &self.scan
+    }
+
     /// The bytes of the scan that its table copies from.
     pub(crate) fn active_size(&self) -> u32
         ensures { result ≡ self.now.table.active_size }
@@ -108,22 +115,49 @@ pub(crate) fn lay_out_all(groups: &mut Vec<Group>, active: Mask, union: &[u8])
     }
 }
 
-/// The scan under a mask: the active one, or that of the group of the mask.
+/// The scan under a mask: the active one, or that of the group of the mask, which is looked for at `place` first. Where it
+/// is found is left there.
 pub(crate) fn scan_for<'a>(
     groups: &'a [Group],
     active: Mask,
     union: &'a [u8],
     mask: Mask,
+    place: &mut usize,
 ) -> &'a [u8]
+    requires apart { IsDistinct (λ a b. a == b) (map (λ (g : GroupRecord). g.mask) groups.now) }
     ensures { result.now ≡ scan_for active.bits union.now groups.now mask.bits }
 {
     if mask == active {
         return union;
     }
+    if stands_at(groups, *place, mask) {
+        return groups[*place].scan();
+    }
+    *place = place_of(groups, mask);
     scan_under(groups, mask)
 }
 
-// The scan of the group of that mask.
+// Whether the group of that mask stands there.
+fn stands_at(groups: &[Group], place: usize, mask: Mask) -> bool
+    ensures within { result ≡ true → place < length groups.now }
+    ensures mask { result ≡ true → (d : GroupRecord) → (slice_index_or groups.now place d).mask ≡ mask.bits }
+{
+    place < groups.len() && groups[place].is_of(mask)
+}
+
+// Where the group of that mask stands.
+#[cold]
+#[inline(never)]
+fn place_of(groups: &[Group], mask: Mask) -> usize {
+    groups
+        .iter()
+        .position(|group| group.is_of(mask))
+        .unwrap_or(0)
+}
+
+// The scan of the group of that mask, by a walk over all groups.
+#[cold]
+#[inline(never)]
 fn scan_under(groups: &[Group], mask: Mask) -> &[u8]
     ensures { result.now ≡ scan_under groups.now mask.bits }
 {

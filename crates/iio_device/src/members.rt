@@ -5,7 +5,7 @@ ghost use Rattle.std.specs.List.{AllZip, IsDistinct};
 ghost use Rattle.iio_mask.specs.Mask.{union_of_all};
 ghost use Rattle.iio_kfifo.specs.Queue.{Queue};
 ghost use Rattle.iio_device.specs.declared.membership.Membership.{Membership};
-ghost use Rattle.iio_device.specs.Groups.{scan_for};
+ghost use Rattle.iio_device.specs.Groups.{GroupRecord, scan_for};
 ghost use Rattle.iio_device.specs.Members.{Drains, WasOffered, is_live, is_wanted, masks_of, member_of};
 
 use crate::group::{Group, scan_for};
@@ -81,29 +81,41 @@ pub(crate) fn position_of<Q>(members: &[Membership<Q>], number: u64) -> Option<u
 }
 
 // Offers a member its scan of the active one.
-fn offer_one<Q: Tail>(member: &mut Membership<Q>, groups: &[Group], active: Mask, union: &[u8])
+fn offer_one<Q: Tail>(
+    member: &mut Membership<Q>,
+    groups: &[Group],
+    active: Mask,
+    union: &[u8],
+    place: &mut usize,
+)
+    requires apart { IsDistinct (λ a b. a == b) (map (λ (g : GroupRecord). g.mask) groups.now) }
     requires sized { length (scan_for active.bits union.now groups.now member.old.mask.bits) ≡ Q.size member.old.tail }
     requires fewer { Q.taken member.old.tail + Q.lost member.old.tail < 2 ^ 64 - 1 }
     ensures { WasOffered Q.taken Q.lost Q.size Q.capacity Q.offer_gives (scan_for active.bits union.now groups.now member.old.mask.bits) member.old member.new }
 {
     member
         .tail
-        .offer(scan_for(groups, active, union, member.mask));
+        .offer(scan_for(groups, active, union, member.mask, place));
 }
 
-/// Offers each member its scan of the active one, once.
+/// Offers each member its scan of the active one, once. Its group is looked for first at the member's place among `places`,
+/// where it was found last.
 pub(crate) fn offer_all<Q: Tail>(
     members: &mut Vec<Membership<Q>>,
+    places: &mut Vec<usize>,
     groups: &[Group],
     active: Mask,
     union: &[u8],
 )
+    requires apart { IsDistinct (λ a b. a == b) (map (λ (g : GroupRecord). g.mask) groups.now) }
+    requires placed { length places.old.items ≡ length members.old.items }
     requires sized { All (λ (m : Membership Q). length (scan_for active.bits union.now groups.now m.mask.bits) ≡ Q.size m.tail) members.old.items }
     requires fewer { All (λ (m : Membership Q). Q.taken m.tail + Q.lost m.tail < 2 ^ 64 - 1) members.old.items }
-    ensures { AllZip (λ (a b : Membership Q). WasOffered Q.taken Q.lost Q.size Q.capacity Q.offer_gives (scan_for active.bits union.now groups.now a.mask.bits) a b) members.old.items members.new.items }
+    ensures offered { AllZip (λ (a b : Membership Q). WasOffered Q.taken Q.lost Q.size Q.capacity Q.offer_gives (scan_for active.bits union.now groups.now a.mask.bits) a b) members.old.items members.new.items }
+    ensures placed { length places.new.items ≡ length places.old.items }
 {
     for i in 0..members.len() {
-        offer_one(&mut members[i], groups, active, union);
+        offer_one(&mut members[i], groups, active, union, &mut places[i]);
     }
 }
 

@@ -40,12 +40,15 @@ pub struct Roster<Q: Tail> {
     pub next: u64,
     pub members: Vec<Membership<Q>>,
     groups: Vec<Group>,
+    // Where each member's group was found last.
+    places: Vec<usize>,
     // The bytes of a scan under the active mask, and room for it.
     size: u32,
     room: Vec<u8>,
     ghost sound: { IsSound Q.taken Q.lost Q.size shape active captures next members.items groups.items } by { Prim.hlevel props },
     ghost sized: { IsSize shape active size } by { Prim.hlevel props },
     ghost roomy: { HasRoom shape room.items },
+    ghost placed: { length places.items ≡ length members.items },
 }
 
 /// Why a join was refused.
@@ -174,6 +177,7 @@ impl<Q: Tail> Roster<Q> {
             next: 0,
             members: Vec::new(alloc),
             groups: Vec::new(alloc),
+            places: Vec::new(alloc),
             size,
             room,
         })
@@ -196,7 +200,7 @@ impl<Q: Tail> Roster<Q> {
         requires within { is_within mask.bits active.bits ≡ true }
         ensures same { standing_of self.new ≡ standing_of self.old }
         ensures few { IfOk result (λ _. length self.new.members.items < 2 ^ 32 - 1) }
-        ensures room { IfOk result (λ _. (vec_len self.new.members < vec_capacity self.new.members) × (vec_len self.new.groups < vec_capacity self.new.groups)) }
+        ensures room { IfOk result (λ _. (vec_len self.new.members < vec_capacity self.new.members) × (vec_len self.new.groups < vec_capacity self.new.groups) × (vec_len self.new.places < vec_capacity self.new.places)) }
         ensures group { IfOk result (λ group. IfSome group (λ g. IsGroup self.new.shape active.bits g × (g.mask ≡ mask.bits) × (has_group self.new.groups.items mask.bits ≡ false))) }
         ensures none { IfOk result (λ group. IfNone group (has_group self.new.groups.items mask.bits ≡ true)) }
     {
@@ -205,6 +209,7 @@ impl<Q: Tail> Roster<Q> {
         }
         self.members.reserve(1)?;
         self.groups.reserve(1)?;
+        self.places.reserve(1)?;
         if has_group(&self.groups, mask) {
             return Ok(None);
         }
@@ -222,7 +227,7 @@ impl<Q: Tail> Roster<Q> {
         ensures within { IfOk result (λ made. is_within (union_of_all (masks_of self.old.members.items)) made.0.bits ≡ true) }
         ensures few { IfOk result (λ _. length self.new.members.items < 2 ^ 32 - 1) }
         ensures next { IfOk result (λ _. self.old.next < 2 ^ 64 - 1) }
-        ensures room { IfOk result (λ _. (vec_len self.new.members < vec_capacity self.new.members) × (vec_len self.new.groups < vec_capacity self.new.groups)) }
+        ensures room { IfOk result (λ _. (vec_len self.new.members < vec_capacity self.new.members) × (vec_len self.new.groups < vec_capacity self.new.groups) × (vec_len self.new.places < vec_capacity self.new.places)) }
         ensures group { IfOk result (λ made. IfSome made.1 (λ g. IsGroup self.new.shape made.0.bits g × (g.mask ≡ mask.bits) × (has_group self.new.groups.items mask.bits ≡ false))) }
         ensures none { IfOk result (λ made. IfNone made.1 (has_group self.new.groups.items mask.bits ≡ true)) }
     {
@@ -256,6 +261,7 @@ impl<Q: Tail> Roster<Q> {
             joined: self.captures,
             tail,
         });
+        self.places.push_reserved(0);
         self.next += 1;
         self.size = asked_size_after(&self.shape, self.active, self.size, Some(active));
         self.active = Some(active);
@@ -274,6 +280,7 @@ impl<Q: Tail> Roster<Q> {
             joined: _,
             tail,
         } = self.members.remove(at);
+        let _ = self.places.remove(at);
         let active = active_for(&self.shape, &self.members);
         keep_wanted(&mut self.groups, &self.members);
         remake_for(&mut self.groups, &self.shape, self.active, active);
@@ -303,7 +310,13 @@ impl<Q: Tail> Roster<Q> {
         let active = self.asked();
         let union = &self.room[..size];
         lay_out_all(&mut self.groups, active, union);
-        offer_all(&mut self.members, &self.groups, active, union);
+        offer_all(
+            &mut self.members,
+            &mut self.places,
+            &self.groups,
+            active,
+            union,
+        );
         self.captures += 1;
     }
 

@@ -78,61 +78,6 @@ fn codes(rt: HostRuntime) {
     );
 }
 
-// Of seventeen events the first sixteen are kept for the holder.
-#[test]
-fn threshold_events(rt: HostRuntime) -> Result<(), Fail> {
-    let mut monitor = two_voltages(rt.alloc())?;
-    assert_eq!(rt; monitor.open(7), Ok(()));
-    assert_eq!(rt;
-        (monitor.value(1, Edge::Rising), monitor.on(1, Edge::Rising)),
-        (0, false)
-    );
-    monitor.set_value(1, Edge::Rising, 50);
-    monitor.set_on(1, Edge::Rising, true);
-    assert_eq!(rt;
-        (monitor.value(1, Edge::Rising), monitor.on(1, Edge::Rising)),
-        (50, true)
-    );
-    for t in 1..35i64 {
-        let (value, want) = if t % 2 == 1 { (100, 1) } else { (0, 0) };
-        assert_eq!(rt; monitor.sense(1, value, t), want, "at {t}");
-    }
-    let mut moment = 1;
-    for _ in 0..16u32 {
-        let event = EventData {
-            code: 0x0001_0000_0000_0001,
-            t: moment,
-        };
-        assert_eq!(rt; monitor.read(7), Ok(Some(event)));
-        moment = 2i64.saturating_add(moment);
-    }
-    assert_eq!(rt; monitor.read(7), Ok(None));
-    Ok(())
-}
-
-// What fires without a holder is counted and not kept; nobody but the holder reads or closes.
-#[test]
-fn sensed_without_holder(rt: HostRuntime) -> Result<(), Fail> {
-    let mut monitor = two_voltages(rt.alloc())?;
-    monitor.set_value(1, Edge::Rising, 50);
-    monitor.set_on(1, Edge::Rising, true);
-    assert_eq!(rt; monitor.read(7), Err(NotHolder));
-    assert_eq!(rt; monitor.close(7), Err(NotHolder));
-    assert_eq!(rt; monitor.sense(1, 100, 1), 1);
-    assert_eq!(rt; monitor.open(7), Ok(()));
-    assert_eq!(rt; monitor.read(7), Ok(None));
-    assert_eq!(rt; monitor.open(7), Err(Held));
-    assert_eq!(rt; monitor.open(8), Err(Held));
-    assert_eq!(rt; monitor.sense(1, 0, 2), 0);
-    assert_eq!(rt; monitor.sense(1, 51, 3), 1);
-    assert_eq!(rt; monitor.read(8), Err(NotHolder));
-    assert_eq!(rt; monitor.close(8), Err(NotHolder));
-    assert_eq!(rt; monitor.close(7), Ok(()));
-    assert_eq!(rt; monitor.open(8), Ok(()));
-    assert_eq!(rt; monitor.read(8), Ok(None));
-    Ok(())
-}
-
 // Senses these values of voltage0 in turn, each with the number of events that is to fire.
 fn sense_all(rt: &impl Abort, monitor: &mut Monitor, values: &[(i64, u32)])
     requires { length monitor.old.channels ≡ 2 }

@@ -93,36 +93,6 @@ fn two_channels_and_padding_before_timestamp(rt: HostRuntime) -> Result<(), Fail
     check_scan(&rt, rt.alloc(), &copy, "00000005", row, b"\x10\x00\xff\xfd")
 }
 
-#[test]
-fn timestamp_moves_with_mask(rt: HostRuntime) -> Result<(), Fail> {
-    let shape = voltages(rt.alloc(), 5, "le:u16/16>>0", Some(Endian::Little))?.ok_or("no shape")?;
-    let row = ([1, 2, 3, 4, 5].as_slice(), 258);
-    check_scan(
-        &rt,
-        rt.alloc(),
-        &shape,
-        "00000021",
-        row,
-        b"\x01\x00\x00\x00\x00\x00\x00\x00\x02\x01\x00\x00\x00\x00\x00\x00",
-    )?;
-    check_scan(
-        &rt,
-        rt.alloc(),
-        &shape,
-        "0000003f",
-        row,
-        b"\x01\x00\x02\x00\x03\x00\x04\x00\x05\x00\x00\x00\x00\x00\x00\x00\x02\x01\x00\x00\x00\x00\x00\x00",
-    )?;
-    for (mask, at) in [("00000021", 8), ("0000003f", 16)] {
-        let count = shape.count();
-        assert!(rt; count == 6);
-        let mask = Mask::read(mask.as_bytes(), count).ok_or("no mask")?;
-        assert!(rt; mask.contains(5));
-        assert_eq!(rt; place(&shape, mask, 5), at);
-    }
-    Ok(())
-}
-
 // accel_x of four elements of 32 bits, and a timestamp.
 fn quaternion(alloc: Global) -> Result<Shape, Fail> {
     let mut channels = Vec::new(alloc);
@@ -166,47 +136,6 @@ fn sixteen_bytes_after_one(rt: HostRuntime) -> Result<(), Fail> {
         "00000003",
         (&[90, 1, 2, 3, 4, 5, 6, 7, 8], 0),
         b"Z\0\0\0\0\0\0\0\0\0\0\0\0\0\0\0\0\x01\0\x02\0\x03\0\x04\0\x05\0\x06\0\x07\0\x08",
-    )
-}
-
-// Values that are reckoned: 10 for each channel, and 1 for each element. Only those of channel 63 are asked for.
-struct Reckoned;
-
-impl Values for Reckoned {
-    ghost inputs = { λ _. 64 };
-
-    ghost value = { λ _ c k. pos (10 * c + k) };
-
-    fn value(&self, c: u32, k: u32) -> i64 {
-        10 * i64::from(c) + i64::from(k)
-    }
-}
-
-#[test]
-fn one_channel_of_64(rt: HostRuntime) -> Result<(), Fail> {
-    let shape = voltages(rt.alloc(), 64, "le:s64/64X2>>0", None)?.ok_or("no shape")?;
-    assert!(rt; shape.count() == 64);
-    assert!(rt; shape.inputs() == 64);
-    let last = Mask { bits: 1 << 63 };
-    let mut out = [0xaa; 16];
-    assert!(rt; scan_size(&shape, last) == 16);
-    fill_from(&shape, last, &Reckoned, 0, &mut out);
-    assert_eq!(rt; &out, b"\x76\x02\0\0\0\0\0\0\x77\x02\0\0\0\0\0\0");
-    Ok(())
-}
-
-#[test]
-fn thirty_three_channels(rt: HostRuntime) -> Result<(), Fail> {
-    let shape = voltages(rt.alloc(), 33, "le:u8/8>>0", None)?.ok_or("no shape")?;
-    let mut values = [0; 33];
-    values[32] = 90;
-    check_scan(
-        &rt,
-        rt.alloc(),
-        &shape,
-        "0000000100000000",
-        (values.as_slice(), 0),
-        b"Z",
     )
 }
 
@@ -305,44 +234,4 @@ fn shapes(rt: HostRuntime) -> Result<(), Fail> {
     assert_eq!(rt; shape.find(b"voltage1"), None);
     assert_eq!(rt; shape.find(b"timestamp"), None);
     Ok(())
-}
-
-// A device with voltage0, voltage1, accel_x and a timestamp, which is channel 3: what is asked for where masks are listed,
-// and where none are.
-#[test]
-fn listed_masks_are_asked_for(rt: HostRuntime) -> Result<(), Fail> {
-    let alloc = rt.alloc();
-    for (listed, wanted, asked) in [
-        ([].as_slice(), 0b0101u64, Some(0b0101u64)),
-        (&[], 0b1000, Some(0b1000)),
-        (&[0b011, 0b111], 0b0100, Some(0b0111)),
-        (&[0b011, 0b111], 0b0001, Some(0b0011)),
-        (&[0b011, 0b111], 0b1010, Some(0b1011)),
-        (&[0b111, 0b011], 0b0001, Some(0b0111)),
-        (&[0b011], 0b0100, None),
-        (&[0b011], 0b1100, None),
-        (&[0b011], 0b1000, Some(0b1011)),
-    ] {
-        let shape = listing(alloc, listed)?;
-        assert_eq!(rt; shape.count(), 4);
-        let wanted = Mask { bits: wanted };
-        assert!(rt; wanted.bits < 16);
-        let want = asked.map(|bits| Mask { bits });
-        assert_eq!(rt; active(&shape, wanted), want, "of {wanted:?} in {listed:?}");
-    }
-    Ok(())
-}
-
-// voltage0, voltage1, accel_x and a timestamp, with listed masks.
-fn listing(alloc: Global, masks: &[u64]) -> Result<Shape, Fail> {
-    let mut channels = Vec::new(alloc);
-    for id in ["voltage0", "voltage1", "accel_x"] {
-        channels.push(channel(id, "le:u12/16>>4")?)?;
-    }
-    let mut listed = Vec::new(alloc);
-    for bits in masks {
-        listed.push(Mask { bits: *bits })?;
-    }
-    let shape = Shape::new(channels, Some(Endian::Little), listed);
-    Ok(shape.ok_or("no shape")?)
 }

@@ -52,35 +52,3 @@ fn refuses(rt: HostRuntime) {
         assert_eq!(rt; Mask::read(text.as_bytes(), channels), None, "of {text}");
     }
 }
-
-#[test]
-fn sets(rt: HostRuntime) {
-    let mask = Mask { bits: 0b101 };
-    let other = Mask { bits: 0b110 };
-    assert_eq!(rt; mask.union(other).bits, 0b111);
-    assert!(rt; mask.contains(2) && !mask.contains(1) && !mask.contains(64));
-    assert!(rt; mask.within(Mask { bits: 0b1101 }) && !mask.within(other));
-    assert_eq!(rt; mask.without(2).bits, 0b001);
-    assert_eq!(rt; mask.without(1).bits, 0b101);
-    union_laws();
-}
-
-#[test]
-fn pops_the_channels_in_order(rt: HostRuntime) {
-    let mut mask = Mask {
-        bits: 0x8000_0000_0000_0011,
-    };
-    for channel in [Some(0), Some(4), Some(63), None, None] {
-        assert_eq!(rt; mask.pop_first(), channel);
-    }
-}
-
-#[test]
-fn picks_the_first_that_contains(rt: HostRuntime) {
-    let listed = [Mask { bits: 3 }, Mask { bits: 7 }, Mask { bits: 15 }];
-    for (wanted, picked) in [(1, Some(3)), (4, Some(7)), (8, Some(15)), (16, None)] {
-        let found = pick(&listed, Mask { bits: wanted }).map(|mask| mask.bits);
-        assert_eq!(rt; found, picked, "for {wanted}");
-    }
-    assert_eq!(rt; pick(&[], Mask { bits: 16 }), Some(Mask { bits: 16 }));
-}

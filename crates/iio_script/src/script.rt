@@ -35,7 +35,7 @@ use iio_text::{LineFault, Why};
 use std::alloc::Global;
 
 // The most bytes that are kept back where no read comes between.
-const KEPT: usize = 65_536;
+const KEPT: usize = 61_440;
 
 // Whether a step keeps to the number of names.
 fn takes(system: &System, step: &Step) -> bool

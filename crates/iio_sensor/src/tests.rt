@@ -5,7 +5,6 @@ ghost use Rattle.iio_layout.specs.Shape.{count_of};
 ghost use Rattle.iio_sensor.specs.Driver.{Driver, after_ask, after_bias, after_capture, ask_fails, value_of, values_of};
 ghost use Rattle.iio_layout.specs.Rows.{IsRecording};
 ghost use Rattle.iio_sensor.specs.Recorded.{driver_of};
-ghost use Rattle.iio_sensor.specs.declared.tests.Plug.TheVariants.{Given, Own};
 
 use super::*;
 use iio_layout::{Channel, Direction, Kind, Mem, Rows, Shape, Suffix, scan_size};
@@ -13,51 +12,6 @@ use iio_mask::Mask;
 use iio_scan_type::read_type;
 use std::alloc::Global;
 use std::process::Abort;
-
-/// A driver of either kind: recorded rows, or one that was handed in.
-#[derive(Drop)]
-enum Plug {
-    Own(Recorded),
-    Given(Box<dyn Sensor + Send>),
-}
-
-impl Sensor for Plug {
-    ghost driver = { elim [ Own r ↦ driver_of r | Given d ↦ (Sensor-box d).driver d.value ] };
-
-    fn capture(
-        &mut self,
-        shape: &Shape,
-        t: i64,
-        active: Mask,
-        out: &mut [u8],
-    ) -> Result<(), Fault> {
-        match self {
-            Plug::Own(recorded) => recorded.capture(shape, t, active, out),
-            Plug::Given(given) => given.capture(shape, t, active, out),
-        }
-    }
-
-    fn raw(&mut self, shape: &Shape, c: u32, t: i64) -> Result<i64, Fault> {
-        match self {
-            Plug::Own(recorded) => recorded.raw(shape, c, t),
-            Plug::Given(given) => given.raw(shape, c, t),
-        }
-    }
-
-    fn bias_of(&self, c: u32) -> i64 {
-        match self {
-            Plug::Own(recorded) => recorded.bias_of(c),
-            Plug::Given(given) => given.bias_of(c),
-        }
-    }
-
-    fn set_bias(&mut self, c: u32, v: i64) {
-        match self {
-            Plug::Own(recorded) => recorded.set_bias(c, v),
-            Plug::Given(given) => given.set_bias(c, v),
-        }
-    }
-}
 
 /// Two rows of two numbers: the first number of each stands for `voltage0`, the second for element 0 of `accel_x`.
 fn two_rows(alloc: Global) -> Result<Rows, Mem>
@@ -154,20 +108,6 @@ fn biases_are_added_exactly(rt: HostRuntime) -> Result<(), Mem> {
     Ok(())
 }
 
-#[test]
-fn a_driver_is_own_or_given(rt: HostRuntime) -> Result<(), Mem> {
-    let shape = two_channels(&rt, rt.alloc())?;
-    let own = Plug::Own(Recorded::new(two_rows(rt.alloc())?));
-    let given = Plug::Given(Box::new(rt.alloc(), Recorded::new(two_rows(rt.alloc())?))?);
-    for mut driver in [own, given] {
-        driver.set_bias(1, 72);
-        assert_eq!(rt; driver.bias_of(1), 72);
-        assert_eq!(rt; scan_at(&rt, &mut driver, &shape, 10), [0x10, 0, 0x80, 72]);
-        assert_eq!(rt; driver.raw(&shape, 1, 20), Ok(77));
-    }
-    Ok(())
-}
-
 /// Of a ramp: the number of element 0 of each channel of `two_channels`, at a moment.
 const RAMP: [(i64, i64, i64); 7] = [
     (0, 0, 127),
@@ -182,7 +122,7 @@ const RAMP: [(i64, i64, i64); 7] = [
 #[test]
 fn a_ramp_counts(rt: HostRuntime) -> Result<(), Mem> {
     let shape = two_channels(&rt, rt.alloc())?;
-    let mut driver = Plug::Given(Box::new(rt.alloc(), Ramp::new())?);
+    let mut driver = Ramp::new();
     for (t, first, second) in RAMP {
         assert_eq!(rt; driver.raw(&shape, 0, t), Ok(first), "at {t}");
         assert_eq!(rt; driver.raw(&shape, 1, t), Ok(second), "at {t}");
@@ -198,7 +138,7 @@ fn a_ramp_counts(rt: HostRuntime) -> Result<(), Mem> {
 fn listed_asks_fail(rt: HostRuntime) -> Result<(), Mem> {
     let shape = two_channels(&rt, rt.alloc())?;
     let fails = Vec::from_slice(rt.alloc(), &[2, 4])?;
-    let mut driver = Plug::Given(Box::new(rt.alloc(), Failing::new(fails))?);
+    let mut driver = Failing::new(fails);
     let both = Mask { bits: 3 };
     let mut out = [0; 4];
     assert!(rt; scan_size(&shape, both) == 4);
@@ -209,40 +149,4 @@ fn listed_asks_fail(rt: HostRuntime) -> Result<(), Mem> {
     assert_eq!(rt; driver.raw(&shape, 0, 4), Err(Fault));
     assert_eq!(rt; driver.raw(&shape, 0, 5), Ok(5));
     Ok(())
-}
-
-/// One channel of 64, the last, has the number 90.
-#[test]
-fn one_channel_of_64(rt: HostRuntime) -> Result<(), Mem> {
-    let mut channels = Vec::new(rt.alloc());
-    for number in 0..64 {
-        channels.push(Channel {
-            kind: Kind::Voltage,
-            suffix: Suffix::Number(number),
-            direction: Direction::Input,
-            ty: read_type(b"le:s64/64>>0").expect(&rt, "a type"),
-        })?;
-    }
-    let shape = Shape::new(channels, None, Vec::new(rt.alloc())).expect(&rt, "a shape");
-    let mut driver = Recorded::new(last_of_64(rt.alloc())?);
-    let last = Mask { bits: 1 << 63 };
-    let mut out = [0xff; 8];
-    assert!(rt; shape.count() == 64);
-    assert!(rt; scan_size(&shape, last) == 8);
-    assert_eq!(rt; driver.capture(&shape, 1, last, &mut out), Ok(()));
-    assert_eq!(rt; out, [90, 0, 0, 0, 0, 0, 0, 0]);
-    Ok(())
-}
-
-/// One row of 63 zeros and 90.
-fn last_of_64(alloc: Global) -> Result<Rows, Mem>
-    ensures { IfOk result IsRecording }
-{
-    let mut values = [0; 64];
-    values[63] = 90;
-    Ok(Rows {
-        moments: Vec::from_slice(alloc, &[0])?,
-        values: Vec::from_slice(alloc, &values)?,
-        width: 64,
-    })
 }

@@ -2,19 +2,6 @@ use super::*;
 use std::test::Fail;
 
 #[test]
-fn words_of_lines(rt: HostRuntime) {
-    let mut rest: &[u8] = b"  OPEN\tdev0 5  ";
-    for want in [b"OPEN".as_slice(), b"dev0", b"5"] {
-        let (word, after) = next_word(rest, Blanks::SpacesAndTabs).expect(&rt, "a word");
-        assert!(rt; word == want, "{want:?}");
-        rest = after;
-    }
-    assert!(rt; next_word(rest, Blanks::SpacesAndTabs).is_none());
-    let (word, after) = next_word(b" a\tb c", Blanks::Spaces).expect(&rt, "a word");
-    assert!(rt; word == b"a\tb".as_slice() && after == b" c".as_slice());
-}
-
-#[test]
 fn numbers_and_integers(rt: HostRuntime) {
     let numbers = [
         ("0", Some(0)),
@@ -149,85 +136,6 @@ fn values_printed(rt: HostRuntime) -> Result<(), Fail> {
     }
     assert_eq!(rt; fixed(true, 32768, 5, Form::Micro).int(), -32768);
     Ok(())
-}
-
-#[test]
-fn words_and_numbers_of_refusals(rt: HostRuntime) {
-    assert_eq!(rt; Why::BadType.text(), "type");
-    assert_eq!(rt; Why::Bystander.text(), "bystander");
-    assert_eq!(rt; Errno::EINVAL.number(), 22);
-    assert_eq!(rt; Errno::E2BIG.number(), 7);
-}
-
-#[test]
-fn lines_of_texts(rt: HostRuntime) {
-    let mut rest: &[u8] = b"a\n\n# b\r\nc";
-    for want in [b"a".as_slice(), b"", b"# b\r", b"c"] {
-        let (line, after) = next_line(rest).expect(&rt, "a line");
-        assert!(rt; line == want, "{want:?}");
-        rest = after;
-    }
-    assert!(rt; next_line(rest).is_none() && next_line(b"").is_none());
-    let (line, after) = next_line(b"\n").expect(&rt, "a line");
-    assert!(rt; line.is_empty() && after.is_empty());
-    assert!(rt; fits_line(b"#"));
-    for (text, len) in [
-        (b"".as_slice(), 0),
-        (b"a line of more bytes than are looked at at once\n\n", 47),
-        (b"a line that isn't ended", 23),
-    ] {
-        assert_eq!(rt; line_len(text), len, "{text:?}");
-    }
-}
-
-/// A line, and its first word with the line after it, or why it is refused.
-const FIRST_WORDS: &[(&str, Result<Option<(&str, &str)>, Why>)] = &[
-    ("", Ok(None)),
-    ("  ", Ok(None)),
-    ("#\t", Ok(None)),
-    (" # x", Ok(Some(("#", " x")))),
-    ("row", Ok(Some(("row", "")))),
-    ("  row  1 ~", Ok(Some(("row", "  1 ~")))),
-    ("row 1\r", Err(Why::Text)),
-    ("\t", Err(Why::Text)),
-    ("a \x7f", Err(Why::Text)),
-    ("\u{80}", Err(Why::Text)),
-];
-
-#[test]
-fn first_words(rt: HostRuntime) {
-    for (line, want) in FIRST_WORDS.iter() {
-        match (first_word(line.as_bytes()), want) {
-            (Ok(Some((word, rest))), Ok(Some((first, after)))) => {
-                assert!(rt;
-                    word == first.as_bytes() && rest == after.as_bytes(),
-                    "{line:?}"
-                );
-            }
-            (Ok(None), Ok(None)) => {}
-            (Err(why), Err(wanted)) => assert_eq!(rt; why, *wanted, "{line:?}"),
-            _ => panic!(rt; "{line:?}"),
-        }
-    }
-}
-
-#[test]
-fn counted_words(rt: HostRuntime) {
-    for (text, want) in [
-        (" a  bc ", 2),
-        ("", 0),
-        ("a", 1),
-        ("a b c", 3),
-        ("a b c d", 4),
-    ] {
-        let text = text.as_bytes();
-        assert_eq!(rt; count_words(text), want, "{text:?}");
-        assert_eq!(rt; one_word(text).is_some(), want == 1, "{text:?}");
-        assert_eq!(rt; two_words(text).is_some(), want == 2, "{text:?}");
-        assert_eq!(rt; three_words(text).is_some(), want == 3, "{text:?}");
-    }
-    assert!(rt; two_words(b" a  bc ") == Some((b"a".as_slice(), b"bc".as_slice())));
-    assert!(rt; from_word(b"  a b ") == b"a b ".as_slice());
 }
 
 #[test]

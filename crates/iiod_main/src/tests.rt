@@ -6,6 +6,7 @@ mod more;
 mod playing;
 mod refused;
 mod rows;
+mod serving;
 mod streaming;
 mod worked;
 

@@ -45,9 +45,12 @@ value_text bytes = length_text bytes ++ line bytes
 abbrev pub closing_text : ℕ → ℕ → List ℕ
 closing_text came asked = if nat_lt came asked then line (codes "0") else []
 
+-- what stands before the bytes of a block's scans: how many come, and the mask that they are under
+abbrev pub head_text : ℕ → ℕ → ℕ → List ℕ
+head_text channels mask came = number_text (pos came) ++ line (mask_text channels mask)
+
 abbrev pub block_text : ℕ → ℕ → List ℕ → ℕ → List ℕ
-block_text channels mask bytes asked =
-    length_text bytes ++ (line (mask_text channels mask) ++ (bytes ++ closing_text (length bytes) asked))
+block_text channels mask bytes asked = head_text channels mask (length bytes) ++ (bytes ++ closing_text (length bytes) asked)
 
 -- the bytes of scans, one after another
 abbrev pub joined_scans : List (List ℕ) → List ℕ

@@ -1,12 +1,13 @@
 //! The answers of libiio 0.25's iiod to a connection, as bytes.
 //!
 //! A number is a line of its own. A value is the number of its bytes, the bytes, and LF. A block of READBUF is the number
-//! of its bytes, the mask that they are under, the bytes, and a closing 0 where fewer came than were asked for.
+//! of its bytes, the mask that they are under, the bytes, and a closing 0 where fewer came than were asked for. A caller who
+//! takes the scans straight into the answer puts the block's head before them and its closing behind.
 #![tactic(auto)]
 
 ghost use Rattle.std.specs.Prelude.{◌≡◌, ◌+◌, ◌^◌, ◌≤◌, ◌<◌, ◌++◌, length, vec_capacity};
 ghost use Rattle.iio_mask.specs.Text.{digit_count};
-ghost use Rattle.iiod_reply.specs.Reply.{Number, Value, text_of, block_text, closing_text, Appends, FitsInRoom};
+ghost use Rattle.iiod_reply.specs.Reply.{Number, Value, text_of, block_text, closing_text, head_text, Appends, FitsInRoom};
 
 pub use iio_base::Mem;
 use iio_mask::Mask;
@@ -42,11 +43,7 @@ pub fn value(bytes: &[u8], out: &mut Vec<u8>) -> Result<(), Mem>
     Ok(())
 }
 
-/// Appends a block of READBUF: the number of the scans' bytes, LF, the mask's text for that many channels, LF, the bytes
-/// of the scans, and `0`, LF exactly where these are fewer than the bytes asked for.
-///
-/// After `Mem`, `out` is unchanged. Where `out` has the room for the block already, `Mem` doesn't come: a caller reserves
-/// it before the scans are taken, so that none is taken and then lost.
+/// Appends a block of READBUF: its head, the bytes of the scans, and its closing. After `Mem`, `out` is unchanged.
 pub fn block(
     mask: Mask,
     channels: u32,
@@ -62,18 +59,47 @@ pub fn block(
     ensures text { Appends (block_text channels mask.bits scans.now asked) out.old.items result out.new.items }
     ensures room { FitsInRoom (block_text channels mask.bits scans.now asked) out.old.items (vec_capacity out.old) result }
 {
+    let start = out.len();
+    let closing = closing(scans.len(), asked);
+    block_head(mask, channels, scans.len(), out)?;
+    if out.reserve(scans.len() + closing.len()).is_err() {
+        out.truncate(start);
+        return Err(Mem);
+    }
+    append(scans, out);
+    append(closing, out);
+    Ok(())
+}
+
+/// Appends the head of a block, where so many bytes of scans come: their number, LF, the mask's text for that many
+/// channels, LF. After `Mem`, `out` is unchanged.
+pub fn block_head(mask: Mask, channels: u32, came: usize, out: &mut Vec<u8>) -> Result<(), Mem>
+    requires some { 1 ≤ channels }
+    requires few { channels ≤ 64 }
+    requires below { mask.bits < 2 ^ channels }
+    ensures text { Appends (head_text channels mask.bits came) out.old.items result out.new.items }
+    ensures room { FitsInRoom (head_text channels mask.bits came) out.old.items (vec_capacity out.old) result }
+    ensures capacity { vec_capacity out.old ≤ vec_capacity out.new }
+{
     let mut buffer = Buffer::new();
-    let count = buffer.format(scans.len()).as_bytes();
+    let count = buffer.format(came).as_bytes();
     let digits = mask.digits(channels);
     let digits = &digits[..digit_count(channels)];
-    let closing = closing(scans.len(), asked);
-    out.reserve(count.len() + 1 + digits.len() + 1 + scans.len() + closing.len())?;
+    out.reserve(count.len() + 1 + digits.len() + 1)?;
     append(count, out);
     append(b"\n", out);
     append(digits, out);
     append(b"\n", out);
-    append(scans, out);
-    append(closing, out);
+    Ok(())
+}
+
+/// Appends the closing of a block: `0`, LF exactly where fewer bytes of scans came than were asked for. After `Mem`, `out`
+/// is unchanged.
+pub fn block_closing(came: usize, asked: u32, out: &mut Vec<u8>) -> Result<(), Mem>
+    ensures text { Appends (closing_text came asked) out.old.items result out.new.items }
+    ensures room { FitsInRoom (closing_text came asked) out.old.items (vec_capacity out.old) result }
+{
+    out.extend_from_slice(closing(came, asked))?;
     Ok(())
 }
 

@@ -1,8 +1,9 @@
 -- The room that a block takes, and the block that stands once there was room for it.
-use Rattle.std.proofs.Common.{◌≡◌, ℕ, zero, suc, ◌+◌, ◌/◌, ◌^◌, ◌<◌, ◌≤◌, nat_le, nat_lt, ◌||◌, Bool, true, false, List, [], ◌∷◌, ◌++◌, map, min, length, length-append, Result, Ok, Err, inl, inr, refl, sym, ap, ◌∙◌, arith}
-use Rattle.std.specs.Prelude.{⊤}
+use Rattle.std.proofs.Common.{◌≡◌, ℕ, zero, suc, ◌+◌, ◌/◌, ◌^◌, ◌<◌, ◌≤◌, nat_le, nat_lt, ◌||◌, Bool, true, false, List, [], ◌∷◌, ◌++◌, map, min, length, take, take_all, drop, take-append-drop, append_assoc, length-append, Result, Ok, Err, inl, inr, subst, refl, sym, ap, ◌∙◌, arith}
+use Rattle.std.specs.Prelude.{⊤, pos, if◌then◌else◌}
 use Rattle.std.specs.Fmt.{decimal}
 use Rattle.std.specs.Int.{w32, w64, to_be_bytes}
+use Rattle.std.proofs.Math.Seq.{drop-append_seam, take-append_seam}
 use Rattle.std.proofs.lemmas.Bool.{cases_lt, cond_both}
 use Rattle.std.proofs.lemmas.Fmt.{length-decimal-le}
 use Rattle.std.proofs.lemmas.List.{length-map}
@@ -12,33 +13,28 @@ use Rattle.iio_mask.specs.Mask.{has}
 use Rattle.iio_mask.specs.Text.{digits_of, mask_text}
 use Rattle.iio_layout.specs.Active.{has_below, has_data}
 use Rattle.iio_layout.specs.Shape.{ShapeRecord, count_of, stamp_formats}
-use Rattle.iiod_reply.specs.Reply.{block_text, closing_text, length_text, Appends, FitsInRoom}
+use Rattle.iiod_reply.specs.Reply.{closing_text, head_text, number_text, Appends, FitsInRoom}
 
 length-mask_text : (channels bits : ℕ) → length (mask_text channels bits) ≤ 16
 length-mask_text channels bits = cond_both (nat_le channels 32) w32 w64 (λ w. length (digits_of (to_be_bytes w bits)) ≤ 16) (λ _. omega arith) (λ _. omega arith)
 
-length-closing : (came asked : ℕ) → length (closing_text came asked) ≤ 2
+pub length-closing : (came asked : ℕ) → length (closing_text came asked) ≤ 2
 length-closing came asked = cond_both (nat_lt came asked) (48 ∷ 10 ∷ []) [] (λ (bs : List ℕ). length bs ≤ 2) (λ _. omega arith) (λ _. omega arith)
 
-length-count : (bytes : List ℕ) → length bytes < 2 ^ 32 → length (length_text bytes) ≤ 11
-length-count bytes few =
-    let digits = length-decimal-le 10 (length bytes) (omega arith) (omega (arith, few)) (omega (arith, few)) in
-    omega (arith, length-append (decimal (length bytes)) (10 ∷ []), digits)
+length-count : (n : ℕ) → n < 2 ^ 32 → length (number_text (pos n)) ≤ 11
+length-count n few =
+    let digits = length-decimal-le 10 n (omega arith) (omega (arith, few)) (omega (arith, few)) in
+    omega (arith, length-append (decimal n) (10 ∷ []), digits)
 
-pub length-block : (channels mask asked : ℕ) (bytes : List ℕ) → length bytes < 2 ^ 32 → length (block_text channels mask bytes asked) ≤ length bytes + 30
-length-block channels mask asked bytes few =
-    let closing = closing_text (length bytes) asked in
-    let tail = bytes ++ closing in
+pub length-head : (channels mask came : ℕ) → came < 2 ^ 32 → length (head_text channels mask came) ≤ 28
+length-head channels mask came few =
     let line = mask_text channels mask ++ 10 ∷ [] in
     omega (
       arith,
-      length-append (length_text bytes) (line ++ tail),
-      length-append line tail,
+      length-append (number_text (pos came)) line,
       length-append (mask_text channels mask) (10 ∷ []),
-      length-append bytes closing,
-      length-count bytes few,
+      length-count came few,
       length-mask_text channels mask,
-      length-closing (length bytes) asked,
     )
 
 -- where there was room, the text stands
@@ -46,6 +42,55 @@ pub appended : (text old new : List ℕ) (capacity : ℕ) (r : Result ⊤ Mem) �
     → length old + length text ≤ capacity → new ≡ old ++ text
 appended text old new capacity (Ok done) a f h = a
 appended text old new capacity (Err mem) a f h = absurd (cc (f h))
+
+-- ---- a head that is put in the place of another
+
+take_front : (n : ℕ) (xs ys : List ℕ) → n ≡ length xs → take n (xs ++ ys) ≡ xs
+take_front n xs ys e = subst (λ k. take k (xs ++ ys) ≡ xs) (sym e) (take-append_seam xs ys)
+
+drop_front : (n : ℕ) (xs ys : List ℕ) → n ≡ length xs → drop n (xs ++ ys) ≡ ys
+drop_front n xs ys e = subst (λ k. drop k (xs ++ ys) ≡ ys) (sym e) (drop-append_seam xs ys)
+
+-- what stands in an answer stands where room for more follows it
+pub before_room : (ok : Bool) (n : ℕ) (xs zs ys : List ℕ) → length xs ≤ n → ys ≡ (if ok then take n xs ++ zs else xs) → take (length xs) ys ≡ xs
+before_room true n xs zs ys within is =
+    ap (take (length xs)) (is ∙ ap (λ (bs : List ℕ). bs ++ zs) (take_all n xs within)) ∙ take-append_seam xs zs
+before_room false n xs zs ys within is = ap (take (length xs)) is ∙ take_all (length xs) xs (omega arith)
+
+-- the scans, once the head behind them is cut off
+pub without_head : (n : ℕ) (front scans head : List ℕ) → n ≡ length front + length scans → take n (front ++ (scans ++ head)) ≡ front ++ scans
+without_head n front scans head e =
+    ap (take n) (sym (append_assoc front scans head)) ∙ take_front n (front ++ scans) head (e ∙ sym (length-append front scans))
+
+-- the head behind the scans is moved before them
+pub head_before : (start came : ℕ) (front scans head : List ℕ) → start ≡ length front → came ≡ length scans
+    → take start ((front ++ scans) ++ head) ++ (drop (start + came) ((front ++ scans) ++ head) ++ take came (drop start ((front ++ scans) ++ head))) ≡ front ++ (head ++ scans)
+head_before start came front scans head e f =
+    let whole = append_assoc front scans head in
+    let first : take start ((front ++ scans) ++ head) ≡ front = ap (take start) whole ∙ take_front start front (scans ++ head) e in
+    let last : drop (start + came) ((front ++ scans) ++ head) ≡ head = drop_front (start + came) (front ++ scans) head (omega (arith, e, f, length-append front scans)) in
+    let behind : drop start ((front ++ scans) ++ head) ≡ scans ++ head = ap (drop start) whole ∙ drop_front start front (scans ++ head) e in
+    let middle : take came (drop start ((front ++ scans) ++ head)) ≡ scans = ap (take came) behind ∙ take_front came scans head f in
+    rw (first, last, middle) refl
+
+-- what stood before a block stands as it was
+pub kept_front : (start n : ℕ) (old head scans out : List ℕ) → start ≡ length old → take n out ≡ (old ++ head) ++ scans → take start out ≡ old
+kept_front start n old head scans out e read =
+    let whole : out ≡ old ++ (head ++ (scans ++ drop n out)) =
+    sym (take-append-drop n out) ∙ ap (λ xs. xs ++ drop n out) read ∙ append_assoc (old ++ head) scans (drop n out) ∙ append_assoc old head (scans ++ drop n out) in
+    ap (take start) whole ∙ take_front start old (head ++ (scans ++ drop n out)) e
+
+-- an answer that ends with a block's head and scans
+pub has_block : (start first : ℕ) (old head scans out : List ℕ) → start ≡ length old → first ≡ length old + length head → out ≡ (old ++ head) ++ scans
+    → (take start out ≡ old) × (drop first out ≡ scans) × (out ≡ take start out ++ (head ++ drop first out))
+has_block start first old head scans out e f whole =
+    let before : take start out ≡ old = ap (take start) (whole ∙ append_assoc old head scans) ∙ take_front start old (head ++ scans) e in
+    let behind : drop first out ≡ scans = ap (drop first) whole ∙ drop_front first (old ++ head) scans (f ∙ sym (length-append old head)) in
+    (before, behind, whole ∙ append_assoc old head scans ∙ ap (λ xs. xs ++ (head ++ scans)) (sym before) ∙ ap (λ xs. take start out ++ (head ++ xs)) (sym behind))
+
+-- a block's head, its scans and its closing
+pub closed : (front head scans closing : List ℕ) → (front ++ (head ++ scans)) ++ closing ≡ front ++ (head ++ (scans ++ closing))
+closed front head scans closing = append_assoc front (head ++ scans) closing ∙ ap (λ xs. front ++ xs) (append_assoc head scans closing)
 
 -- ---- how long a scan is
 

@@ -1,5 +1,5 @@
 -- Takes one after another.
-use Rattle.std.proofs.Common.{◌≡◌, ℕ, zero, suc, ◌+◌, ◌-◌, ◌*◌, ◌≤◌, ◌<◌, List, [], ◌∷◌, ◌++◌, length, take, drop, Option, Some, None, IfSome, option_map, length-append, length-drop, length-take, subst, refl, sym, ap, ◌∙◌, arith, append-nil, append_assoc, Bool, true, false, not}
+use Rattle.std.proofs.Common.{◌≡◌, ℕ, zero, suc, ◌+◌, ◌-◌, ◌*◌, ◌≤◌, ◌<◌, List, [], ◌∷◌, ◌++◌, length, take, drop, Option, Some, None, IfSome, option_map, length-append, length-drop, length-take, length-take-le, subst, refl, sym, ap, ◌∙◌, arith, append-nil, append_assoc, Bool, true, false, not}
 use Rattle.std.proofs.Math.Seq.{drop-nil, take-append_seam, take-nil}
 use Rattle.std.proofs.lemmas.Slice.{take-put_mid}
 use Rattle.std.proofs.Math.Nat.{mul-lt-mul_of_pos_right}
@@ -74,15 +74,17 @@ joined-append : (xs : List (List ℕ)) (x : List ℕ) → joined_scans (xs ++ x 
 joined-append [] x = append-nil x
 joined-append (y ∷ ys) x = ap (λ zs. y ++ zs) (joined-append ys x) ∙ sym (append_assoc y (joined_scans ys) x)
 
-pub reading_none : (dev want size : ℕ) (told : Option Machine) (s : SeatRecord) (room : List ℕ) → size ≡ s.size
-    → Reading dev want told told s s want 0 room
-reading_none dev want size told s room same =
-    record { scans = []; gave = gave_none dev told s; bytes = refl; count = omega arith; ends = omega arith }
+pub reading_none : (dev want size first : ℕ) (told : Option Machine) (s : SeatRecord) (out : List ℕ) → size ≡ s.size → first ≤ length out
+    → Reading dev want told told s s want 0 (take first out) out
+reading_none dev want size first told s out same within =
+    let all : length (take first out) + 0 ≡ first = omega (arith, length-take-le first out within) in
+    record { scans = []; gave = gave_none dev told s; bytes = ap (λ (k : ℕ). take k out) all ∙ sym (append-nil (take first out)); count = omega arith; ends = omega arith }
 
--- the room grows behind what was read
-pub reading_wider : (dev want : ℕ) (told t : Option Machine) (s b : SeatRecord) (left end : ℕ) (room room' : List ℕ)
-    → Reading dev want told t s b left end room → take end room' ≡ take end room → Reading dev want told t s b left end room'
-reading_wider dev want told t s b left end room room' r same =
+-- the answer changes behind what was read
+pub reading_wider : (dev want : ℕ) (told t : Option Machine) (s b : SeatRecord) (left end at : ℕ) (before out out' : List ℕ)
+    → Reading dev want told t s b left end before out → at ≡ length before + end → take at out' ≡ take at out → Reading dev want told t s b left end before out'
+reading_wider dev want told t s b left end at before out out' r place kept =
+    let same : take (length before + end) out' ≡ take (length before + end) out = subst (λ n. take n out' ≡ take n out) place kept in
     record { scans = r.scans; gave = r.gave; bytes = same ∙ r.bytes; count = r.count; ends = r.ends }
 
 -- what is written into a part of the room leaves it as long
@@ -98,10 +100,15 @@ part_written len at k room base out same all fits whole =
     rw same (subst (λ (n : ℕ). take n (put_mid at k room out ++ drop (length (put_mid at k room out)) room) ≡ put_mid at k room out) (part_length at k room out fits whole ∙ all)
     (take-append_seam (put_mid at k room out) (drop (length (put_mid at k room out)) room)))
 
+-- and leaves what is before it
+pub written_before : (at k : ℕ) (room out : List ℕ) → at ≤ length room → take at (put_mid at k room out) ≡ take at room
+written_before at k room out within =
+    subst (λ n. take n (put_mid at k room out) ≡ take at room) (length-take-le at room within) (take-append_seam (take at room) (out ++ drop k (drop at room)))
+
 -- there is room for one scan more among those that are wanted
-pub next_within : (dev want size : ℕ) (told t : Option Machine) (s b : SeatRecord) (left end : ℕ) (room : List ℕ)
-    → Reading dev want told t s b left end room → 0 < left → size ≡ b.size → end + size ≤ want * size
-next_within dev want size told t s b left end room r more same =
+pub next_within : (dev want size : ℕ) (told t : Option Machine) (s b : SeatRecord) (left end : ℕ) (before out : List ℕ)
+    → Reading dev want told t s b left end before out → 0 < left → size ≡ b.size → end + size ≤ want * size
+next_within dev want size told t s b left end before out r more same =
     let sized : s.size ≡ size = sym (same ∙ ap (λ (x : SeatRecord). x.size) r.gave.shown) in
     by_left left (rw sized at r.ends) more
   where
@@ -109,20 +116,23 @@ next_within dev want size told t s b left end room r more same =
     by_left zero e h = absurd (omega (arith, h))
     by_left (suc n) e h = omega (arith, e)
 
-pub reading_more : (dev want size : ℕ) (told t t' : Option Machine) (s b b' : SeatRecord) (left end k : ℕ) (room out : List ℕ)
-    → Reading dev want told t s b left end room
-    → 0 < left → end + size ≤ length room → size ≡ b.size → length out ≡ size → k ≡ size
-    → IfSome t (λ (m : Machine). Takes m dev (seat_id b) Scan out t')
-    → b' ≡ record b { tale = option_map (after_take Scan out) b.tale }
-    → Reading dev want told t' s b' (left - 1) (end + size) (put_mid end k room out)
-reading_more dev want size told t t' s b b' left end k room out before more fits same whole part takes shown =
-    let sized : s.size ≡ size = sym (same ∙ ap (λ (x : SeatRecord). x.size) before.gave.shown) in
+pub reading_more : (dev want size : ℕ) (told t t' : Option Machine) (s b b' : SeatRecord) (left end k at : ℕ) (before out scan : List ℕ)
+    → Reading dev want told t s b left end before out
+    → 0 < left → at ≡ length before + end → at + size ≤ length out → size ≡ b.size → length scan ≡ size → k ≡ size
+    → IfSome t (λ (m : Machine). Takes m dev (seat_id b) Scan scan t')
+    → b' ≡ record b { tale = option_map (after_take Scan scan) b.tale }
+    → Reading dev want told t' s b' (left - 1) (end + size) before (put_mid at k out scan)
+reading_more dev want size told t t' s b b' left end k at before out scan r more place fits same whole part takes shown =
+    let sized : s.size ≡ size = sym (same ∙ ap (λ (x : SeatRecord). x.size) r.gave.shown) in
+    let next : length before + (end + size) ≡ at + size = omega (arith, place) in
     record {
-      scans = before.scans ++ out ∷ [];
-      gave = gave_more dev told t t' s b b' before.scans out before.gave takes shown;
-      bytes = take-put_mid end k room out (end + size) (omega (arith, whole)) (omega (arith, fits)) ∙ ap (λ (xs : List ℕ). xs ++ out) before.bytes ∙ sym (joined-append before.scans out);
-      count = omega (arith, length-append before.scans (out ∷ []), before.count, more);
-      ends = rw sized (by_less left (rw sized at before.ends) more);
+      scans = r.scans ++ scan ∷ [];
+      gave = gave_more dev told t t' s b b' r.scans scan r.gave takes shown;
+      bytes = ap (λ (n : ℕ). take n (put_mid at k out scan)) next ∙ take-put_mid at k out scan (at + size) (omega (arith, whole)) (omega (arith, fits))
+          ∙ ap (λ (n : ℕ). take n out ++ scan) place ∙ ap (λ (xs : List ℕ). xs ++ scan) r.bytes ∙ append_assoc before (joined_scans r.scans) scan
+          ∙ ap (λ (xs : List ℕ). before ++ xs) (sym (joined-append r.scans scan));
+      count = omega (arith, length-append r.scans (scan ∷ []), r.count, more);
+      ends = rw sized (by_less left (rw sized at r.ends) more);
     }
   where
     by_less : (left : ℕ) → end + left * size ≡ want * size → 0 < left → (end + size) + (left - 1) * size ≡ want * size
@@ -149,9 +159,9 @@ from_all dev want m t t' n plugged scans before nothing most =
     (rest.0 ∙ before.0, now.2 ∙ ap (λ (q : List (List ℕ)). Some (with_queue m dev n scans q)) (sym rest.1))
 
 -- nothing stands in the room exactly where nothing was taken
-none_taken : (dev want : ℕ) (told t : Option Machine) (s b : SeatRecord) (left end : ℕ) (room : List ℕ) (r : Reading dev want told t s b left end room)
+none_taken : (dev want : ℕ) (told t : Option Machine) (s b : SeatRecord) (left end : ℕ) (before out : List ℕ) (r : Reading dev want told t s b left end before out)
     → end ≡ 0 → 0 < s.size → r.scans ≡ []
-none_taken dev want told t s b left end room r e some = by r.scans r.count r.ends
+none_taken dev want told t s b left end before out r e some = by r.scans r.count r.ends
   where
     by : (scans : List (List ℕ)) → length scans + left ≡ want → end + left * s.size ≡ want * s.size → scans ≡ []
     by [] c h = refl
@@ -160,9 +170,9 @@ none_taken dev want told t s b left end room r e some = by r.scans r.count r.end
         too_many : (k left want size : ℕ) → suc k + left ≡ want → left * size ≡ want * size → 0 < size → ⊥
         too_many k left want size c h some = let less : left * size < want * size = mul-lt-mul_of_pos_right (omega arith) some in omega arith
 
-some_taken : (dev want : ℕ) (told t : Option Machine) (s b : SeatRecord) (left end : ℕ) (room : List ℕ) (r : Reading dev want told t s b left end room)
+some_taken : (dev want : ℕ) (told t : Option Machine) (s b : SeatRecord) (left end : ℕ) (before out : List ℕ) (r : Reading dev want told t s b left end before out)
     → 0 < end → 0 < length r.scans
-some_taken dev want told t s b left end room r e = by r.scans r.count r.ends
+some_taken dev want told t s b left end before out r e = by r.scans r.count r.ends
   where
     by : (scans : List (List ℕ)) → length scans + left ≡ want → end + left * s.size ≡ want * s.size → 0 < length scans
     by [] c h = absurd (same left want (omega (arith, c)) h)
@@ -189,15 +199,15 @@ from_last dev want None t t' s b plugged scans same before nothing most = tt
 from_last dev want (Some m) t t' s b plugged scans same before nothing most =
     from_all dev want m t t' (seat_id s) plugged scans before (rw same at nothing) most
 
-short_ended : (dev want : ℕ) (gone : Bool) (told t t' : Option Machine) (s b s' : SeatRecord) (left end : ℕ) (room : List ℕ)
-    → (r : Reading dev want told t s b left end room) → FoundNothing dev (seat_id b) (not gone) t t'
+short_ended : (dev want : ℕ) (gone : Bool) (told t t' : Option Machine) (s b s' : SeatRecord) (left end : ℕ) (before out : List ℕ)
+    → (r : Reading dev want told t s b left end before out) → FoundNothing dev (seat_id b) (not gone) t t'
     → s' ≡ record b { tale = option_map (after_nothing gone) b.tale } → 0 < end
     → ReadSome dev want told t' s s' r.scans
-short_ended dev want gone told t t' s b s' left end room r nothing after some =
+short_ended dev want gone told t t' s b s' left end before out r nothing after some =
     let shown = record_after gone s b s' r.scans r.gave.shown after in
     record {
       reads = record {
-        some = some_taken dev want told t s b left end room r some;
+        some = some_taken dev want told t s b left end before out r some;
         most = omega (arith, r.count);
         grown = inr (gone, ap (λ (x : SeatRecord). x.tale) shown);
       };
@@ -211,14 +221,14 @@ whole_from : (dev want : ℕ) (n : MemberId) (told t : Option Machine) (scans : 
 whole_from dev want n None t scans e h = tt
 whole_from dev want n (Some m) t scans e h = rw (← e) h
 
-whole_ended : (dev want : ℕ) (told t : Option Machine) (s b : SeatRecord) (end : ℕ) (room : List ℕ)
-    → (r : Reading dev want told t s b 0 end room) → 0 < end
+whole_ended : (dev want : ℕ) (told t : Option Machine) (s b : SeatRecord) (end : ℕ) (before out : List ℕ)
+    → (r : Reading dev want told t s b 0 end before out) → 0 < end
     → ReadSome dev want told t s b r.scans
-whole_ended dev want told t s b end room r some =
+whole_ended dev want told t s b end before out r some =
     let all : length r.scans ≡ want = omega (arith, r.count) in
     record {
       reads = record {
-        some = some_taken dev want told t s b 0 end room r some;
+        some = some_taken dev want told t s b 0 end before out r some;
         most = omega (arith, all);
         grown = inl (all, ap (λ (x : SeatRecord). x.tale) r.gave.shown);
       };
@@ -226,12 +236,19 @@ whole_ended dev want told t s b end room r some =
       from = whole_from dev want (seat_id s) told t r.scans all r.gave.from;
     }
 
-pub some_ended : (dev want : ℕ) (told t : Option Machine) (s b : SeatRecord) (end : ℕ) (room : List ℕ) (took : Took)
-    → Ends dev want told t s b end room took → 0 < end
-    → (scans : List (List ℕ)) × (take end room ≡ joined_scans scans) × ReadSome dev want told t s b scans
-some_ended dev want told t s b end room Scan e some = (e.scans, e.bytes, whole_ended dev want told t s b end room e some)
-some_ended dev want told t s b end room Empty e some = (e.4.scans, e.4.bytes, short_ended dev want false told e.0 t s e.1 b e.2 end room e.4 e.5 e.6 some)
-some_ended dev want told t s b end room Gone e some = (e.4.scans, e.4.bytes, short_ended dev want true told e.0 t s e.1 b e.2 end room e.4 e.5 e.6 some)
+-- what stands once a READBUF ended
+pub ends_bytes : (dev want : ℕ) (told t : Option Machine) (s b : SeatRecord) (end : ℕ) (before out : List ℕ) (took : Took)
+    → Ends dev want told t s b end before out took → (scans : List (List ℕ)) × (take (length before + end) out ≡ before ++ joined_scans scans)
+ends_bytes dev want told t s b end before out Scan e = (e.scans, e.bytes)
+ends_bytes dev want told t s b end before out Empty e = (e.4.scans, e.4.bytes)
+ends_bytes dev want told t s b end before out Gone e = (e.4.scans, e.4.bytes)
+
+pub some_ended : (dev want : ℕ) (told t : Option Machine) (s b : SeatRecord) (end : ℕ) (before out : List ℕ) (took : Took)
+    → Ends dev want told t s b end before out took → 0 < end
+    → (scans : List (List ℕ)) × (take (length before + end) out ≡ before ++ joined_scans scans) × ReadSome dev want told t s b scans
+some_ended dev want told t s b end before out Scan e some = (e.scans, e.bytes, whole_ended dev want told t s b end before out e some)
+some_ended dev want told t s b end before out Empty e some = (e.4.scans, e.4.bytes, short_ended dev want false told e.0 t s e.1 b e.2 end before out e.4 e.5 e.6 some)
+some_ended dev want told t s b end before out Gone e some = (e.4.scans, e.4.bytes, short_ended dev want true told e.0 t s e.1 b e.2 end before out e.4 e.5 e.6 some)
 
 from_first : (dev : ℕ) (n : MemberId) (plugged : Bool) (told t t' : Option Machine) (scans : List (List ℕ)) → scans ≡ []
     → IfSome told (λ (m : Machine). (take (length scans) (queue_of m dev n) ≡ scans) × (t ≡ Some (with_queue m dev n scans (drop (length scans) (queue_of m dev n)))))
@@ -242,12 +259,12 @@ from_first dev n plugged (Some m) t t' scans e before nothing =
     let first : t ≡ Some m = now ∙ ap (λ (xs : List (List ℕ)). Some (with_queue m dev n xs (drop (length xs) (queue_of m dev n)))) e ∙ ap (λ (x : Machine). Some x) (with_queue-same m dev n) in
     rw first at nothing
 
-first_ended : (dev want : ℕ) (gone : Bool) (told t t' : Option Machine) (s b s' : SeatRecord) (left end : ℕ) (room : List ℕ)
-    → Reading dev want told t s b left end room → FoundNothing dev (seat_id b) (not gone) t t'
+first_ended : (dev want : ℕ) (gone : Bool) (told t t' : Option Machine) (s b s' : SeatRecord) (left end : ℕ) (before out : List ℕ)
+    → Reading dev want told t s b left end before out → FoundNothing dev (seat_id b) (not gone) t t'
     → s' ≡ record b { tale = option_map (after_nothing gone) b.tale } → end ≡ 0 → 0 < s.size
     → ReadNone dev gone told t' s s'
-first_ended dev want gone told t t' s b s' left end room r nothing after none some =
-    let empty = none_taken dev want told t s b left end room r none some in
+first_ended dev want gone told t t' s b s' left end before out r nothing after none some =
+    let empty = none_taken dev want told t s b left end before out r none some in
     let shown = record_after gone s b s' r.scans r.gave.shown after in
     let number : seat_id b ≡ seat_id s = ap (λ (x : SeatRecord). seat_id x) r.gave.shown in
     record {
@@ -256,15 +273,37 @@ first_ended dev want gone told t t' s b s' left end room r nothing after none so
       from = from_first dev (seat_id s) (not gone) told t t' r.scans empty r.gave.from (rw number at nothing);
     }
 
-pub none_ended : (channels dev want mask asked : ℕ) (told t : Option Machine) (s b : SeatRecord) (end : ℕ) (room out : List ℕ) (took : Took)
-    → Ends dev want told t s b end room took → end ≡ 0 → 0 < s.size → 0 < want
-    → ReadInto channels dev want mask asked told t s b out out took
-none_ended channels dev want mask asked told t s b end room out Scan e none some wanted =
-    absurd (all_wanted e.scans (none_taken dev want told t s b 0 end room e none some) e.count)
+pub none_ended : (channels dev want mask asked : ℕ) (told t : Option Machine) (s b : SeatRecord) (end : ℕ) (before out kept : List ℕ) (took : Took)
+    → Ends dev want told t s b end before out took → end ≡ 0 → 0 < s.size → 0 < want
+    → ReadInto channels dev want mask asked told t s b kept kept took
+none_ended channels dev want mask asked told t s b end before out kept Scan e none some wanted =
+    absurd (all_wanted e.scans (none_taken dev want told t s b 0 end before out e none some) e.count)
   where
     all_wanted : (scans : List (List ℕ)) → scans ≡ [] → length scans + 0 ≡ want → ⊥
     all_wanted scans e c = let l : length scans ≡ 0 = ap length e in omega arith
-none_ended channels dev want mask asked told t s b end room out Empty e none some wanted =
-    (refl, first_ended dev want false told e.0 t s e.1 b e.2 end room e.4 e.5 e.6 none some)
-none_ended channels dev want mask asked told t s b end room out Gone e none some wanted =
-    (refl, first_ended dev want true told e.0 t s e.1 b e.2 end room e.4 e.5 e.6 none some)
+none_ended channels dev want mask asked told t s b end before out kept Empty e none some wanted =
+    (refl, first_ended dev want false told e.0 t s e.1 b e.2 end before out e.4 e.5 e.6 none some)
+none_ended channels dev want mask asked told t s b end before out kept Gone e none some wanted =
+    (refl, first_ended dev want true told e.0 t s e.1 b e.2 end before out e.4 e.5 e.6 none some)
+
+-- ---- a state that is told as it was
+
+found_before : (dev : ℕ) (n : MemberId) (plugged : Bool) (told t t' : Option Machine) → IfSome told (λ (m : Machine). t ≡ Some m)
+    → FoundNothing dev n plugged t t' → FoundNothing dev n plugged told t'
+found_before dev n plugged None t t' same found = tt
+found_before dev n plugged (Some m) t t' same found = rw same at found
+
+pub told_before : (channels dev want mask asked : ℕ) (told t t' : Option Machine) (s s' : SeatRecord) (before after : List ℕ) (took : Took)
+    → IfSome told (λ (m : Machine). t ≡ Some m) → ReadInto channels dev want mask asked t t' s s' before after took
+    → ReadInto channels dev want mask asked told t' s s' before after took
+told_before channels dev want mask asked told t t' s s' before after Scan same r =
+    (r.0, r.1, record { reads = r.2.reads; same = r.2.same; from = from_before told same })
+  where
+    from_before : (told : Option Machine) → IfSome told (λ (m : Machine). t ≡ Some m)
+        → IfSome told (λ (m : Machine). (take want (queue_of m dev (seat_id s)) ≡ r.0) × (t' ≡ Some (with_queue m dev (seat_id s) r.0 (drop want (queue_of m dev (seat_id s))))))
+    from_before None same = tt
+    from_before (Some m) same = rw same at r.2.from
+told_before channels dev want mask asked told t t' s s' before after Empty same r =
+    (r.0, record { same = r.1.same; from = found_before dev (seat_id s) true told t t' same r.1.from })
+told_before channels dev want mask asked told t t' s s' before after Gone same r =
+    (r.0, record { same = r.1.same; from = found_before dev (seat_id s) false told t t' same r.1.from })

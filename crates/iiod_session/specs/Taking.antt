@@ -14,20 +14,20 @@ pub record Gave (dev : ℕ) (told told' : Option Machine) (s s' : SeatRecord) (s
   pub from : IfSome told (λ m. (take (length scans) (queue_of m dev (seat_id s)) ≡ scans)
       × (told' ≡ Some (with_queue m dev (seat_id s) scans (drop (length scans) (queue_of m dev (seat_id s))))))
 
--- and the room in which they stand: the first `end` bytes of it
-pub record Reading (dev want : ℕ) (told told' : Option Machine) (s s' : SeatRecord) (left end : ℕ) (room : List ℕ) : Type 0 where
+-- and where they stand: the `end` bytes behind what stood before
+pub record Reading (dev want : ℕ) (told told' : Option Machine) (s s' : SeatRecord) (left end : ℕ) (before out : List ℕ) : Type 0 where
   pub scans : List (List ℕ)
   pub gave : Gave dev told told' s s' scans
-  pub bytes : take end room ≡ joined_scans scans
+  pub bytes : take (length before + end) out ≡ before ++ joined_scans scans
   pub count : length scans + left ≡ want
   pub ends : end + left * s.size ≡ want * s.size
 
 -- the end of it: as many scans as were wanted, or fewer and a take that found nothing
-abbrev pub Ends : ℕ → ℕ → Option Machine → Option Machine → SeatRecord → SeatRecord → ℕ → List ℕ → Took → Type 0
-Ends dev want told told' s s' end room Scan = Reading dev want told told' s s' 0 end room
-Ends dev want told told' s s' end room Empty = (t : Option Machine) × (b : SeatRecord) × (left : ℕ) × (0 < left) × Reading dev want told t s b left end room
+abbrev pub Ends : ℕ → ℕ → Option Machine → Option Machine → SeatRecord → SeatRecord → ℕ → List ℕ → List ℕ → Took → Type 0
+Ends dev want told told' s s' end before out Scan = Reading dev want told told' s s' 0 end before out
+Ends dev want told told' s s' end before out Empty = (t : Option Machine) × (b : SeatRecord) × (left : ℕ) × (0 < left) × Reading dev want told t s b left end before out
     × FoundNothing dev (seat_id b) true t told' × (s' ≡ record b { tale = option_map (after_nothing false) b.tale })
-Ends dev want told told' s s' end room Gone = (t : Option Machine) × (b : SeatRecord) × (left : ℕ) × (0 < left) × Reading dev want told t s b left end room
+Ends dev want told told' s s' end before out Gone = (t : Option Machine) × (b : SeatRecord) × (left : ℕ) × (0 < left) × Reading dev want told t s b left end before out
     × FoundNothing dev (seat_id b) false t told' × (s' ≡ record b { tale = option_map (after_nothing true) b.tale })
 
 -- the block of up to so many scans

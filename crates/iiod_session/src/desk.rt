@@ -25,13 +25,11 @@ pub(crate) struct BuffersCount {
     pub(crate) count: u32,
 }
 
-/// A connection's number, its seats, the buffers counts that it has set, and the devices whose events go to it. The room is
-/// that of the scans of one READBUF after another; what stands there means nothing.
+/// A connection's number, its seats, the buffers counts that it has set, and the devices whose events go to it.
 #[derive(Drop)]
 pub(crate) struct Desk<S> {
     pub(crate) who: u32,
     pub(crate) held: Vec<Held<S>>,
     pub(crate) buffers: Vec<BuffersCount>,
     pub(crate) holdings: Vec<u32>,
-    pub(crate) room: Vec<u8>,
 }

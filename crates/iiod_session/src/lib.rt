@@ -27,6 +27,3 @@ pub use limits::{MAX_BYTES, MAX_SCANS};
 pub use manner::{Going, Manner};
 pub use reading::read_scans;
 pub use session::Session;
-
-#[cfg(test)]
-mod tests;

@@ -152,7 +152,6 @@ fn read_held<I: Iio>(
     iio: &mut I,
     h: &mut Held<I::Seat>,
     asked: u32,
-    room: &mut Vec<u8>,
     out: &mut Vec<u8>,
 ) -> Result<Took, Mem>
     requires { IsHeld I.seen (I.front (I.kept iio.old)) h.old }
@@ -174,7 +173,6 @@ fn read_held<I: Iio>(
         h.capacity,
         h.size,
         asked,
-        room,
         out,
     )
 }
@@ -199,6 +197,6 @@ pub(crate) fn read_at<I: Iio>(
             push_refusal(out, Errno::EBADF)?;
             Ok(Took::Scan)
         }
-        Some(i) => read_held(iio, &mut desk.held[i], asked, &mut desk.room, out),
+        Some(i) => read_held(iio, &mut desk.held[i], asked, out),
     }
 }

@@ -64,7 +64,6 @@ impl<S> Session<S> {
                 held: Vec::new(alloc),
                 buffers: Vec::new(alloc),
                 holdings: Vec::new(alloc),
-                room: Vec::new(alloc),
             },
             lines,
             pending: PendingWrite::new(alloc),
@@ -153,7 +152,6 @@ impl<S> Session<S> {
             held,
             buffers: _,
             holdings: _,
-            room: _,
         } = desk;
         held.destroy_empty();
     }

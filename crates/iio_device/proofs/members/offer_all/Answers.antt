@@ -26,10 +26,12 @@ loop-i-preserved g c =
       moved = moved_more (λ a b. WasOffered tail.taken tail.lost tail.size tail.capacity tail.offer_gives (scan_for c.args.active.bits c.args.union.now c.args.groups.now a.mask.bits) a b) _ _ _ c.index_mut.result.now _ _
           c.loop-i.invariant.moved (search rules) c.index_mut.ensures.value c.offer_one.ensures;
       all = c.loop-i.invariant.all;
+      within = search rules;
+      placed = search rules;
     }
 
-pub returns : goal.returns
-returns g c =
+pub returns-clause-offered : goal.returns-clause-offered
+returns-clause-offered g c =
     let tail = g.Q.Tail in
     moved_all (λ a b. WasOffered tail.taken tail.lost tail.size tail.capacity tail.offer_gives (scan_for c.args.active.bits c.args.union.now c.args.groups.now a.mask.bits) a b) _ _ _
     c.loop-i.invariant.moved (omega (arith, c.loop-i.invariant.all))

@@ -1,4 +1,4 @@
-use Rattle.std.proofs.Common.{◌≡◌, ◌+◌, ◌<◌, length, take, drop, slice_index_or, Some, refl, sym, ap, ◌∙◌}
+use Rattle.std.proofs.Common.{rules, ◌≡◌, ◌+◌, ◌<◌, length, take, drop, slice_index_or, Some, refl, sym, ap, ◌∙◌}
 use Rattle.iio_kfifo.specs.Queue.{Queue}
 use Rattle.iio_layout.specs.Layout.{scan_size}
 use Rattle.iio_device.specs.declared.membership.Membership.{Membership}
@@ -21,6 +21,7 @@ invariant_of-self c =
           roster.sound within (ap (λ d. slice_index_or members at d) c.index.ensures) (keeps_drained _ _ _ old new (c.take_at.ensures.moved c.index.result.now)) (c.take_at.ensures.others c.index.result.now);
       sized = roster.sized;
       roomy = roster.roomy;
+      placed = roster.placed ∙ sym (ap length (c.take_at.ensures.others c.index.result.now) ∙ search rules);
     }
 
 pub returns-clause-takes : goal.returns-clause-takes

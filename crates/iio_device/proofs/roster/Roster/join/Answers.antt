@@ -31,4 +31,5 @@ invariant_of-self g c =
           roster.sound found (search rules) (omega (arith, small, longer)) refl is c.in-Ok.ensures.group c.in-Ok.ensures.none);
       sized = c.asked_size_after-self.ensures;
       roomy = roster.roomy;
+      placed = search rules;
     }

@@ -1,4 +1,4 @@
-use Rattle.std.proofs.Common.{◌≡◌, ◌<◌, length, slice_index_or, IfSome, Some, option_map, unwrap_or, true, refl, sym, ap, ◌∙◌}
+use Rattle.std.proofs.Common.{rules, ◌≡◌, ◌<◌, length, slice_index_or, IfSome, Some, option_map, unwrap_or, true, refl, sym, ap, ◌∙◌}
 use Rattle.std.proofs.lemmas.List.Elements.{All-filter}
 use Rattle.iio_mask.specs.Mask.{is_within, union_of_all}
 use Rattle.iio_device.specs.declared.membership.Membership.{Membership}
@@ -34,6 +34,7 @@ invariant_of-self-2 g c =
     record {
       sized = c.asked_size_after-self.ensures;
       roomy = roster.roomy;
+      placed = search rules;
       sound = rw (c.remake_for.ensures.remade, c.keep_wanted.ensures, c.deref-3.ensures.value)
           (sound_leaves_at tail.taken tail.lost tail.size roster.shape roster.active c.active_for-active.result roster.captures roster.next roster.members.items c.remove-tail.new.self.items
           c.in_ok-at.at c.remove-tail.result roster.groups.items roster.sound within c.remove-tail.ensures.value c.remove-tail.ensures.by_index.2 ruled c.active_for-active.ensures.below);

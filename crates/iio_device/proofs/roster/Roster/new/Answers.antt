@@ -9,4 +9,5 @@ invariant_of-result g c =
       sound = rw (c.new.ensures.items, c.new-2.ensures.items) (sound_empty tail.taken tail.lost tail.size c.args.shape);
       sized = c.asked_size-size.ensures;
       roomy = search rules;
+      placed = search rules;
     }
