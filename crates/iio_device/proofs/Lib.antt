@@ -3,6 +3,7 @@ mod CountLemmas
 mod DeviceLemmas
 mod HasLemmas
 mod JoiningLemmas
+mod LaneLemmas
 mod MaskLemmas
 mod MoveLemmas
 mod OfferLemmas

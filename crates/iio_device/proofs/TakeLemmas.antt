@@ -7,7 +7,7 @@ use Rattle.iio_layout.specs.Shape.{ShapeRecord, count_of}
 use Rattle.iio_kfifo.specs.Queue.{Queue}
 use Rattle.iio_device.specs.declared.membership.Membership.{Membership}
 use Rattle.iio_device.specs.Groups.{GroupRecord}
-use Rattle.iio_device.specs.Members.{Drains}
+use Rattle.iio_device.specs.Members.{Drains, DrainsScans}
 use Rattle.iio_device.specs.Sound.{IsMember, IsSound}
 use Rattle.iio_device.proofs.OfferLemmas.{sound_moves}
 
@@ -46,6 +46,11 @@ keeps_drained true out out' old new d =
     record { same = d.same; taken = ap (λ (q : Queue). q.taken) is; lost = ap (λ (q : Queue). q.lost) is; size = ap (λ (q : Queue). q.size) is }
 keeps_drained false out out' old new d =
     let is = d.moved.1 in
+    record { same = d.same; taken = ap (λ (q : Queue). q.taken) is; lost = ap (λ (q : Queue). q.lost) is; size = ap (λ (q : Queue). q.size) is }
+
+pub keeps_drained_scans : (most count : ℕ) (before after : List ℕ) (old new : Membership Queue) → DrainsScans most count before after old new → KeepsCounts old new
+keeps_drained_scans most count before after old new d =
+    let is = d.moved.same in
     record { same = d.same; taken = ap (λ (q : Queue). q.taken) is; lost = ap (λ (q : Queue). q.lost) is; size = ap (λ (q : Queue). q.size) is }
 
 keeps_mask : (a b : Membership Queue) → KeepsCounts a b → b.mask.bits ≡ a.mask.bits

@@ -3,7 +3,7 @@ use Rattle.std.specs.Prelude.{◌≡◌, ℕ, ◌+◌, ◌==◌, ◌&&◌, Bool,
 use Rattle.std.specs.List.{list_any}
 use Rattle.std.specs.Set.{distinct_count}
 use Rattle.iio_kfifo.specs.declared.tail.Offered.{Offered}
-use Rattle.iio_kfifo.specs.Queue.{GivesFirst, Queue}
+use Rattle.iio_kfifo.specs.Queue.{GivesFirst, GivesScans, Queue}
 use Rattle.iio_device.specs.declared.membership.Membership.{Membership}
 
 module _ {Q : Type 0} where
@@ -56,3 +56,8 @@ module _ {Q : Type 0} where
 pub record Drains (given : Bool) (out out' : List ℕ) (old new : Membership Queue) : Type 0 where
   pub same : new ≡ record old { tail = new.tail }
   pub moved : MatchBool given (GivesFirst old.tail out' new.tail) ((old.tail.scans ≡ []) × (new.tail ≡ old.tail) × (out' ≡ out))
+
+-- the oldest scans of a member's queue are moved out, at most so many
+pub record DrainsScans (most count : ℕ) (before after : List ℕ) (old new : Membership Queue) : Type 0 where
+  pub same : new ≡ record old { tail = new.tail }
+  pub moved : GivesScans most count before after old.tail new.tail

@@ -18,7 +18,7 @@ use Rattle.iio_device.specs.declared.roster.JoinRefused.{JoinRefused}
 use Rattle.iio_device.specs.Groups.{GroupRecord, remade}
 use Rattle.iio_device.specs.Active.{active_for, active_beside}
 use Rattle.iio_device.specs.Joining.{member_faults}
-use Rattle.iio_device.specs.Members.{Drains, WasOffered, masks_of, member_of, without}
+use Rattle.iio_device.specs.Members.{Drains, DrainsScans, WasOffered, is_live_under, masks_of, member_of, without}
 
 -- a device's members, as a caller sees them; there is no active mask where there is no member
 pub record Standing (Q : Type 0) : Type 0 where
@@ -103,6 +103,15 @@ Takes number (Some given) out out' old new =
     (is_size_of number (length out) old ≡ true)
     × (new ≡ record old { members = new.members })
     × ChangesOne number (Drains given out out') old.members new.members
+
+-- the oldest scans are moved out of the queue of the member of that number and that mask, at most so many; where there is
+-- none, nothing is
+abbrev pub TakesScans : (number mask most : ℕ) → Option ℕ → (before after : List ℕ) → Standing Queue → Standing Queue → Type 0
+TakesScans number mask most None before after old new = (is_live_under number mask old.members ≡ false) × (new ≡ old) × (after ≡ before)
+TakesScans number mask most (Some count) before after old new =
+    (is_live_under number mask old.members ≡ true)
+    × (new ≡ record old { members = new.members })
+    × ChangesOne number (DrainsScans most count before after) old.members new.members
 
 -- a group besides, where there is one to add
 abbrev pub with_group : Option GroupRecord → List GroupRecord → List GroupRecord

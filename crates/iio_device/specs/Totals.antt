@@ -10,6 +10,10 @@ no_totals = record { scans = 0; bytes = 0; lost = 0 }
 abbrev pub with_scan : List ℕ → Totals → Totals
 with_scan scan t = record t { scans = t.scans + 1; bytes = t.bytes + sum scan }
 
+-- so many scans were taken, which have these bytes
+abbrev pub with_bytes : ℕ → List ℕ → Totals → Totals
+with_bytes count bytes t = record t { scans = t.scans + count; bytes = t.bytes + sum bytes }
+
 -- scans were taken, one after another
 abbrev pub with_given : List (List ℕ) → Totals → Totals
 with_given [] t = t

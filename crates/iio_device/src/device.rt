@@ -1,14 +1,15 @@
 //! A device: its members, what the core keeps of it, and its driver.
 
-ghost use Rattle.std.specs.Prelude.{◌≡◌, ◌+◌, ◌-◌, ◌^◌, ⊤, IfOk, All, is_some, length, min, option_map};
+ghost use Rattle.std.specs.Prelude.{◌≡◌, ◌+◌, ◌-◌, ◌*◌, ◌^◌, ◌≤◌, ◌<◌, ⊤, IfOk, All, drop, is_some, length, min, option_map, unwrap_or, vec_capacity};
 ghost use Rattle.std.specs.List.{sum_by};
 ghost use Rattle.iio_desc.specs.WellFormed.{IsWrite};
 ghost use Rattle.iio_kfifo.specs.Queue.{Queue};
+ghost use Rattle.iio_layout.specs.Layout.{scan_size};
 ghost use Rattle.iio_device.specs.declared.membership.Member.{Member};
 ghost use Rattle.iio_device.specs.declared.membership.Membership.{Membership};
 ghost use Rattle.iio_device.specs.Members.{first_number, is_live_under, mask_count, member_of};
-ghost use Rattle.iio_device.specs.Roster.{Takes};
-ghost use Rattle.iio_device.specs.Totals.{with_taken};
+ghost use Rattle.iio_device.specs.Roster.{Takes, TakesScans};
+ghost use Rattle.iio_device.specs.Totals.{with_bytes, with_taken};
 ghost use Rattle.iio_device.specs.Device.{new_view, view_of};
 
 use crate::iio_dev::IioDev;
@@ -162,6 +163,29 @@ impl Fitted<IioDev<Kfifo>> {
     {
         let taken = self.core.roster.take(member.number, out);
         self.core.totals.count(taken, out);
+        taken
+    }
+
+    /// Moves up to `most` of the oldest scans of the member behind what stands in `out`, one behind the other, and says how
+    /// many there were; they count in the device's totals. None exactly where the member isn't live under that mask, and then
+    /// nothing changes.
+    pub fn take_scans(
+        &mut self,
+        member: &Member,
+        mask: Mask,
+        most: u32,
+        out: &mut Vec<u8>,
+    ) -> Option<u32>
+        requires few { most * scan_size self.old.core.roster.shape mask.bits < 2 ^ 32 }
+        requires room { length out.old.items + most * scan_size self.old.core.roster.shape mask.bits ≤ vec_capacity out.old }
+        ensures taken { TakesScans member.now.number mask.bits most result out.old.items out.new.items (view_of ⟦<Plug as Sensor>⟧.driver self.old.core self.old.plug).standing (view_of ⟦<Plug as Sensor>⟧.driver self.new.core self.new.plug).standing }
+        ensures rest { view_of ⟦<Plug as Sensor>⟧.driver self.new.core self.new.plug ≡ record (view_of ⟦<Plug as Sensor>⟧.driver self.old.core self.old.plug) { standing = (view_of ⟦<Plug as Sensor>⟧.driver self.new.core self.new.plug).standing; totals = with_bytes (unwrap_or result 0) (drop (length out.old.items) out.new.items) self.old.core.totals } }
+        ensures most { length out.new.items ≤ length out.old.items + most * scan_size self.old.core.roster.shape mask.bits }
+        ensures room { vec_capacity out.old ≤ vec_capacity out.new }
+    {
+        let stood = out.len();
+        let taken = self.core.roster.take_scans(member.number, mask, most, out);
+        self.core.totals.give(taken.unwrap_or(0), &out[stood..]);
         taken
     }
 

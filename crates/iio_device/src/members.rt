@@ -1,12 +1,12 @@
 //! What is made of all members, one after another.
 
-ghost use Rattle.std.specs.Prelude.{◌≡◌, ◌==◌, ℕ, ◌+◌, ◌-◌, ◌^◌, ◌<◌, true, All, IfNone, IfSome, None, Some, is_some, length, map, slice_index_or, slice_set};
+ghost use Rattle.std.specs.Prelude.{◌≡◌, ◌==◌, ℕ, ◌+◌, ◌-◌, ◌*◌, ◌^◌, ◌<◌, ◌≤◌, true, All, IfNone, IfSome, None, Some, is_some, length, map, slice_index_or, slice_set, vec_capacity};
 ghost use Rattle.std.specs.List.{AllZip, IsDistinct};
 ghost use Rattle.iio_mask.specs.Mask.{union_of_all};
 ghost use Rattle.iio_kfifo.specs.Queue.{Queue};
 ghost use Rattle.iio_device.specs.declared.membership.Membership.{Membership};
 ghost use Rattle.iio_device.specs.Groups.{GroupRecord, scan_for};
-ghost use Rattle.iio_device.specs.Members.{Drains, WasOffered, is_live, is_wanted, masks_of, member_of};
+ghost use Rattle.iio_device.specs.Members.{Drains, DrainsScans, WasOffered, is_live, is_wanted, masks_of, member_of};
 
 use crate::group::{Group, scan_for};
 use crate::membership::Membership;
@@ -127,4 +127,21 @@ pub(crate) fn take_at(members: &mut Vec<Membership<Kfifo>>, at: usize, out: &mut
     ensures others { (d : Membership Queue) → members.new.items ≡ slice_set members.old.items at (slice_index_or members.new.items at d) }
 {
     members[at].tail.take(out)
+}
+
+// Moves up to `most` of the oldest scans of the member at that place behind what stands in `out`, and says how many there were.
+pub(crate) fn take_scans_at(
+    members: &mut Vec<Membership<Kfifo>>,
+    at: usize,
+    most: u32,
+    out: &mut Vec<u8>,
+) -> u32
+    requires within { at < length members.old.items }
+    requires room { (d : Membership Queue) → length out.old.items + most * (slice_index_or members.old.items at d).tail.size ≤ vec_capacity out.old }
+    ensures moved { (d : Membership Queue) → DrainsScans most result out.old.items out.new.items (slice_index_or members.old.items at d) (slice_index_or members.new.items at d) }
+    ensures sized { (d : Membership Queue) → length out.new.items ≡ length out.old.items + result * (slice_index_or members.old.items at d).tail.size }
+    ensures others { (d : Membership Queue) → members.new.items ≡ slice_set members.old.items at (slice_index_or members.new.items at d) }
+    ensures room { vec_capacity out.old ≤ vec_capacity out.new }
+{
+    members[at].tail.take_scans(most, out)
 }

@@ -14,11 +14,11 @@ ghost use Rattle.iio_device.specs.declared.membership.Membership.{Membership};
 ghost use Rattle.iio_device.specs.Groups.{GroupRecord, IsGroup, has_group};
 ghost use Rattle.iio_device.specs.Active.{active_for};
 ghost use Rattle.iio_device.specs.Members.{WasOffered, first_number, is_live_under, is_wanted, mask_count, masks_of, member_of};
-ghost use Rattle.iio_device.specs.Roster.{Captures, IsRefusal, Joins, Leaves, Takes, active_with, join_fault, nobody, remade_for, with_capture, with_group};
+ghost use Rattle.iio_device.specs.Roster.{Captures, IsRefusal, Joins, Leaves, Takes, TakesScans, active_with, join_fault, nobody, remade_for, with_capture, with_group};
 ghost use Rattle.iio_device.specs.Sound.{HasRoom, IsSize, IsSound, bits_of};
 
 use crate::group::{Group, has_group, lay_out_all, remake_all};
-use crate::members::{is_wanted, offer_all, position_of, take_at, union_mask};
+use crate::members::{is_wanted, offer_all, position_of, take_at, take_scans_at, union_mask};
 use crate::membership::Membership;
 use iio_base::Mem;
 use iio_kfifo::{Kfifo, Tail};
@@ -393,6 +393,28 @@ impl Roster<Kfifo> {
             return None;
         }
         Some(take_at(&mut self.members, at, out))
+    }
+
+    /// Moves up to `most` of the oldest scans of the member of that number and that mask behind what stands in `out`, one
+    /// behind the other, and says how many there were. `None` comes exactly where there is no such member, and then nothing
+    /// changes.
+    pub(crate) fn take_scans(
+        &mut self,
+        number: u64,
+        mask: Mask,
+        most: u32,
+        out: &mut Vec<u8>,
+    ) -> Option<u32>
+        requires { length out.old.items + most * scan_size self.old.shape mask.bits ≤ vec_capacity out.old }
+        ensures takes { TakesScans number mask.bits most result out.old.items out.new.items (standing_of self.old) (standing_of self.new) }
+        ensures most { length out.new.items ≤ length out.old.items + most * scan_size self.old.shape mask.bits }
+        ensures room { vec_capacity out.old ≤ vec_capacity out.new }
+    {
+        let at = position_of(&self.members, number)?;
+        if self.members[at].mask != mask {
+            return None;
+        }
+        Some(take_scans_at(&mut self.members, at, most, out))
     }
 
     /// How many scans wait for the member of that number. `None` comes exactly where no member has it.

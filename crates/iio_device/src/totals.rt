@@ -1,28 +1,40 @@
 //! What a device's queues gave and lost in all.
 
-ghost use Rattle.std.specs.Prelude.{◌≡◌, ◌<◌, ◌≤◌, ◌^◌, IfSome, length};
+ghost use Rattle.std.specs.Prelude.{◌≡◌, ◌<◌, ◌^◌, IfSome, length};
 ghost use Rattle.std.specs.List.{sum};
-ghost use Rattle.iio_device.specs.Totals.{no_totals, with_lost, with_scan, with_taken};
+ghost use Rattle.iio_device.specs.Totals.{no_totals, with_bytes, with_lost, with_taken};
 
-use iio_base::{Count, Sum};
+use iio_base::Sum;
+use std::simd::prelude::*;
 
 /// What the queues of a device gave to its members, and what those of members that have left had lost.
 #[derive(Drop)]
 pub struct Totals {
     /// How many scans were taken from them.
-    pub scans: Count,
+    pub scans: Sum,
     /// The sum of all bytes of these scans.
     pub bytes: Sum,
     /// How many scans were lost because a queue was full, until its member left.
     pub lost: Sum,
 }
 
-// So few bytes have a sum below 2^16.
-const PIECE: usize = 256;
+// So many bytes are added at once, in 16 bits.
+const LANES: usize = 64;
 
-// The sum of at most that many bytes. In 16 bits it is reckoned for several bytes at once.
-fn piece_sum(bytes: &[u8]) -> u16
-    requires { length bytes.now ≤ PIECE }
+// The sum of so many bytes.
+#[inline]
+fn lane_sum(bytes: &[u8]) -> u16
+    requires { length bytes.now ≡ LANES }
+    ensures { result ≡ sum bytes.now }
+{
+    Simd::<u8, LANES>::from_slice(bytes)
+        .cast::<u16>()
+        .reduce_sum()
+}
+
+// The sum of fewer bytes.
+fn short_sum(bytes: &[u8]) -> u16
+    requires { length bytes.now < LANES }
     ensures { result ≡ sum bytes.now }
 {
     let mut total = 0;
@@ -39,12 +51,12 @@ fn byte_sum(bytes: &[u8]) -> u64
 {
     let mut total = 0;
     let mut rest = bytes;
-    while rest.len() > PIECE {
-        let (piece, later) = rest.split_at(PIECE);
-        total += u64::from(piece_sum(piece));
+    while rest.len() >= LANES {
+        let (lanes, later) = rest.split_at(LANES);
+        total += u64::from(lane_sum(lanes));
         rest = later;
     }
-    total + u64::from(piece_sum(rest))
+    total + u64::from(short_sum(rest))
 }
 
 impl Totals {
@@ -53,19 +65,19 @@ impl Totals {
         ensures { result ≡ no_totals }
     {
         Totals {
-            scans: Count::new(),
+            scans: Sum::new(),
             bytes: Sum::new(),
             lost: Sum::new(),
         }
     }
 
-    // A scan was taken.
-    fn give(&mut self, scan: &[u8])
-        requires { length scan.now < 2 ^ 32 }
-        ensures { self.new ≡ with_scan scan.now self.old }
+    /// So many scans were taken, which have these bytes.
+    pub(crate) fn give(&mut self, count: u32, bytes: &[u8])
+        requires { length bytes.now < 2 ^ 32 }
+        ensures { self.new ≡ with_bytes count bytes.now self.old }
     {
-        self.scans.rise();
-        self.bytes.add(byte_sum(scan));
+        self.scans.add(u64::from(count));
+        self.bytes.add(byte_sum(bytes));
     }
 
     /// A take gave that scan, or none.
@@ -74,7 +86,7 @@ impl Totals {
         ensures { self.new ≡ with_taken taken scan.now self.old }
     {
         match taken {
-            Some(true) => self.give(scan),
+            Some(true) => self.give(1, scan),
             _ => {}
         }
     }

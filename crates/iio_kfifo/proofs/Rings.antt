@@ -1,12 +1,14 @@
--- What a scan more and a scan less make of a ring of slots.
+-- What a scan more and some scans less make of a ring of slots.
 use Rattle.std.proofs.Common.{◌≡◌, ℕ, zero, suc, ◌+◌, ◌-◌, ◌*◌, ◌≤◌, ◌<◌, min, List, [], ◌∷◌, ◌++◌, length, take, drop, refl, sym, ap, subst, ◌∙◌, inl, inr, arith, add-one, mul-le-mul_right}
 use Rattle.std.proofs.lemmas.Bool.{cases_lt}
 use Rattle.std.proofs.lemmas.Bool.Decides.{nat_tests}
-use Rattle.std.proofs.lemmas.List.{append_assoc, drop-drop, drop_all, drop-append-le, length-append, length-drop, length-take-le, take-append-drop, take-append-le}
+use Rattle.std.specs.List.{flat_map}
+use Rattle.std.proofs.Math.Seq.{drop-append-add, take-append-add}
+use Rattle.std.proofs.lemmas.List.{append-nil, append_assoc, drop-drop, drop-append-le, length-append, length-drop, length-take-le, take_all, take-append-drop, take-append-le}
 use Rattle.std.proofs.lemmas.Slice.{drop-append-drop}
 use Rattle.iio_kfifo.specs.Queue.{scans_in}
 use Rattle.iio_kfifo.specs.Ring.{IsRing, bytes_from, first_after, slot_after}
-use Rattle.iio_kfifo.proofs.Scans.{scans_in-append, scans_in-front}
+use Rattle.iio_kfifo.proofs.Scans.{drop_most, length-scans_in, scans_in-append, scans_in-bytes, scans_in-front, scans_in-split, take_most}
 
 -- ---- slots
 
@@ -23,86 +25,150 @@ slot_within slot count slots less most =
       | inr round ↦ omega (arith, less, most, goes_round slot count slots round)
     ]
 
--- ---- a scan less
+-- ---- scans less
+
+module _ (first waiting size slots len room : ℕ) (ring : IsRing first waiting size slots len room) where
+  -- so many slots from the ring's start on were written
+  pub slots_written : (count : ℕ) → count ≤ min (first + waiting) slots → count * size ≤ len
+  slots_written count few = omega (arith, mul-le-mul_right size few, ring.written)
+
+  -- all were where scans wait up to the ring's end
+  all_written : slots ≤ first + waiting → len ≡ slots * size
+  all_written round = omega (arith, slots_written slots (omega (arith, round)), ring.within)
+
+module _ (first count size slots room : ℕ) (bytes : List ℕ) where
+  abbrev run : List ℕ
+  run = drop (first * size) bytes
+
+  -- the scans that are left stand from their first slot on
+  left_on : (left : ℕ) → IsRing first (count + left) size slots (length bytes) room
+      → scans_in size left (drop (count * size) (run ++ bytes)) ≡ scans_in size left (bytes_from (first_after first count left slots * size) bytes)
+  left_on zero ring = refl
+  left_on (suc left) ring =
+      let next = slot_after first count slots in
+      let h = ring.begins in
+      let m = ring.most in
+      let long = length-drop (first * size) bytes in
+      elim (cases_lt (first + count) slots) [
+        | inl on ↦
+            let some : (first + count) * size ≤ length bytes = slots_written first (count + suc left) size slots (length bytes) room ring (first + count) (omega (arith, on)) in
+            let same : first * size + count * size ≡ next * size = rw (goes_on first count slots on) (omega arith) in
+            ap (λ xs. scans_in size (suc left) xs)
+            (drop-append-le (count * size) run bytes (omega (arith, long, some)) ∙ ap (λ xs. xs ++ bytes) (drop-drop (count * size) (first * size) bytes) ∙ ap (λ n. drop n bytes ++ bytes) same)
+        | inr round ↦
+            let all = all_written first (count + suc left) size slots (length bytes) room ring (omega (arith, round)) in
+            let is : next + slots ≡ first + count = omega (arith, round, goes_round first count slots round) in
+            let times : (next + slots) * size ≡ (first + count) * size = ap (λ n. n * size) is in
+            let low : first ≤ slots = omega (arith, h) in
+            let past : count * size ≡ length run + next * size = omega (arith, long, times, all, mul-le-mul_right size low) in
+            let fits : suc left + next ≤ slots = omega (arith, is, h, m) in
+            ap (λ n. scans_in size (suc left) (drop n (run ++ bytes))) past
+            ∙ ap (λ xs. scans_in size (suc left) xs) (drop-append-add run bytes (next * size))
+            ∙ sym (scans_in-front size (suc left) (drop (next * size) bytes) bytes (omega (arith, length-drop (next * size) bytes, all, mul-le-mul_right size fits)))
+      ]
+
+  left_ring : (left len : ℕ) → IsRing first (count + left) size slots len room → IsRing (first_after first count left slots) left size slots len room
+  left_ring zero len ring =
+      let h = ring.begins in
+      let none : min (0 + 0) slots ≡ 0 = omega arith in record {
+        begins = omega (arith, h);
+        most = omega arith;
+        written = rw none (omega arith);
+        within = ring.within;
+        enough = ring.enough;
+      }
+  left_ring (suc left) len ring =
+      let h = ring.begins in
+      let most = ring.most in
+      let fewer : min (slot_after first count slots + suc left) slots ≤ min (first + (count + suc left)) slots
+      = elim (cases_lt (first + count) slots) [
+        | inl on ↦ omega (arith, goes_on first count slots on)
+        | inr round ↦ omega (arith, h, round, goes_round first count slots round)
+      ] in record {
+        begins = slot_within first count slots h (omega (arith, most));
+        most = omega (arith, most);
+        written = slots_written first (count + suc left) size slots len room ring _ fewer;
+        within = ring.within;
+        enough = ring.enough;
+      }
+
+-- the first scans of a ring, and those that are left once they were taken
+module _ (first waiting count size slots room : ℕ) (bytes : List ℕ) (ring : IsRing first waiting size slots (length bytes) room) (there : count ≤ waiting) where
+  parts : waiting ≡ count + (waiting - count)
+  parts = omega (arith, there)
+
+  ring' : IsRing first (count + (waiting - count)) size slots (length bytes) room
+  ring' = subst (λ n. IsRing first n size slots (length bytes) room) parts ring
+
+  pub ring_less : scans_in size waiting (bytes_from (first * size) bytes)
+      ≡ scans_in size count (bytes_from (first * size) bytes) ++ scans_in size (waiting - count) (bytes_from (first_after first count (waiting - count) slots * size) bytes)
+  ring_less =
+      ap (λ n. scans_in size n (bytes_from (first * size) bytes)) parts
+      ∙ scans_in-split size count (waiting - count) (bytes_from (first * size) bytes)
+      ∙ ap (λ xs. scans_in size count (bytes_from (first * size) bytes) ++ xs) (left_on first count size slots room bytes (waiting - count) ring')
+
+  pub less_ring : IsRing (first_after first count (waiting - count) slots) (waiting - count) size slots (length bytes) room
+  less_ring = left_ring first count size slots room bytes (waiting - count) (length bytes) ring'
+
+  -- the bytes of the first ones: those that stand up to the ring's end, and then those from its start
+  pub first_bytes : take (count * size) (bytes_from (first * size) bytes)
+      ≡ take (min count (slots - first) * size) (drop (first * size) bytes) ++ take ((count - min count (slots - first)) * size) bytes
+  first_bytes =
+      let run = drop (first * size) bytes in
+      let h = ring.begins in
+      let long = length-drop (first * size) bytes in
+      elim (cases_lt slots (first + count)) [
+        | inl round ↦
+            let is : min count (slots - first) ≡ slots - first = omega (arith, h, round) in
+            let all = all_written first waiting size slots (length bytes) room ring (omega (arith, there, round)) in
+            let whole : first + (slots - first) ≡ slots = omega (arith, h) in
+            let times : (first + (slots - first)) * size ≡ slots * size = ap (λ n. n * size) whole in
+            let has : length run ≡ (slots - first) * size = omega (arith, long, times, all) in
+            let rest : count ≡ (slots - first) + (count - (slots - first)) = omega (arith, round) in
+            let past : count * size ≡ length run + (count - (slots - first)) * size = omega (arith, has, ap (λ n. n * size) rest) in
+            rw is (ap (λ n. take n (run ++ bytes)) past ∙ take-append-add run bytes ((count - (slots - first)) * size)
+            ∙ ap (λ xs. xs ++ take ((count - (slots - first)) * size) bytes) (sym (take_all ((slots - first) * size) run (omega (arith, has)))))
+        | inr on ↦
+            let is : min count (slots - first) ≡ count = omega (arith, h, on) in
+            let less : count - count ≡ 0 = omega arith in
+            let none : (count - count) * size ≡ 0 = rw less (omega arith) in
+            let some : (first + count) * size ≤ length bytes = slots_written first waiting size slots (length bytes) room ring (first + count) (omega (arith, there, on)) in
+            rw (is, none) (take-append-le (count * size) run bytes (omega (arith, long, some)) ∙ sym (append-nil (take (count * size) run)))
+      ]
+
+  pub run_fits : first * size + min count (slots - first) * size ≤ length bytes
+  run_fits =
+      let h = ring.begins in
+      omega (arith, slots_written first waiting size slots (length bytes) room ring (first + min count (slots - first)) (omega (arith, there, h)))
+
+-- the scans that a take of at most so many gives, their bytes, and those that are left
+module _ (first waiting most count size slots room : ℕ) (bytes : List ℕ) (ring : IsRing first waiting size slots (length bytes) room) (is : count ≡ min waiting most) where
+  less : scans_in size waiting (bytes_from (first * size) bytes)
+      ≡ scans_in size count (bytes_from (first * size) bytes) ++ scans_in size (waiting - count) (bytes_from (first_after first count (waiting - count) slots * size) bytes)
+  less = ring_less first waiting count size slots room bytes ring (omega (arith, is))
+
+  long : length (scans_in size count (bytes_from (first * size) bytes)) ≡ min most (length (scans_in size waiting (bytes_from (first * size) bytes)))
+  long = omega (arith, is, length-scans_in size count (bytes_from (first * size) bytes), length-scans_in size waiting (bytes_from (first * size) bytes))
+
+  pub given_bytes : flat_map (λ scan. scan) (take most (scans_in size waiting (bytes_from (first * size) bytes))) ≡ take (count * size) (bytes_from (first * size) bytes)
+  given_bytes =
+      ap (λ xs. flat_map (λ scan. scan) xs) (take_most most _ _ _ less long) ∙ scans_in-bytes size count (bytes_from (first * size) bytes)
+
+  pub length-given : length (flat_map (λ scan. scan) (take most (scans_in size waiting (bytes_from (first * size) bytes)))) ≡ count * size
+  length-given =
+      let h = ring.begins in
+      let m = ring.most in
+      let there = slots_written first waiting size slots (length bytes) room ring count (omega (arith, is, h, m)) in
+      ap length given_bytes ∙ length-take-le (count * size) (bytes_from (first * size) bytes) (omega (arith, length-append (drop (first * size) bytes) bytes, there))
+
+  pub scans_left : drop most (scans_in size waiting (bytes_from (first * size) bytes)) ≡ scans_in size (waiting - count) (bytes_from (first_after first count (waiting - count) slots * size) bytes)
+  scans_left = drop_most most _ _ _ less long
 
 -- the first scan's bytes are there
 pub first_fits : (first waiting size slots len room : ℕ) → IsRing first waiting size slots len room → 0 < waiting → first * size + size ≤ len
 first_fits first waiting size slots len room ring some =
     let h = ring.begins in
-    let one : suc first ≤ min (first + waiting) slots = omega (arith, h, some) in
-    omega (arith, mul-le-mul_right size one, ring.written)
-
--- the scans that are left stand from the next slot on
-left_on : (first left size slots room : ℕ) (bytes : List ℕ) → IsRing first (suc left) size slots (length bytes) room
-    → scans_in size left (drop (first * size + size) bytes ++ bytes) ≡ scans_in size left (bytes_from (first_after first left slots * size) bytes)
-left_on first zero size slots room bytes ring = refl
-left_on first (suc left) size slots room bytes ring =
-    elim (cases_lt (first + 1) slots) [
-      | inl on ↦
-          let same : first * size + size ≡ slot_after first 1 slots * size = rw (goes_on first 1 slots on) (omega arith) in
-          ap (λ n. scans_in size (suc left) (drop n bytes ++ bytes)) same
-      | inr round ↦
-          let h = ring.begins in
-          let none : slot_after first 1 slots ≡ 0 = omega (arith, h, goes_round first 1 slots round) in
-          let start : 0 ≡ slot_after first 1 slots * size = rw none (omega arith) in
-          let past : length bytes ≤ first * size + size = omega (arith, ring.within, mul-le-mul_right size round) in
-          let all : min (first + suc (suc left)) slots ≡ slots = omega (arith, round) in
-          let most : suc left ≤ slots = omega (arith, ring.most) in
-          let long : suc left * size ≤ length bytes = omega (arith, mul-le-mul_right size most, rw all at ring.written) in
-          ap (λ xs. scans_in size (suc left) (xs ++ bytes)) (drop_all (first * size + size) bytes past)
-          ∙ sym (scans_in-front size (suc left) bytes bytes long)
-          ∙ ap (λ n. scans_in size (suc left) (drop n bytes ++ bytes)) start
-    ]
-
--- the first scan of a ring, and the others
-pub ring_take : (first left size slots room : ℕ) (bytes : List ℕ) → IsRing first (suc left) size slots (length bytes) room
-    → scans_in size (suc left) (bytes_from (first * size) bytes)
-    ≡ take size (drop (first * size) bytes) ∷ scans_in size left (bytes_from (first_after first left slots * size) bytes)
-ring_take first left size slots room bytes ring =
-    let rest = drop (first * size) bytes in
-    let fits = first_fits first (suc left) size slots (length bytes) room ring (omega arith) in
-    let some : size ≤ length rest = omega (arith, fits, length-drop (first * size) bytes) in
-    ap (λ x. x ∷ scans_in size left (drop size (rest ++ bytes))) (take-append-le size rest bytes some)
-    ∙ ap (λ xs. take size rest ∷ scans_in size left xs) (drop-append-le size rest bytes some ∙ ap (λ xs. xs ++ bytes) (drop-drop size (first * size) bytes))
-    ∙ ap (λ xs. take size rest ∷ xs) (left_on first left size slots room bytes ring)
-
-pub take_ring : (first left size slots len room : ℕ) → IsRing first (suc left) size slots len room → IsRing (first_after first left slots) left size slots len room
-take_ring first zero size slots len room ring =
-    let h = ring.begins in
-    let none : min (0 + 0) slots ≡ 0 = omega arith in record {
-      begins = omega (arith, h);
-      most = omega arith;
-      written = rw none (omega arith);
-      within = ring.within;
-      enough = ring.enough;
-    }
-take_ring first (suc left) size slots len room ring =
-    let h = ring.begins in
-    let most = ring.most in
-    let fewer : min (slot_after first 1 slots + suc left) slots ≤ min (first + suc (suc left)) slots
-    = elim (cases_lt (first + 1) slots) [
-      | inl on ↦ omega (arith, goes_on first 1 slots on)
-      | inr round ↦ omega (arith, h, round, goes_round first 1 slots round)
-    ] in record {
-      begins = slot_within first 1 slots h (omega (arith, h));
-      most = omega (arith, most);
-      written = omega (arith, mul-le-mul_right size fewer, ring.written);
-      within = ring.within;
-      enough = ring.enough;
-    }
-
-module _ (first waiting size slots room : ℕ) (bytes : List ℕ) (ring : IsRing first waiting size slots (length bytes) room) (some : 0 < waiting) where
-  pub ring_less : scans_in size waiting (bytes_from (first * size) bytes)
-      ≡ take size (drop (first * size) bytes) ∷ scans_in size (waiting - 1) (bytes_from (first_after first (waiting - 1) slots * size) bytes)
-  ring_less =
-      let more : waiting ≡ suc (waiting - 1) = omega (arith, some) in
-      let ring' = subst (λ n. IsRing first n size slots (length bytes) room) more ring in
-      ap (λ n. scans_in size n (bytes_from (first * size) bytes)) more ∙ ring_take first (waiting - 1) size slots room bytes ring'
-
-  pub less_ring : IsRing (first_after first (waiting - 1) slots) (waiting - 1) size slots (length bytes) room
-  less_ring =
-      let more : waiting ≡ suc (waiting - 1) = omega (arith, some) in
-      take_ring first (waiting - 1) size slots (length bytes) room (subst (λ n. IsRing first n size slots (length bytes) room) more ring)
+    omega (arith, slots_written first waiting size slots len room ring (suc first) (omega (arith, h, some)))
 
 -- ---- a scan more
 

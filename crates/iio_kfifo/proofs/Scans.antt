@@ -1,6 +1,9 @@
--- Scans that stand one behind the other in bytes: how many there are, one more at the end, and bytes behind them.
-use Rattle.std.proofs.Common.{◌≡◌, ℕ, zero, suc, ◌*◌, ◌≤◌, List, [], ◌∷◌, ◌++◌, length, take, drop, refl, ap, ◌∙◌, arith}
-use Rattle.std.proofs.lemmas.List.{length-drop, nil_from_length, take_all, take-append-le, drop-append-le}
+-- Scans that stand one behind the other in bytes: how many there are, one more at the end, bytes behind them, the first of
+-- them and the others, and their bytes.
+use Rattle.std.proofs.Common.{◌≡◌, ℕ, zero, suc, ◌+◌, ◌*◌, ◌≤◌, min, List, [], ◌∷◌, ◌++◌, length, take, drop, refl, sym, ap, ◌∙◌, arith}
+use Rattle.std.proofs.lemmas.List.{length-drop, nil_from_length, take_all, take-append-le, drop-append-le, drop-drop, drop_min, take_min}
+use Rattle.std.proofs.Math.Seq.{drop-append_seam, take-add, take-append_seam}
+use Rattle.std.specs.List.{flat_map}
 use Rattle.iio_kfifo.specs.Queue.{scans_in}
 
 pub length-scans_in : (size count : ℕ) (bytes : List ℕ) → length (scans_in size count bytes) ≡ count
@@ -31,3 +34,31 @@ scans_in-front size (suc count) bytes rest long =
     ap (λ x. x ∷ scans_in size count (drop size (bytes ++ rest))) (take-append-le size bytes rest more)
     ∙ ap (λ xs. take size bytes ∷ scans_in size count xs) (drop-append-le size bytes rest more)
     ∙ ap (λ xs. take size bytes ∷ xs) (scans_in-front size count (drop size bytes) rest fewer)
+
+-- the first of them, and then the others
+pub scans_in-split : (size first count : ℕ) (bytes : List ℕ) → scans_in size (first + count) bytes ≡ scans_in size first bytes ++ scans_in size count (drop (first * size) bytes)
+scans_in-split size zero count bytes =
+    let all : 0 + count ≡ count = omega arith in
+    let none : 0 * size ≡ 0 = omega arith in
+    rw (all, none) refl
+scans_in-split size (suc first) count bytes =
+    let more : suc first + count ≡ suc (first + count) = omega arith in
+    let times : suc first * size ≡ size + first * size = omega arith in
+    rw (more, times)
+    (ap (λ xs. take size bytes ∷ xs)
+    (scans_in-split size first count (drop size bytes) ∙ ap (λ xs. scans_in size first (drop size bytes) ++ scans_in size count xs) (drop-drop (first * size) size bytes)))
+
+-- their bytes are the first of those that they stand in
+pub scans_in-bytes : (size count : ℕ) (bytes : List ℕ) → flat_map (λ scan. scan) (scans_in size count bytes) ≡ take (count * size) bytes
+scans_in-bytes size zero bytes = let none : 0 * size ≡ 0 = omega arith in rw none refl
+scans_in-bytes size (suc count) bytes =
+    let times : suc count * size ≡ size + count * size = omega arith in
+    rw times (ap (λ xs. take size bytes ++ xs) (scans_in-bytes size count (drop size bytes)) ∙ sym (take-add size (count * size) bytes))
+
+-- the first elements of a list, at most so many, and the others
+module _ {A : Type 0} (most : ℕ) (xs front rest : List A) (is : xs ≡ front ++ rest) (long : length front ≡ min most (length xs)) where
+  pub take_most : take most xs ≡ front
+  take_most = sym (take_min most xs) ∙ ap (λ n. take n xs) (sym long) ∙ ap (λ ys. take (length front) ys) is ∙ take-append_seam front rest
+
+  pub drop_most : drop most xs ≡ rest
+  drop_most = sym (drop_min most xs) ∙ ap (λ n. drop n xs) (sym long) ∙ ap (λ ys. drop (length front) ys) is ∙ drop-append_seam front rest

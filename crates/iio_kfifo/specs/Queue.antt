@@ -1,6 +1,7 @@
 -- A queue of whole scans, as contracts see it. (Kernel driver-api/iio, "Buffers": kfifo; what a full queue does and
 -- the count of lost scans are this project's own.)
-use Rattle.std.specs.Prelude.{◌≡◌, ℕ, zero, suc, ◌+◌, ◌<◌, List, [], ◌∷◌, ◌++◌, length, take, drop}
+use Rattle.std.specs.Prelude.{◌≡◌, ℕ, zero, suc, ◌+◌, ◌<◌, min, List, [], ◌∷◌, ◌++◌, length, take, drop}
+use Rattle.std.specs.List.{flat_map}
 use Rattle.iio_kfifo.specs.declared.tail.Offered.{Offered}
 use Rattle.iio_kfifo.specs.declared.tail.Offered.TheVariants.{Taken, Lost}
 
@@ -23,6 +24,12 @@ Offers old scan Lost new = (length old.scans ≡ old.capacity)
 pub record GivesFirst (old : Queue) (scan : List ℕ) (new : Queue) : Type 0 where
   pub first : old.scans ≡ scan ∷ new.scans
   pub same : new ≡ record old { scans = new.scans }
+
+-- the oldest scans of `old`, at most so many, were taken out and stand behind what stood before, one behind the other
+pub record GivesScans (most given : ℕ) (before after : List ℕ) (old new : Queue) : Type 0 where
+  pub count : given ≡ min most (length old.scans)
+  pub bytes : after ≡ before ++ flat_map (λ scan. scan) (take most old.scans)
+  pub same : new ≡ record old { scans = drop most old.scans }
 
 -- the first `count` scans of `size` bytes each that stand in `bytes`
 abbrev pub scans_in : ℕ → ℕ → List ℕ → List (List ℕ)

@@ -5,10 +5,10 @@ use Rattle.std.specs.Prelude.{ℕ, zero, suc, ◌+◌, ◌-◌, ◌*◌, ◌≤�
 abbrev pub slot_after : (slot count slots : ℕ) → ℕ
 slot_after slot count slots = if nat_lt (slot + count) slots then slot + count else slot + count - slots
 
--- the first scan's slot once that was taken, by how many scans are left: with none the ring begins anew
-abbrev pub first_after : (first left slots : ℕ) → ℕ
-first_after first zero slots = 0
-first_after first (suc left) slots = slot_after first 1 slots
+-- the first scan's slot once so many were taken, by how many scans are left: with none the ring begins anew
+abbrev pub first_after : (first count left slots : ℕ) → ℕ
+first_after first count zero slots = 0
+first_after first count (suc left) slots = slot_after first count slots
 
 -- the bytes of a ring from that byte on: those up to its end, and then those from its start
 abbrev pub bytes_from : ℕ → List ℕ → List ℕ

@@ -48,17 +48,18 @@ fn slot_after(slot: u32, count: u32, slots: u32) -> u32
     }
 }
 
-// The first scan's slot once that was taken, by how many scans are left. With none the ring begins anew, so that a queue
+// The first scan's slot once so many were taken, by how many scans are left. With none the ring begins anew, so that a queue
 // that is read often uses few bytes.
-fn first_after(first: u32, left: u32, slots: u32) -> u32
-    requires { first < slots }
-    ensures value { result ≡ first_after first left slots }
+fn first_after(first: u32, count: u32, left: u32, slots: u32) -> u32
+    requires slot { first < slots }
+    requires count { count ≤ slots }
+    ensures value { result ≡ first_after first count left slots }
     ensures within { result < slots }
 {
     if left == 0 {
         return 0;
     }
-    slot_after(first, 1, slots)
+    slot_after(first, count, slots)
 }
 
 // Writes a scan from byte `start` on, over the bytes that stand there. There may be fewer than it has.
@@ -88,7 +89,7 @@ fn write_last(bytes: &mut Vec<u8>, start: usize, scan: &[u8])
 }
 
 impl Kfifo {
-    ghost use Rattle.iio_kfifo.specs.Queue.{GivesFirst};
+    ghost use Rattle.iio_kfifo.specs.Queue.{GivesFirst, GivesScans};
 
     /// An empty queue of at most `capacity` scans of `size` bytes. All memory that it ever takes is taken here.
     pub fn new(alloc: Global, capacity: u32, size: u32) -> Result<Kfifo, Mem>
@@ -129,8 +130,27 @@ impl Kfifo {
         let start = self.first as usize * size;
         out.copy_from_slice(&self.bytes[start..start + size]);
         self.waiting -= 1;
-        self.first = first_after(self.first, self.waiting, self.capacity);
+        self.first = first_after(self.first, 1, self.waiting, self.capacity);
         true
+    }
+
+    /// Moves up to `most` of the oldest scans behind what stands in `out`, one behind the other, and says how many there were.
+    pub fn take_scans(&mut self, most: u32, out: &mut Vec<u8>) -> u32
+        requires { length out.old.items + most * self.old.size ≤ vec_capacity out.old }
+        ensures gives { GivesScans most result out.old.items out.new.items self.old self.new }
+        ensures sized { length out.new.items ≡ length out.old.items + result * self.old.size }
+        ensures room { vec_capacity out.old ≤ vec_capacity out.new }
+    {
+        let count = self.waiting.min(most);
+        // Those that stand up to the ring's end, and then those from its start.
+        let run = count.min(self.capacity - self.first);
+        let size = self.size as usize;
+        let start = self.first as usize * size;
+        let _ = out.extend_from_slice(&self.bytes[start..start + run as usize * size]);
+        let _ = out.extend_from_slice(&self.bytes[..(count - run) as usize * size]);
+        self.waiting -= count;
+        self.first = first_after(self.first, count, self.waiting, self.capacity);
+        count
     }
 
     /// How many scans wait.

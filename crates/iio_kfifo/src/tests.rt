@@ -13,6 +13,10 @@ fn largest_queues_work(rt: HostRuntime) -> Result<(), Fail> {
     }
     assert_eq!(rt; (many.waiting(), many.lost()), (65_536, 1));
     assert!(rt; many.take(&mut scan));
+    many.offer(&scan);
+    let mut all = Vec::with_capacity(rt.alloc(), 4_194_304)?;
+    assert_eq!(rt; many.take_scans(65_536, &mut all), 65_536);
+    assert_eq!(rt; (many.waiting(), all.len()), (0, 4_194_304));
     let mut one = Kfifo::new(rt.alloc(), 1, 4_194_304)?;
     let mut long = vec![in rt.alloc(); 5u8; 4_194_304]?;
     assert_eq!(rt; one.offer(&long), Offered::Taken);

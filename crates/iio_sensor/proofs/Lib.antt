@@ -1,2 +1,4 @@
 mod Rows
 mod Biases
+mod HeldLemmas
+pub mod StampLemmas

@@ -3,6 +3,7 @@
 
 mod asks;
 mod failing;
+mod held;
 mod ramp;
 mod recorded;
 mod sensor;

@@ -9,6 +9,7 @@ ghost use Rattle.iio_sensor.specs.Driver.{IsFresh, after_capture, ask_fails, nex
 ghost use Rattle.iio_sensor.specs.Recorded.{come_by, driver_of, row_before, value_in};
 
 use crate::asks::Asks;
+use crate::held::Held;
 use crate::{Fault, MAX_BIASES, Sensor};
 use iio_layout::{Rows, Shape, Values, fill_from};
 use iio_mask::Mask;
@@ -22,6 +23,7 @@ pub struct Recorded {
     asks: Asks,
     // How many moments had come when it was asked last: where a moment is looked for first.
     come: usize,
+    held: Held,
 }
 
 impl Model for Recorded {
@@ -48,6 +50,7 @@ impl Recorded {
             rows,
             asks: Asks::none(),
             come: 0,
+            held: Held::none(),
         }
     }
 }
@@ -65,8 +68,13 @@ impl Sensor for Recorded {
     {
         self.asks.count_capture(t, active);
         self.come = come_near(&self.rows.moments, self.come, t);
+        if self.held.is_for(shape, active, self.come) {
+            self.held.give(shape, t, out);
+            return Ok(());
+        }
         let row = row_before(&self.rows, self.come);
         fill_row(row, &self.asks.biases, shape, active, t, out);
+        self.held.keep(shape, active, self.come, out);
         Ok(())
     }
 
@@ -83,6 +91,7 @@ impl Sensor for Recorded {
 
     fn set_bias(&mut self, c: u32, v: i64) {
         self.asks.set_bias(c, v);
+        self.held.clear();
     }
 }
 

@@ -18,7 +18,7 @@ use Rattle.iiod_session.specs.declared.iio.Took.{Took}
 use Rattle.iiod_session.specs.declared.iio.Took.TheVariants.{Scan, Empty, Gone}
 use Rattle.iiod_session.specs.Machine.{Member, MemberId, Station, is_id_of, with_scans, with_site}
 use Rattle.iiod_session.specs.Calls.{is_attached, trigger_answer}
-use Rattle.iio_system.specs.Acting.{Acts, TakesAt}
+use Rattle.iio_system.specs.Acting.{Acts, TakesAt, TakesScansAt}
 use Rattle.iio_system.specs.Places.{IsBench, IsTrigger, has_in_hand, has_trigger, is_hosted, places_from}
 use Rattle.iio_trigger.specs.Trigger.{with_place, without_place}
 use Rattle.iio_system.proofs.ListLemmas.{after_set, length_after, map_same, set_same}
@@ -135,6 +135,11 @@ pub take_kept : (id : MemberId) (took : Took) (scan : List ℕ) (st st' : Statio
 take_kept id Scan scan st st' t = kept_along st _ st' (scans_kept id _ _ st) t.1
 take_kept id Empty scan st st' t = kept_same st st' t.2
 take_kept id Gone scan st st' t = kept_same st st' t.2
+
+pub take_scans_kept : (id : MemberId) (most : ℕ) (took : Took) (before after : List ℕ) (st st' : Station) → TakesScansAt id most took before after st st' → KeepsPlace st st'
+take_scans_kept id most Scan before after st st' t = kept_along st _ st' (scans_kept id _ _ st) t.2
+take_scans_kept id most Empty before after st st' t = kept_same st st' t.3
+take_scans_kept id most Gone before after st st' t = kept_same st st' t.3
 
 -- ---- a device and its trigger
 

@@ -33,13 +33,13 @@ use Rattle.iiod_session.specs.Front.{DeviceFront, Front, shape_at}
 use Rattle.iiod_session.specs.Machine.{Member, MemberId, is_id_of, member_in, scans_in, with_site}
 use Rattle.iiod_session.specs.Calls.{ev_open_answer, ev_read_answer, holds_events, is_asking, read_answer, trigger_answer}
 use Rattle.iiod_session.specs.Target.{MayRead}
-use Rattle.iio_system.specs.Acting.{Acts, Keeps, KeepsCaptures, Reads, TakesAt, Turns, has_member, is_member, lost_in}
+use Rattle.iio_system.specs.Acting.{Acts, Keeps, KeepsCaptures, Reads, TakesAt, TakesScansAt, Turns, has_member, is_member, lost_in}
 use Rattle.iio_system.specs.Bench.{Kept}
 use Rattle.iio_system.specs.Places.{IsBench, TriggerRecord, trigger_of}
 use Rattle.iio_system.specs.Station.{captures_by, front_by, member_of, station_by, stations_by, view_by}
 use Rattle.iio_system.proofs.ListLemmas.{length_map_is, map_at, map_same}
 use Rattle.iio_system.proofs.ToldLemmas.{fronts_by}
-use Rattle.iio_system.proofs.BenchLemmas.{KeepsPlace, acts_kept, bench_by, bench_kept, kept_along, kept_same, monitor_kept, take_kept, trigger_kept, written_kept}
+use Rattle.iio_system.proofs.BenchLemmas.{KeepsPlace, acts_kept, bench_by, bench_kept, kept_along, kept_same, monitor_kept, take_kept, take_scans_kept, trigger_kept, written_kept}
 
 -- ---- what a call keeps of a device
 
@@ -226,6 +226,9 @@ module _ {X : Type 0} {V : X → Type 0} {g : Ghosts Queue} (drive : Plug X V �
 
     pub sound_take : (id : MemberId) (took : Took) (scan : List ℕ) → TakesAt id took scan (station_by drive d) (station_by drive d') → IsBench triggers states (stations_by (λ p. no_driver) (set ds k d'))
     sound_take id took scan t = sound_kept (take_kept id took scan (station_by drive d) (station_by drive d') t)
+
+    pub sound_take_scans : (id : MemberId) (most : ℕ) (took : Took) (before after : List ℕ) → TakesScansAt id most took before after (station_by drive d) (station_by drive d') → IsBench triggers states (stations_by (λ p. no_driver) (set ds k d'))
+    sound_take_scans id most took before after t = sound_kept (take_scans_kept id most took before after (station_by drive d) (station_by drive d') t)
 
 -- the whole front
 pub fronts_keep : {X : Type 0} {V : X → Type 0} {g : Ghosts Queue} (drive : Plug X V → Driver) (context : List ℕ) (triggers : List TriggerDesc) (ds : List (Fitted (IioDev Queue g) X V)) (k : ℕ) (d d' : Fitted (IioDev Queue g) X V)

@@ -1,5 +1,5 @@
 -- The told state, where one device has changed.
-use Rattle.std.proofs.Common.{◌≡◌, ℕ, ◌≤◌, Bool, true, false, List, [], map, length, set, slice_get, Option, Some, Result, Ok, Err, sym, ap, subst, ◌∙◌, arith, cond}
+use Rattle.std.proofs.Common.{◌≡◌, ℕ, ◌≤◌, Bool, true, false, List, [], ◌∷◌, map, length, take, set, slice_get, Option, Some, None, Result, Ok, Err, inr, refl, sym, ap, subst, ◌∙◌, arith, cond, length-take}
 use Rattle.std.specs.Prelude.{◌==◌, ℤ, unwrap_or, drop, ⊤}
 use Rattle.std.specs.Option.{option_map_or}
 use Rattle.std.proofs.lemmas.Option.{slice_get_past}
@@ -9,20 +9,23 @@ use Rattle.iio_text.specs.declared.errors.Errno.TheVariants.{EBADF, ENODEV}
 use Rattle.iio_text.specs.declared.values.Fixed.{Fixed}
 use Rattle.iio_attr.specs.declared.attributes.Attr.{Attr}
 use Rattle.iio_attr.specs.declared.values.Value.{Value}
+use Rattle.iio_layout.specs.Layout.{scan_size}
+use Rattle.iio_layout.specs.Shape.{ShapeRecord}
 use Rattle.iio_desc.specs.declared.description.TriggerDesc.{TriggerDesc}
 use Rattle.iio_event.specs.declared.event.EventData.{EventData}
 use Rattle.iio_event.specs.Monitor.{after_close, after_open, after_read}
 use Rattle.iio_device.specs.Site.{sampled, site_written, with_monitor}
-use Rattle.iio_device.specs.Totals.{with_scan}
+use Rattle.iio_device.specs.Totals.{with_given}
 use Rattle.iiod_session.specs.declared.iio.No.{No}
 use Rattle.iiod_session.specs.declared.iio.No.TheVariants.{Errno as NoErrno, Mem as NoMem}
 use Rattle.iiod_session.specs.declared.iio.Took.{Took}
 use Rattle.iiod_session.specs.declared.iio.Took.TheVariants.{Scan, Empty, Gone}
-use Rattle.iiod_session.specs.Front.{DeviceFront, Front, device_name, no_shape, shape_at, trigger_name}
+use Rattle.iiod_session.specs.Front.{DeviceFront, Front, device_name, no_shape, shape_at, size_at, trigger_name}
 use Rattle.iiod_session.specs.Machine.{Machine, MemberId, Station, is_plugged, lost_of, no_station, queue_of, scans_in, station_at, with_queue, with_scans, with_site, with_station}
 use Rattle.iiod_session.specs.Calls.{ev_close_of, ev_open_answer, ev_open_of, ev_read_answer, ev_read_of, holds_events, is_asking, read_answer, read_attr_of, set_trigger_of, trigger_answer, unless, write_attr_of}
-use Rattle.iiod_session.specs.Seat.{Answers, Takes}
-use Rattle.iio_system.specs.Acting.{Acts, TakesAt, Turns, lost_in}
+use Rattle.iiod_session.specs.Reading.{TakesScans}
+use Rattle.iiod_session.specs.Seat.{Answers, SeatRecord, Takes, seat_id}
+use Rattle.iio_system.specs.Acting.{Acts, TakesAt, TakesScansAt, Turns, lost_in}
 use Rattle.iio_system.proofs.ListLemmas.{map_at, map_changed, map_same}
 
 -- a machine of devices
@@ -109,19 +112,35 @@ module _ {D : Type 0} (f : D → Station) (clock : ℤ) (ds : List D) (k : ℕ) 
   told_ev_close who r t = told_acts (with_site (with_monitor (after_close (λ a b. a == b) who))) (λ st. ensure (holds_events who st) EBADF) r t
 
   -- takes
+  told_gives : (id : MemberId) (given : List (List ℕ)) (left : List (List ℕ) → List (List ℕ)) → f d' ≡ record (f d) { totals = with_given given (f d).totals; members = with_scans id (left (scans_in id (f d).members)) (f d).members }
+      → Some (machine_by f clock (set ds k d')) ≡ Some (with_queue (machine_by f clock ds) k id given (left (queue_of (machine_by f clock ds) k id)))
+  unfolding with_queue
+  told_gives id given left e =
+      rw (queue_is f clock ds k d at id) (some_changed (λ st. record st { totals = with_given given st.totals; members = with_scans id (left (scans_in id (f d).members)) st.members }) e)
+
   pub told_take : (id : MemberId) (took : Took) (scan : List ℕ) → TakesAt id took scan (f d) (f d')
       → Takes (machine_by f clock ds) k id took scan (Some (machine_by f clock (set ds k d')))
-  unfolding queue_of with_queue is_plugged
-  told_take id Scan scan t =
-      let q : scans_in id (station_at (machine_by f clock ds) k).members ≡ scans_in id (f d).members = ap (λ (st : Station). scans_in id st.members) here in (
-        rw q t.0,
-        ap (λ (m : Machine). Some m) (told_changed (λ st. record st { totals = with_scan scan st.totals; members = with_scans id (drop 1 (scans_in id (f d).members)) st.members }) t.1
-            ∙ ap (λ (scans : List (List ℕ)). with_station (λ st. record st { totals = with_scan scan st.totals; members = with_scans id (drop 1 scans) st.members }) k (machine_by f clock ds)) (sym q)),
+  told_take id Scan scan t = (rw (queue_is f clock ds k d at id) t.0, told_gives id (scan ∷ []) (drop 1) t.1)
+  told_take id Empty scan t = (queue_is f clock ds k d at id ∙ t.0, plugged_is f clock ds k d at ∙ t.1, some_same t.2)
+  told_take id Gone scan t = (queue_is f clock ds k d at id ∙ t.0, plugged_is f clock ds k d at ∙ t.1, some_same t.2)
+
+  -- takes of many scans, by a seat that tells nothing
+  pub told_take_scans : (s : SeatRecord) (most : ℕ) (took : Took) (before after : List ℕ) → s.tale ≡ None → TakesScansAt (seat_id s) most took before after (f d) (f d')
+      → TakesScans k most (Some (machine_by f clock ds)) (Some (machine_by f clock (set ds k d'))) s s before after took
+  told_take_scans s most Scan before after untold t =
+      let scans : List (List ℕ) = take most (scans_in (seat_id s) (f d).members) in (
+        scans,
+        t.1,
+        record {
+          reads = record { some = t.0; most = omega (arith, length-take most (scans_in (seat_id s) (f d).members)); grown = inr (false, rw untold refl) };
+          same = refl;
+          from = (ap (λ (queue : List (List ℕ)). take most queue) (queue_is f clock ds k d at (seat_id s)), told_gives (seat_id s) scans (drop most) t.2);
+        },
       )
-  told_take id Empty scan t =
-      (ap (λ (st : Station). scans_in id st.members) here ∙ t.0, ap (λ (st : Station). st.site.plugged) here ∙ t.1, some_same t.2)
-  told_take id Gone scan t =
-      (ap (λ (st : Station). scans_in id st.members) here ∙ t.0, ap (λ (st : Station). st.site.plugged) here ∙ t.1, some_same t.2)
+  told_take_scans s most Empty before after untold t =
+      (t.0, record { same = rw untold refl; from = (queue_is f clock ds k d at (seat_id s) ∙ t.1, plugged_is f clock ds k d at ∙ t.2, some_same t.3) })
+  told_take_scans s most Gone before after untold t =
+      (t.0, record { same = rw untold refl; from = (queue_is f clock ds k d at (seat_id s) ∙ t.1, plugged_is f clock ds k d at ∙ t.2, some_same t.3) })
 
 -- ---- reads
 
@@ -137,6 +156,9 @@ module _ {D : Type 0} (face : D → DeviceFront) (context : List ℕ) (triggers 
   pub shape_is : shape_at (fronts_by face context triggers ds) k ≡ (face d).shape
   unfolding shape_at
   shape_is = ap (λ (o : Option DeviceFront). option_map_or (λ (x : DeviceFront). x.shape) o no_shape) (map_at face ds k d at)
+
+  pub size_is : (mask : ℕ) → size_at (fronts_by face context triggers ds) k mask ≡ scan_size (face d).shape mask
+  size_is mask = ap (λ (shape : ShapeRecord). scan_size shape mask) shape_is
 
   module _ (f : D → Station) (clock : ℤ) (d' : D) (channel : Option ℕ) (a : Attr) where
     asked_at : (b : Bool) (r : Result Value No) (answer : Result Value Errno) → Turns answer (cond b (with_site sampled (f d)) (f d)) r (f d) (f d')

@@ -1,6 +1,6 @@
 -- What a connection's call makes of one device. Cited by this crate's private functions alone.
-use Rattle.std.specs.Prelude.{◌≡◌, ℕ, ℤ, ◌==◌, ◌&&◌, Bool, true, false, List, [], ◌∷◌, drop, Option, Result, Ok, Err, if◌then◌else◌}
-use Rattle.std.specs.List.{list_any}
+use Rattle.std.specs.Prelude.{◌≡◌, ℕ, ℤ, ◌<◌, ◌==◌, ◌&&◌, Bool, true, false, List, [], ◌∷◌, ◌++◌, length, take, drop, Option, Result, Ok, Err, if◌then◌else◌}
+use Rattle.std.specs.List.{flat_map, list_any}
 use Rattle.std.specs.Option.{option_map_or}
 use Rattle.iio_text.specs.declared.errors.Errno.{Errno}
 use Rattle.iio_attr.specs.declared.attributes.Attr.{Attr}
@@ -10,7 +10,7 @@ use Rattle.iio_mask.specs.declared.Mask.{Mask}
 use Rattle.iio_device.specs.declared.membership.Membership.{Membership}
 use Rattle.iio_device.specs.Device.{DeviceView}
 use Rattle.iio_device.specs.Site.{sampled}
-use Rattle.iio_device.specs.Totals.{with_scan}
+use Rattle.iio_device.specs.Totals.{with_given, with_scan}
 use Rattle.iiod_session.specs.declared.iio.No.{No}
 use Rattle.iiod_session.specs.declared.iio.No.TheVariants.{Errno as NoErrno, Mem as NoMem}
 use Rattle.iiod_session.specs.declared.iio.Took.{Took}
@@ -59,6 +59,15 @@ TakesAt id Scan scan old new =
     × (new ≡ record old { totals = with_scan scan old.totals; members = with_scans id (drop 1 (scans_in id old.members)) old.members })
 TakesAt id Empty scan old new = (scans_in id old.members ≡ []) × (old.site.plugged ≡ true) × (new ≡ old)
 TakesAt id Gone scan old new = (scans_in id old.members ≡ []) × (old.site.plugged ≡ false) × (new ≡ old)
+
+-- the oldest scans of a member's queue are taken, up to so many, and stand behind what stood before
+abbrev pub TakesScansAt : MemberId → (most : ℕ) → Took → (before after : List ℕ) → (old new : Station) → Type 0
+TakesScansAt id most Scan before after old new =
+    (0 < length (take most (scans_in id old.members)))
+    × (after ≡ before ++ flat_map (λ scan. scan) (take most (scans_in id old.members)))
+    × (new ≡ record old { totals = with_given (take most (scans_in id old.members)) old.totals; members = with_scans id (drop most (scans_in id old.members)) old.members })
+TakesScansAt id most Empty before after old new = (after ≡ before) × (scans_in id old.members ≡ []) × (old.site.plugged ≡ true) × (new ≡ old)
+TakesScansAt id most Gone before after old new = (after ≡ before) × (scans_in id old.members ≡ []) × (old.site.plugged ≡ false) × (new ≡ old)
 
 -- the answer of a take that finds no scan
 abbrev pub nothing_at : Station → Took

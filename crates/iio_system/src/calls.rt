@@ -1,6 +1,6 @@
 //! What a connection's call makes of one device.
 
-ghost use Rattle.std.specs.Prelude.{◌≡◌, ◌≢◌, ◌==◌, true, false, ◌-◌, ◌^◌, ◌<◌, ⊤, IfSome, Some, Err, length};
+ghost use Rattle.std.specs.Prelude.{◌≡◌, ◌≢◌, ◌==◌, true, false, ◌+◌, ◌-◌, ◌*◌, ◌^◌, ◌≤◌, ◌<◌, ⊤, IfSome, Some, Err, length, vec_capacity};
 ghost use Rattle.iio_base.specs.Refusals.{ensure};
 ghost use Rattle.iio_text.specs.declared.errors.Errno.TheVariants.{EBADF, ENODEV};
 ghost use Rattle.iio_attr.specs.declared.attributes.Attr.TheVariants.{Raw};
@@ -11,7 +11,7 @@ ghost use Rattle.iio_device.specs.Site.{Site, site_written, with_monitor};
 ghost use Rattle.iiod_session.specs.declared.iio.No.TheVariants.{Mem};
 ghost use Rattle.iiod_session.specs.Calls.{ev_open_answer, ev_read_answer, holds_events, trigger_answer};
 ghost use Rattle.iiod_session.specs.Machine.{scans_in, with_site};
-ghost use Rattle.iio_system.specs.Acting.{Acts, Keeps, KeepsCaptures, Reads, TakesAt, has_member, id_of, lost_in, nothing_at};
+ghost use Rattle.iio_system.specs.Acting.{Acts, Keeps, KeepsCaptures, Reads, TakesAt, TakesScansAt, has_member, id_of, lost_in, nothing_at};
 ghost use Rattle.iio_system.specs.Handling.{counted, entry_answer, entry_station, is_last};
 ghost use Rattle.iio_system.specs.Places.{entry_of, has_in_hand, trigger_of};
 ghost use Rattle.iio_system.specs.Station.{station_by, view_by};
@@ -182,6 +182,28 @@ fn take_from(device: &mut Device<Kfifo>, number: u64, _mask: Mask, out: &mut [u8
         None => nothing(device),
         Some(false) => nothing(device),
         Some(true) => Took::Scan,
+    }
+}
+
+/// Takes the oldest scans of the member of that number, under that mask, up to `most` of them, and appends them.
+pub(crate) fn take_scans(
+    device: &mut Device<Kfifo>,
+    number: u64,
+    mask: Mask,
+    most: u32,
+    out: &mut Vec<u8>,
+) -> Took
+    requires some { 1 ≤ most }
+    requires few { most * scan_size device.old.core.roster.shape mask.bits < 2 ^ 32 }
+    requires room { length out.old.items + most * scan_size device.old.core.roster.shape mask.bits ≤ vec_capacity out.old }
+    ensures takes { TakesScansAt (id_of number mask) most result out.old.items out.new.items (station_by ⟦<Plug as Sensor>⟧.driver device.old) (station_by ⟦<Plug as Sensor>⟧.driver device.new) }
+    ensures keeps { KeepsCaptures (view_by ⟦<Plug as Sensor>⟧.driver device.old) (view_by ⟦<Plug as Sensor>⟧.driver device.new) }
+    ensures most { length out.new.items ≤ length out.old.items + most * scan_size device.old.core.roster.shape mask.bits }
+    ensures room { vec_capacity out.old ≤ vec_capacity out.new }
+{
+    match device.take_scans(&Member { number }, mask, most, out) {
+        Some(count) if count > 0 => Took::Scan,
+        _ => nothing(device),
     }
 }
 

@@ -123,6 +123,11 @@ impl Iio for Bench {
         calls::take(&mut self.devices[dev as usize], seat.number, seat.mask, out)
     }
 
+    fn take_scans(&mut self, dev: u32, seat: &mut Seat, most: u32, out: &mut Vec<u8>) -> Took {
+        let device = &mut self.devices[dev as usize];
+        calls::take_scans(device, seat.number, seat.mask, most, out)
+    }
+
     fn counts(&mut self, dev: u32, seat: &mut Seat) -> Counts {
         calls::counts(&self.devices[dev as usize], seat.number, seat.mask)
     }

@@ -1,6 +1,6 @@
 -- The room that a block takes, and the block that stands once there was room for it.
-use Rattle.std.proofs.Common.{◌≡◌, ℕ, zero, suc, ◌+◌, ◌/◌, ◌^◌, ◌<◌, ◌≤◌, nat_le, nat_lt, ◌||◌, Bool, true, false, List, [], ◌∷◌, ◌++◌, map, min, length, take, take_all, drop, take-append-drop, append_assoc, length-append, Result, Ok, Err, inl, inr, subst, refl, sym, ap, ◌∙◌, arith}
-use Rattle.std.specs.Prelude.{⊤, pos, if◌then◌else◌}
+use Rattle.std.proofs.Common.{◌≡◌, ℕ, zero, suc, ◌+◌, ◌/◌, ◌^◌, ◌<◌, ◌≤◌, nat_le, nat_lt, ◌||◌, Bool, true, false, List, [], ◌∷◌, ◌++◌, map, min, length, take, drop, append_assoc, length-append, Result, Ok, Err, inl, inr, subst, refl, sym, ap, ◌∙◌, arith}
+use Rattle.std.specs.Prelude.{⊤, pos}
 use Rattle.std.specs.Fmt.{decimal}
 use Rattle.std.specs.Int.{w32, w64, to_be_bytes}
 use Rattle.std.proofs.Math.Seq.{drop-append_seam, take-append_seam}
@@ -43,6 +43,17 @@ pub appended : (text old new : List ℕ) (capacity : ℕ) (r : Result ⊤ Mem) �
 appended text old new capacity (Ok done) a f h = a
 appended text old new capacity (Err mem) a f h = absurd (cc (f h))
 
+-- so does a block's head, of fewer than 2^32 bytes
+pub head_stands : (channels mask came : ℕ) (old new : List ℕ) (capacity : ℕ) (r : Result ⊤ Mem)
+    → Appends (head_text channels mask came) old r new → FitsInRoom (head_text channels mask came) old capacity r
+    → came < 2 ^ 32 → length old + 28 ≤ capacity
+    → (new ≡ old ++ head_text channels mask came) × (length new ≤ length old + 28)
+head_stands channels mask came old new capacity r a f short room =
+    let head = head_text channels mask came in
+    let few = length-head channels mask came short in
+    let is : new ≡ old ++ head = appended head old new capacity r a f (omega (arith, few, room)) in
+    (is, omega (arith, ap length is ∙ length-append old head, few))
+
 -- ---- a head that is put in the place of another
 
 take_front : (n : ℕ) (xs ys : List ℕ) → n ≡ length xs → take n (xs ++ ys) ≡ xs
@@ -50,12 +61,6 @@ take_front n xs ys e = subst (λ k. take k (xs ++ ys) ≡ xs) (sym e) (take-appe
 
 drop_front : (n : ℕ) (xs ys : List ℕ) → n ≡ length xs → drop n (xs ++ ys) ≡ ys
 drop_front n xs ys e = subst (λ k. drop k (xs ++ ys) ≡ ys) (sym e) (drop-append_seam xs ys)
-
--- what stands in an answer stands where room for more follows it
-pub before_room : (ok : Bool) (n : ℕ) (xs zs ys : List ℕ) → length xs ≤ n → ys ≡ (if ok then take n xs ++ zs else xs) → take (length xs) ys ≡ xs
-before_room true n xs zs ys within is =
-    ap (take (length xs)) (is ∙ ap (λ (bs : List ℕ). bs ++ zs) (take_all n xs within)) ∙ take-append_seam xs zs
-before_room false n xs zs ys within is = ap (take (length xs)) is ∙ take_all (length xs) xs (omega arith)
 
 -- the scans, once the head behind them is cut off
 pub without_head : (n : ℕ) (front scans head : List ℕ) → n ≡ length front + length scans → take n (front ++ (scans ++ head)) ≡ front ++ scans
@@ -72,13 +77,6 @@ head_before start came front scans head e f =
     let behind : drop start ((front ++ scans) ++ head) ≡ scans ++ head = ap (drop start) whole ∙ drop_front start front (scans ++ head) e in
     let middle : take came (drop start ((front ++ scans) ++ head)) ≡ scans = ap (take came) behind ∙ take_front came scans head f in
     rw (first, last, middle) refl
-
--- what stood before a block stands as it was
-pub kept_front : (start n : ℕ) (old head scans out : List ℕ) → start ≡ length old → take n out ≡ (old ++ head) ++ scans → take start out ≡ old
-kept_front start n old head scans out e read =
-    let whole : out ≡ old ++ (head ++ (scans ++ drop n out)) =
-    sym (take-append-drop n out) ∙ ap (λ xs. xs ++ drop n out) read ∙ append_assoc (old ++ head) scans (drop n out) ∙ append_assoc old head (scans ++ drop n out) in
-    ap (take start) whole ∙ take_front start old (head ++ (scans ++ drop n out)) e
 
 -- an answer that ends with a block's head and scans
 pub has_block : (start first : ℕ) (old head scans out : List ℕ) → start ≡ length old → first ≡ length old + length head → out ≡ (old ++ head) ++ scans

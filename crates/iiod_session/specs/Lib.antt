@@ -6,7 +6,6 @@ pub mod Target
 pub mod Attributes
 pub mod Seat
 pub mod Reading
-pub mod Taking
 pub mod Desk
 pub mod Acts
 pub mod Moves

@@ -35,13 +35,23 @@ pub record ReadNone (dev : ℕ) (gone : Bool) (told told' : Option Machine) (s s
   pub same : s' ≡ record s { tale = option_map (after_nothing gone) s.tale }
   pub from : FoundNothing dev (seat_id s) (not gone) told told'
 
+-- up to so many scans were taken, and their bytes stand behind what stood before; or the first take found nothing
+abbrev pub TakesScans : (dev most : ℕ) → (told told' : Option Machine) → (s s' : SeatRecord) → (before after : List ℕ) → Took → Type 0
+TakesScans dev most told told' s s' before after Scan =
+    (scans : List (List ℕ)) × (after ≡ before ++ joined_scans scans) × ReadSome dev most told told' s s' scans
+TakesScans dev most told told' s s' before after Empty = (after ≡ before) × ReadNone dev false told told' s s'
+TakesScans dev most told told' s s' before after Gone = (after ≡ before) × ReadNone dev true told told' s s'
+
+-- the same, with the scans in a block
+abbrev pub ReadsBlock : (channels dev most mask asked : ℕ) → (told told' : Option Machine) → (s s' : SeatRecord) → (before after : List ℕ) → Took → Type 0
+ReadsBlock channels dev most mask asked told told' s s' before after Scan =
+    (scans : List (List ℕ)) × (after ≡ before ++ block_text channels mask (joined_scans scans) asked) × ReadSome dev most told told' s s' scans
+ReadsBlock channels dev most mask asked told told' s s' before after Empty = (after ≡ before) × ReadNone dev false told told' s s'
+ReadsBlock channels dev most mask asked told told' s s' before after Gone = (after ≡ before) × ReadNone dev true told told' s s'
+
 -- a READBUF of `asked` bytes for at least one scan: the block of the scans that its takes gave, or the first take's
 -- answer. Before memory ran out no take was made
 abbrev pub ReadEnds : Front → (dev mask capacity asked : ℕ) → (told told' : Option Machine) → (s s' : SeatRecord) → (before after : List ℕ) → Result Took Mem → Type 0
-ReadEnds front dev mask capacity asked told told' s s' before after (Ok Scan) =
-    (scans : List (List ℕ))
-    × (after ≡ before ++ block_text (channel_count front dev) mask (joined_scans scans) asked)
-    × ReadSome dev (most_scans asked (size_at front dev mask) capacity) told told' s s' scans
-ReadEnds front dev mask capacity asked told told' s s' before after (Ok Empty) = (after ≡ before) × ReadNone dev false told told' s s'
-ReadEnds front dev mask capacity asked told told' s s' before after (Ok Gone) = (after ≡ before) × ReadNone dev true told told' s s'
+ReadEnds front dev mask capacity asked told told' s s' before after (Ok took) =
+    ReadsBlock (channel_count front dev) dev (most_scans asked (size_at front dev mask) capacity) mask asked told told' s s' before after took
 ReadEnds front dev mask capacity asked told told' s s' before after (Err mem) = (after ≡ before) × (told' ≡ told) × (s' ≡ s)

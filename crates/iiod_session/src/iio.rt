@@ -1,5 +1,5 @@
 //! What a session needs of the devices.
-ghost use Rattle.std.specs.Prelude.{◌≡◌, ◌≢◌, ℕ, ◌<◌, length, Option, Some, option_map, IfOk, IfSome, Ok, Err};
+ghost use Rattle.std.specs.Prelude.{◌≡◌, ◌≢◌, ℕ, ◌+◌, ◌*◌, ◌^◌, ◌≤◌, ◌<◌, length, Option, Some, option_map, vec_capacity, IfOk, IfSome, Ok, Err};
 
 use iio_attr::{Attr, Scope, Value};
 use iio_event::EventData;
@@ -48,6 +48,7 @@ pub trait Iio {
     ghost use Rattle.iiod_session.specs.Front.{Front, find_device, find_trigger, shape_at, trigger_name};
     ghost use Rattle.iiod_session.specs.Machine.{Machine, is_plugged, lost_of, queue_of, station_at};
     ghost use Rattle.iiod_session.specs.Calls.{closed, ev_close_of, ev_open_of, ev_read_of, open_of, read_attr_of, set_trigger_of, write_attr_of};
+    ghost use Rattle.iiod_session.specs.Reading.{TakesScans};
     ghost use Rattle.iiod_session.specs.Seat.{Answers, IsNew, IsOfDevice, MayOpen, SeatRecord, Takes, after_take, seat_id, number_by};
     ghost use Rattle.iiod_session.specs.Target.{MayRead, MayWrite};
     ghost use Rattle.iiod_session.specs.declared.iio.No.{No};
@@ -103,6 +104,19 @@ pub trait Iio {
         ensures kept { kept self.new ≡ kept self.old }
         ensures seat { seen seat.new ≡ record (seen seat.old) { tale = option_map (after_take result out.new) (seen seat.old).tale } }
         ensures told { IfSome (told self.old) (λ m. Takes m dev (seat_id (seen seat.old)) result out.new (told self.new)) };
+
+    /// Takes the oldest scans that wait, up to `most` of them, and appends them to `out`, which has room for so many. `Scan`
+    /// comes where there was one at least.
+    fn take_scans(&mut self, dev: u32, seat: &mut Self::Seat, most: u32, out: &mut Vec<u8>) -> Took
+        requires dev { dev < length (front (kept self.old)).devices }
+        requires owned { IsOfDevice (front (kept self.old)) dev (seen seat.old) }
+        requires some { 1 ≤ most }
+        requires few { most * (seen seat.old).size < 2 ^ 32 }
+        requires room { length out.old.items + most * (seen seat.old).size ≤ vec_capacity out.old }
+        ensures kept { kept self.new ≡ kept self.old }
+        ensures takes { TakesScans dev most (told self.old) (told self.new) (seen seat.old) (seen seat.new) out.old.items out.new.items result }
+        ensures most { length out.new.items ≤ length out.old.items + most * (seen seat.old).size }
+        ensures room { vec_capacity out.old ≤ vec_capacity out.new };
 
     /// The numbers of the seat's queue.
     fn counts(&mut self, dev: u32, seat: &mut Self::Seat) -> Counts

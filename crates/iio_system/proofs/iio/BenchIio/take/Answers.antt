@@ -1,19 +1,16 @@
-use Rattle.std.proofs.Common.{◌∙◌, ap}
-use Rattle.iio_layout.specs.Layout.{scan_size}
-use Rattle.iio_layout.specs.Shape.{ShapeRecord}
+use Rattle.std.proofs.Common.{◌∙◌}
 use Rattle.iio_device.specs.Plug.{driver_of}
 use Rattle.iio_system.specs.Acting.{id_of}
 use Rattle.iio_system.specs.Station.{front_by, station_by}
 use Rattle.iio_system.proofs.ListLemmas.{element_at, numbered_after}
 use Rattle.iio_system.proofs.IioLemmas.{device_keeps, sound_take}
-use Rattle.iio_system.proofs.ToldLemmas.{shape_is, told_take}
+use Rattle.iio_system.proofs.ToldLemmas.{size_is, told_take}
 use Rattle.iio_system.proofs.iio.BenchIio.take.Goals as goal
 
 pub take-requires : goal.take-requires
 take-requires g c =
-    let at = (element_at front_by _ _ _ c.requires.dev c.index_mut.ensures.value) in
-    let shape = shape_is front_by c.args.self.now.context.items c.args.self.now.described.items c.args.self.now.devices.items c.args.dev c.index_mut.result.now at in
-    c.requires.size ∙ c.requires.owned.sized ∙ ap (λ (s : ShapeRecord). scan_size s c.args.seat.now.mask.bits) shape
+    c.requires.size ∙ c.requires.owned.sized
+    ∙ size_is front_by c.args.self.now.context.items c.args.self.now.described.items c.args.self.now.devices.items c.args.dev c.index_mut.result.now (element_at front_by _ _ _ c.requires.dev c.index_mut.ensures.value) c.args.seat.now.mask.bits
 
 pub invariant_of-self : goal.invariant_of-self
 invariant_of-self g c =

@@ -1,6 +1,6 @@
 use Rattle.std.proofs.Common.{◌≡◌, ◌*◌, ◌≤◌, take}
 use Rattle.std.specs.List.{sum}
-use Rattle.iio_device.proofs.totals.piece_sum.Given as goal
+use Rattle.iio_device.proofs.totals.short_sum.Given as goal
 
 abbrev pub invariant-loop-byte : goal.invariant-loop-byte
 invariant-loop-byte l = record {
