@@ -1,6 +1,8 @@
 //! An input line by line, from a source that gives pieces.
 
-ghost use Rattle.std.specs.Prelude.{◌≡◌, ◌⊎◌, ℕ, ◌+◌, ◌≤◌, ◌<◌, Bool, true, List, [], ◌∷◌, ◌++◌, length, Option, None, Err, IfOk, IfSome, IfNone, OnOk, OnErr, take, vec_len};
+ghost use Rattle.std.specs.Prelude.{◌≡◌, ◌⊎◌, ℕ, ◌+◌, ◌≤◌, ◌<◌, Bool, true, List, [], ◌∷◌, ◌++◌, length, Option, None, Err, IfOk, IfSome, IfNone, OnOk, OnErr, map, take, vec_len};
+ghost use Rattle.std.specs.Simd.Lanes.{chunk, mask_l};
+ghost use Rattle.memchr.specs.Find.{IsFirstByte, is_byte};
 ghost use Rattle.iio_base.specs.Faults.{Rose};
 ghost use Rattle.iio_script.specs.LineReader.{Follows, HasLine, IsHand, NeedsMore, ReadsPiece, Shows, StandsAtEnd, empty_hand, line_of, taken_of, to_take};
 
@@ -9,6 +11,7 @@ use iio_text::MAX_LINE_BYTES;
 use memchr::memchr;
 use std::alloc::{AllocError, Global};
 use std::marker::Model;
+use std::simd::prelude::*;
 
 /// The most bytes of an input that are looked at.
 const INPUT_LIMIT: usize = 67_108_864;
@@ -72,6 +75,34 @@ fn read_piece<S: Source>(
     Ok(count)
 }
 
+// So many bytes are looked at at once: most lines are shorter.
+const LANES: usize = 32;
+
+// Which of the first bytes are LFs, as a mask.
+#[inline]
+fn ends_in_lanes(bytes: &[u8]) -> u64
+    requires { LANES ≤ length bytes.now }
+    ensures { result ≡ mask_l (map (is_byte 10) (chunk 0 LANES bytes.now)) }
+{
+    Simd::<u8, LANES>::from_slice(bytes)
+        .simd_eq(Simd::splat(b'\n'))
+        .to_bitmask()
+}
+
+// Where the first LF stands.
+#[inline]
+fn line_end(bytes: &[u8]) -> Option<usize>
+    ensures { IsFirstByte (is_byte 10) bytes.now result }
+{
+    if bytes.len() >= LANES {
+        let ends = ends_in_lanes(bytes);
+        if ends != 0 {
+            return Some(ends.trailing_zeros() as usize);
+        }
+    }
+    memchr(b'\n', bytes)
+}
+
 impl Model for LineReader {
     ghost use Rattle.std.specs.Prelude.{◌≡◌, ◌≤◌, drop, length, vec_len};
     ghost use Rattle.iio_script.specs.LineReader.{Hand, IsHand, piece_size};
@@ -116,7 +147,7 @@ impl LineReader {
         ensures at { (self.new.looked ≡ length self.new.bytes) ⊎ StandsAtEnd self.new }
     {
         let from = self.begin + self.looked;
-        self.looked = match memchr(b'\n', &self.bytes[from..]) {
+        self.looked = match line_end(&self.bytes[from..]) {
             Some(len) => self.looked + len,
             None => self.bytes.len() - self.begin,
         };

@@ -1,6 +1,6 @@
 //! What is counted in a text that is played.
 
-ghost use Rattle.std.specs.Prelude.{◌≡◌, ◌+◌, ◌≤◌, [], ◌++◌, List, ℕ, length, None};
+ghost use Rattle.std.specs.Prelude.{◌≡◌, ◌+◌, ◌≤◌, [], ◌++◌, List, ℕ, length, None, Some};
 ghost use Rattle.iio_desc.specs.WellFormed.{IsWellFormed};
 ghost use Rattle.iio_history.specs.Input.{input_limit, is_overlong, looked_lines};
 ghost use Rattle.iio_history.specs.Outcome.{last_ending};
@@ -14,7 +14,7 @@ use crate::outline::outline;
 use crate::script::play_steps;
 use crate::status::Status;
 use iio_desc::Desc;
-use iio_io::{Failed, MemSource, Sink, Source};
+use iio_io::{Failed, Sink, Source};
 use iio_system::{System, Tally};
 use iio_text::Why;
 use std::alloc::Global;
@@ -39,6 +39,26 @@ impl Sink for NoSink {
 
     fn write(&mut self, bytes: &[u8]) -> Result<usize, Failed> {
         Ok(bytes.len())
+    }
+}
+
+// A text that is there, as a source of its bytes. No read fails.
+#[derive(Drop)]
+struct Text<'a> {
+    rest: &'a [u8],
+}
+
+impl Source for Text<'_> {
+    ghost left = { λ s. Some s.rest.now };
+
+    ghost faults = { λ s. 0 };
+
+    fn read(&mut self, out: &mut [u8]) -> Result<usize, Failed> {
+        let count = out.len().min(self.rest.len());
+        let (given, rest) = self.rest.split_at(count);
+        out[..count].copy_from_slice(given);
+        self.rest = rest;
+        Ok(count)
     }
 }
 
@@ -96,10 +116,7 @@ pub fn tally(alloc: Global, text: &[u8]) -> Result<Tally, Stop>
     requires { length text.now ≤ input_limit }
     ensures { Tallies text.now result }
 {
-    let Ok(bytes) = text.to_vec(alloc) else {
-        return Err(Stop::Mem);
-    };
-    let mut source = MemSource::new(bytes, text.len().max(1), Vec::new(alloc));
+    let mut source = Text { rest: text };
     let Ok(mut lines) = LineReader::new(alloc) else {
         return Err(Stop::Mem);
     };

@@ -18,11 +18,11 @@ invariant_of-self c =
     let long : length h.bytes ≡ length inside.bytes.items - inside.begin = length-drop inside.begin inside.bytes.items in (
       c.self.invariant.0,
       c.self.invariant.1,
-      elim c.match-memchr.branch [
+      elim c.match-line_end.branch [
         | in-Some w ↦
-            subst (λ (n : ℕ). IsHand (record h { looked = n })) (sym w.self-is) (looked_to h _ w.in-Some.len c.self.invariant.2 text (rw w.in-Some.is at c.memchr.ensures))
+            subst (λ (n : ℕ). IsHand (record h { looked = n })) (sym w.self-is) (looked_to h _ w.in-Some.len c.self.invariant.2 text (rw w.in-Some.is at c.line_end.ensures))
         | in-None w ↦
-            looked_all h _ c.match-memchr.self c.self.invariant.2 text (rw w.in-None.is at c.memchr.ensures) (omega (arith, w.self-is, w.len.ensures, long))
+            looked_all h _ c.match-line_end.self c.self.invariant.2 text (rw w.in-None.is at c.line_end.ensures) (omega (arith, w.self-is, w.len.ensures, long))
       ],
     )
 
@@ -34,8 +34,8 @@ returns-clause-at c =
     let inside = c.self.inside in
     let h : Hand = record { bytes = drop inside.begin inside.bytes.items; looked = inside.looked; given = inside.given; ended = inside.ended; over = inside.over } in
     let text = behind inside.bytes.items c.deref.result.now inside.begin inside.looked c.deref.ensures.value in
-    elim c.match-memchr.branch [
+    elim c.match-line_end.branch [
       | in-Some w ↦
-          inr (subst (λ (n : ℕ). StandsAtEnd (record h { looked = n })) (sym w.self-is) (stands_at h _ w.in-Some.len c.self.invariant.2.looked text (rw w.in-Some.is at c.memchr.ensures)))
+          inr (subst (λ (n : ℕ). StandsAtEnd (record h { looked = n })) (sym w.self-is) (stands_at h _ w.in-Some.len c.self.invariant.2.looked text (rw w.in-Some.is at c.line_end.ensures)))
       | in-None w ↦ inl (omega (arith, w.self-is, w.len.ensures, length-drop inside.begin inside.bytes.items))
     ]
