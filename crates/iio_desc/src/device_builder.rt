@@ -22,8 +22,7 @@ use iio_layout::{Channel, Direction, Kind, MAX_CHANNELS, Rows, Shape, Suffix, re
 use iio_mask::Mask;
 use iio_scan_type::{Endian, ScanType, read_type};
 use iio_text::{
-    Blanks, LineFault, Why, count_words, ensure, next_word, one_word, read_int, three_words,
-    two_words,
+    LineFault, Why, count_words, ensure, next_word, one_word, read_int, three_words, two_words,
 };
 use std::alloc::{AllocError, Global};
 use std::marker::Model;
@@ -106,10 +105,10 @@ fn read_endian(word: &[u8]) -> Option<Endian>
 fn read_stamp(words: &[u8]) -> Result<Endian, Why>
     ensures { result ≡ stamp_of (words_of is_space words.now) }
 {
-    let Some((word, rest)) = next_word(words, Blanks::Spaces) else {
+    let Some((word, rest)) = next_word(words) else {
         return Ok(Endian::Little);
     };
-    ensure(next_word(rest, Blanks::Spaces).is_none(), Why::Count)?;
+    ensure(next_word(rest).is_none(), Why::Count)?;
     read_endian(word).ok_or(Why::BadType)
 }
 
@@ -153,7 +152,7 @@ fn read_masks(
 {
     let mut masks = Vec::with_capacity(alloc, room)?;
     let mut rest = words;
-    while let Some((word, more)) = next_word(rest, Blanks::Spaces) {
+    while let Some((word, more)) = next_word(rest) {
         let mask = read_mask(word, channels, count).ok_or(Why::Mask)?;
         masks.push_reserved(mask);
         rest = more;
@@ -168,7 +167,7 @@ fn push_ints(ints: &mut Vec<i64>, words: &[u8]) -> Result<(), LineFault>
     ensures before { take (vec_len ints.old) ints.new.items ≡ ints.old.items }
 {
     let mut rest = words;
-    while let Some((word, more)) = next_word(rest, Blanks::Spaces) {
+    while let Some((word, more)) = next_word(rest) {
         let value = read_int(word).ok_or(Why::Number)?;
         ints.push(value)?;
         rest = more;
@@ -192,7 +191,7 @@ fn read_row(moments: &[i64], values: &mut Vec<i64>, words: &[u8]) -> Result<i64,
     ensures err { IfErr result (λ e. Tells e (row_of moments.now (words_of is_space words.now))) }
     ensures before { take (vec_len values.old) values.new.items ≡ values.old.items }
 {
-    let (moment, rest) = next_word(words, Blanks::Spaces).ok_or(Why::Count)?;
+    let (moment, rest) = next_word(words).ok_or(Why::Count)?;
     let moment = read_int(moment).ok_or(Why::Number)?;
     ensure(rises(moments, moment), Why::Moment)?;
     push_ints(values, rest)?;

@@ -13,7 +13,7 @@ ghost use Rattle.iio_desc.specs.declared.reader.DescFault.TheVariants.{Mem as Ou
 use crate::desc_builder::DescBuilder;
 use crate::description::Desc;
 use iio_base::Mem;
-use iio_text::{Blanks, LineFault, Why, next_line, next_word};
+use iio_text::{LineFault, Why, next_line, next_word};
 use std::alloc::Global;
 use std::marker::Model;
 use thiserror::Error;
@@ -54,7 +54,7 @@ impl From<Mem> for DescFault {
 pub fn is_end(line: &[u8]) -> bool
     ensures { result ≡ is_end line.now }
 {
-    match next_word(line, Blanks::Spaces) {
+    match next_word(line) {
         None => false,
         Some((word, _)) => word == b"%%".as_slice(),
     }

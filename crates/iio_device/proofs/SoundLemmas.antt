@@ -59,6 +59,14 @@ active_for-push shape masks mask = by masks ∙ ap (active_of shape) (union_push
     by [] = refl
     by (m ∷ ms) = refl
 
+-- what stands at a place of a list, and what stands before and after it
+pub split_at : {A : Type 0} (xs : List A) (k : ℕ) (x : A) → k < length xs → x ≡ get_or xs k x → xs ≡ take k xs ++ x ∷ drop (k + 1) xs
+split_at [] k x within at = absurd (omega arith)
+split_at (y ∷ ys) zero x within at = ap (λ z. z ∷ ys) (sym at)
+split_at (y ∷ ys) (suc k) x within at =
+    let more : suc k + 1 ≡ suc (k + 1) = omega arith in
+    subst (λ n. y ∷ ys ≡ y ∷ take k ys ++ x ∷ drop n (y ∷ ys)) (sym more) (ap (λ zs. y ∷ zs) (split_at ys k x (omega arith) at))
+
 module _ {Q : Type 0} (taken lost size : Q → ℕ) where
   pub members_below : (shape : ShapeRecord) (captures next : ℕ) (members : List (Membership Q)) → All (IsMember taken lost size shape captures next) members
       → All (λ (m : Membership Q). m.mask.bits < 2 ^ count_of shape) members
@@ -283,14 +291,6 @@ module _ {Q : Type 0} (taken lost size : Q → ℕ) where
           (subst IsSome (sym r)
           (subst (λ ms. IsSome (active_of shape (union_of_all (masks_of ms)))) (sym e)
           (fewer_asked shape (union_of_all (masks_of (before ++ after))) (union_of_all (masks_of (before ++ m ∷ after))) within _ refl some)))
-
-  -- what stands at a place of a list, and what stands before and after it
-  pub split_at : {A : Type 0} (xs : List A) (k : ℕ) (x : A) → k < length xs → x ≡ get_or xs k x → xs ≡ take k xs ++ x ∷ drop (k + 1) xs
-  split_at [] k x within at = absurd (omega arith)
-  split_at (y ∷ ys) zero x within at = ap (λ z. z ∷ ys) (sym at)
-  split_at (y ∷ ys) (suc k) x within at =
-      let more : suc k + 1 ≡ suc (k + 1) = omega arith in
-      subst (λ n. y ∷ ys ≡ y ∷ take k ys ++ x ∷ drop n (y ∷ ys)) (sym more) (ap (λ zs. y ∷ zs) (split_at ys k x (omega arith) at))
 
   pub kept_within : (members : List (Membership Q)) (groups : List GroupRecord) (active : ℕ) → is_within (union_of_all (masks_of members)) active ≡ true
       → All (λ (g : GroupRecord). is_within g.mask active ≡ true) (filter (λ (g : GroupRecord). is_wanted members g.mask) groups)

@@ -1,5 +1,5 @@
 -- What a take of a scan makes of members.
-use Rattle.std.proofs.Common.{◌≡◌, ℕ, zero, suc, ◌+◌, ◌^◌, ◌<◌, Bool, true, false, List, [], ◌∷◌, ◌++◌, length, take, drop, get_or, slice_set, Option, subst, refl, sym, ap, ◌∙◌, arith}
+use Rattle.std.proofs.Common.{◌≡◌, ℕ, zero, suc, ◌+◌, ◌^◌, ◌<◌, Bool, true, false, List, [], ◌∷◌, ◌++◌, length, take, drop, get_or, slice_set, Option, Some, subst, refl, sym, ap, ◌∙◌, arith}
 use Rattle.std.specs.List.{AllZip}
 use Rattle.iio_mask.specs.declared.Mask.{Mask}
 use Rattle.iio_layout.specs.Layout.{scan_size}
@@ -7,9 +7,11 @@ use Rattle.iio_layout.specs.Shape.{ShapeRecord, count_of}
 use Rattle.iio_kfifo.specs.Queue.{Queue}
 use Rattle.iio_device.specs.declared.membership.Membership.{Membership}
 use Rattle.iio_device.specs.Groups.{GroupRecord}
-use Rattle.iio_device.specs.Members.{Drains, DrainsScans}
+use Rattle.iio_device.specs.Members.{Drains, DrainsScans, member_of}
+use Rattle.iio_device.specs.Roster.{ChangesOne}
 use Rattle.iio_device.specs.Sound.{IsMember, IsSound}
 use Rattle.iio_device.proofs.OfferLemmas.{sound_moves}
+use Rattle.iio_device.proofs.SoundLemmas.{split_at}
 
 module _ {A : Type 0} where
   same_zip : (R : A → A → Type 0) → ((x : A) → R x x) → (xs : List A) → AllZip R xs xs
@@ -23,12 +25,26 @@ module _ {A : Type 0} where
   set_zip R same (z ∷ zs) (suc k) x y within at r = (same z, set_zip R same zs k x y (omega arith) at r)
 
   -- what stands before and after it
-  pub set_split : (xs : List A) (k : ℕ) (y : A) → k < length xs → slice_set xs k y ≡ take k xs ++ y ∷ drop (k + 1) xs
+  set_split : (xs : List A) (k : ℕ) (y : A) → k < length xs → slice_set xs k y ≡ take k xs ++ y ∷ drop (k + 1) xs
   set_split [] k y within = absurd (omega arith)
   set_split (z ∷ zs) zero y within = refl
   set_split (z ∷ zs) (suc k) y within =
       let more : suc k + 1 ≡ suc (k + 1) = omega arith in
       subst (λ n. slice_set (z ∷ zs) (suc k) y ≡ z ∷ take k zs ++ y ∷ drop n (z ∷ zs)) (sym more) (ap (λ ws. z ∷ ws) (set_split zs k y (omega arith)))
+
+-- one member changes so, and the others stay
+pub changes_one : (number : ℕ) (R : Membership Queue → Membership Queue → Type 0) (members new : List (Membership Queue)) (k : ℕ) (x y : Membership Queue)
+    → k < length members → x ≡ get_or members k x → member_of number members ≡ Some x → R x y → new ≡ slice_set members k y → ChangesOne number R members new
+changes_one number R members new k x y within at found moved is = record {
+  before = take k members;
+  member = x;
+  changed = y;
+  after = drop (k + 1) members;
+  was = split_at members k x within at;
+  is = is ∙ set_split members k y within;
+  found = found;
+  moved = moved;
+}
 
 -- the queue keeps its counts and its size
 pub record KeepsCounts (old new : Membership Queue) : Type 0 where

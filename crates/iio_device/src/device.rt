@@ -166,9 +166,9 @@ impl Fitted<IioDev<Kfifo>> {
         taken
     }
 
-    /// Moves up to `most` of the oldest scans of the member behind what stands in `out`, one behind the other, and says how
-    /// many there were; they count in the device's totals. None exactly where the member isn't live under that mask, and then
-    /// nothing changes.
+    /// Moves up to `most` of the oldest scans of the member behind the bytes that stand in `out`, one behind the other, and says
+    /// how many scans there were; they count in the device's totals. None exactly where the member isn't live under that mask,
+    /// and then nothing changes. There is room in `out` for the bytes of `most` scans.
     pub fn take_scans(
         &mut self,
         member: &Member,
@@ -176,11 +176,10 @@ impl Fitted<IioDev<Kfifo>> {
         most: u32,
         out: &mut Vec<u8>,
     ) -> Option<u32>
-        requires few { most * scan_size self.old.core.roster.shape mask.bits < 2 ^ 32 }
-        requires room { length out.old.items + most * scan_size self.old.core.roster.shape mask.bits ≤ vec_capacity out.old }
+        requires { length out.old.items + most * scan_size self.old.core.roster.shape mask.bits ≤ vec_capacity out.old }
         ensures taken { TakesScans member.now.number mask.bits most result out.old.items out.new.items (view_of ⟦<Plug as Sensor>⟧.driver self.old.core self.old.plug).standing (view_of ⟦<Plug as Sensor>⟧.driver self.new.core self.new.plug).standing }
         ensures rest { view_of ⟦<Plug as Sensor>⟧.driver self.new.core self.new.plug ≡ record (view_of ⟦<Plug as Sensor>⟧.driver self.old.core self.old.plug) { standing = (view_of ⟦<Plug as Sensor>⟧.driver self.new.core self.new.plug).standing; totals = with_bytes (unwrap_or result 0) (drop (length out.old.items) out.new.items) self.old.core.totals } }
-        ensures most { length out.new.items ≤ length out.old.items + most * scan_size self.old.core.roster.shape mask.bits }
+        ensures sized { length out.new.items ≡ length out.old.items + unwrap_or result 0 * scan_size self.old.core.roster.shape mask.bits }
         ensures room { vec_capacity out.old ≤ vec_capacity out.new }
     {
         let stood = out.len();

@@ -385,8 +385,7 @@ impl Roster<Kfifo> {
     /// Moves the oldest scan of the member of that number into `out`, and says whether there was one. `None` comes exactly
     /// where no member has that number, or `out` hasn't the size of its scans, and then nothing changes.
     pub(crate) fn take(&mut self, number: u64, out: &mut [u8]) -> Option<bool>
-        ensures takes { Takes number result out.old out.new (standing_of self.old) (standing_of self.new) }
-        ensures few { IfSome result (λ given. length out.new < 2 ^ 32) }
+        ensures { Takes number result out.old out.new (standing_of self.old) (standing_of self.new) }
     {
         let at = position_of(&self.members, number)?;
         if out.len() != self.members[at].tail.size() as usize {
@@ -407,7 +406,7 @@ impl Roster<Kfifo> {
     ) -> Option<u32>
         requires { length out.old.items + most * scan_size self.old.shape mask.bits ≤ vec_capacity out.old }
         ensures takes { TakesScans number mask.bits most result out.old.items out.new.items (standing_of self.old) (standing_of self.new) }
-        ensures most { length out.new.items ≤ length out.old.items + most * scan_size self.old.shape mask.bits }
+        ensures sized { length out.new.items ≡ length out.old.items + unwrap_or result 0 * scan_size self.old.shape mask.bits }
         ensures room { vec_capacity out.old ≤ vec_capacity out.new }
     {
         let at = position_of(&self.members, number)?;

@@ -1,6 +1,6 @@
 //! What a device's queues gave and lost in all.
 
-ghost use Rattle.std.specs.Prelude.{◌≡◌, ◌<◌, ◌^◌, IfSome, length};
+ghost use Rattle.std.specs.Prelude.{◌≡◌, ◌+◌, ◌<◌, length};
 ghost use Rattle.std.specs.List.{sum};
 ghost use Rattle.iio_device.specs.Totals.{no_totals, with_bytes, with_lost, with_taken};
 
@@ -44,19 +44,17 @@ fn short_sum(bytes: &[u8]) -> u16
     total
 }
 
-// The sum of some bytes.
-fn byte_sum(bytes: &[u8]) -> u64
-    requires { length bytes.now < 2 ^ 32 }
-    ensures { result ≡ sum bytes.now }
+// Adds some bytes to a sum.
+fn add_bytes(total: &mut Sum, bytes: &[u8])
+    ensures { total.new ≡ total.old + sum bytes.now }
 {
-    let mut total = 0;
     let mut rest = bytes;
     while rest.len() >= LANES {
         let (lanes, later) = rest.split_at(LANES);
-        total += u64::from(lane_sum(lanes));
+        total.add(u64::from(lane_sum(lanes)));
         rest = later;
     }
-    total + u64::from(short_sum(rest))
+    total.add(u64::from(short_sum(rest)));
 }
 
 impl Totals {
@@ -73,16 +71,14 @@ impl Totals {
 
     /// So many scans were taken, which have these bytes.
     pub(crate) fn give(&mut self, count: u32, bytes: &[u8])
-        requires { length bytes.now < 2 ^ 32 }
         ensures { self.new ≡ with_bytes count bytes.now self.old }
     {
         self.scans.add(u64::from(count));
-        self.bytes.add(byte_sum(bytes));
+        add_bytes(&mut self.bytes, bytes);
     }
 
     /// A take gave that scan, or none.
     pub(crate) fn count(&mut self, taken: Option<bool>, scan: &[u8])
-        requires { IfSome taken (λ given. length scan.now < 2 ^ 32) }
         ensures { self.new ≡ with_taken taken scan.now self.old }
     {
         match taken {

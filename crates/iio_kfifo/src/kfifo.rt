@@ -134,7 +134,8 @@ impl Kfifo {
         true
     }
 
-    /// Moves up to `most` of the oldest scans behind what stands in `out`, one behind the other, and says how many there were.
+    /// Moves up to `most` of the oldest scans behind the bytes that stand in `out`, one behind the other, and says how many
+    /// scans there were. There is room in `out` for the bytes of `most` scans.
     pub fn take_scans(&mut self, most: u32, out: &mut Vec<u8>) -> u32
         requires { length out.old.items + most * self.old.size ≤ vec_capacity out.old }
         ensures gives { GivesScans most result out.old.items out.new.items self.old self.new }

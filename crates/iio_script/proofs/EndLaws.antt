@@ -34,7 +34,3 @@ sends_more (Some xs) before after sent kept rest h sends = by_before before h se
 pub silent_first : (left : Option (List ℕ)) → IfNone left (left ≡ None)
 silent_first None = refl
 silent_first (Some xs) = tt
-
-pub silent_more : (before mid after : Option (List ℕ)) → IfNone before (mid ≡ None) → IfNone mid (after ≡ None) → IfNone before (after ≡ None)
-silent_more None mid after h k = subst (λ (m : Option (List ℕ)). IfNone m (after ≡ None)) h k
-silent_more (Some xs) mid after h k = tt

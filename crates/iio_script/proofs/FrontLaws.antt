@@ -1,7 +1,7 @@
 -- The lines that LF ends in a front part of a text.
-use Rattle.std.proofs.Common.{◌≡◌, ℕ, zero, suc, ◌+◌, ◌-◌, ◌≤◌, Bool, true, false, ◌||◌, cond, List, [], ◌∷◌, ◌++◌, length, take, drop, refl, ap, ◌∙◌, arith}
+use Rattle.std.proofs.Common.{◌≡◌, ℕ, zero, suc, ◌+◌, ◌-◌, ◌≤◌, Bool, true, false, cond, List, [], ◌∷◌, ◌++◌, length, take, drop, refl, ap, ◌∙◌, arith}
 use Rattle.std.proofs.Math.Seq.{take-add, take-append-add}
-use Rattle.std.proofs.lemmas.Bool.{false≢true}
+use Rattle.std.proofs.lemmas.Bool.{or_left}
 use Rattle.std.proofs.lemmas.List.{length-take-le}
 use Rattle.std.proofs.lemmas.List.Folds.{list_any-append}
 use Rattle.std.specs.List.{list_any}
@@ -72,14 +72,10 @@ ended_lines-front text more =
 
 -- ---- whether there is a line of a kind
 
-or_true : (a b : Bool) → a ≡ true → (a || b) ≡ true
-or_true true b h = refl
-or_true false b h = absurd (false≢true h)
-
 pub any-front : (p : List ℕ → Bool) (text more : List ℕ) → list_any p (ended_lines text) ≡ true → list_any p (ended_lines (text ++ more)) ≡ true
 any-front p text more h =
     let front = ended_lines-front text more in
-    rw front.1 (list_any-append p (ended_lines text) front.0 ∙ or_true (list_any p (ended_lines text)) (list_any p front.0) h)
+    rw front.1 (list_any-append p (ended_lines text) front.0 ∙ or_left (list_any p (ended_lines text)) (list_any p front.0) h)
 
 -- a front part of a front part
 pub any-take : (p : List ℕ → Bool) (text : List ℕ) (m n : ℕ) → m ≤ n → list_any p (ended_lines (take m text)) ≡ true

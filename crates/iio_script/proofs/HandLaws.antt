@@ -1,6 +1,7 @@
 -- What a reader has in hand, once it has looked on, and once it has taken a piece more.
 use Rattle.std.proofs.Common.{◌≡◌, ℕ, zero, suc, ◌+◌, ◌<◌, ◌≤◌, Bool, true, false, List, [], ◌∷◌, ◌++◌, length, take, drop, get_or, Option, Some, None, IfSome, nat_eq, refl, sym, ap, ◌∙◌, inl, inr, arith, subst, append_assoc, append-nil, eqb-true, get_or-drop}
 use Rattle.std.proofs.Math.Seq.{take-add}
+use Rattle.std.proofs.lemmas.Bool.{false_from_ne_true}
 use Rattle.std.proofs.lemmas.Bool.Decides.{nat_tests}
 use Rattle.std.proofs.lemmas.List.{length-append, length-drop, length-take-le, drop-append-le, drop-take, take-append-drop, take_all, take_more}
 use Rattle.std.proofs.lemmas.List.Folds.{list_any_more}
@@ -17,15 +18,11 @@ hand_first = record { looked = omega arith; plain = refl; near = omega arith; fe
 
 -- ---- up to the next LF
 
-is_false : (t : Bool) → ¬ (t ≡ true) → t ≡ false
-is_false true h = absurd (h refl)
-is_false false h = refl
-
 plain_before : (text : List ℕ) (n : ℕ) → Nowhere (Passes (is_byte 10) text) 0 n → n ≤ length text → IsPlain (take n text)
 plain_before text zero none few = refl
 plain_before text (suc n) none few =
     let front = plain_before text n (λ k low high. none k low (omega (arith, high))) (omega (arith, few)) in
-    let byte : is_line_end (get_or text n 0) ≡ false = is_false (is_line_end (get_or text n 0)) (none n (omega arith) (omega arith)) in
+    let byte : is_line_end (get_or text n 0) ≡ false = false_from_ne_true (is_line_end (get_or text n 0)) (none n (omega arith) (omega arith)) in
     let next : n + 1 ≡ suc n = omega arith in
     subst (λ (k : ℕ). IsPlain (take k text)) next (list_any_more is_line_end text n 0 (omega (arith, few)) ∙ rw (front, byte) refl)
 

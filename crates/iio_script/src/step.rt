@@ -1,4 +1,5 @@
 //! The lines of a script as steps.
+
 ghost use Rattle.std.specs.Prelude.{◌≡◌, ◌<◌, length, option_map, IfOk, IfErr, IfSome, MatchResult, Ok, Err, List, ℕ, ℤ};
 ghost use Rattle.iio_desc.specs.Description.{Description};
 ghost use Rattle.iio_history.specs.Script.{clock_step, drop_step, handle_step, sense_step, step_by, step_of, trigger_step, unplug_step, device_word, moment_word, trigger_word, step_words};

@@ -1,4 +1,5 @@
 //! The first words of steps.
+
 ghost use Rattle.std.specs.Prelude.{◌≡◌, option_map};
 ghost use Rattle.iiod_grammar.specs.Command.{entry_of};
 ghost use Rattle.iio_history.specs.Script.{step_words};

@@ -9,12 +9,12 @@ ghost use Rattle.iio_layout.specs.Shape.{RowsRecord, count_of, formats_of};
 ghost use Rattle.iio_sensor.specs.Held.{IsFor, IsHeld, IsScanOf, MomentStands};
 ghost use Rattle.iio_sensor.specs.Recorded.{row_before, value_in};
 
-use iio_layout::{MAX_CHANNELS, Shape, place};
+use iio_layout::{MAX_CHANNELS, Shape, place, scan_size};
 use iio_mask::Mask;
-use iio_scan_type::{Endian, ScanType};
+use iio_scan_type::{Endian, MAX_CHANNEL_SIZE, ScanType};
 
-// The most bytes of a scan that is held.
-const MOST: usize = 1024;
+// The most bytes of a scan.
+const MOST: usize = MAX_CHANNELS * MAX_CHANNEL_SIZE as usize;
 
 /// A scan, and what it was laid out for: the types of the channels, the mask, and the row. As long as these are the same, so
 /// is the scan, but for its moment.
@@ -85,7 +85,7 @@ impl Held {
         }
     }
 
-    /// Holds a scan, where it isn't too long and its row was the last one's too: rows that change at each ask aren't held.
+    /// Holds a scan, where its row was the last one's too: rows that change at each ask aren't held.
     #[cold]
     #[inline(never)]
     pub(crate) fn keep(&mut self, shape: &Shape, mask: Mask, come: usize, scan: &[u8])
@@ -95,17 +95,18 @@ impl Held {
             → scan.now ≡ scan_of shape.now mask.bits (values_by shape.now (value_in (row_before rows come) biases (formats_of shape.now))) t
             → IsHeld rows biases self.new }
     {
-        if self.come != come || scan.len() > MOST {
+        if self.come != come {
             self.come = come;
             self.clear();
             return;
         }
+        let size = scan_size(shape, mask) as usize;
         self.inputs = shape.inputs() as usize;
         copy_types(&mut self.types, shape);
         self.stamp = shape.stamp();
         self.mask = mask;
         self.place = moment_place(shape, mask);
-        self.scan[..scan.len()].copy_from_slice(scan);
+        self.scan[..size].copy_from_slice(scan);
     }
 }
 

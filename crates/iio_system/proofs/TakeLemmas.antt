@@ -1,5 +1,5 @@
 -- A take from a member's queue, as the machine has it.
-use Rattle.std.proofs.Common.{◌≡◌, ℕ, zero, suc, ◌+◌, ◌<◌, ◌≤◌, Bool, true, false, List, [], ◌∷◌, ◌++◌, map, length, take, drop, Option, Some, None, IfSome, refl, sym, ap, subst, ◌∙◌, arith, cond, append-nil, length-take, unwrap_or}
+use Rattle.std.proofs.Common.{◌≡◌, ℕ, zero, suc, ◌+◌, ◌*◌, ◌<◌, ◌≤◌, Bool, true, false, List, [], ◌∷◌, ◌++◌, map, length, take, drop, Option, Some, None, IfSome, refl, sym, ap, subst, ◌∙◌, arith, cond, append-nil, length-take, mul-le-mul_right, unwrap_or}
 use Rattle.std.specs.Prelude.{◌==◌}
 use Rattle.std.specs.List.{AllByRecursion, IsDistinct, flat_map, sum}
 use Rattle.std.specs.Option.{option_map_or}
@@ -193,6 +193,15 @@ module _ (id : MemberId) (most : ℕ) (before after : List ℕ) (v v' : DeviceVi
     scans_given : 0 < count → TakesScansAt id most Scan before after (station_of v) (station_of v')
     scans_given some =
         rw queue (omega (arith, counted, some), takes.2.moved.moved.bytes, gives id v v' takes.2 takes.1 under (take most waiting) (drop most waiting) distinct takes.2.moved.same takes.2.moved.moved.same given)
+
+  -- no more were taken than were asked for, and no more bytes
+  few_taken : (result : Option ℕ) → TakesScans id.number id.mask most result before after v.standing v'.standing → unwrap_or result 0 ≤ most
+  few_taken None takes = omega arith
+  few_taken (Some count) takes = let given = takes.2.moved.moved.count in omega (arith, given)
+
+  pub bytes_within : (result : Option ℕ) (size : ℕ) → TakesScans id.number id.mask most result before after v.standing v'.standing → length after ≡ length before + unwrap_or result 0 * size
+      → length after ≤ length before + most * size
+  bytes_within result size takes sized = omega (arith, sized, mul-le-mul_right size (few_taken result takes))
 
   -- by what the device answers
   pub no_scans_taken : (took : Took) (result : Option ℕ) → TakesScans id.number id.mask most result before after v.standing v'.standing

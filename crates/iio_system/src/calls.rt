@@ -194,7 +194,6 @@ pub(crate) fn take_scans(
     out: &mut Vec<u8>,
 ) -> Took
     requires some { 1 ≤ most }
-    requires few { most * scan_size device.old.core.roster.shape mask.bits < 2 ^ 32 }
     requires room { length out.old.items + most * scan_size device.old.core.roster.shape mask.bits ≤ vec_capacity out.old }
     ensures takes { TakesScansAt (id_of number mask) most result out.old.items out.new.items (station_by ⟦<Plug as Sensor>⟧.driver device.old) (station_by ⟦<Plug as Sensor>⟧.driver device.new) }
     ensures keeps { KeepsCaptures (view_by ⟦<Plug as Sensor>⟧.driver device.old) (view_by ⟦<Plug as Sensor>⟧.driver device.new) }

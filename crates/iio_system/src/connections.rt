@@ -1,4 +1,5 @@
 //! The connections of a script at the bench.
+
 ghost use Rattle.std.specs.Prelude.{◌≡◌, ◌<◌, ◌≤◌, true, None, IfOk, OnOk, is_some, length, map, position};
 ghost use Rattle.std.specs.Str.{bytes_eq};
 ghost use Rattle.iio_history.specs.Script.{max_names};

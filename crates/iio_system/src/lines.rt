@@ -1,4 +1,5 @@
 //! The lines that steps print, appended to what was printed before.
+
 ghost use Rattle.std.specs.Prelude.{◌≡◌, ◌+◌, ◌++◌, ◌≤◌, [], ◌∷◌, OnOk, codes, length, take};
 ghost use Rattle.std.specs.Fmt.{decimal, signed_decimal};
 ghost use Rattle.iio_text.specs.Escape.{quoted};

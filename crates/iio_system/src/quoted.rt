@@ -1,4 +1,5 @@
 //! Quoted texts.
+
 ghost use Rattle.std.specs.Prelude.{◌≡◌};
 
 use std::marker::Model;

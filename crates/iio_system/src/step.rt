@@ -1,4 +1,5 @@
 //! The steps of a script.
+
 use crate::quoted::Quoted;
 use iio_attr::Name;
 

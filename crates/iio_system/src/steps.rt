@@ -1,4 +1,5 @@
 //! The steps of a script at the core.
+
 ghost use Rattle.std.specs.Prelude.{◌≡◌, ◌+◌, ◌++◌, ◌<◌, ◌≤◌, ◌^◌, [], All, IfOk, List, OnOk, length, map};
 ghost use Rattle.iio_scan_type.specs.Format.{size_of};
 ghost use Rattle.iio_desc.specs.WellFormed.{IsWellFormed};

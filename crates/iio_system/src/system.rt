@@ -1,4 +1,5 @@
 //! The core: a bench, and the connections of a script.
+
 ghost use Rattle.std.proofs.Props.{props};
 ghost use Rattle.std.specs.Prelude.{◌*◌, ◌≤◌, All, length};
 ghost use Rattle.iio_history.specs.Script.{max_names};

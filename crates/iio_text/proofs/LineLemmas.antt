@@ -1,5 +1,6 @@
 -- The lines of a text, from its front.
 use Rattle.std.proofs.Common.{◌≡◌, ℕ, ◌+◌, ◌<◌, ◌≤◌, Bool, true, false, not, cond, List, [], ◌∷◌, length, take, drop, get_or, refl, sym, ap, ◌∙◌, add-one, arith}
+use Rattle.std.proofs.lemmas.Bool.{false_from_ne_true}
 use Rattle.std.proofs.lemmas.List.Sums.{position_or_len_is}
 use Rattle.std.proofs.Math.Numerals.{one-add}
 use Rattle.std.specs.List.{position_or_len}
@@ -31,13 +32,9 @@ pub lines_of-whole : (text : List ℕ) → 0 < length text → length text ≤ p
 lines_of-whole [] some h = absurd (omega arith)
 lines_of-whole (b ∷ bs) some h = whole_step (is_line_end b) b bs (position_or_len is_line_end bs) h (λ s l. lines_of-whole bs s l)
 
-is_false : (t : Bool) → ¬ (t ≡ true) → t ≡ false
-is_false true h = absurd (h refl)
-is_false false h = refl
-
 -- no byte before a place is an LF
 none_before : (text : List ℕ) (n : ℕ) → Nowhere (Passes (is_byte 10) text) 0 n → (k : ℕ) → k < n → is_line_end (get_or text k 0) ≡ false
-none_before text n h k below = is_false (is_line_end (get_or text k 0)) (h k (omega arith) below)
+none_before text n h k below = false_from_ne_true (is_line_end (get_or text k 0)) (h k (omega arith) below)
 
 -- the first LF
 pub first_end : (text : List ℕ) (n : ℕ) → NoneBefore (Passes (is_byte 10) text) 0 (length text) n × Passes (is_byte 10) text n → n ≡ position_or_len is_line_end text

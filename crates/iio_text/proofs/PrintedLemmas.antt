@@ -1,7 +1,10 @@
 -- Lemmas on how bytes are printed from a table, into a room.
 use borrow.Rule.Slice.PartMut.{put_mid, mid_of, post_of}
-use lib.Lanes.{chunk, put_chunk}
-use Rattle.std.proofs.Common.{◌≡◌, ℕ, ◌+◌, ◌-◌, ◌*◌, ◌<◌, ◌≤◌, ◌++◌, Bool, true, eqb, leb, List, [], length, length-append, take, drop, get_or, refl, ap, sym, ◌∙◌, arith}
+use lib.Lanes.{chunk, put_chunk, number_l, Each1}
+use Rattle.std.proofs.Common.{◌≡◌, ℕ, zero, suc, ◌+◌, ◌-◌, ◌*◌, ◌/◌, ◌%◌, ◌^◌, ◌<◌, ◌≤◌, ◌∷◌, ◌++◌, Bool, true, eqb, leb, List, [], length, length-append, take, drop, get_or, refl, ap, sym, ◌∙◌, arith, bit_and, div-one, add-zero, zero-add, Fits, w8}
+use Rattle.std.specs.Int.{w64, byte_at, bytes_low_first, from_le_bytes, to_le_bytes}
+use Rattle.std.proofs.Math.Nat.{pow-suc}
+use Rattle.std.proofs.lemmas.Nat.{and_mask, le_bytes_8, pow-add}
 use Rattle.std.specs.Str.{bytes_eq}
 use Rattle.std.proofs.Math.Seq.{take-add, take-append-add}
 use Rattle.std.proofs.lemmas.Bool.{agree_below, agree_below_at, leb-true}
@@ -91,13 +94,52 @@ pub take_kept : (xs ys : List ℕ) (a m : ℕ) → a ≡ length xs → take a (t
 take_kept xs ys a m e =
     ap (λ t. take a (t ++ ys)) (take_all (a + m) xs (omega (arith, e))) ∙ take-append-le a xs ys (omega (arith, e)) ∙ take_all a xs (omega (arith, e))
 
+-- bytes up to a place, and some more from there on
+pub escaped_next : (bytes : List ℕ) (place more : ℕ) → escaped (take place bytes) ++ escaped (chunk place more bytes) ≡ escaped (take (place + more) bytes)
+escaped_next bytes place more = sym (flat_map-append escaped_byte (take place bytes) (chunk place more bytes)) ∙ ap escaped (sym (take-add place more bytes))
+
 -- bytes up to a place, and from there on to another one
 pub escaped_on : (bytes : List ℕ) (place end : ℕ) → place ≤ end → escaped (take place bytes) ++ escaped (mid_of place (end - place) bytes) ≡ escaped (take end bytes)
 escaped_on bytes place end h =
     let e : place + (end - place) ≡ end = omega arith in
-    sym (flat_map-append escaped_byte (take place bytes) (take (end - place) (drop place bytes)))
-    ∙ ap escaped (sym (take-add place (end - place) bytes) ∙ ap (λ n. take n bytes) e)
+    escaped_next bytes place (end - place) ∙ ap (λ n. escaped (take n bytes)) e
 
 -- bytes up to a place, and the one there
 pub escaped_more : (bytes : List ℕ) (i : ℕ) → i < length bytes → escaped (take i bytes) ++ escaped_byte (get_or bytes i 0) ≡ escaped (take (i + 1) bytes)
 escaped_more bytes i h = flat_map_more escaped_byte [] (take i bytes) (get_or bytes i 0) ∙ ap escaped (sym (take_more bytes i 0 h))
+
+-- ---- the bytes of a word
+
+two_to_bytes : (i : ℕ) → 2 ^ (8 * i) ≡ 256 ^ i
+two_to_bytes zero = refl
+two_to_bytes (suc i) =
+    let more : 8 * suc i ≡ 8 * i + 8 = omega arith in
+    ap (λ k. 2 ^ k) more ∙ pow-add 2 (8 * i) 8 ∙ ap (λ p. p * 256) (two_to_bytes i) ∙ sym (pow-suc 256 i)
+
+shifted : (n i : ℕ) → n / 2 ^ (8 * i) % 256 ≡ byte_at i n
+shifted n zero = ap (λ m. m % 256) (div-one n)
+shifted n (suc i) = ap (λ p. n / p % 256) (two_to_bytes (suc i))
+
+byte_among : (s k i n : ℕ) → i < k → get_or (bytes_low_first s k n) i 0 ≡ byte_at (s + i) n
+byte_among s zero i n h = absurd (omega arith)
+byte_among s (suc k) zero n h = ap (λ j. byte_at j n) (sym (add-zero s))
+byte_among s (suc k) (suc i) n h =
+    let next : suc s + i ≡ s + suc i = omega arith in
+    byte_among (suc s) k i n (omega arith) ∙ ap (λ j. byte_at j n) next
+
+-- byte i of a word, by a shift
+pub byte_of_word : (word i : ℕ) → i < 8 → bit_and (word / 2 ^ (8 * i)) 255 ≡ get_or (to_le_bytes w64 word) i 0
+byte_of_word word i h = and_mask (word / 2 ^ (8 * i)) 8 ∙ shifted word i ∙ sym (byte_among 0 8 i word h ∙ ap (λ j. byte_at j word) (zero-add i))
+
+small_bytes : (v : List ℕ) → Each1 (Fits w8) v → (i : ℕ) → get_or v i 0 < 256
+small_bytes [] all i = omega arith
+small_bytes (b ∷ bs) all zero = all.0.fits
+small_bytes (b ∷ bs) all (suc i) = small_bytes bs all.1 i
+
+number_of_eight : (v : List ℕ) → length v ≡ 8 → ((i : ℕ) → get_or v i 0 < 256) → number_l 256 v % 2 ^ 64 ≡ from_le_bytes w64 v
+number_of_eight (a ∷ b ∷ c ∷ d ∷ e ∷ f ∷ g ∷ h ∷ []) l small = omega (arith, small 0, small 1, small 2, small 3, small 4, small 5, small 6, small 7)
+number_of_eight v l small = absurd (omega arith)
+
+-- the bytes of the number that eight bytes make
+pub bytes_of_number : (v : List ℕ) → length v ≡ 8 → Each1 (Fits w8) v → to_le_bytes w64 (number_l 256 v % 2 ^ 64) ≡ v
+bytes_of_number v l all = le_bytes_8 v _ l (small_bytes v all) (number_of_eight v l (small_bytes v all))

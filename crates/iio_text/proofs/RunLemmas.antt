@@ -55,12 +55,12 @@ lanes_mask q d n i z few room fits f lanes all =
     ap (λ l. mask_l l % 2 ^ 64) (ap (map (top 7)) lanes ∙ map-map (top 7) f v) ∙ mask_l-mod (map p v) 64 (omega (arith, length-map v p, long, few))
     ∙ ap mask_l (same_map p q v all (λ k h. subst (Fits w8) (sym (get_or-chunk i n d k 0 (omega (arith, long)))) (fits (i + k))))
 
--- where a bit is set, some byte passes
 some_step : (t : Bool) (n k l : ℕ) → 0 < cond t 1 0 + 2 * n → (0 < n → k < l) → cond (not t) (1 + k) 0 < suc l
 some_step true n k l h more = omega arith
 some_step false n k l h more = let e = more (omega arith) in omega arith
 
-some_lane : (q : ℕ → Bool) (v : List ℕ) → 0 < mask_l (map q v) → position_or_len q v < length v
+-- where a bit is set, some byte passes
+pub some_lane : (q : ℕ → Bool) (v : List ℕ) → 0 < mask_l (map q v) → position_or_len q v < length v
 some_lane q [] h = absurd (omega arith)
 some_lane q (x ∷ xs) h = some_step (q x) (mask_l (map q xs)) (position_or_len q xs) (length xs) h (some_lane q xs)
 
@@ -92,7 +92,8 @@ front_step : (t : Bool) (n m : ℕ) → n ≤ m → cond (not t) (1 + n) 0 ≤ c
 front_step true n m h = omega arith
 front_step false n m h = omega arith
 
-place_front : (q : ℕ → Bool) (a b : List ℕ) → position_or_len q a ≤ position_or_len q (a ++ b)
+-- the first place of a front is never behind that of the whole
+pub place_front : (q : ℕ → Bool) (a b : List ℕ) → position_or_len q a ≤ position_or_len q (a ++ b)
 place_front q [] b = omega arith
 place_front q (x ∷ xs) b = front_step (q x) (position_or_len q xs) (position_or_len q (xs ++ b)) (place_front q xs b)
 

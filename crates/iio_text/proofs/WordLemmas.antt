@@ -1,6 +1,7 @@
 -- Lemmas on the words of a line.
 use Rattle.std.proofs.Common.{◌≡◌, ℕ, ◌<◌, Bool, true, false, not, List, [], ◌∷◌, length, take, drop, refl, arith, ap, ◌∙◌, sym, one-add}
 use Rattle.std.specs.List.{list_any, prefix_len, position_or_len}
+use Rattle.std.proofs.lemmas.Bool.{not-true}
 use Rattle.std.proofs.lemmas.List.{take-append-drop, nil_from_length}
 use Rattle.std.proofs.lemmas.Grind.{common_steps}
 use Rattle.iio_text.specs.Words.{begins_word, words_of, IsFirstWord}
@@ -27,10 +28,6 @@ stops_at : (blank : ℕ → Bool) (bs : List ℕ) → begins_word blank bs ≡ f
 stops_at blank [] h = refl
 stops_at blank (b ∷ bs) h = rw h refl
 
-is_false : (v : Bool) → not v ≡ true → v ≡ false
-is_false true h = cc
-is_false false h = refl
-
 -- a text that begins with a word is that word and what follows it
 pub record SplitsWord (blank : ℕ → Bool) (s : List ℕ) : Type 0 where
   pub words : words_of blank s ≡ take (position_or_len blank s) s ∷ words_of blank (drop (position_or_len blank s) s)
@@ -54,7 +51,7 @@ split_byte blank b bs e false f ih = let stops = stops_at blank bs f in record {
 
 pub splits_word : (blank : ℕ → Bool) (s : List ℕ) → begins_word blank s ≡ true → SplitsWord blank s
 splits_word blank [] h = absurd cc
-splits_word blank (b ∷ bs) h = split_byte blank b bs (is_false (blank b) h) (begins_word blank bs) refl (splits_word blank bs)
+splits_word blank (b ∷ bs) h = split_byte blank b bs (not-true (blank b) h) (begins_word blank bs) refl (splits_word blank bs)
 
 some_taken : (n : ℕ) (s : List ℕ) → 0 < n → 0 < length s → 0 < length (take n s)
 some_taken n s h k = grind (arith, common_steps)

@@ -2,8 +2,6 @@
 -- blank, the space (this project's own); command lines know spaces and tabs (libiio 0.25's iiod).
 use Rattle.std.specs.Prelude.{◌≡◌, ℕ, ◌<◌, Bool, true, false, not, ◌==◌, ◌||◌, if◌then◌else◌, List, [], ◌∷◌, ◌++◌, length, take_while, Option, Some, None, option_map}
 use Rattle.std.specs.List.{list_any}
-use Rattle.iio_text.specs.declared.words.Blanks.{Blanks}
-use Rattle.iio_text.specs.declared.words.Blanks.TheVariants.{Spaces, SpacesAndTabs}
 
 -- a space
 abbrev pub is_space : ℕ → Bool
@@ -12,11 +10,6 @@ is_space b = b == 32
 -- a space or a tab
 abbrev pub is_blank : ℕ → Bool
 is_blank b = b == 32 || b == 9
-
--- the blanks of a kind of line
-abbrev pub blank_test : Blanks → ℕ → Bool
-blank_test Spaces b = is_space b
-blank_test SpacesAndTabs b = is_blank b
 
 -- the text begins with a byte that is no blank
 abbrev pub begins_word : (ℕ → Bool) → List ℕ → Bool

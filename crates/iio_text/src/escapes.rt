@@ -1,6 +1,8 @@
 //! Escaped texts: any bytes, written in printable ones.
 
-ghost use Rattle.std.specs.Prelude.{◌≡◌, not, ◌*◌, ◌<◌, ◌≤◌, ℕ, ◌++◌, length, take, Some, Ok, IfSome, IfOk, IfErr, OnOk, OnErr, option_copied};
+ghost use Rattle.std.specs.Prelude.{◌≡◌, not, ◌+◌, ◌*◌, ◌<◌, ◌≤◌, ℕ, ◌++◌, length, take, Some, Ok, IfSome, IfOk, IfErr, OnOk, OnErr, option_copied};
+ghost use Rattle.std.specs.Int.{w64, to_le_bytes};
+ghost use Rattle.std.specs.Simd.Lanes.{chunk};
 ghost use Rattle.iio_text.specs.Escape.{is_plain, escaped_byte, escaped, hex_value, pair_of, piece_of, unescaped, Explains, between_quotes, quoted, quoted_of};
 
 use crate::faults::Unescape;
@@ -62,7 +64,7 @@ const CHUNK: usize = 500;
 // The most bytes of a short text: a number's, say. It has room of one length, which is made at once.
 const SHORT: usize = 16;
 
-// How many bytes are printed in one turn of a loop.
+// How many bytes are printed in one turn of a loop: those of a word.
 const GROUP: usize = 8;
 
 // Whether a byte is printed as itself.
@@ -86,6 +88,16 @@ fn put_escaped(byte: u8, room: &mut [u8]) -> usize
     PRINTED_LENS[at]
 }
 
+// The eight bytes from a place on as a word, of which the first is the lowest.
+#[inline(always)]
+fn word_at(bytes: &[u8], place: usize) -> u64
+    requires { place + GROUP ≤ length bytes.now }
+    ensures { to_le_bytes w64 result ≡ chunk place GROUP bytes.now }
+{
+    let [word] = u64x1::from_le_bytes(u8x8::from_slice(&bytes[place..])).to_array();
+    word
+}
+
 // Writes bytes as they are printed to the begin of a room, and answers how many bytes that takes.
 #[inline(always)]
 fn put_each_escaped(bytes: &[u8], room: &mut [u8]) -> usize
@@ -100,7 +112,22 @@ fn put_each_escaped(bytes: &[u8], room: &mut [u8]) -> usize
     len
 }
 
-// The same of many bytes: whole groups come first, whose loops the compiler unrolls.
+// The same of a word's eight bytes, the lowest first. The compiler unrolls the loop.
+#[inline(always)]
+fn put_word_escaped(word: u64, room: &mut [u8]) -> usize
+    requires { 4 * GROUP ≤ length room.old }
+    ensures within { result ≤ 4 * GROUP }
+    ensures text { take result room.new ≡ escaped (to_le_bytes w64 word) }
+{
+    let mut len = 0;
+    for i in 0..GROUP {
+        let byte = (word >> (8 * i)) & 0xff;
+        len += put_escaped(byte as u8, &mut room[len..]);
+    }
+    len
+}
+
+// The same of many bytes: whole words come first.
 fn put_all_escaped(bytes: &[u8], room: &mut [u8]) -> usize
     requires { 4 * length bytes.now ≤ length room.old }
     ensures within { result ≤ 4 * length bytes.now }
@@ -109,7 +136,7 @@ fn put_all_escaped(bytes: &[u8], room: &mut [u8]) -> usize
     let mut len = 0;
     let mut place = 0;
     while bytes.len() - place >= GROUP {
-        len += put_each_escaped(&bytes[place..place + GROUP], &mut room[len..]);
+        len += put_word_escaped(word_at(bytes, place), &mut room[len..]);
         place += GROUP;
     }
     len + put_each_escaped(&bytes[place..], &mut room[len..])

@@ -22,7 +22,7 @@ pub use crate::numbers::{read_int, read_number};
 pub use crate::refusals::{Why, ensure};
 pub use crate::values::{Fixed, Form};
 pub use crate::words::{
-    Blanks, count_words, from_word, is_word, next_word, one_word, three_words, two_words,
+    count_words, from_word, is_word, next_word, one_word, three_words, two_words,
 };
 pub use iio_base::Mem;
 

@@ -7,7 +7,7 @@ ghost use Rattle.iio_text.specs.Words.{words_of, is_space, IsFirstWord};
 ghost use Rattle.iio_text.specs.Lines.{is_line_end, lines_of, is_printable, fits_line, is_comment, words_of_line};
 
 use crate::refusals::{Why, ensure};
-use crate::words::{Blanks, next_word};
+use crate::words::next_word;
 use memchr::memchr;
 use std::simd::prelude::*;
 
@@ -139,7 +139,7 @@ pub fn first_word(line: &[u8]) -> Result<Option<(&[u8], &[u8])>, Why>
     if is_comment(line) {
         return Ok(None);
     }
-    let first = next_word(line, Blanks::Spaces);
+    let first = next_word(line);
     ensure(first.is_none() || is_printable_text(line), Why::Text)?;
     Ok(first)
 }

@@ -3,46 +3,28 @@
 ghost use Rattle.std.specs.Prelude.{◌≡◌, ◌≤◌, ◌↔◌, ◌&&◌, not, IsNone, IfSome, [], length, option_map};
 ghost use Rattle.std.specs.List.{prefix_len, position_or_len};
 ghost use Rattle.std.specs.Str.{bytes_eq};
-ghost use Rattle.iio_text.specs.Words.{blank_test, is_space, words_of, IsFirstWord, one_of, two_of, three_of, from_word};
+ghost use Rattle.iio_text.specs.Words.{is_space, words_of, IsFirstWord, one_of, two_of, three_of, from_word};
 
-/// What parts the words of a line.
-#[derive(Clone, Copy, Debug, PartialEq, Eq)]
-pub enum Blanks {
-    /// Spaces alone, in descriptions and scripts.
-    Spaces,
-    /// Spaces and tabs, in command lines.
-    SpacesAndTabs,
-}
-
-fn is_blank(byte: u8, blanks: Blanks) -> bool
-    ensures { result ≡ blank_test blanks byte }
-{
-    match blanks {
-        Blanks::Spaces => byte == b' ',
-        Blanks::SpacesAndTabs => byte == b' ' || byte == b'\t',
-    }
-}
-
-// How many blanks the text begins with.
-fn blanks_len(text: &[u8], blanks: Blanks) -> usize
+// How many spaces the text begins with.
+fn spaces_len(text: &[u8]) -> usize
     ensures within { result ≤ length text.now }
-    ensures value { result ≡ prefix_len (blank_test blanks) text.now }
+    ensures value { result ≡ prefix_len is_space text.now }
 {
     for (i, byte) in text.iter().enumerate() {
-        if !is_blank(*byte, blanks) {
+        if *byte != b' ' {
             return i;
         }
     }
     text.len()
 }
 
-// How many bytes stand before the first blank.
-fn word_len(text: &[u8], blanks: Blanks) -> usize
+// How many bytes stand before the first space.
+fn word_len(text: &[u8]) -> usize
     ensures within { result ≤ length text.now }
-    ensures value { result ≡ position_or_len (blank_test blanks) text.now }
+    ensures value { result ≡ position_or_len is_space text.now }
 {
     for (i, byte) in text.iter().enumerate() {
-        if is_blank(*byte, blanks) {
+        if *byte == b' ' {
             return i;
         }
     }
@@ -51,24 +33,24 @@ fn word_len(text: &[u8], blanks: Blanks) -> usize
 
 /// The first word of the text, and the text after it. None where the text has no word.
 ///
-/// A word is a longest run of bytes that are no blanks; blanks at both ends don't count.
-pub fn next_word(text: &[u8], blanks: Blanks) -> Option<(&[u8], &[u8])>
-    ensures none { IsNone result ↔ (words_of (blank_test blanks) text.now ≡ []) }
-    ensures found { IfSome result (λ r. IsFirstWord (blank_test blanks) text.now r.0.now r.1.now) }
+/// A word is a longest run of bytes that are no spaces; spaces at both ends don't count.
+pub fn next_word(text: &[u8]) -> Option<(&[u8], &[u8])>
+    ensures none { IsNone result ↔ (words_of is_space text.now ≡ []) }
+    ensures found { IfSome result (λ r. IsFirstWord is_space text.now r.0.now r.1.now) }
 {
-    let (_, begun) = text.split_at(blanks_len(text, blanks));
+    let (_, begun) = text.split_at(spaces_len(text));
     if begun.is_empty() {
         return None;
     }
-    Some(begun.split_at(word_len(begun, blanks)))
+    Some(begun.split_at(word_len(begun)))
 }
 
 /// The word of a text that has one word, parted by spaces. None exactly where it has another number of words.
 pub fn one_word(text: &[u8]) -> Option<&[u8]>
     ensures { option_map (λ w. w.now) result ≡ one_of (words_of is_space text.now) }
 {
-    let (word, rest) = next_word(text, Blanks::Spaces)?;
-    if next_word(rest, Blanks::Spaces).is_some() {
+    let (word, rest) = next_word(text)?;
+    if next_word(rest).is_some() {
         return None;
     }
     Some(word)
@@ -78,7 +60,7 @@ pub fn one_word(text: &[u8]) -> Option<&[u8]>
 pub fn two_words(text: &[u8]) -> Option<(&[u8], &[u8])>
     ensures { option_map (λ w. (w.0.now, w.1.now)) result ≡ two_of (words_of is_space text.now) }
 {
-    let (first, rest) = next_word(text, Blanks::Spaces)?;
+    let (first, rest) = next_word(text)?;
     let second = one_word(rest)?;
     Some((first, second))
 }
@@ -87,7 +69,7 @@ pub fn two_words(text: &[u8]) -> Option<(&[u8], &[u8])>
 pub fn three_words(text: &[u8]) -> Option<(&[u8], &[u8], &[u8])>
     ensures { option_map (λ w. (w.0.now, w.1.now, w.2.now)) result ≡ three_of (words_of is_space text.now) }
 {
-    let (first, rest) = next_word(text, Blanks::Spaces)?;
+    let (first, rest) = next_word(text)?;
     let (second, third) = two_words(rest)?;
     Some((first, second, third))
 }

@@ -1,18 +1,14 @@
 -- The first piece of bytes that were begun and further ones.
-use Rattle.std.proofs.Common.{◌≡◌, ℕ, ◌+◌, ◌-◌, ◌<◌, ◌≤◌, ◌==◌, ◌&&◌, not, Bool, true, false, List, ◌++◌, length, take, Some, None, refl, sym, ap, ◌∙◌, arith, length-append}
+use Rattle.std.proofs.Common.{◌≡◌, ℕ, ◌+◌, ◌-◌, ◌<◌, ◌≤◌, ◌==◌, not, true, List, ◌++◌, length, take, Some, None, refl, sym, ap, ◌∙◌, arith, length-append}
 use Rattle.std.specs.List.{position_or_len}
-use Rattle.std.proofs.lemmas.Bool.{lt-ltb, le-ltb, le-leb, leb-true, eq-eqb}
+use Rattle.std.proofs.lemmas.Bool.{and_parts, lt-ltb, le-ltb, le-leb, leb-true, eq-eqb}
 use Rattle.std.proofs.lemmas.List.Folds.{prefix_len-append}
 use Rattle.std.proofs.Math.Seq.{take-append-add}
 use Rattle.iiod_grammar.specs.Command.{without_returns}
 use Rattle.iiod_grammar.specs.Lines.{is_lf, cut, NotYet, WholeLine, WholePayload, Overlong, is_begun}
 
-both : (p q : Bool) → (p && q) ≡ true → (p ≡ true) × (q ≡ true)
-both true q h = (refl, h)
-both false q h = absurd cc
-
 pub payload_begun : (count : ℕ) (begun : List ℕ) → is_begun (Some count) begun ≡ true → length begun ≤ count
-payload_begun count begun h = leb-true (length begun) count (both _ _ h).0
+payload_begun count begun h = leb-true (length begun) count (and_parts _ _ h).0
 
 -- a payload that is whole with further bytes
 pub payload_whole : (count : ℕ) (begun bytes : List ℕ) → is_begun (Some count) begun ≡ true → count - length begun ≤ length bytes
@@ -28,7 +24,7 @@ payload_whole count begun bytes h enough =
 -- where the first LF stands
 end_after : (begun bytes : List ℕ) → is_begun None begun ≡ true → position_or_len is_lf (begun ++ bytes) ≡ length begun + position_or_len is_lf bytes
 end_after begun bytes h =
-    let none : (position_or_len is_lf begun == length begun) ≡ true = (both _ _ h).0 in
+    let none : (position_or_len is_lf begun == length begun) ≡ true = (and_parts _ _ h).0 in
     prefix_len-append (λ b. not (is_lf b)) begun bytes ∙ rw none refl
 
 pub line_overlong : (begun bytes : List ℕ) → is_begun None begun ≡ true → 1024 < length begun + position_or_len is_lf bytes → cut None (begun ++ bytes) ≡ Overlong
@@ -51,4 +47,4 @@ line_whole begun bytes e h is within some =
     rw (end, le-ltb 1024 (length begun + e) within, lt-ltb (length begun + e) (length (begun ++ bytes)) (omega (arith, length-append begun bytes)), take-append-add begun bytes e, size) refl
 
 pub line_begun : (begun : List ℕ) → is_begun None begun ≡ true → length begun ≤ 1024
-line_begun begun h = leb-true (length begun) 1024 (both _ _ h).1
+line_begun begun h = leb-true (length begun) 1024 (and_parts _ _ h).1

@@ -1,45 +1,16 @@
 -- The marks of a text, and its first word by them.
-use Rattle.std.proofs.Common.{◌≡◌, ℕ, ◌+◌, ◌-◌, ◌*◌, ◌/◌, ◌%◌, ◌^◌, ◌<◌, ◌≤◌, Bool, true, false, not, List, [], ◌∷◌, map, cond, length, get_or, take, drop, Fits, w8, refl, sym, ap, ap₂, subst, suc, zero, one-add, div-one, pow_mono, pow_pos, shr-shr, ◌∙◌, arith, bit_or, inl, inr}
-use Rattle.std.proofs.lemmas.Bool.{agree_below, agree_below_at, cases_lt, le-leb, lt-leb}
-use Rattle.std.proofs.lemmas.Simd.{map-map, mask_l-mod, mask_l-lt, bit_mask_l, length-chunk, get_or-chunk, trailing_mask_l}
-use Rattle.std.proofs.lemmas.List.{length-map, length-drop, length-take, take_all, get_or-take, get_or-drop}
+use Rattle.std.proofs.Common.{◌≡◌, ℕ, ◌+◌, ◌-◌, ◌*◌, ◌/◌, ◌%◌, ◌^◌, ◌<◌, ◌≤◌, Bool, true, false, not, List, [], ◌∷◌, map, cond, length, get_or, take, drop, refl, sym, ap, ap₂, subst, suc, zero, one-add, div-one, pow_mono, pow_pos, shr-shr, ◌∙◌, arith, bit_or, inl, inr}
+use Rattle.std.proofs.lemmas.Bool.{cases_lt, le-leb, lt-leb}
+use Rattle.std.proofs.lemmas.Simd.{mask_l-lt, bit_mask_l, trailing_mask_l}
+use Rattle.std.proofs.lemmas.List.{length-map, length-drop, length-take, take-map, drop-map, take_all, get_or-take, get_or-drop}
 use Rattle.std.proofs.lemmas.Nat.Bits.{bit_at_or, same_from_bits, bit_at_cat_low, bit_at_cat_high, bit_at-zero, bit_at_above, bit_at-trailing_ones}
 use Rattle.std.proofs.lemmas.Nat.{shl_whole}
 use Rattle.std.specs.Int.{w64, bit_at, trailing_zeros, trailing_ones}
 use Rattle.std.specs.List.{position_or_len, prefix_len}
 use native.Mathlib.Nat.{zero-div}
-use lib.Lanes.{chunk, mask_l, top}
+use lib.Lanes.{chunk, mask_l}
 use Rattle.iio_text.specs.Words.{is_blank, words_of}
 use Rattle.iiod_grammar.specs.Marks.{is_solid, marks_of, kept_marks}
-
--- ---- lists
-
-map_take : {X Y : Type 0} (f : X → Y) (n : ℕ) (xs : List X) → map f (take n xs) ≡ take n (map f xs)
-map_take f zero xs = refl
-map_take f (suc n) [] = refl
-map_take f (suc n) (x ∷ xs) = ap (λ l. f x ∷ l) (map_take f n xs)
-
-map_drop : {X Y : Type 0} (f : X → Y) (n : ℕ) (xs : List X) → map f (drop n xs) ≡ drop n (map f xs)
-map_drop f zero xs = refl
-map_drop f (suc n) [] = refl
-map_drop f (suc n) (x ∷ xs) = map_drop f n xs
-
--- ---- the marks of a load of n bytes, where a lane's top bit is set just where its byte passes
-
-same_map : (p q : ℕ → Bool) (v : List ℕ) → agree_below p q 256 ≡ true → ((k : ℕ) → k < length v → Fits w8 (get_or v k 0)) → map p v ≡ map q v
-same_map p q [] all fits = refl
-same_map p q (x ∷ xs) all fits =
-    ap₂ (λ b l. b ∷ l) (agree_below_at p q 256 x all (fits 0 (omega arith)).fits) (same_map p q xs all (λ k h. fits (suc k) (omega arith)))
-
-pub lanes_marks : (d : List ℕ) (n i r : ℕ) (z : List ℕ) → n ≤ 64 → i + n ≤ length d → ((k : ℕ) → Fits w8 (get_or d k 0))
-    → r ≡ mask_l (map (top 7) z) % 2 ^ 64 → (f : ℕ → ℕ) → z ≡ map f (chunk i n d) → agree_below (λ x. top 7 (f x)) is_solid 256 ≡ true
-    → r ≡ marks_of (chunk i n d)
-lanes_marks d n i r z few room fits found f lanes all =
-    let v = chunk i n d in
-    let p : ℕ → Bool = λ x. top 7 (f x) in
-    let long = length-chunk i n d room in
-    found ∙ ap (λ l. mask_l l % 2 ^ 64) (ap (map (top 7)) lanes ∙ map-map (top 7) f v) ∙ mask_l-mod (map p v) 64 (omega (arith, length-map v p, long, few))
-    ∙ ap mask_l (same_map p is_solid v all (λ k h. subst (Fits w8) (sym (get_or-chunk i n d k 0 (omega (arith, long)))) (fits (i + k))))
 
 -- ---- the marks of two loads that hold all bytes between them, some of them twice
 
@@ -79,8 +50,8 @@ marks_joined text n m a b enough few fits front back =
     let k = length text - m in
     let long : length ms ≡ length text = length-map text is_solid in
     let rest : length (drop k text) ≡ m = omega (arith, length-drop k text, enough) in
-    let first : a ≡ mask_l (take n ms) = front ∙ ap mask_l (map_take is_solid n text) in
-    let last : b ≡ mask_l (drop k ms) = back ∙ ap marks_of (take_all m (drop k text) (omega (arith, rest))) ∙ ap mask_l (map_drop is_solid k text) in
+    let first : a ≡ mask_l (take n ms) = front ∙ ap mask_l (sym (take-map is_solid n text)) in
+    let last : b ≡ mask_l (drop k ms) = back ∙ ap marks_of (take_all m (drop k text) (omega (arith, rest))) ∙ ap mask_l (sym (drop-map is_solid k text)) in
     let small : mask_l (drop k ms) < 2 ^ m = subst (λ j. mask_l (drop k ms) < 2 ^ j) (omega (arith, length-drop k ms, long, enough)) (mask_l-lt (drop k ms)) in
     let shifted : mask_l (drop k ms) * 2 ^ k % 2 ^ 64 ≡ mask_l (drop k ms) * 2 ^ k = shl_whole (mask_l (drop k ms)) m k 64 small (omega (arith, enough, fits)) in
     ap₂ (λ x y. bit_or x (y * 2 ^ k % 2 ^ 64)) first last ∙ ap (λ y. bit_or (mask_l (take n ms)) y) shifted
@@ -101,7 +72,7 @@ mask_shift (suc k) (m ∷ ms) =
     ap (λ j. mask_l (m ∷ ms) / 2 ^ j) e ∙ sym (shr-shr (mask_l (m ∷ ms)) 1 k) ∙ ap (λ x. x / 2 ^ k) (half m (mask_l ms)) ∙ mask_shift k ms
 
 pub marks_shift : (k : ℕ) (text : List ℕ) → marks_of text / 2 ^ k ≡ marks_of (drop k text)
-marks_shift k text = mask_shift k (map is_solid text) ∙ ap mask_l (sym (map_drop is_solid k text))
+marks_shift k text = mask_shift k (map is_solid text) ∙ ap mask_l (drop-map is_solid k text)
 
 twice : (v : Bool) → not (not v) ≡ v
 twice true = refl

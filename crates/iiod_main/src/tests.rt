@@ -224,31 +224,34 @@ fn long_commands_end_the_connection(rt: HostRuntime) -> Result<(), Fail> {
     Ok(())
 }
 
+/// Words that are no command, with a space between two.
+const OTHER_WORDS: &[&str] = &[
+    "",
+    "--help",
+    "Play",
+    "play ",
+    "play play",
+    "solo A",
+    "layout",
+    "layout d",
+    "layout d 1 2",
+    "Layout d 1",
+    "play d 1",
+    "gen",
+    "gen ",
+    "gen 01",
+    "gen +1",
+    "gen x",
+    "gen 1 2",
+    "Gen 1",
+    "gen 18446744073709551616",
+    "serve a 10",
+];
+
 #[test]
 fn other_words_name_the_commands(rt: HostRuntime) -> Result<(), Fail> {
     let alloc = rt.alloc();
-    for text in [
-        "",
-        "--help",
-        "Play",
-        "play ",
-        "play play",
-        "solo A",
-        "layout",
-        "layout d",
-        "layout d 1 2",
-        "Layout d 1",
-        "play d 1",
-        "gen",
-        "gen ",
-        "gen 01",
-        "gen +1",
-        "gen x",
-        "gen 1 2",
-        "Gen 1",
-        "gen 18446744073709551616",
-        "serve a 10",
-    ] {
+    for text in OTHER_WORDS {
         let mut words = Vec::new(alloc);
         for word in text.split(' ') {
             words.push(word)?;

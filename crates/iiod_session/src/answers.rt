@@ -1,4 +1,5 @@
 //! Answers, appended to what was answered before.
+
 ghost use Rattle.std.specs.Prelude.{◌≡◌, ◌<◌, ◌≤◌, ◌+◌, ◌^◌, ◌++◌, length, pos, vec_capacity, IfOk, OnOk};
 ghost use Rattle.iiod_reply.specs.Reply.{Appends, Line, Number, Raw, Refusal, text_of};
 ghost use Rattle.iiod_session.specs.Performs.{IsAllowed, reply_by};

@@ -1,4 +1,5 @@
 //! The commands of attributes: READ and WRITE.
+
 ghost use Rattle.std.specs.Prelude.{◌≡◌, ◌<◌, ◌++◌, length, is_some, option_map, Ok, IfOk, IfSome, OnOk, Some, ℕ, List};
 ghost use Rattle.std.specs.Option.{option_copied};
 ghost use Rattle.iiod_grammar.specs.Command.{Read};

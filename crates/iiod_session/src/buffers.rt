@@ -1,4 +1,5 @@
 //! The commands of buffers: OPEN, CLOSE, READBUF, WRITEBUF and SET.
+
 ghost use Rattle.std.specs.Prelude.{◌≡◌, ◌<◌, ◌≤◌, ◌++◌, ◌==◌, filter, not, length, vec_capacity, Ok, IfOk, IfSome, OnOk};
 ghost use Rattle.iiod_grammar.specs.Command.{Open, Close, ReadBuf, SetBuffers, WriteBuf};
 ghost use Rattle.iiod_grammar.specs.Stream.{Said};

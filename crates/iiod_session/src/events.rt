@@ -1,4 +1,5 @@
 //! The commands of threshold events: EVOPEN, EVREAD and EVCLOSE.
+
 ghost use Rattle.std.specs.Prelude.{◌≡◌, ◌==◌, ◌<◌, ◌++◌, length, filter, not, Ok, IfOk, OnOk, IfSome, ℕ, List};
 ghost use Rattle.iiod_grammar.specs.Command.{EvOpen, EvRead, EvClose};
 ghost use Rattle.iiod_grammar.specs.Stream.{Said};

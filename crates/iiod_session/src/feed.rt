@@ -1,4 +1,5 @@
 //! The items of a stream, carried out one after another.
+
 ghost use Rattle.std.specs.Prelude.{◌≡◌, ◌≤◌, ◌++◌, [], Ok, Err, IfOk, OnOk, drop, length};
 ghost use Rattle.iiod_grammar.specs.Command.{command_of};
 ghost use Rattle.iiod_grammar.specs.Lines.{LinesRecord, after_piece};

@@ -1,4 +1,5 @@
 //! What a session needs of the devices.
+
 ghost use Rattle.std.specs.Prelude.{◌≡◌, ◌≢◌, ℕ, ◌+◌, ◌*◌, ◌^◌, ◌≤◌, ◌<◌, length, Option, Some, option_map, vec_capacity, IfOk, IfSome, Ok, Err};
 
 use iio_attr::{Attr, Scope, Value};
@@ -105,13 +106,12 @@ pub trait Iio {
         ensures seat { seen seat.new ≡ record (seen seat.old) { tale = option_map (after_take result out.new) (seen seat.old).tale } }
         ensures told { IfSome (told self.old) (λ m. Takes m dev (seat_id (seen seat.old)) result out.new (told self.new)) };
 
-    /// Takes the oldest scans that wait, up to `most` of them, and appends them to `out`, which has room for so many. `Scan`
-    /// comes where there was one at least.
+    /// Takes the oldest scans that wait, up to `most` of them, and appends their bytes to `out`, which has room for those of so
+    /// many. `Scan` comes where there was one at least.
     fn take_scans(&mut self, dev: u32, seat: &mut Self::Seat, most: u32, out: &mut Vec<u8>) -> Took
         requires dev { dev < length (front (kept self.old)).devices }
         requires owned { IsOfDevice (front (kept self.old)) dev (seen seat.old) }
         requires some { 1 ≤ most }
-        requires few { most * (seen seat.old).size < 2 ^ 32 }
         requires room { length out.old.items + most * (seen seat.old).size ≤ vec_capacity out.old }
         ensures kept { kept self.new ≡ kept self.old }
         ensures takes { TakesScans dev most (told self.old) (told self.new) (seen seat.old) (seen seat.new) out.old.items out.new.items result }

@@ -1,4 +1,5 @@
 //! The end of a connection at the devices.
+
 ghost use Rattle.std.specs.Prelude.{◌≡◌, ◌<◌, All, [], length, Some, IfSome};
 ghost use Rattle.iiod_session.specs.Acts.{all_closed, all_released, left_desk, left_machine};
 ghost use Rattle.iiod_session.specs.Desk.{AllHeld, IsDesk, desk_of, seats_of};

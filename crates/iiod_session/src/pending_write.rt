@@ -1,4 +1,5 @@
 //! The WRITE whose payload comes.
+
 ghost use Rattle.std.specs.Prelude.{◌≡◌, option_map, OnOk};
 ghost use Rattle.iiod_grammar.specs.View.{place_view, target_view};
 ghost use Rattle.iiod_session.specs.PendingWrite.{PendingRecord, place_by, target_of_parts};

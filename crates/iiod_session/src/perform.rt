@@ -1,4 +1,5 @@
 //! One item of a connection.
+
 ghost use Rattle.std.specs.Prelude.{◌≡◌, option_map, Ok, Err, IfOk};
 ghost use Rattle.iiod_grammar.specs.Stream.{Said, Written};
 ghost use Rattle.iiod_grammar.specs.View.{command_view, target_view};

@@ -1,4 +1,5 @@
 //! The commands that touch no device, HELP, VERSION, PRINT and TIMEOUT, and lines that are no command.
+
 ghost use Rattle.std.specs.Prelude.{Ok, Err, IfOk};
 ghost use Rattle.iiod_grammar.specs.Command.{Help, Version, Print, Timeout};
 ghost use Rattle.iiod_grammar.specs.Stream.{Said};

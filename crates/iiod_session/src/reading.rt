@@ -1,4 +1,5 @@
 //! Scans taken from a seat.
+
 ghost use Rattle.std.specs.Prelude.{◌≡◌, ◌+◌, ◌-◌, ◌*◌, ◌/◌, ◌≤◌, ◌<◌, ◌^◌, ◌++◌, length, take, drop, vec_capacity, true, ℕ, IfSome, Some};
 ghost use Rattle.iio_layout.specs.Active.{has_data};
 ghost use Rattle.iio_layout.specs.Layout.{scan_size};

@@ -1,4 +1,5 @@
 //! A connection's seats: OPEN, CLOSE and READBUF, the device's number known.
+
 ghost use Rattle.std.specs.Prelude.{◌≡◌, ◌==◌, ◌<◌, ◌≤◌, ◌++◌, ℕ, length, IfSome, IfOk, Some, None, is_some, Bool, List};
 ghost use Rattle.std.specs.List.{position};
 ghost use Rattle.iiod_session.specs.Acts.{close_at, joined_at, open_at};

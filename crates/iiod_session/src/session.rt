@@ -1,4 +1,5 @@
 //! A connection: what it sent, what it is answered, and what it has of the devices.
+
 ghost use Rattle.std.specs.Prelude.{◌≡◌, ◌↔◌, [], IfOk, IfSome, IsTrue, Some};
 ghost use Rattle.iiod_grammar.specs.Scans.{scan_on};
 ghost use Rattle.iiod_grammar.specs.Stream.{AtEnd, no_item};

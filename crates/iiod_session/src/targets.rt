@@ -1,4 +1,5 @@
 //! What READ and WRITE name at a device.
+
 ghost use Rattle.std.specs.Prelude.{◌≡◌, Some};
 ghost use Rattle.std.specs.Option.{option_copied};
 ghost use Rattle.iiod_grammar.specs.Command.{AtInput};

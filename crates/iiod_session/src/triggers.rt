@@ -1,4 +1,5 @@
 //! The commands of triggers: SETTRIG and GETTRIG.
+
 ghost use Rattle.std.specs.Prelude.{◌≡◌, ◌<◌, length, Ok, IfOk, IfSome, ℕ, List};
 ghost use Rattle.std.specs.Option.{option_copied};
 ghost use Rattle.iio_desc.specs.declared.limits.TheConstants.{MAX_TRIGGERS};

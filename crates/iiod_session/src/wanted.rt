@@ -1,4 +1,5 @@
 //! What an OPEN asks for.
+
 ghost use Rattle.std.specs.Prelude.{◌≡◌, ◌<◌, ◌≤◌, ◌^◌, ℕ, true, IfOk, Ok, false, length};
 ghost use Rattle.iio_base.specs.Refusals.{ensure};
 ghost use Rattle.iio_layout.specs.Active.{has_data};

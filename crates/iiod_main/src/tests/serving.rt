@@ -66,22 +66,31 @@ fn hear(
     Ok(())
 }
 
+// A connection that has opened the device.
+fn opened(rt: &impl Abort, alloc: Global, bench: &mut Bench) -> Result<Session<Seat>, Fail>
+    ensures desk { IfOk result (λ s. IsDesk seen_of (front_of bench.new) s.desk) }
+    ensures front { front_of bench.new ≡ front_of bench.old }
+{
+    let mut session = Session::new(alloc, 7, Manner::Server)?;
+    hear(
+        rt,
+        alloc,
+        &mut session,
+        bench,
+        b"OPEN adc0 1 00000001\n",
+        b"0\n",
+        Going::On,
+    )?;
+    Ok(session)
+}
+
 // What stands behind a READBUF that waits is kept. Once a scan came, a feed of no bytes is enough.
 #[test]
 fn waits_and_goes_on(rt: HostRuntime) -> Result<(), Fail> {
     let alloc = rt.alloc();
     let waits = Going::Waits(0);
     let mut bench = letters(alloc)?;
-    let mut a = Session::new(alloc, 7, Manner::Server)?;
-    hear(
-        &rt,
-        alloc,
-        &mut a,
-        &mut bench,
-        b"OPEN adc0 1 00000001\n",
-        b"0\n",
-        Going::On,
-    )?;
+    let mut a = opened(&rt, alloc, &mut bench)?;
     hear(
         &rt,
         alloc,
@@ -122,16 +131,7 @@ fn waits_and_goes_on(rt: HostRuntime) -> Result<(), Fail> {
 fn unplugged_while_it_waits(rt: HostRuntime) -> Result<(), Fail> {
     let alloc = rt.alloc();
     let mut bench = letters(alloc)?;
-    let mut a = Session::new(alloc, 7, Manner::Server)?;
-    hear(
-        &rt,
-        alloc,
-        &mut a,
-        &mut bench,
-        b"OPEN adc0 1 00000001\n",
-        b"0\n",
-        Going::On,
-    )?;
+    let mut a = opened(&rt, alloc, &mut bench)?;
     hear(
         &rt,
         alloc,

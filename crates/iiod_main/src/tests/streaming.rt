@@ -5,7 +5,9 @@ ghost use Rattle.std.specs.Prelude.{◌≤◌};
 use crate::tests::playing::{check_driven, joined, run_words};
 use crate::tests::rows::ADC;
 use crate::tests::worked::{DRIVEN, WORKED};
+use iio_desc::{DescFault, DescReader};
 use iio_io::{MemSink, MemSource, read_whole};
+use iio_text::Why;
 use std::alloc::Global;
 use std::process::Abort;
 use std::test::Fail;
@@ -112,6 +114,19 @@ fn streamed_faults(rt: HostRuntime) -> Result<(), Fail> {
             check_faults(&rt, alloc, &text[..len], piece, &[], &[], &printed, *status)?;
         }
     }
+    Ok(())
+}
+
+// The first fault of a description is the answer to each later line too.
+#[test]
+fn refused_description_stays_refused(rt: HostRuntime) -> Result<(), Fail> {
+    let refused = Err(DescFault::Line {
+        number: 1,
+        why: Why::Word,
+    });
+    let mut reader = DescReader::new(rt.alloc(), 0)?;
+    assert_eq!(rt; reader.line(b"x"), refused);
+    assert_eq!(rt; reader.line(b"trigger t0 2"), refused);
     Ok(())
 }
 

@@ -6,7 +6,8 @@ use Rattle.std.specs.Prelude.{IsOk}
 use Rattle.iio_script.specs.LineReader.{IsHand}
 use Rattle.iio_script.proofs.HandLaws.{hand_first}
 use Rattle.iio_script.proofs.OpeningLaws.{line_counts, opens_at, opens_cut, opens_end_by, opens_failed, opens_first, opens_found, opens_line, opens_long, opens_more, opens_taken}
-use Rattle.iio_script.proofs.EndLaws.{silent_first, silent_more}
+use Rattle.iio_io.proofs.Told.{silent_more}
+use Rattle.iio_script.proofs.EndLaws.{silent_first}
 use Rattle.iio_script.proofs.opening.open.Goals as goal
 
 pub loop-reader-init : goal.loop-reader-init

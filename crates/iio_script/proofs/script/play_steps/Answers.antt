@@ -1,6 +1,7 @@
 use Rattle.std.proofs.Common.{◌≡◌, refl, Err, ◌∙◌, arith, rules}
 use Rattle.iio_script.specs.declared.status.Status.TheVariants.{Memory}
-use Rattle.iio_script.proofs.EndLaws.{silent_first, silent_more}
+use Rattle.iio_io.proofs.Told.{silent_more}
+use Rattle.iio_script.proofs.EndLaws.{silent_first}
 use Rattle.iio_script.proofs.PlayLaws.{plays_first}
 use Rattle.iio_script.proofs.StepLaws.{ends_cut, ends_done, ends_fault, ends_long, ends_read_fault, ends_refused, ends_sent_fault, so_far_first, so_far_found, so_far_played, so_far_sent, stands_done}
 use Rattle.iio_script.proofs.script.play_steps.Goals as goal

@@ -1,7 +1,7 @@
 use Rattle.std.proofs.Common.{◌≡◌, ◌+◌, drop}
 use Rattle.std.specs.List.{position_or_len}
-use Rattle.iio_text.specs.Words.{blank_test}
+use Rattle.iio_text.specs.Words.{is_space}
 use Rattle.iio_text.proofs.words.word_len.Given as goal
 
 abbrev pub invariant-loop-i : goal.invariant-loop-i
-invariant-loop-i l = position_or_len (blank_test l.blanks) l.text ≡ l.i + position_or_len (blank_test l.blanks) (drop l.i l.text)
+invariant-loop-i l = position_or_len is_space l.text ≡ l.i + position_or_len is_space (drop l.i l.text)

@@ -2,7 +2,7 @@ use Rattle.std.proofs.Common.{ℕ, refl, arith}
 use Rattle.std.proofs.lemmas.Simd.{zip2_of_maps, zip2_splat, length-chunk}
 use lib.Lanes.{chunk}
 use Rattle.iio_text.specs.Words.{is_blank}
-use Rattle.iiod_grammar.proofs.BlankLemmas.{lanes_place}
+use Rattle.iio_text.proofs.RunLemmas.{lanes_place}
 use Rattle.iiod_grammar.proofs.blanks.first_in_lanes.Goals as goal
 
 pub returns : goal.returns

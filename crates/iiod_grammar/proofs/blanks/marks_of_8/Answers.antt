@@ -1,12 +1,13 @@
 use Rattle.std.proofs.Common.{ℕ, refl, arith}
 use Rattle.std.proofs.lemmas.Simd.{zip2_of_maps, zip2_splat, length-chunk}
 use lib.Lanes.{chunk}
-use Rattle.iiod_grammar.proofs.MarkLemmas.{lanes_marks}
+use Rattle.iio_text.proofs.RunLemmas.{lanes_mask}
+use Rattle.iiod_grammar.specs.Marks.{is_solid}
 use Rattle.iiod_grammar.proofs.blanks.marks_of_8.Goals as goal
 
 pub returns : goal.returns
 returns c =
     let v = chunk c.args.place 8 c.args.text.now in
     let long = length-chunk c.args.place 8 c.args.text.now c.requires in
-    lanes_marks c.args.text.now 8 c.args.place _ _ (omega arith) c.requires c.type_inv.text refl _
+    lanes_mask is_solid c.args.text.now 8 c.args.place _ (omega arith) c.requires c.type_inv.text _
     (zip2_of_maps _ _ _ v (zip2_splat {Y = ℕ} _ v 8 32 long) (zip2_splat {Y = ℕ} _ v 8 9 long)) refl

@@ -1,11 +1,10 @@
-use Rattle.std.proofs.Common.{rules, ◌≡◌, ◌+◌, ◌<◌, length, take, drop, slice_index_or, Some, refl, sym, ap, ◌∙◌}
+use Rattle.std.proofs.Common.{rules, ◌≡◌, ◌<◌, length, slice_index_or, Some, refl, sym, ap, ◌∙◌}
 use Rattle.iio_kfifo.specs.Queue.{Queue}
 use Rattle.iio_layout.specs.Layout.{scan_size}
 use Rattle.iio_device.specs.declared.membership.Membership.{Membership}
 use Rattle.iio_device.specs.Members.{member_of}
 use Rattle.iio_device.proofs.ApartLemmas.{eq_same}
-use Rattle.iio_device.proofs.SoundLemmas.{split_at}
-use Rattle.iio_device.proofs.TakeLemmas.{keeps_drained, set_split, sound_takes}
+use Rattle.iio_device.proofs.TakeLemmas.{changes_one, keeps_drained, sound_takes}
 use Rattle.iio_device.proofs.roster.Roster+Kfifo.take.Goals as goal
 
 pub invariant_of-self : goal.invariant_of-self
@@ -24,8 +23,8 @@ invariant_of-self c =
       placed = roster.placed ∙ sym (ap length (c.take_at.ensures.others c.index.result.now) ∙ search rules);
     }
 
-pub returns-clause-takes : goal.returns-clause-takes
-returns-clause-takes c =
+pub returns : goal.returns
+returns c =
     let roster = c.args.self.now in
     let members = roster.members.items in
     let at = c.in_ok-at.at in
@@ -36,14 +35,5 @@ returns-clause-takes c =
     let sized : old.tail.size ≡ scan_size roster.shape old.mask.bits = (roster.sound.each at c.index.result.now within).sized in (
       rw (found) (eq_same (length c.args.out.now) (scan_size roster.shape old.mask.bits) (c.if-out-size.false ∙ c.size.ensures ∙ ap (λ (m : Membership Queue). m.tail.size) c.index.ensures ∙ sized)),
       refl,
-      record {
-        before = take at members;
-        member = old;
-        changed = new;
-        after = drop (at + 1) members;
-        was = split_at (λ (q : Queue). q.taken) (λ q. q.lost) (λ q. q.size) members at old within (ap (λ d. slice_index_or members at d) c.index.ensures);
-        is = c.take_at.ensures.others c.index.result.now ∙ set_split members at new within;
-        found = found;
-        moved = c.take_at.ensures.moved c.index.result.now;
-      },
+      changes_one c.args.number _ members c.take_at.new.members.items at old new within (ap (λ d. slice_index_or members at d) c.index.ensures) found (c.take_at.ensures.moved c.index.result.now) (c.take_at.ensures.others c.index.result.now),
     )

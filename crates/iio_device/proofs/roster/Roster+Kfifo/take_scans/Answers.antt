@@ -1,12 +1,11 @@
-use Rattle.std.proofs.Common.{rules, ◌≡◌, ◌==◌, ◌+◌, ◌<◌, ◌≤◌, true, false, length, take, drop, slice_index_or, Some, refl, sym, ap, ◌∙◌, arith, mul-le-mul_right}
+use Rattle.std.proofs.Common.{rules, ◌≡◌, ◌==◌, ◌<◌, true, false, length, slice_index_or, Some, refl, sym, ap, ◌∙◌, arith}
 use Rattle.std.proofs.lemmas.Bool.{not-false, not-true}
 use Rattle.iio_kfifo.specs.Queue.{Queue}
 use Rattle.iio_layout.specs.Layout.{scan_size}
 use Rattle.iio_device.specs.declared.membership.Membership.{Membership}
 use Rattle.iio_device.specs.Members.{member_of}
 use Rattle.iio_device.proofs.ApartLemmas.{none_passes, passes_at}
-use Rattle.iio_device.proofs.SoundLemmas.{split_at}
-use Rattle.iio_device.proofs.TakeLemmas.{keeps_drained_scans, set_split, sound_takes}
+use Rattle.iio_device.proofs.TakeLemmas.{changes_one, keeps_drained_scans, sound_takes}
 use Rattle.iio_device.proofs.roster.Roster+Kfifo.take_scans.Goals as goal
 
 pub returns-in_err-at-clause-takes : goal.returns-in_err-at-clause-takes
@@ -57,29 +56,18 @@ returns-clause-takes c =
     let same : (member.mask.bits == c.args.mask.bits) ≡ true = not-false _ (sym c.if-ne.ensures) in (
       (rw number at passes) ∙ ap (λ (m : Membership Queue). m.mask.bits == c.args.mask.bits) (sym c.index.ensures) ∙ same,
       refl,
-      record {
-        before = take at members;
-        member = old;
-        changed = new;
-        after = drop (at + 1) members;
-        was = split_at (λ (q : Queue). q.taken) (λ q. q.lost) (λ q. q.size) members at old within (ap (λ d. slice_index_or members at d) c.index.ensures);
-        is = c.take_scans_at.ensures.others member ∙ set_split members at new within;
-        found = found;
-        moved = c.take_scans_at.ensures.moved member;
-      },
+      changes_one c.args.number _ members c.take_scans_at.new.members.items at old new within (ap (λ d. slice_index_or members at d) c.index.ensures) found (c.take_scans_at.ensures.moved member) (c.take_scans_at.ensures.others member),
     )
 
-pub returns-clause-most : goal.returns-clause-most
-returns-clause-most c =
+pub returns-clause-sized : goal.returns-clause-sized
+returns-clause-sized c =
     let roster = c.args.self.now in
     let members = roster.members.items in
     let at = c.in_ok-at.at in
     let member = c.index.result.now in
     let old = slice_index_or members at member in
     let within : at < length members = rw (sym c.deref.ensures.value) c.in_ok-at.ensures.within in
-    let given = (c.take_scans_at.ensures.moved member).moved.count in
-    let low : c.take_scans_at.result ≤ c.args.most = omega (arith, given) in
     let same : (member.mask.bits == c.args.mask.bits) ≡ true = not-false _ (sym c.if-ne.ensures) in
     let mask : old.mask.bits ≡ c.args.mask.bits = ap (λ (m : Membership Queue). m.mask.bits) (sym c.index.ensures) ∙ grind (arith, same) in
     let sized : old.tail.size ≡ scan_size roster.shape c.args.mask.bits = (roster.sound.each at member within).sized ∙ ap (scan_size roster.shape) mask in
-    omega (arith, rw sized at (c.take_scans_at.ensures.sized member), mul-le-mul_right (scan_size roster.shape c.args.mask.bits) low)
+    rw sized at (c.take_scans_at.ensures.sized member)

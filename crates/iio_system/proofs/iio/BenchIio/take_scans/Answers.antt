@@ -8,11 +8,6 @@ use Rattle.iio_system.proofs.IioLemmas.{device_keeps, sound_take_scans}
 use Rattle.iio_system.proofs.ToldLemmas.{size_is, told_take_scans}
 use Rattle.iio_system.proofs.iio.BenchIio.take_scans.Goals as goal
 
-pub take_scans-requires-clause-few : goal.take_scans-requires-clause-few
-take_scans-requires-clause-few g c =
-    let size = c.requires.owned.sized ∙ size_is front_by c.args.self.now.context.items c.args.self.now.described.items c.args.self.now.devices.items c.args.dev c.index_mut-device.result.now (element_at front_by _ _ _ c.requires.dev c.index_mut-device.ensures.value) c.args.seat.now.mask.bits in
-    rw (sym size) c.requires.few
-
 pub take_scans-requires-clause-room : goal.take_scans-requires-clause-room
 take_scans-requires-clause-room g c =
     let size = c.requires.owned.sized ∙ size_is front_by c.args.self.now.context.items c.args.self.now.described.items c.args.self.now.devices.items c.args.dev c.index_mut-device.result.now (element_at front_by _ _ _ c.requires.dev c.index_mut-device.ensures.value) c.args.seat.now.mask.bits in
