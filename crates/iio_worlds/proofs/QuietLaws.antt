@@ -3,7 +3,7 @@
 use Rattle.std.proofs.Common.{◌≡◌, ℕ, ℤ, zero, suc, ◌+◌, ◌==◌, ◌&&◌, ◌||◌, not, Bool, true, false, List, [], ◌∷◌, ◌++◌, map, length, Option, Some, None, is_some, slice_get, Result, Ok, Err, cond, refl, sym, ap, ◌∙◌, subst, arith}
 use Rattle.std.specs.Str.{bytes_eq}
 use Rattle.std.specs.Option.{ok_or}
-use Rattle.std.proofs.lemmas.Bool.{true≢false}
+use Rattle.std.proofs.lemmas.Bool.{and_parts, true≢false}
 use Rattle.iio_base.specs.Refusals.{unless_refused}
 use Rattle.iio_text.specs.declared.errors.Errno.{Errno}
 use Rattle.iio_text.specs.declared.values.Fixed.{Fixed}
@@ -44,16 +44,12 @@ AreAlone a r = (k : ℕ) (d : Device) → slice_get r.devices k ≡ Some d → h
 
 -- ---- the rules, at a device
 
-both : (a b : Bool) → (a && b) ≡ true → (a ≡ true) × (b ≡ true)
-both true b h = (refl, h)
-both false b h = cc
-
 all_get : {A : Type 0} (f : ℕ → A → Bool) (k : ℕ) (xs : List A) (j : ℕ) (x : A) → all_from f k xs ≡ true → slice_get xs j ≡ Some x → f (j + k) x ≡ true
 all_get f k [] j x all is = cc
 all_get {A = A} f k (y ∷ xs) zero x all is =
-    let one : y ≡ x = cc in let place : k ≡ 0 + k = omega arith in ap (λ n. f n x) (sym place) ∙ ap (f k) (sym one) ∙ (both (f k y) (all_from f (suc k) xs) all).0
+    let one : y ≡ x = cc in let place : k ≡ 0 + k = omega arith in ap (λ n. f n x) (sym place) ∙ ap (f k) (sym one) ∙ (and_parts (f k y) (all_from f (suc k) xs) all).0
 all_get f k (y ∷ xs) (suc j) x all is =
-    let place : j + suc k ≡ suc j + k = omega arith in ap (λ n. f n x) (sym place) ∙ all_get f (suc k) xs j x (both (f k y) (all_from f (suc k) xs) all).1 is
+    let place : j + suc k ≡ suc j + k = omega arith in ap (λ n. f n x) (sym place) ∙ all_get f (suc k) xs j x (and_parts (f k y) (all_from f (suc k) xs) all).1 is
 
 unparted_by : (w : Who) (p m : Bool) (ms : List Member) → Even w ms → is_member w ms ≡ m → not (p && m && has_other w ms) ≡ true → p ≡ true → has_other w ms ≡ false
 unparted_by w false m ms even is h part = absurd (true≢false (sym part))
@@ -66,7 +62,7 @@ unparted_by w true false ms even is h part = ap (has_other w) (none_there w ms e
 
 pub rules_met : (s : Setup) (a : List ℕ) (r : Registry) (e : Event) → is_bystander s r a e ≡ true → AllEven (Conn a) r.devices → (others_are_modest s r a e ≡ true) × AreUnparted s a e r.devices
 rules_met s a r e rule even =
-    let parts = both (others_are_modest s r a e) (all_from (is_unparted s a e) 0 r.devices) rule in (
+    let parts = and_parts (others_are_modest s r a e) (all_from (is_unparted s a e) 0 r.devices) rule in (
       parts.0,
       λ k d here part.
           let place : k + 0 ≡ k = omega arith in

@@ -2,7 +2,7 @@
 use Rattle.std.proofs.Common.{◌≡◌, ℕ, suc, ◌&&◌, ◌||◌, not, Bool, true, false, List, [], ◌∷◌, ◌++◌, map, Option, Some, None, Result, Ok, Err, option_map, slice_get, cond, refl, sym, ap, ◌∙◌, subst}
 use Rattle.std.specs.Str.{bytes_eq}
 use Rattle.std.proofs.lemmas.Slice.Eq.{bytes_eq-Decides}
-use Rattle.std.proofs.lemmas.Bool.{true≢false}
+use Rattle.std.proofs.lemmas.Bool.{false_from_ne_true, true≢false}
 use Rattle.iio_base.specs.Refusals.{unless_refused}
 use Rattle.iio_text.specs.declared.errors.Errno.{Errno}
 use Rattle.iio_desc.specs.Description.{find_device}
@@ -264,10 +264,6 @@ still_same s a name item r q alike = (
 abbrev heard : List ℕ → List Item → List Event
 heard name items = map (λ item. Heard name item) items
 
-not_true : (b : Bool) → (b ≡ true → ⊥) → b ≡ false
-not_true true never = absurd (never refl)
-not_true false never = refl
-
 decided : (s : Setup) (a name : List ℕ) (items : List Item) (h : List Event) (q : Registry) → OnlyBystanders s a h → AreSame a name (registry_after s h) q
     → only_bystanders s a (and_then h (heard name items)) ≡ all_meet_by s q a name items
 decided s a name [] h q only alike = meet_all s a h only
@@ -282,7 +278,7 @@ decided s a name (item ∷ items) h q only alike =
         → only_bystanders s a (and_then (Heard name item ∷ h) (heard name items)) ≡ (meets_by s q a name item && all_meet_by s q a name items)
     by_rule true is rest = rest (is, only) ∙ ap (λ b. b && all_meet_by s q a name items) (sym is ∙ it)
     by_rule false is rest =
-        not_true (only_bystanders s a (and_then (Heard name item ∷ h) (heard name items)))
+        false_from_ne_true (only_bystanders s a (and_then (Heard name item ∷ h) (heard name items)))
         (λ all.
         let met = (before_events s a (heard name items) (Heard name item ∷ h) (all_meet s a (and_then (Heard name item ∷ h) (heard name items)) all)).0 in
         true≢false (sym met ∙ is))

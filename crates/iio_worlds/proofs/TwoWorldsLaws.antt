@@ -1,5 +1,6 @@
 -- The two worlds: the transcript of a connection with the other connections' steps is that without them.
 use Rattle.std.proofs.Common.{◌≡◌, ℕ, suc, ◌&&◌, Option, Some, None, option_map, not, Bool, true, false, List, [], ◌∷◌, ◌++◌, map, cond, refl, sym, ap, ◌∙◌, subst}
+use Rattle.std.proofs.lemmas.Bool.{and_parts}
 use Rattle.std.specs.Str.{bytes_eq}
 use Rattle.std.proofs.lemmas.Slice.Eq.{bytes_eq-Decides}
 use Rattle.iio_history.specs.Who.{Conn}
@@ -27,13 +28,9 @@ abbrev pub OnlyBystanders : Setup → List ℕ → List Event → Type 0
 OnlyBystanders s a [] = Unit {0}
 OnlyBystanders s a (e ∷ h) = (is_bystander s (registry_after s h) a e ≡ true) × OnlyBystanders s a h
 
-both : (x y : Bool) → (x && y) ≡ true → (x ≡ true) × (y ≡ true)
-both true y h = (refl, h)
-both false y h = cc
-
 pub all_meet : (s : Setup) (a : List ℕ) (h : List Event) → only_bystanders s a h ≡ true → OnlyBystanders s a h
 all_meet s a [] only = tt
-all_meet s a (e ∷ h) only = let parts = both (is_bystander s (registry_after s h) a e) (only_bystanders s a h) only in (parts.0, all_meet s a h parts.1)
+all_meet s a (e ∷ h) only = let parts = and_parts (is_bystander s (registry_after s h) a e) (only_bystanders s a h) only in (parts.0, all_meet s a h parts.1)
 
 pub meet_all : (s : Setup) (a : List ℕ) (h : List Event) → OnlyBystanders s a h → only_bystanders s a h ≡ true
 meet_all s a [] only = refl
