@@ -1,2 +1,4 @@
 pub mod Bytes
 pub mod Memory
+pub mod MemEnds
+pub mod Outside

@@ -1,7 +1,8 @@
 //! A source and a sink in memory, for tests and for work without an outside.
 
 ghost use Rattle.std.specs.Prelude.{◌≡◌, ◌^◌, ◌⊎◌, ◌-◌, ◌+◌, ◌≤◌, ◌++◌, ◌↔◌, ℕ, [], length, take, drop, min, IfOk, OnErr, IsErr, IsTrue};
-ghost use Rattle.iio_io.specs.Memory.{IsFull, IsListed, one_more};
+ghost use Rattle.iio_io.specs.Memory.{IsListed};
+ghost use Rattle.iio_io.specs.MemEnds.{MemReads, MemWrites};
 
 use crate::traits::{Failed, Sink, Source};
 use iio_base::{Count, Mem};
@@ -69,20 +70,7 @@ impl Source for MemSource {
     ghost faults = { λ s. s.faults };
 
     fn read(&mut self, out: &mut [u8]) -> Result<usize, Failed>
-        ensures piece { 1 ≤ self.old.piece }
-        ensures fails { IsErr result ↔ IsListed self.old.fails self.old.calls }
-        ensures count { IfOk result
-            (λ n. n ≡ min self.old.piece (min (length out.old) (length self.old.left))) }
-        ensures given { IfOk result (λ n. out.new ≡ take n self.old.left ++ drop n out.old) }
-        ensures ok { IfOk result (λ n. self.new ≡ record self.old {
-          left = drop n self.old.left;
-          calls = one_more self.old.calls;
-        }) }
-        ensures err { OnErr result (self.new ≡ record self.old {
-          calls = one_more self.old.calls;
-          faults = self.old.faults + 1;
-        }) }
-        ensures untouched { OnErr result (out.new ≡ out.old) }
+        ensures { MemReads self.old out.old result self.new out.new }
     {
         let listed = is_listed(&self.fails, self.calls);
         self.calls = self.calls.saturating_add(1);
@@ -167,18 +155,7 @@ impl Sink for MemSink {
     ghost faults = { λ s. s.faults };
 
     fn write(&mut self, bytes: &[u8]) -> Result<usize, Failed>
-        ensures room { length self.old.written ≤ self.old.room }
-        ensures fails { IsErr result ↔ (IsListed self.old.fails self.old.calls ⊎ IsFull self.old) }
-        ensures count { IfOk result
-            (λ n. n ≡ min (length bytes.now) (self.old.room - length self.old.written)) }
-        ensures ok { IfOk result (λ n. self.new ≡ record self.old {
-          written = self.old.written ++ take n bytes.now;
-          calls = one_more self.old.calls;
-        }) }
-        ensures err { OnErr result (self.new ≡ record self.old {
-          calls = one_more self.old.calls;
-          faults = self.old.faults + 1;
-        }) }
+        ensures { MemWrites self.old bytes.now result self.new }
     {
         let listed = is_listed(&self.fails, self.calls);
         self.calls = self.calls.saturating_add(1);
@@ -194,7 +171,7 @@ impl Sink for MemSink {
 }
 
 // Whether the call after `calls` others is listed. Numbers past the type's end are on no list.
-fn is_listed(fails: &[u64], calls: u64) -> bool
+pub(crate) fn is_listed(fails: &[u64], calls: u64) -> bool
     ensures { IsTrue result ↔ IsListed fails.now calls }
 {
     calls < u64::MAX && fails.contains(&(calls + 1))

@@ -1,90 +1,27 @@
-//! Standard input and standard output. They tell no content: nothing is known of what the system gives or takes.
+//! Standard input and standard output, or whatever else is handed in to be read from and written to. They tell no
+//! content as a source and a sink: nothing is known of what the system gives or takes.
 
 ghost use Rattle.std.specs.Prelude.{◌≡◌, ◌+◌, ◌-◌, ◌^◌, ◌<◌, ◌≤◌, min, length, IfOk, MatchResult};
 ghost use Rattle.std.specs.Io.KnownBytes.{ReadConsumes, WriteAppends};
+ghost use Rattle.iio_io.specs.Outside.{CountsFault};
 
+use crate::retrying::{read_retrying, write_retrying};
 use crate::traits::{Failed, Sink, Source};
 use iio_base::Count;
-use std::io::{ErrorKind, Read, Stdin, Stdout, Write};
-use std::marker::Model;
+use std::io::{Read, Write};
 
-// How often a read or a write that a signal cut short is tried.
-const TRIES: usize = 64;
-
-// One read, tried again where a signal cut it short. A failure takes no byte.
-#[tactic(auto, using(crate::proofs::Kept::keeps_refl, crate::proofs::Kept::keeps_trans, crate::proofs::Kept::kept_consumes))]
-fn read_retrying<R: Read>(
-    input: &mut R,
-    faults: &mut Count,
-    out: &mut [u8],
-) -> Result<usize, Failed>
-    ensures fits { IfOk result (λ n. n ≤ length out.new) }
-    ensures bytes { ReadConsumes (R.remaining input.old) (R.remaining input.new) result out.new }
-    ensures count { MatchResult result (λ _. faults.new ≡ faults.old) (λ _. faults.new ≡ faults.old + 1) }
-{
-    for _ in 0..TRIES {
-        match input.read(out) {
-            Ok(count) => return Ok(count),
-            Err(e) => {
-                if e.kind() != ErrorKind::Interrupted {
-                    break;
-                }
-            }
-        }
-    }
-    faults.rise();
-    Err(Failed)
-}
-
-// One write, tried again where a signal cut it short. A failure adds no byte.
-#[tactic(auto, using(crate::proofs::Kept::keeps_refl, crate::proofs::Kept::keeps_trans, crate::proofs::Kept::kept_appends))]
-fn write_retrying<W: Write>(
-    output: &mut W,
-    faults: &mut Count,
-    bytes: &[u8],
-) -> Result<usize, Failed>
-    ensures fits { IfOk result (λ n. n ≤ length bytes.now) }
-    ensures some { IfOk result (λ n. 0 < length bytes.now → 1 ≤ n) }
-    ensures bytes { WriteAppends (W.contents output.old) (W.contents output.new) result bytes.now }
-    ensures count { MatchResult result (λ _. faults.new ≡ faults.old) (λ _. faults.new ≡ faults.old + 1) }
-{
-    if bytes.is_empty() {
-        return Ok(0);
-    }
-    for _ in 0..TRIES {
-        match output.write(bytes) {
-            Ok(0) => break,
-            Ok(count) => return Ok(count),
-            Err(e) => {
-                if e.kind() != ErrorKind::Interrupted {
-                    break;
-                }
-            }
-        }
-    }
-    faults.rise();
-    Err(Failed)
-}
-
-/// Standard input, seen as its count of failed reads. A read that a signal cut short is tried again.
+/// A source over a reader, as standard input, with its count of failed reads. A read that a signal cut short
+/// is tried again.
 #[derive(Drop)]
-pub struct StdSource {
-    input: Stdin,
+pub struct StdSource<R> {
+    input: R,
     faults: Count,
 }
 
-impl Model for StdSource {
-    ghost use Rattle.std.specs.Prelude.{ℕ};
-
-    ghost Value = { ℕ };
-
-    ghost view = { λ s. s.faults };
-}
-
-impl StdSource {
-    /// The input of the process, of which no read failed yet.
-    pub fn new(input: Stdin) -> StdSource
-        ensures { result ≡ 0 }
+impl<R: Read> StdSource<R> {
+    /// A source over the process's input, of which no read failed yet.
+    pub fn new(input: R) -> StdSource<R>
+        ensures { result ≡ record { input = input; faults = 0 } }
     {
         StdSource {
             input,
@@ -94,47 +31,40 @@ impl StdSource {
 
     /// How often a read failed. The number stays at 2^64 - 1 when it gets there.
     pub fn faults(&self) -> u64
-        ensures { result ≡ min self.now (2 ^ 64 - 1) }
+        ensures { result ≡ min self.now.faults (2 ^ 64 - 1) }
     {
         self.faults.get()
     }
 }
 
-impl Source for StdSource {
+impl<R: Read> Source for StdSource<R> {
     ghost use Rattle.std.specs.Prelude.{None};
 
     ghost left = { λ _. None };
 
-    ghost faults = { λ s. s };
+    ghost faults = { λ s. s.faults };
 
     fn read(&mut self, out: &mut [u8]) -> Result<usize, Failed>
         ensures fits { IfOk result (λ n. n ≤ length out.new) }
-        ensures count { MatchResult result (λ _. self.new ≡ self.old) (λ _. self.new ≡ self.old + 1) }
+        ensures bytes { ReadConsumes (R.remaining self.old.input) (R.remaining self.new.input) result out.new }
+        ensures count { CountsFault result self.old.faults self.new.faults }
     {
         read_retrying(&mut self.input, &mut self.faults, out)
     }
 }
 
-/// Standard output, seen as its count of failed writes. Nothing is held back: each write goes to the
-/// system at once. A write that a signal cut short is tried again.
+/// A sink over a writer, as standard output, with its count of failed writes. Nothing is held back: each write
+/// goes to the system at once. A write that a signal cut short is tried again.
 #[derive(Drop)]
-pub struct StdSink {
-    output: Stdout,
+pub struct StdSink<W> {
+    output: W,
     faults: Count,
 }
 
-impl Model for StdSink {
-    ghost use Rattle.std.specs.Prelude.{ℕ};
-
-    ghost Value = { ℕ };
-
-    ghost view = { λ s. s.faults };
-}
-
-impl StdSink {
-    /// The output of the process, of which no write failed yet.
-    pub fn new(output: Stdout) -> StdSink
-        ensures { result ≡ 0 }
+impl<W: Write> StdSink<W> {
+    /// A sink over the process's output, of which no write failed yet.
+    pub fn new(output: W) -> StdSink<W>
+        ensures { result ≡ record { output = output; faults = 0 } }
     {
         StdSink {
             output,
@@ -144,24 +74,25 @@ impl StdSink {
 
     /// How often a write failed. The number stays at 2^64 - 1 when it gets there.
     pub fn faults(&self) -> u64
-        ensures { result ≡ min self.now (2 ^ 64 - 1) }
+        ensures { result ≡ min self.now.faults (2 ^ 64 - 1) }
     {
         self.faults.get()
     }
 }
 
-impl Sink for StdSink {
+impl<W: Write> Sink for StdSink<W> {
     ghost use Rattle.std.specs.Prelude.{None};
 
     ghost written = { λ _. None };
 
-    ghost faults = { λ s. s };
+    ghost faults = { λ s. s.faults };
 
     // A write of a nonempty piece that takes nothing is a failure.
     fn write(&mut self, bytes: &[u8]) -> Result<usize, Failed>
         ensures fits { IfOk result (λ n. n ≤ length bytes.now) }
         ensures some { IfOk result (λ n. 0 < length bytes.now → 1 ≤ n) }
-        ensures count { MatchResult result (λ _. self.new ≡ self.old) (λ _. self.new ≡ self.old + 1) }
+        ensures bytes { WriteAppends (W.contents self.old.output) (W.contents self.new.output) result bytes.now }
+        ensures count { CountsFault result self.old.faults self.new.faults }
     {
         write_retrying(&mut self.output, &mut self.faults, bytes)
     }

@@ -7,13 +7,13 @@ ghost use Rattle.iio_io.specs.Bytes.{Takes};
 use std::error::Error;
 use std::fmt;
 
-/// A read or a write that failed. It took or added no byte.
+/// A call of the outside that failed: a read took no byte, a write added none, and a door gave no connection away.
 #[derive(Clone, Copy, Debug, PartialEq, Eq, Hash)]
 pub struct Failed;
 
 impl fmt::Display for Failed {
     fn fmt<W: fmt::Write>(&self, f: &mut fmt::Formatter<W>) -> fmt::Result {
-        write!(f, "a read or a write failed")
+        write!(f, "a call of the outside failed")
     }
 }
 

@@ -1,0 +1,95 @@
+//! A ticker by the system's clock.
+
+ghost use Rattle.std.specs.Prelude.{◌≡◌, ◌+◌, ◌*◌, ◌<◌, ◌/◌, ◌↔◌, max, pos, IfNone, IfSome};
+
+use crate::door::Ticker;
+use std::marker::Model;
+use std::sync::atomic::{AtomicBool, Ordering};
+use std::thread;
+use std::time::{Clock, Duration, Instant};
+
+// Nanoseconds of a millisecond.
+const MILLI: u64 = 1_000_000;
+
+/// A ticker that waits for each moment on a clock that doesn't go back. Its ticks come each period from the
+/// start on, the first one period after it, and a tick's moment is its number times the period. One that is
+/// taken late is given at once and shifts none behind it; of those that were missed meanwhile only the last is
+/// given. It ends at the first moment after `stop` was set, where the clock can't be read, and where the moment
+/// is past 2^63 - 1.
+#[derive(Drop)]
+pub struct ClockTicker<'a, R> {
+    clock: R,
+    stop: &'a AtomicBool,
+    start: Option<Instant>,
+    period: u64,
+    ticks: u64,
+}
+
+impl<'a, R> Model for ClockTicker<'a, R> {
+    ghost use Rattle.iio_io.specs.Outside.{Ticks};
+
+    ghost Value = { Ticks };
+
+    ghost view = { λ t. record { period = t.period; ticks = t.ticks } };
+}
+
+impl<'a, R: Clock> ClockTicker<'a, R> {
+    /// A ticker of `period` milliseconds from `start` on. Without a start, and with a period of 0, it has no tick.
+    pub fn new(
+        clock: R,
+        stop: &'a AtomicBool,
+        start: Option<Instant>,
+        period: u32,
+    ) -> ClockTicker<'a, R>
+        ensures { result ≡ record { period = period * 1_000_000; ticks = 0 } }
+    {
+        ClockTicker {
+            clock,
+            stop,
+            start,
+            period: u64::from(period) * MILLI,
+            ticks: 0,
+        }
+    }
+
+    // Waits for the moment, and answers whether the ticker goes on.
+    fn wait_until(&self, moment: u64, now: u64) -> bool {
+        if moment > now && !self.stop.load(Ordering::SeqCst) {
+            thread::sleep(&self.clock, Duration::from_nanos(moment - now));
+        }
+        !self.stop.load(Ordering::SeqCst)
+    }
+}
+
+impl<'a, R: Clock> Ticker for ClockTicker<'a, R> {
+    ghost use Rattle.std.specs.Prelude.{None};
+
+    ghost moments = { λ _. None };
+
+    fn next(&mut self) -> Option<i64>
+        ensures moment { IfSome result (λ t. t ≡ pos (self.new.ticks * self.old.period)) }
+        ensures later { IfSome result (λ _. self.old.ticks < self.new.ticks) }
+        ensures period { self.new.period ≡ self.old.period }
+        ensures kept { IfNone result (self.new ≡ self.old) }
+    {
+        let now = self.start?.elapsed(&self.clock).ok()?;
+        let now = u64::try_from(now.as_nanos()).ok()?;
+        let tick = next_tick(self.ticks, now, self.period)?;
+        let moment = tick.checked_mul(self.period)?;
+        let answer = i64::try_from(moment).ok()?;
+        if !self.wait_until(moment, now) {
+            return None;
+        }
+        self.ticks = tick;
+        Some(answer)
+    }
+}
+
+// The number of the tick that comes behind `ticks` others: the next one, or the last that has come by `now`
+// where that is later. `None` is a period of 0, or no number that is left.
+fn next_tick(ticks: u64, now: u64, period: u64) -> Option<u64>
+    ensures { IfSome result (λ tick. tick ≡ max (ticks + 1) (now / period)) }
+{
+    let come = now.checked_div(period)?;
+    Some(ticks.checked_add(1)?.max(come))
+}
