@@ -1,18 +1,22 @@
-use Rattle.std.proofs.Common.{◌∙◌, refl}
+use Rattle.std.proofs.Common.{map}
 use Rattle.iio_device.specs.declared.plug.Plug.TheVariants.{Given}
 use Rattle.iio_device.specs.Plug.{driver_of}
-use Rattle.iio_system.specs.Station.{front_by, number_by, view_by}
-use Rattle.iio_system.proofs.FirstLemmas.{before_next, driven_next, made_next, pushed}
+use Rattle.iio_system.specs.Station.{view_by}
+use Rattle.iio_system.proofs.FirstLemmas.{made_captures, made_fronts, made_numbers, made_stations}
 use Rattle.iio_system.proofs.first.devices_of.Goals as goal
 
-pub loop-desc-preserved : goal.loop-desc-preserved
-loop-desc-preserved g c =
-    let making = before_next (λ d. driver_of (λ b. (g.dyn-1.0.entry b.vtable).1.driver b.value) (Given d)) (view_by (driver_of (λ b. (g.dyn-1.0.entry b.vtable).1.driver b.value))) front_by number_by c.args.descs.items c.args.drivers.items c.loop-desc.yielded _ c.next.new.self.rest.items c.loop-desc.devices.items c.loop-desc.slots.items c.in-Some.desc c.in-Some.ensures.steps.0 c.loop-desc.invariant.2 in (
-      tt,
-      tt,
-      pushed (λ d. driver_of (λ b. (g.dyn-1.0.entry b.vtable).1.driver b.value) (Given d)) (view_by (driver_of (λ b. (g.dyn-1.0.entry b.vtable).1.driver b.value))) front_by number_by c.args.descs.items c.args.drivers.items _ _ _ c.push.new.self.items c.device_of.new.slots.items c.in_ok-push.ensures.items
-          (made_next (λ d. driver_of (λ b. (g.dyn-1.0.entry b.vtable).1.driver b.value) (Given d)) (view_by (driver_of (λ b. (g.dyn-1.0.entry b.vtable).1.driver b.value))) front_by number_by c.args.descs.items c.args.drivers.items c.loop-desc.yielded c.next.new.self.rest.items c.loop-desc.devices.items c.loop-desc.slots.items c.device_of.new.slots.items c.in-Some.desc c.in_ok-device_of.field-0 making c.requires.apart
-          _ (c.len-number.ensures ∙ c.loop-desc.devices.ok.0)
-          (driven_next (λ d. driver_of (λ b. (g.dyn-1.0.entry b.vtable).1.driver b.value) (Given d)) (view_by (driver_of (λ b. (g.dyn-1.0.entry b.vtable).1.driver b.value))) front_by number_by c.args.descs.items c.args.drivers.items c.loop-desc.yielded c.next.new.self.rest.items c.loop-desc.devices.items c.loop-desc.slots.items c.in-Some.desc making c.requires.fit)
-          c.in_ok-device_of.ensures.device refl refl c.in_ok-device_of.ensures.left),
-    )
+pub returns-clause-stations : goal.returns-clause-stations
+returns-clause-stations g c =
+    made_stations (λ v. v.items) (view_by (driver_of (λ b. (g.dyn-1.0.entry b.vtable).1.driver b.value))) (map (λ d. driver_of (λ b. (g.dyn-1.0.entry b.vtable).1.driver b.value) (Given d)) c.args.drivers.items) c.args.descs.items c.devices_of.result c.devices_of.ensures
+
+pub returns-clause-fronts : goal.returns-clause-fronts
+returns-clause-fronts g c =
+    made_fronts (λ v. v.items) (view_by (driver_of (λ b. (g.dyn-1.0.entry b.vtable).1.driver b.value))) (map (λ d. driver_of (λ b. (g.dyn-1.0.entry b.vtable).1.driver b.value) (Given d)) c.args.drivers.items) c.args.descs.items c.devices_of.result c.devices_of.ensures
+
+pub returns-clause-numbered : goal.returns-clause-numbered
+returns-clause-numbered g c =
+    made_numbers (λ v. v.items) (view_by (driver_of (λ b. (g.dyn-1.0.entry b.vtable).1.driver b.value))) (map (λ d. driver_of (λ b. (g.dyn-1.0.entry b.vtable).1.driver b.value) (Given d)) c.args.drivers.items) c.args.descs.items c.devices_of.result c.devices_of.ensures
+
+pub returns-clause-captures : goal.returns-clause-captures
+returns-clause-captures g c =
+    made_captures (λ v. v.items) (view_by (driver_of (λ b. (g.dyn-1.0.entry b.vtable).1.driver b.value))) (map (λ d. driver_of (λ b. (g.dyn-1.0.entry b.vtable).1.driver b.value) (Given d)) c.args.drivers.items) c.args.descs.items c.devices_of.result c.devices_of.ensures

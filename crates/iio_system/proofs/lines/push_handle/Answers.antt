@@ -1,4 +1,4 @@
-use Rattle.std.proofs.Common.{◌∙◌, arith}
+use Rattle.std.proofs.Common.{arith}
 use Rattle.iio_system.proofs.RoomLemmas.{line_stands}
 use Rattle.iio_system.proofs.lines.push_handle.Goals as goal
 

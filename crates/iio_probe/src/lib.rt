@@ -1,0 +1,7 @@
+//! Probing: the devices of a description, each with what it samples.
+#![tactic(auto)]
+
+mod devices;
+
+pub use devices::devices_of;
+pub use iio_base::Mem;
