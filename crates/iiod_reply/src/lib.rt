@@ -2,10 +2,11 @@
 //!
 //! A number is a line of its own. A value is the number of its bytes, the bytes, and LF. A block of READBUF is the number
 //! of its bytes, the mask that they are under, the bytes, and a closing 0 where fewer came than were asked for. A caller who
-//! takes the scans straight into the answer puts the block's head before them and its closing behind.
+//! takes the scans straight into the answer puts the head of the most that can come before them, and says how many came and
+//! closes the block once they stand.
 #![tactic(auto)]
 
-ghost use Rattle.std.specs.Prelude.{◌≡◌, ◌+◌, ◌^◌, ◌≤◌, ◌<◌, ◌++◌, length, vec_capacity};
+ghost use Rattle.std.specs.Prelude.{◌≡◌, ◌+◌, ◌^◌, ◌≤◌, ◌<◌, ◌++◌, length, take, drop, vec_capacity, decimal};
 ghost use Rattle.iio_mask.specs.Text.{digit_count};
 ghost use Rattle.iiod_reply.specs.Reply.{Number, Value, text_of, block_text, closing_text, head_text, Appends, FitsInRoom};
 
@@ -93,6 +94,25 @@ pub fn block_head(mask: Mask, channels: u32, came: usize, out: &mut Vec<u8>) -> 
     Ok(())
 }
 
+/// Names the bytes that came at the head of a block, which begins at `start` and names `most` so far, the most that could
+/// come. What stands after the number stays, and moves up where the number is shorter now. It takes no memory.
+pub fn block_came(most: usize, came: usize, start: usize, out: &mut Vec<u8>)
+    requires fewer { came ≤ most }
+    requires head { out.old.items ≡ take start out.old.items ++ (decimal most ++ drop (start + length (decimal most)) out.old.items) }
+    ensures items { out.new.items ≡ take start out.old.items ++ (decimal came ++ drop (start + length (decimal most)) out.old.items) }
+    ensures capacity { vec_capacity out.new ≡ vec_capacity out.old }
+{
+    if came == most {
+        return;
+    }
+    let mut buffer = Buffer::new();
+    let end = start + buffer.format(most).len();
+    let digits = buffer.format(came).as_bytes();
+    let behind = start + digits.len();
+    overwrite(out, start, digits);
+    remove(out, behind, end - behind);
+}
+
 /// Appends the closing of a block: `0`, LF exactly where fewer bytes of scans came than were asked for. After `Mem`, `out`
 /// is unchanged.
 pub fn block_closing(came: usize, asked: u32, out: &mut Vec<u8>) -> Result<(), Mem>
@@ -115,6 +135,25 @@ fn closing(came: usize, asked: u32) -> &'static [u8]
     ensures { result.now ≡ closing_text came asked }
 {
     if came < asked as usize { b"0\n" } else { b"" }
+}
+
+// Puts bytes in the place of as many from `at` on.
+fn overwrite(out: &mut Vec<u8>, at: usize, bytes: &[u8])
+    requires { at + length bytes.now ≤ length out.old.items }
+    ensures items { out.new.items ≡ take at out.old.items ++ (bytes.now ++ drop (at + length bytes.now) out.old.items) }
+    ensures capacity { vec_capacity out.new ≡ vec_capacity out.old }
+{
+    out[at..at + bytes.len()].copy_from_slice(bytes);
+}
+
+// Takes so many bytes out from `at` on.
+fn remove(out: &mut Vec<u8>, at: usize, count: usize)
+    requires { at + count ≤ length out.old.items }
+    ensures items { out.new.items ≡ take at out.old.items ++ drop (at + count) out.old.items }
+    ensures capacity { vec_capacity out.new ≡ vec_capacity out.old }
+{
+    out[at..].rotate_left(count);
+    out.truncate(out.len() - count);
 }
 
 // Appends bytes in the room that is there for them.

@@ -1,9 +1,9 @@
 -- The room that a block takes, and the block that stands once there was room for it.
-use Rattle.std.proofs.Common.{◌≡◌, ℕ, zero, suc, ◌+◌, ◌/◌, ◌^◌, ◌<◌, ◌≤◌, nat_le, nat_lt, ◌||◌, Bool, true, false, List, [], ◌∷◌, ◌++◌, map, min, length, take, drop, append_assoc, length-append, Result, Ok, Err, inl, inr, subst, refl, sym, ap, ◌∙◌, arith}
+use Rattle.std.proofs.Common.{◌≡◌, ℕ, zero, suc, ◌+◌, ◌/◌, ◌^◌, ◌<◌, ◌≤◌, nat_le, nat_lt, ◌||◌, Bool, true, false, List, [], ◌∷◌, ◌++◌, map, min, length, take, drop, append_assoc, length-append, Result, Ok, Err, inl, inr, refl, sym, ap, ◌∙◌, arith}
 use Rattle.std.specs.Prelude.{⊤, pos}
 use Rattle.std.specs.Fmt.{decimal}
 use Rattle.std.specs.Int.{w32, w64, to_be_bytes}
-use Rattle.std.proofs.Math.Seq.{drop-append_seam, take-append_seam}
+use Rattle.std.proofs.Math.Seq.{drop-append_seam, drop-append-add, take-append_seam}
 use Rattle.std.proofs.lemmas.Bool.{cases_lt, cond_both}
 use Rattle.std.proofs.lemmas.Fmt.{length-decimal-le}
 use Rattle.std.proofs.lemmas.List.{length-map}
@@ -13,12 +13,12 @@ use Rattle.iio_mask.specs.Mask.{has}
 use Rattle.iio_mask.specs.Text.{digits_of, mask_text}
 use Rattle.iio_layout.specs.Active.{has_below, has_data}
 use Rattle.iio_layout.specs.Shape.{ShapeRecord, count_of, stamp_formats}
-use Rattle.iiod_reply.specs.Reply.{closing_text, head_text, number_text, Appends, FitsInRoom}
+use Rattle.iiod_reply.specs.Reply.{block_text, closing_text, head_text, line, number_text, Appends, FitsInRoom}
 
 length-mask_text : (channels bits : ℕ) → length (mask_text channels bits) ≤ 16
 length-mask_text channels bits = cond_both (nat_le channels 32) w32 w64 (λ w. length (digits_of (to_be_bytes w bits)) ≤ 16) (λ _. omega arith) (λ _. omega arith)
 
-pub length-closing : (came asked : ℕ) → length (closing_text came asked) ≤ 2
+length-closing : (came asked : ℕ) → length (closing_text came asked) ≤ 2
 length-closing came asked = cond_both (nat_lt came asked) (48 ∷ 10 ∷ []) [] (λ (bs : List ℕ). length bs ≤ 2) (λ _. omega arith) (λ _. omega arith)
 
 length-count : (n : ℕ) → n < 2 ^ 32 → length (number_text (pos n)) ≤ 11
@@ -26,7 +26,7 @@ length-count n few =
     let digits = length-decimal-le 10 n (omega arith) (omega (arith, few)) (omega (arith, few)) in
     omega (arith, length-append (decimal n) (10 ∷ []), digits)
 
-pub length-head : (channels mask came : ℕ) → came < 2 ^ 32 → length (head_text channels mask came) ≤ 28
+length-head : (channels mask came : ℕ) → came < 2 ^ 32 → length (head_text channels mask came) ≤ 28
 length-head channels mask came few =
     let line = mask_text channels mask ++ 10 ∷ [] in
     omega (
@@ -38,7 +38,7 @@ length-head channels mask came few =
     )
 
 -- where there was room, the text stands
-pub appended : (text old new : List ℕ) (capacity : ℕ) (r : Result ⊤ Mem) → Appends text old r new → FitsInRoom text old capacity r
+appended : (text old new : List ℕ) (capacity : ℕ) (r : Result ⊤ Mem) → Appends text old r new → FitsInRoom text old capacity r
     → length old + length text ≤ capacity → new ≡ old ++ text
 appended text old new capacity (Ok done) a f h = a
 appended text old new capacity (Err mem) a f h = absurd (cc (f h))
@@ -54,41 +54,52 @@ head_stands channels mask came old new capacity r a f short room =
     let is : new ≡ old ++ head = appended head old new capacity r a f (omega (arith, few, room)) in
     (is, omega (arith, ap length is ∙ length-append old head, few))
 
--- ---- a head that is put in the place of another
+-- ---- a block whose head names the most bytes that can come, and then those that came
 
-take_front : (n : ℕ) (xs ys : List ℕ) → n ≡ length xs → take n (xs ++ ys) ≡ xs
-take_front n xs ys e = subst (λ k. take k (xs ++ ys) ≡ xs) (sym e) (take-append_seam xs ys)
+-- a block's head begins with its number
+numbered : (channels mask n : ℕ) (scans : List ℕ) → head_text channels mask n ++ scans ≡ decimal n ++ (10 ∷ (line (mask_text channels mask) ++ scans))
+numbered channels mask n scans =
+    append_assoc (number_text (pos n)) (line (mask_text channels mask)) scans ∙ append_assoc (decimal n) (10 ∷ []) (line (mask_text channels mask) ++ scans)
 
-drop_front : (n : ℕ) (xs ys : List ℕ) → n ≡ length xs → drop n (xs ++ ys) ≡ ys
-drop_front n xs ys e = subst (λ k. drop k (xs ++ ys) ≡ ys) (sym e) (drop-append_seam xs ys)
+-- what stands before a block whose head names so many bytes, and what stands after that number
+named : (channels mask most start : ℕ) (old scans out : List ℕ) → start ≡ length old → out ≡ (old ++ head_text channels mask most) ++ scans
+    → (take start out ≡ old) × (drop (start + length (decimal most)) out ≡ 10 ∷ (line (mask_text channels mask) ++ scans))
+named channels mask most start old scans out e whole =
+    let rest = 10 ∷ (line (mask_text channels mask) ++ scans) in
+    let split : out ≡ old ++ (decimal most ++ rest) = whole ∙ append_assoc old (head_text channels mask most) scans ∙ ap (λ xs. old ++ xs) (numbered channels mask most scans) in
+    let before : take start out ≡ old = ap (take start) split ∙ ap (λ n. take n (old ++ (decimal most ++ rest))) e ∙ take-append_seam old (decimal most ++ rest) in
+    let behind : drop (start + length (decimal most)) out ≡ rest =
+    ap (λ n. drop (n + length (decimal most)) out) e ∙ ap (drop (length old + length (decimal most))) split
+    ∙ drop-append-add old (decimal most ++ rest) (length (decimal most)) ∙ drop-append_seam (decimal most) rest in
+    (before, behind)
 
--- the scans, once the head behind them is cut off
-pub without_head : (n : ℕ) (front scans head : List ℕ) → n ≡ length front + length scans → take n (front ++ (scans ++ head)) ≡ front ++ scans
-without_head n front scans head e =
-    ap (take n) (sym (append_assoc front scans head)) ∙ take_front n (front ++ scans) head (e ∙ sym (length-append front scans))
+pub is_named : (channels mask most start : ℕ) (old scans out : List ℕ) → start ≡ length old → out ≡ (old ++ head_text channels mask most) ++ scans
+    → out ≡ take start out ++ (decimal most ++ drop (start + length (decimal most)) out)
+is_named channels mask most start old scans out e whole =
+    let n = named channels mask most start old scans out e whole in
+    whole ∙ append_assoc old (head_text channels mask most) scans ∙ ap (λ xs. old ++ xs) (numbered channels mask most scans)
+    ∙ ap (λ xs. xs ++ (decimal most ++ (10 ∷ (line (mask_text channels mask) ++ scans)))) (sym n.0) ∙ ap (λ xs. take start out ++ (decimal most ++ xs)) (sym n.1)
 
--- the head behind the scans is moved before them
-pub head_before : (start came : ℕ) (front scans head : List ℕ) → start ≡ length front → came ≡ length scans
-    → take start ((front ++ scans) ++ head) ++ (drop (start + came) ((front ++ scans) ++ head) ++ take came (drop start ((front ++ scans) ++ head))) ≡ front ++ (head ++ scans)
-head_before start came front scans head e f =
-    let whole = append_assoc front scans head in
-    let first : take start ((front ++ scans) ++ head) ≡ front = ap (take start) whole ∙ take_front start front (scans ++ head) e in
-    let last : drop (start + came) ((front ++ scans) ++ head) ≡ head = drop_front (start + came) (front ++ scans) head (omega (arith, e, f, length-append front scans)) in
-    let behind : drop start ((front ++ scans) ++ head) ≡ scans ++ head = ap (drop start) whole ∙ drop_front start front (scans ++ head) e in
-    let middle : take came (drop start ((front ++ scans) ++ head)) ≡ scans = ap (take came) behind ∙ take_front came scans head f in
-    rw (first, last, middle) refl
+-- the number that came stands in its place
+pub renamed : (channels mask most came start : ℕ) (old scans out new : List ℕ) → start ≡ length old → out ≡ (old ++ head_text channels mask most) ++ scans
+    → new ≡ take start out ++ (decimal came ++ drop (start + length (decimal most)) out)
+    → new ≡ old ++ (head_text channels mask came ++ scans)
+renamed channels mask most came start old scans out new e whole put =
+    let n = named channels mask most start old scans out e whole in
+    put ∙ rw (n.0, n.1) (ap (λ xs. old ++ xs) (sym (numbered channels mask came scans)))
 
--- an answer that ends with a block's head and scans
-pub has_block : (start first : ℕ) (old head scans out : List ℕ) → start ≡ length old → first ≡ length old + length head → out ≡ (old ++ head) ++ scans
-    → (take start out ≡ old) × (drop first out ≡ scans) × (out ≡ take start out ++ (head ++ drop first out))
-has_block start first old head scans out e f whole =
-    let before : take start out ≡ old = ap (take start) (whole ∙ append_assoc old head scans) ∙ take_front start old (head ++ scans) e in
-    let behind : drop first out ≡ scans = ap (drop first) whole ∙ drop_front first (old ++ head) scans (f ∙ sym (length-append old head)) in
-    (before, behind, whole ∙ append_assoc old head scans ∙ ap (λ xs. xs ++ (head ++ scans)) (sym before) ∙ ap (λ xs. take start out ++ (head ++ xs)) (sym behind))
-
--- a block's head, its scans and its closing
-pub closed : (front head scans closing : List ℕ) → (front ++ (head ++ scans)) ++ closing ≡ front ++ (head ++ (scans ++ closing))
-closed front head scans closing = append_assoc front (head ++ scans) closing ∙ ap (λ xs. front ++ xs) (append_assoc head scans closing)
+-- and the closing behind its scans
+pub closed : (channels mask came asked : ℕ) (old scans new ended : List ℕ) (capacity : ℕ) (r : Result ⊤ Mem)
+    → came ≡ length scans → came < 2 ^ 32 → new ≡ old ++ (head_text channels mask came ++ scans) → length old + (came + 30) ≤ capacity
+    → Appends (closing_text came asked) new r ended → FitsInRoom (closing_text came asked) new capacity r
+    → ended ≡ old ++ block_text channels mask scans asked
+closed channels mask came asked old scans new ended capacity r many short is room a f =
+    let head = head_text channels mask came in
+    let closing = closing_text came asked in
+    let size : length new ≡ length old + (length head + came) = ap length is ∙ length-append old (head ++ scans) ∙ omega (arith, length-append head scans, many) in
+    let fits : length new + length closing ≤ capacity = omega (arith, size, room, length-head channels mask came short, length-closing came asked) in
+    appended closing new ended capacity r a f fits ∙ ap (λ xs. xs ++ closing) is ∙ append_assoc old (head ++ scans) closing
+    ∙ ap (λ xs. old ++ xs) (append_assoc head scans closing) ∙ ap (λ n. old ++ (head_text channels mask n ++ (scans ++ closing_text n asked))) many
 
 -- ---- how long a scan is
 

@@ -1,6 +1,5 @@
 pub mod BlockLaws
 pub mod QueueLaws
-pub mod ReadLaws
 pub mod SeatsLaws
 pub mod HeldLaws
 pub mod ServeLaws

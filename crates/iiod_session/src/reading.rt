@@ -13,7 +13,7 @@ use crate::iio::{Iio, Took};
 use iio_base::Mem;
 use iio_layout::{Shape, scan_size};
 use iio_mask::Mask;
-use iiod_reply::{block_closing, block_head};
+use iiod_reply::{block_came, block_closing, block_head};
 
 // The most bytes of a block's head: the count, the mask, and an LF after each.
 const MOST_HEAD: usize = 10 + 1 + 16 + 1;
@@ -31,79 +31,8 @@ pub(crate) fn data_scan_size(shape: &Shape, mask: Mask) -> u32
     scan_size(shape, mask)
 }
 
-// The bytes of the scans that wait, of those that are wanted.
-fn waiting_bytes<I: Iio>(iio: &mut I, dev: u32, seat: &mut I::Seat, size: u32, want: u32) -> usize
-    requires dev { dev < length (I.front (I.kept iio.old)).devices }
-    requires owned { IsOfDevice (I.front (I.kept iio.old)) dev (I.seen seat.old) }
-    requires few { want * size < 2 ^ 32 }
-    ensures kept { I.kept iio.new ≡ I.kept iio.old }
-    ensures seat { I.seen seat.new ≡ I.seen seat.old }
-    ensures told { IfSome (I.told iio.old) (λ m. I.told iio.new ≡ Some m) }
-    ensures within { result ≤ want * size }
-{
-    let waiting = iio.counts(dev, seat).waiting;
-    waiting.min(u64::from(want)) as usize * size as usize
-}
-
-// Moves the first `mid` bytes from `start` on behind those that follow them.
-fn rotate(out: &mut Vec<u8>, start: usize, mid: usize)
-    requires { start + mid ≤ length out.old.items }
-    ensures items { out.new.items ≡ take start out.old.items ++ (drop (start + mid) out.old.items ++ take mid (drop start out.old.items)) }
-    ensures space { vec_capacity out.new ≡ vec_capacity out.old }
-{
-    out[start..].rotate_left(mid);
-}
-
-// Puts the head that belongs to a block's scans in the place of the one that stands before them, from `start` on.
-#[cold]
-#[inline(never)]
-fn change_head(mask: Mask, channels: u32, start: usize, first: usize, out: &mut Vec<u8>)
-    requires some { 1 ≤ channels }
-    requires few { channels ≤ 64 }
-    requires below { mask.bits < 2 ^ channels }
-    requires start { start ≤ first }
-    requires first { first ≤ length out.old.items }
-    requires short { length out.old.items - first < 2 ^ 32 }
-    requires space { start + (length out.old.items - first) + MOST_HEAD ≤ vec_capacity out.old }
-    ensures items { out.new.items ≡ take start out.old.items ++ (head_text channels mask.bits (length out.old.items - first) ++ drop first out.old.items) }
-    ensures space { vec_capacity out.old ≤ vec_capacity out.new }
-{
-    let came = out.len() - first;
-    rotate(out, start, first - start);
-    out.truncate(start + came);
-    let _ = block_head(mask, channels, came, out);
-    rotate(out, start, came);
-}
-
-// Ends a block whose scans stand from `first` on, behind the head of a block of so many bytes, which begins at `start`.
-fn end_block(
-    mask: Mask,
-    channels: u32,
-    start: usize,
-    first: usize,
-    head: usize,
-    asked: u32,
-    out: &mut Vec<u8>,
-)
-    requires some { 1 ≤ channels }
-    requires few { channels ≤ 64 }
-    requires below { mask.bits < 2 ^ channels }
-    requires start { start ≤ first }
-    requires first { first ≤ length out.old.items }
-    requires short { length out.old.items - first < 2 ^ 32 }
-    requires head { out.old.items ≡ take start out.old.items ++ (head_text channels mask.bits head ++ drop first out.old.items) }
-    requires space { start + (length out.old.items - first) + BLOCK_FRAME ≤ vec_capacity out.old }
-    ensures { out.new.items ≡ take start out.old.items ++ block_text channels mask.bits (drop first out.old.items) asked }
-{
-    let came = out.len() - first;
-    if came != head {
-        change_head(mask, channels, start, first, out);
-    }
-    let _ = block_closing(came, asked, out);
-}
-
-// The block of up to so many scans, at least one. They are taken behind the head of a block of those that wait. There is room
-// for it in `out`.
+// The block of up to so many scans, at least one. They are taken behind the head of a block of so many, which then says how
+// many bytes came. There is room for it in `out`.
 fn read_into<I: Iio>(
     iio: &mut I,
     dev: u32,
@@ -128,12 +57,16 @@ fn read_into<I: Iio>(
 {
     let channels = iio.shape(dev).count();
     let start = out.len();
-    let waiting = waiting_bytes(iio, dev, seat, size, want);
-    let _ = block_head(mask, channels, waiting, out);
+    let most = want as usize * size as usize;
+    let _ = block_head(mask, channels, most, out);
     let first = out.len();
     let took = iio.take_scans(dev, seat, want, out);
     match took {
-        Took::Scan => end_block(mask, channels, start, first, waiting, asked, out),
+        Took::Scan => {
+            let came = out.len() - first;
+            block_came(most, came, start, out);
+            let _ = block_closing(came, asked, out);
+        }
         _ => out.truncate(start),
     }
     took
@@ -165,7 +98,8 @@ pub(crate) fn read_sized<I: Iio>(
 }
 
 /// One READBUF of `asked` bytes at a seat that `open` gave for this mask and capacity: the block of as many scans as are
-/// asked for and wait, as bytes appended to `out`. The room for it is taken first.
+/// asked for and wait, as bytes appended to `out`. The room for it is taken first, and of the devices it asks for nothing but
+/// their shapes and these scans.
 ///
 /// `Scan`: at least one scan was taken. `Empty` and `Gone` are the first take's answer, and `out` is unchanged. `Mem`: no
 /// take was made, and `out` is unchanged.

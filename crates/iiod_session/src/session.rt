@@ -157,7 +157,7 @@ impl<S> Session<S> {
         held.destroy_empty();
     }
 
-    /// Whether it has ended by EXIT or by a broken limit.
+    /// Whether it has ended: by EXIT, by a broken limit, or because [`Session::feed`] answered `Mem`.
     pub fn ended(&self) -> bool
         ensures { IsTrue result ↔ (self.now.stream ≡ no_item AtEnd) }
     {
