@@ -1,0 +1,5 @@
+pub mod SendLaws
+pub mod TalkLaws
+pub mod LinkLaws
+pub mod Whole
+pub mod PartLaws

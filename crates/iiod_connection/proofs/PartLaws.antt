@@ -1,0 +1,80 @@
+-- A part makes few items whole.
+use Rattle.std.proofs.Common.{◌≡◌, ℕ, suc, ◌+◌, ◌≤◌, ◌==◌, nat_lt, Bool, true, false, List, [], ◌∷◌, ◌++◌, length, take, Option, Some, Result, Ok, refl, sym, subst, arith, if◌then◌else◌}
+use Rattle.std.proofs.lemmas.List.{length-append}
+use Rattle.iio_text.specs.declared.errors.Errno.TheVariants.{E2BIG, EFBIG}
+use Rattle.iiod_grammar.specs.Command.{Command, Exit, Target, Write, command_of}
+use Rattle.iiod_grammar.specs.declared.command.Refused.{Refused}
+use Rattle.iiod_grammar.specs.declared.lines.TheConstants.{MAX_LINE, MAX_PAYLOAD}
+use Rattle.iiod_grammar.specs.Stream.{AtEnd, InLine, InPayload, Item, Scanned, Scanner, Written, after_byte, after_line, after_said, ended_by, items_from, no_item, one_item, payload_after}
+use Rattle.iiod_connection.specs.Parts.{PartsAreShort, part_length}
+use Rattle.iiod_connection.proofs.TalkLaws.{append_nil}
+
+abbrev weight : Scanner → ℕ
+weight (InLine begun) = 1
+weight (InPayload device target count begun) = 2
+weight AtEnd = 0
+
+abbrev all_of : Scanned → ℕ
+all_of x = length x.items + weight x.next
+
+chosen : (c : Bool) (f : Scanned → ℕ) (x y : Scanned) (n : ℕ) → f x ≤ n → f y ≤ n → f (if c then x else y) ≤ n
+chosen true f x y n p q = p
+chosen false f x y n p q = q
+
+abbrev items_in : Scanned → ℕ
+items_in x = length x.items
+
+one_one : 1 ≤ 1
+one_one = omega arith
+
+none_one : 0 ≤ 1
+none_one = omega arith
+
+payload_items : (device : List ℕ) (target : Option Target) (count : ℕ) (begun : List ℕ) → items_in (payload_after device target count begun) ≤ 1
+payload_items device target count begun = chosen (length begun == count) items_in (one_item (Written device target begun)) (no_item (InPayload device target count begun)) 1 one_one none_one
+
+line_items : (said : Result Command Refused) → items_in (after_said said) ≤ 1
+line_items (Ok Exit) = one_one
+line_items (Ok (Write device target count)) = chosen (nat_lt MAX_PAYLOAD count) items_in (ended_by (Some EFBIG)) (payload_after device target count []) 1 one_one (payload_items device target count [])
+line_items said = one_one
+
+-- the last byte of a part
+last : (s : Scanner) (b : ℕ) → items_in (after_byte s b) ≤ weight s
+last (InLine begun) b =
+    chosen (b == 10) items_in (after_line begun) (if nat_lt (length begun) MAX_LINE then no_item (InLine (begun ++ b ∷ [])) else ended_by (Some E2BIG)) 1 (line_items (command_of begun))
+    (chosen (nat_lt (length begun) MAX_LINE) items_in (no_item (InLine (begun ++ b ∷ []))) (ended_by (Some E2BIG)) 1 none_one one_one)
+last (InPayload device target count begun) b = let p = payload_items device target count (begun ++ b ∷ []) in omega (arith, p)
+last AtEnd b = let p : 0 ≤ 0 = omega arith in p
+
+-- a byte that is no LF
+step : (s : Scanner) (b : ℕ) → (b == 10) ≡ false → all_of (after_byte s b) ≤ weight s
+step (InLine begun) b e =
+    let long : Scanned = if nat_lt (length begun) MAX_LINE then no_item (InLine (begun ++ b ∷ [])) else ended_by (Some E2BIG) in
+    subst (λ (c : Bool). all_of (if c then after_line begun else long) ≤ 1) (sym e)
+    (chosen (nat_lt (length begun) MAX_LINE) all_of (no_item (InLine (begun ++ b ∷ []))) (ended_by (Some E2BIG)) 1 one_one one_one)
+step (InPayload device target count begun) b e =
+    let now = begun ++ b ∷ [] in
+    let two : 2 ≤ 2 = omega arith in
+    chosen (length now == count) all_of (one_item (Written device target now)) (no_item (InPayload device target count now)) 2 two two
+step AtEnd b e = let p : 0 ≤ 0 = omega arith in p
+
+fits : (s : Scanner) (bytes : List ℕ) → length (items_from s (take (part_length bytes) bytes)) ≤ weight s
+fits s [] = let p : 0 ≤ weight s = omega arith in p
+fits s (b ∷ bs) = by (b == 10) refl (fits (after_byte s b).next bs)
+  where
+    by : (c : Bool) → (b == 10) ≡ c → length (items_from (after_byte s b).next (take (part_length bs) bs)) ≤ weight (after_byte s b).next → length (items_from s (take (if c then 1 else suc (part_length bs)) (b ∷ bs))) ≤ weight s
+    by true e k = subst (λ (is : List Item). length is ≤ weight s) (sym (append_nil (after_byte s b).items)) (last s b)
+    by false e k =
+        let one = after_byte s b in
+        let more = items_from one.next (take (part_length bs) bs) in
+        let p : length one.items + weight one.next ≤ weight s = step s b e in
+        let len : length (one.items ++ more) ≡ length one.items + length more = length-append one.items more in
+        let whole : length (one.items ++ more) ≤ weight s = omega (arith, k, p, len) in whole
+
+at_most_two : (s : Scanner) → weight s ≤ 2
+at_most_two (InLine begun) = let p : 1 ≤ 2 = omega arith in p
+at_most_two (InPayload device target count begun) = let p : 2 ≤ 2 = omega arith in p
+at_most_two AtEnd = let p : 0 ≤ 2 = omega arith in p
+
+pub parts_are_short : PartsAreShort
+parts_are_short s bytes = let k = fits s bytes in let p = at_most_two s in omega (arith, k, p)

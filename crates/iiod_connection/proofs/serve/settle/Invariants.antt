@@ -1,0 +1,18 @@
+use Rattle.std.proofs.Common.{◌≡◌, []}
+use Rattle.iiod_session.specs.Desk.{IsDesk}
+use Rattle.iiod_session.specs.declared.manner.Manner.TheVariants.{Server}
+use Rattle.iiod_connection.specs.Place.{place_of}
+use Rattle.iiod_connection.specs.Talks.{SendsAll, StandsBy}
+use Rattle.iiod_connection.proofs.serve.settle.Given as goal
+
+abbrev pub invariant-loop : goal.invariant-loop
+invariant-loop g l = record {
+  manner : l.session.manner ≡ Server;
+  kept : g.B.Iio.kept l.iio ≡ g.B.Iio.kept l.fn.iio;
+  desk : IsDesk g.B.Iio.seen (g.B.Iio.front (g.B.Iio.kept l.iio)) l.session.desk;
+  left : g.L.Link.left l.link ≡ g.L.Link.left l.fn.link;
+  faults : g.L.Link.faults l.link ≡ g.L.Link.faults l.fn.link;
+  sends : SendsAll (g.B.Iio.front (g.B.Iio.kept l.fn.iio)) (place_of g.B.Iio.seen (g.B.Iio.told l.fn.iio) l.fn.session) [] (g.L.Link.written l.fn.link)
+      (place_of g.B.Iio.seen (g.B.Iio.told l.iio) l.session) (g.L.Link.written l.link);
+  stands : StandsBy (g.B.Iio.front (g.B.Iio.kept l.fn.iio)) l.going (place_of g.B.Iio.seen (g.B.Iio.told l.iio) l.session);
+}

@@ -1,0 +1,23 @@
+-- Where a connection stands.
+use Rattle.std.specs.Prelude.{ℕ, [], Option}
+use Rattle.iiod_grammar.specs.Stream.{InLine, Scanned, no_item}
+use Rattle.iiod_session.specs.Machine.{Machine}
+use Rattle.iiod_session.specs.Run.{State, state_of}
+use Rattle.iiod_session.specs.Seat.{SeatRecord}
+use Rattle.iiod_session.specs.Session.{SessionRecord}
+
+-- what stands at the devices, what the connection has of them, and where its stream stands
+pub record Place : Type 0 where
+  pub state : State
+  pub stream : Scanned
+
+-- the place of a session
+abbrev pub place_of : {S : Type 0} → (S → SeatRecord) → Option Machine → SessionRecord S → Place
+place_of seen told s = record { state = state_of seen told s.desk; stream = s.stream }
+
+-- the place of a connection of which nothing was heard yet: it has nothing of the devices
+abbrev pub first_place : ℕ → Option Machine → Place
+first_place who told = record {
+  state = record { told = told; desk = record { who = who; seats = []; buffers = []; holdings = [] }; tales = [] };
+  stream = no_item (InLine []);
+}

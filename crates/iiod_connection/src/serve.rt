@@ -1,0 +1,250 @@
+//! A connection served over a link.
+
+ghost use Rattle.std.specs.Prelude.{◌≡◌, ◌<◌, ◌≤◌, ◌+◌, ◌++◌, drop, [], length, Some, IfSome, IfOk, OnOk};
+ghost use Rattle.iiod_session.specs.Desk.{IsDesk};
+ghost use Rattle.iiod_session.specs.Run.{state_of};
+ghost use Rattle.iiod_session.specs.declared.manner.Manner.TheVariants.{Server};
+ghost use Rattle.iiod_connection.specs.Parts.{PartsAreShort, part_length};
+ghost use Rattle.iiod_connection.specs.Place.{Place, place_of};
+ghost use Rattle.iiod_connection.specs.SessionEnd.{EndFaults, Ends, IsServed};
+ghost use Rattle.iiod_connection.specs.Talks.{Faults, IsLast, SendsOnce, StandsBy, Talks, Turns};
+
+use crate::sending::send_whole;
+use crate::session_end::SessionEnd;
+use iio_io::{Gate, Link, Point};
+use iiod_grammar::cut_anywhere;
+use iiod_session::{Bells, Going, Manner, Session};
+use std::alloc::Global;
+use std::sync::Wait;
+
+// The most bytes that one receive asks for.
+const PIECE: usize = 4_096;
+
+// Feeds bytes, and sends their answers whole.
+fn feed_and_send<L: Link, B: Bells>(
+    alloc: Global,
+    session: &mut Session<B::Seat>,
+    iio: &mut B,
+    link: &mut L,
+    bytes: &[u8],
+    out: &mut Vec<u8>,
+) -> Result<Going, SessionEnd>
+    requires manner { session.old.manner ≡ Server }
+    requires desk { IsDesk B.seen (B.front (B.kept iio.old)) session.old.desk }
+    ensures manner { session.new.manner ≡ Server }
+    ensures kept { B.kept iio.new ≡ B.kept iio.old }
+    ensures desk { IsDesk B.seen (B.front (B.kept iio.new)) session.new.desk }
+    ensures left { L.left link.new ≡ L.left link.old }
+    ensures faults { Faults result (L.faults link.old) (L.faults link.new) }
+    ensures sends { SendsOnce (B.front (B.kept iio.old)) (place_of B.seen (B.told iio.old) session.old) bytes.now (L.written link.old)
+        (place_of B.seen (B.told iio.new) session.new) (L.written link.new) result }
+{
+    out.clear();
+    let Ok(going) = session.feed(alloc, iio, bytes, out) else {
+        return Err(SessionEnd::Memory);
+    };
+    if send_whole(link, out).is_err() {
+        return Err(SessionEnd::LinkFault);
+    }
+    Ok(going)
+}
+
+// Waits for the device's bell to ring again, where a READBUF still waits for that device.
+fn wait_again<B: Bells>(iio: &B, dev: u32, seen: u64, next: Going)
+    requires { dev < length (B.front (B.kept iio.now)).devices }
+{
+    if let Going::Waits(again) = next {
+        if again == dev {
+            iio.wait(dev, seen);
+        }
+    }
+}
+
+// Tries a READBUF that waits again, each time that its device's bell has rung, until nothing waits. The bell is asked for before
+// each try, so that no scan that comes between the try and the wait is slept through.
+fn settle<L: Link, B: Bells, R: Wait>(
+    rt: &R,
+    alloc: Global,
+    session: &mut Session<B::Seat>,
+    iio: &mut B,
+    link: &mut L,
+    out: &mut Vec<u8>,
+    going: Going,
+) -> Result<(), SessionEnd>
+    requires manner { session.old.manner ≡ Server }
+    requires desk { IsDesk B.seen (B.front (B.kept iio.old)) session.old.desk }
+    requires stands { StandsBy (B.front (B.kept iio.old)) going (place_of B.seen (B.told iio.old) session.old) }
+    ensures manner { session.new.manner ≡ Server }
+    ensures kept { B.kept iio.new ≡ B.kept iio.old }
+    ensures desk { IsDesk B.seen (B.front (B.kept iio.new)) session.new.desk }
+    ensures left { L.left link.new ≡ L.left link.old }
+    ensures faults { Faults result (L.faults link.old) (L.faults link.new) }
+    ensures turns { Turns (B.front (B.kept iio.old)) (place_of B.seen (B.told iio.old) session.old) [] (L.written link.old)
+        (place_of B.seen (B.told iio.new) session.new) (L.written link.new) result }
+{
+    let mut going = going;
+    for _ in rt.forever() {
+        let dev = match going {
+            Going::On => return Ok(()),
+            Going::Ended => return Err(SessionEnd::Ended),
+            Going::Waits(dev) => dev,
+        };
+        let seen = iio.bell(dev);
+        let next = feed_and_send(alloc, session, iio, link, &[], out)?;
+        wait_again(iio, dev, seen, next);
+        going = next;
+    }
+    unreachable!()
+}
+
+// Feeds a part of what was received, sends its answers, and settles it.
+fn hear<L: Link, B: Bells, R: Wait>(
+    rt: &R,
+    alloc: Global,
+    session: &mut Session<B::Seat>,
+    iio: &mut B,
+    link: &mut L,
+    part: &[u8],
+    out: &mut Vec<u8>,
+) -> Result<(), SessionEnd>
+    requires manner { session.old.manner ≡ Server }
+    requires desk { IsDesk B.seen (B.front (B.kept iio.old)) session.old.desk }
+    ensures manner { session.new.manner ≡ Server }
+    ensures kept { B.kept iio.new ≡ B.kept iio.old }
+    ensures desk { IsDesk B.seen (B.front (B.kept iio.new)) session.new.desk }
+    ensures left { L.left link.new ≡ L.left link.old }
+    ensures faults { Faults result (L.faults link.old) (L.faults link.new) }
+    ensures turns { Turns (B.front (B.kept iio.old)) (place_of B.seen (B.told iio.old) session.old) part.now (L.written link.old)
+        (place_of B.seen (B.told iio.new) session.new) (L.written link.new) result }
+{
+    let going = feed_and_send(alloc, session, iio, link, part, out)?;
+    settle(rt, alloc, session, iio, link, out, going)
+}
+
+/// The law that a part makes at most two items whole, a payload and a line, wherever the stream stands; so its answers are at
+/// most two. The call does nothing.
+#[tactic(auto, using(crate::proofs::PartLaws::parts_are_short))]
+pub fn parts_are_short()
+    ensures { PartsAreShort }
+{}
+
+// Where the part that begins at `from` ends: after its first LF, or with the bytes.
+fn part_end(bytes: &[u8], from: usize) -> usize
+    requires { from < length bytes.now }
+    ensures more { from < result }
+    ensures within { result ≤ length bytes.now }
+    ensures part { result ≡ from + part_length (drop from bytes.now) }
+{
+    let mut at = from;
+    while at < bytes.len() {
+        at += 1;
+        if bytes[at - 1] == b'\n' {
+            break;
+        }
+    }
+    at
+}
+
+// What was heard is fed part by part, and each part is settled before the next one is fed.
+fn turn<L: Link, B: Bells, R: Wait>(
+    rt: &R,
+    alloc: Global,
+    session: &mut Session<B::Seat>,
+    iio: &mut B,
+    link: &mut L,
+    bytes: &[u8],
+    out: &mut Vec<u8>,
+) -> Result<(), SessionEnd>
+    requires manner { session.old.manner ≡ Server }
+    requires desk { IsDesk B.seen (B.front (B.kept iio.old)) session.old.desk }
+    requires settled { session.old.stream.items ≡ [] }
+    ensures manner { session.new.manner ≡ Server }
+    ensures kept { B.kept iio.new ≡ B.kept iio.old }
+    ensures desk { IsDesk B.seen (B.front (B.kept iio.new)) session.new.desk }
+    ensures left { L.left link.new ≡ L.left link.old }
+    ensures faults { Faults result (L.faults link.old) (L.faults link.new) }
+    ensures turns { Turns (B.front (B.kept iio.old)) (place_of B.seen (B.told iio.old) session.old) bytes.now (L.written link.old)
+        (place_of B.seen (B.told iio.new) session.new) (L.written link.new) result }
+{
+    let mut done = 0;
+    while done < bytes.len() {
+        let until = part_end(bytes, done);
+        hear(rt, alloc, session, iio, link, &bytes[done..until], out)?;
+        done = until;
+    }
+    Ok(())
+}
+
+// Receives and answers, until the connection ends.
+fn talk<L: Link, B: Bells, G: Gate, R: Wait>(
+    rt: &R,
+    alloc: Global,
+    session: &mut Session<B::Seat>,
+    iio: &mut B,
+    who: u32,
+    link: &mut L,
+    gate: &G,
+) -> SessionEnd
+    requires manner { session.old.manner ≡ Server }
+    requires desk { IsDesk B.seen (B.front (B.kept iio.old)) session.old.desk }
+    requires settled { session.old.stream.items ≡ [] }
+    ensures kept { B.kept iio.new ≡ B.kept iio.old }
+    ensures desk { IsDesk B.seen (B.front (B.kept iio.new)) session.new.desk }
+    ensures faults { EndFaults result (L.faults link.old) (L.faults link.new) }
+    ensures served { (b : Place)
+        × Ends (Talks (B.front (B.kept iio.old)) (place_of B.seen (B.told iio.old) session.old)) result
+        (L.left link.old) (L.written link.old) (L.left link.new) (L.written link.new) b
+        × IsLast result b (place_of B.seen (B.told iio.new) session.new) }
+{
+    let mut out = Vec::new(alloc);
+    let mut piece = [0; PIECE];
+    for _ in rt.forever() {
+        let Ok(count) = link.recv(&mut piece) else {
+            return SessionEnd::LinkFault;
+        };
+        if count == 0 {
+            return SessionEnd::Eof;
+        }
+        gate.pass(Point::Heard(who));
+        if let Err(end) = turn(rt, alloc, session, iio, link, &piece[..count], &mut out) {
+            if end == SessionEnd::Ended {
+                gate.pass(Point::Answered(who));
+            }
+            return end;
+        }
+        gate.pass(Point::Answered(who));
+    }
+    unreachable!()
+}
+
+/// Serves connection number `who` over a link to its end, and closes what it has open then.
+///
+/// What is received is fed part by part, each up to its first LF, and what a part is answered is sent before the next part is
+/// fed. Where a READBUF waits, it is tried again each time that its device's bell has rung, and nothing more is fed until it
+/// is answered. The gate is passed at `Heard(who)` after each receive that gave bytes, and at `Answered(who)` once these bytes'
+/// answers were sent whole.
+///
+/// `Eof` comes at a receive of nothing: all that came was heard, and each whole command was answered. `Ended` comes with EXIT or
+/// a broken limit, after the answers up to there were sent. `LinkFault` comes where a receive or a send failed, and `Memory`
+/// where a session or its answer found no memory.
+pub fn serve_on<L: Link, B: Bells, G: Gate, R: Wait>(
+    rt: &R,
+    alloc: Global,
+    iio: &mut B,
+    who: u32,
+    link: &mut L,
+    gate: &G,
+) -> SessionEnd
+    ensures kept { B.kept iio.new ≡ B.kept iio.old }
+    ensures faults { EndFaults result (L.faults link.old) (L.faults link.new) }
+    ensures served { IsServed (B.front (B.kept iio.old)) who (B.told iio.old) (L.left link.old) (L.written link.old) result
+        (B.told iio.new) (L.left link.new) (L.written link.new) }
+{
+    cut_anywhere();
+    let Ok(mut session) = Session::new(alloc, who, Manner::Server) else {
+        return SessionEnd::Memory;
+    };
+    let end = talk(rt, alloc, &mut session, iio, who, link, gate);
+    session.end(iio);
+    end
+}
