@@ -1,0 +1,6 @@
+mod FrontLemmas
+mod JobLemmas
+mod OwnLaws
+mod UnplugLaws
+mod FirstLemmas
+mod SizeLemmas

@@ -1,0 +1,81 @@
+-- Members that leave one after another.
+use Rattle.std.proofs.Common.{◌≡◌, ℕ, suc, ◌<◌, ◌≤◌, Bool, true, false, cond, List, [], ◌∷◌, length, Option, Some, None, is_some, refl, sym, ap, ◌∙◌, arith, not}
+use Rattle.std.specs.Prelude.{◌==◌, option_map}
+use Rattle.std.proofs.lemmas.Bool.Decides.{nat_tests}
+use Rattle.iio_trigger.specs.Trigger.{State}
+use Rattle.iio_device.specs.declared.membership.Member.{Member}
+use Rattle.iio_device.specs.declared.membership.Membership.{Membership}
+use Rattle.iio_device.specs.Device.{DeviceView, LeavesDevice}
+use Rattle.iio_device.specs.Members.{first_number, without}
+use Rattle.iio_kfifo.specs.Ends.{WriterEnd}
+use Rattle.iiod_bank.specs.Jobs.{Emptied, Left, gone}
+use Rattle.iiod_bank.specs.Lent.{Kept}
+use Rattle.iiod_bank.proofs.JobLemmas.{is_hosted, kept_along, kept_left, kept_members, kept_same}
+
+pub kept_twice : (a b c : DeviceView WriterEnd) → Kept a b → Kept b c → Kept a c
+kept_twice a b c k l = record { name = l.name ∙ k.name; number = l.number ∙ k.number; shape = l.shape ∙ k.shape; placed = l.placed }
+
+pub kept_gone : (a b : DeviceView WriterEnd) → is_hosted a → b ≡ gone a → Kept a b
+kept_gone a b placed e = kept_along a (gone a) b e (kept_members a (gone a) placed refl refl refl refl refl)
+
+fewer_by : (number : ℕ) (ms : List (Membership WriterEnd)) → length (without number ms) ≤ length ms
+fewer_by number [] = omega arith
+fewer_by number (m ∷ ms) = by (m.number == number) (fewer_by number ms)
+  where
+    by : (b : Bool) → length (without number ms) ≤ length ms → length (cond (not b) (m ∷ without number ms) (without number ms)) ≤ suc (length ms)
+    by true h = omega arith
+    by false h = omega arith
+
+pub fewer : (number : ℕ) (ms : List (Membership WriterEnd)) → first_number ms ≡ Some number → length (without number ms) < length ms
+fewer number [] e = absurd (cc)
+fewer number (m ∷ ms) e =
+    let same : m.number ≡ number = cc in
+    let test : (m.number == number) ≡ true = grind (arith, nat_tests) in
+    let h = fewer_by number ms in
+    by (m.number == number) test h
+  where
+    by : (b : Bool) → b ≡ true → length (without number ms) ≤ length ms → length (cond (not b) (m ∷ without number ms) (without number ms)) < suc (length ms)
+    by true e h = omega arith
+    by false e h = absurd (cc)
+
+pub first_is : (ms : List (Membership WriterEnd)) (o : Option Member) (m : Member) → option_map (λ (x : Member). x.number) o ≡ first_number ms → o ≡ Some m → first_number ms ≡ Some m.number
+first_is ms o m e d = sym e ∙ ap (λ (p : Option Member). option_map (λ (x : Member). x.number) p) d
+
+pub none_left : (ms : List (Membership WriterEnd)) (o : Option Member) → option_map (λ (x : Member). x.number) o ≡ first_number ms → o ≡ None → ms ≡ []
+none_left [] o e d = refl
+none_left (m ∷ ms) o e d = absurd (let h : option_map (λ (x : Member). x.number) o ≡ None = ap (λ (p : Option Member). option_map (λ (x : Member). x.number) p) d in cc)
+
+module _ (lost : WriterEnd → ℕ) where
+  pub record IsEmptying (a : DeviceView WriterEnd) (s : State) (b : DeviceView WriterEnd) (t : State) : Type 0 where
+    pub members : ℕ
+    pub left : Left lost members a s b t
+    pub hosted : is_some b.site.trigger ≡ true
+    pub kept : Kept a b
+
+  begins : (a : DeviceView WriterEnd) (s : State) → is_some a.site.trigger ≡ true → is_hosted a → IsEmptying a s a s
+  begins a s some placed = record { members = 0; left = (refl, refl); hosted = some; kept = kept_same a a placed refl }
+
+  pub begun : (a x : DeviceView WriterEnd) (s : State) → is_some a.site.trigger ≡ true → is_hosted a → x ≡ gone a → IsEmptying x s x s
+  begun a x s some placed e = begins x s (rw e some) (kept_gone a x placed e).placed
+
+  trigger_stays : (number : ℕ) (o : Option WriterEnd) (a b : DeviceView WriterEnd) (s t : State) → LeavesDevice lost number o a b s t → b.site.trigger ≡ a.site.trigger
+  trigger_stays number None a b s t left = ap (λ (v : DeviceView WriterEnd). v.site.trigger) left.1
+  trigger_stays number (Some tail) a b s t left = ap (λ (v : DeviceView WriterEnd). v.site.trigger) left.1
+
+  pub goes_on : (a : DeviceView WriterEnd) (s : State) (c : DeviceView WriterEnd) (u : State) (b : DeviceView WriterEnd) (t : State) (number : ℕ) (tail : WriterEnd)
+      → IsEmptying a s c u → first_number c.standing.members ≡ Some number → LeavesDevice lost number (Some tail) c b u t → IsEmptying a s b t
+  goes_on a s c u b t number tail now first left = record {
+    members = suc now.members;
+    left = (c, u, now.left, record { number = number; tail = tail; first = first; left = left });
+    hosted = rw (trigger_stays number (Some tail) c b u t left) now.hosted;
+    kept = kept_twice a c b now.kept (kept_left lost number (Some tail) c b u t now.kept.placed now.hosted left);
+  }
+
+  pub smaller : (c b : DeviceView WriterEnd) (u t : State) (number : ℕ) (tail : WriterEnd) → first_number c.standing.members ≡ Some number → LeavesDevice lost number (Some tail) c b u t → length b.standing.members < length c.standing.members
+  smaller c b u t number tail first left = rw (ap (λ (v : DeviceView WriterEnd). v.standing.members) left.1) (fewer number c.standing.members first)
+
+  pub emptied : (a : DeviceView WriterEnd) (s : State) (x b : DeviceView WriterEnd) (t : State) → x ≡ gone a → IsEmptying x s b t → b.standing.members ≡ [] → Emptied lost a s b t
+  emptied a s x b t e now none = by (rw e at now)
+    where
+      by : IsEmptying (gone a) s b t → Emptied lost a s b t
+      by now = record { members = now.members; left = now.left; none = none }

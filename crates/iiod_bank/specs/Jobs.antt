@@ -1,0 +1,186 @@
+-- What each job makes of a device, plainly.
+use Rattle.std.specs.Prelude.{◌≡◌, ℕ, ℤ, ◌<◌, ◌^◌, Bool, ⊤, zero, suc, [], length, Option, Some, None, IfSome, nat_eq, option_map, option_and_then, Result, Ok, Err, MatchBool, if◌then◌else◌}
+use Rattle.iio_base.specs.Refusals.{first_refusal}
+use Rattle.iio_text.specs.declared.errors.Errno.{Errno}
+use Rattle.iio_text.specs.declared.errors.Errno.TheVariants.{EBADF, EBUSY, EINVAL, EIO, ENODEV, ENOSPC}
+use Rattle.iio_text.specs.declared.values.Fixed.{Fixed}
+use Rattle.iio_attr.specs.declared.attributes.Attr.{Attr}
+use Rattle.iio_attr.specs.declared.attributes.Attr.TheVariants.{Raw}
+use Rattle.iio_attr.specs.declared.values.Value.{Value}
+use Rattle.iio_attr.specs.declared.values.Value.TheVariants.{Int}
+use Rattle.iio_mask.specs.declared.Mask.{Mask}
+use Rattle.iio_event.specs.declared.event.EventData.{EventData}
+use Rattle.iio_event.specs.declared.monitor.Held.{Held}
+use Rattle.iio_event.specs.declared.monitor.NotHolder.{NotHolder}
+use Rattle.iio_event.specs.Monitor.{MonitorRecord, after_close, after_open, after_read, close_answer, open_answer, read_answer}
+use Rattle.iio_trigger.specs.Trigger.{State}
+use Rattle.iio_layout.specs.Layout.{scan_size}
+use Rattle.iio_layout.specs.Shape.{ShapeRecord, count_of}
+use Rattle.iio_device.specs.declared.handling.RawFault.{RawFault}
+use Rattle.iio_device.specs.declared.handling.RawFault.TheVariants as raw
+use Rattle.iio_device.specs.declared.membership.Membership.{Membership}
+use Rattle.iio_device.specs.declared.roster.JoinFault.{JoinFault}
+use Rattle.iio_device.specs.declared.roster.JoinFault.TheVariants as fault
+use Rattle.iio_device.specs.Device.{DeviceView, LeavesDevice, after_raw, after_trigger, after_write, at_site, device_joined, join_faults, raw_answer, trigger_answer, trigger_joined, write_answer}
+use Rattle.iio_device.specs.Members.{first_number, member_of}
+use Rattle.iio_device.specs.Site.{unplugged, with_monitor}
+use Rattle.iio_device.specs.Stored.{attr_value}
+use Rattle.iiod_session.specs.Opening.{errno_of}
+use Rattle.iiod_session.specs.declared.iio.No.{No}
+use Rattle.iiod_session.specs.declared.iio.No.TheVariants.{Errno as NoErrno, Mem as NoMem}
+use Rattle.iio_kfifo.specs.Ends.{WriterEnd}
+use Rattle.iiod_bank.specs.declared.opening.Opened.{Opened}
+use Rattle.iiod_bank.specs.Received.{IsFresh}
+
+-- a refusal by an errno
+abbrev pub refused : {A : Type 0} → Result A Errno → Result A No
+refused (Ok x) = Ok x
+refused (Err e) = Err (NoErrno e)
+
+-- ---- OPEN
+
+-- what a fault of joining is answered with
+abbrev pub no_of : JoinFault → No
+no_of fault.Gone = NoErrno ENODEV
+no_of fault.BadMask = NoErrno EINVAL
+no_of fault.NoTrigger = NoErrno EINVAL
+no_of fault.NoUnion = NoErrno EINVAL
+no_of fault.NoPlace = NoErrno ENOSPC
+no_of fault.Mem = NoMem
+
+-- where it may be done: the mask has channels of the device alone, and its scans have the size that the opener knows
+pub record MayOpenAt (mask size : ℕ) (shape : ShapeRecord) : Type 0 where
+  pub below : mask < 2 ^ count_of shape
+  pub sized : size ≡ scan_size shape mask
+
+-- the errno of the refusal, where there is one
+abbrev pub open_refusal : ℕ → DeviceView WriterEnd → Option State → Option Errno
+open_refusal mask a s = option_and_then errno_of (first_refusal (join_faults a mask s))
+
+-- a new queue's end for so many scans of that size, to which nothing was offered
+pub record IsNewEnd (taken lost size capacity : WriterEnd → ℕ) (bytes scans : ℕ) (w : WriterEnd) : Type 0 where
+  pub taken_none : taken w ≡ 0
+  pub lost_none : lost w ≡ 0
+  pub sized : size w ≡ bytes
+  pub bounded : capacity w ≡ scans
+
+abbrev pub joined_at : DeviceView WriterEnd → Option State → Option State
+joined_at a s = option_map (λ (t : State). trigger_joined a t) s
+
+module _ (taken lost size capacity : WriterEnd → ℕ) where
+  -- the member is the device's next, and its queue's two ends are those of one new ring
+  pub record Accepted (mask : Mask) (scans bytes : ℕ) (a : DeviceView WriterEnd) (o : Opened) (b : DeviceView WriterEnd) : Type 0 where
+    pub numbered : o.member.number ≡ a.standing.next
+    pub reader : IsFresh bytes o.reader
+    pub tail : WriterEnd
+    pub end : IsNewEnd taken lost size capacity bytes scans tail
+    pub joins : b ≡ device_joined mask tail a
+
+  abbrev pub OpenMakes : Mask → (scans bytes : ℕ) → DeviceView WriterEnd → Option State → Result Opened No → DeviceView WriterEnd → Option State → Type 0
+  OpenMakes mask scans bytes a s (Ok o) b t = (first_refusal (join_faults a mask.bits s) ≡ None) × Accepted mask scans bytes a o b × (t ≡ joined_at a s)
+  OpenMakes mask scans bytes a s (Err (NoErrno e)) b t = (open_refusal mask.bits a s ≡ Some e) × (b ≡ a) × (t ≡ s)
+  OpenMakes mask scans bytes a s (Err NoMem) b t = (open_refusal mask.bits a s ≡ None) × (b ≡ a) × (t ≡ s)
+
+-- ---- CLOSE
+
+-- at a device without a trigger there is no member
+abbrev pub LeaveMakes : (WriterEnd → ℕ) → ℕ → DeviceView WriterEnd → Option State → Option WriterEnd → DeviceView WriterEnd → Option State → Type 0
+LeaveMakes lost number a (Some s) o b (Some t) = LeavesDevice lost number o a b s t
+LeaveMakes lost number a None o b None = (o ≡ None) × (member_of number a.standing.members ≡ None) × (b ≡ a)
+LeaveMakes lost number a (Some s) o b None = ⊥
+LeaveMakes lost number a None o b (Some t) = ⊥
+
+-- ---- attributes
+
+-- where a channel's may be read and written
+abbrev pub HasChannel : Option ℕ → ShapeRecord → Type 0
+HasChannel channel shape = IfSome channel (λ c. c < length shape.channels)
+
+abbrev pub raw_no : RawFault → No
+raw_no raw.Gone = NoErrno ENODEV
+raw_no raw.Busy = NoErrno EBUSY
+raw_no raw.Fault = NoErrno EIO
+
+abbrev pub raw_value : Result ℤ RawFault → Result Value No
+raw_value (Ok v) = Ok (Int v)
+raw_value (Err f) = Err (raw_no f)
+
+abbrev pub kept_value : Option ℕ → Attr → DeviceView WriterEnd → Result Value No
+kept_value channel attr a = if a.site.plugged then Ok (attr_value a.name channel attr a.site) else Err (NoErrno ENODEV)
+
+-- the answer to a READ at a moment: `raw` asks the sensor
+abbrev pub value_at : ℤ → Option ℕ → Attr → DeviceView WriterEnd → Result Value No
+value_at t (Some c) Raw a = raw_value (raw_answer c t a)
+value_at t channel attr a = kept_value channel attr a
+
+abbrev pub after_value : Option ℕ → Attr → DeviceView WriterEnd → DeviceView WriterEnd
+after_value (Some c) Raw a = after_raw a
+after_value channel attr a = a
+
+abbrev pub ReadMakes : ℤ → Option ℕ → Attr → DeviceView WriterEnd → Result Value No → DeviceView WriterEnd → Type 0
+ReadMakes t channel attr a o b = (o ≡ value_at t channel attr a) × (b ≡ after_value channel attr a)
+
+abbrev pub WriteMakes : Option ℕ → Attr → Fixed → DeviceView WriterEnd → Result ⊤ No → DeviceView WriterEnd → Type 0
+WriteMakes channel attr v a o b = (o ≡ refused (write_answer a)) × (b ≡ after_write channel attr v a)
+
+abbrev pub SetTriggerMakes : Option ℕ → DeviceView WriterEnd → Result ⊤ No → DeviceView WriterEnd → Type 0
+SetTriggerMakes trigger a o b = (o ≡ refused (trigger_answer a)) × (b ≡ after_trigger trigger a)
+
+-- ---- the numbers of a queue
+
+abbrev pub LostMakes : (WriterEnd → ℕ) → ℕ → DeviceView WriterEnd → Option ℕ → DeviceView WriterEnd → Type 0
+LostMakes lost number a o b = (o ≡ option_map (λ (m : Membership WriterEnd). lost m.tail) (member_of number a.standing.members)) × (b ≡ a)
+
+-- ---- events
+
+abbrev pub held_no : Result ⊤ Held → Result ⊤ No
+held_no (Ok x) = Ok x
+held_no (Err held) = Err (NoErrno EBUSY)
+
+abbrev pub holder_no : {A : Type 0} → Result A NotHolder → Result A No
+holder_no (Ok x) = Ok x
+holder_no (Err none) = Err (NoErrno EBADF)
+
+abbrev pub with_events : (MonitorRecord ℕ → MonitorRecord ℕ) → DeviceView WriterEnd → DeviceView WriterEnd
+with_events change a = at_site (with_monitor change a.site) a
+
+abbrev pub EvOpenMakes : ℕ → DeviceView WriterEnd → Result ⊤ No → DeviceView WriterEnd → Type 0
+EvOpenMakes who a o b =
+    MatchBool a.site.plugged ((o ≡ held_no (open_answer a.site.monitor)) × (b ≡ with_events (after_open who) a)) ((o ≡ Err (NoErrno ENODEV)) × (b ≡ a))
+
+abbrev pub EvReadMakes : ℕ → DeviceView WriterEnd → Result (Option EventData) No → DeviceView WriterEnd → Type 0
+EvReadMakes who a o b =
+    MatchBool a.site.plugged ((o ≡ holder_no (read_answer nat_eq who a.site.monitor)) × (b ≡ with_events (after_read nat_eq who) a)) ((o ≡ Err (NoErrno ENODEV)) × (b ≡ a))
+
+abbrev pub EvCloseMakes : ℕ → DeviceView WriterEnd → Result ⊤ No → DeviceView WriterEnd → Type 0
+EvCloseMakes who a o b = (o ≡ holder_no (close_answer nat_eq who a.site.monitor)) × (b ≡ with_events (after_close nat_eq who) a)
+
+-- ---- the end of a device
+
+abbrev pub gone : DeviceView WriterEnd → DeviceView WriterEnd
+gone a = at_site (unplugged a.site) a
+
+module _ (lost : WriterEnd → ℕ) where
+  -- the first member leaves
+  pub record FirstLeaves (a : DeviceView WriterEnd) (s : State) (b : DeviceView WriterEnd) (t : State) : Type 0 where
+    pub number : ℕ
+    pub tail : WriterEnd
+    pub first : first_number a.standing.members ≡ Some number
+    pub left : LeavesDevice lost number (Some tail) a b s t
+
+  -- so many members leave, one after another, the first one first
+  abbrev pub Left : ℕ → DeviceView WriterEnd → State → DeviceView WriterEnd → State → Type 0
+  Left zero a s b t = (b ≡ a) × (t ≡ s)
+  Left (suc k) a s b t = (c : DeviceView WriterEnd) × (u : State) × Left k a s c u × FirstLeaves c u b t
+
+  -- all members leave a device that was unplugged
+  pub record Emptied (a : DeviceView WriterEnd) (s : State) (b : DeviceView WriterEnd) (t : State) : Type 0 where
+    pub members : ℕ
+    pub left : Left members (gone a) s b t
+    pub none : b.standing.members ≡ []
+
+  abbrev pub UnplugMakes : DeviceView WriterEnd → Option State → Bool → DeviceView WriterEnd → Option State → Type 0
+  UnplugMakes a (Some s) o b (Some t) = (o ≡ a.site.plugged) × Emptied a s b t
+  UnplugMakes a None o b None = (o ≡ a.site.plugged) × (b ≡ gone a) × (b.standing.members ≡ [])
+  UnplugMakes a (Some s) o b None = ⊥
+  UnplugMakes a None o b (Some t) = ⊥

@@ -1,0 +1,8 @@
+pub mod Received
+pub mod Lent
+pub mod FrontOf
+pub mod Told
+pub mod Jobs
+pub mod TriggerJobs
+pub mod Own
+pub mod First

@@ -1,0 +1,127 @@
+//! What is done at a device's events, and with a trigger's entry.
+
+ghost use Rattle.std.specs.Prelude.{◌≡◌, true};
+ghost use Rattle.iio_device.specs.Device.{Handles};
+ghost use Rattle.iiod_bank.specs.Jobs.{EvCloseMakes, EvOpenMakes, EvReadMakes};
+ghost use Rattle.iiod_bank.specs.Lent.{IsPlaced, Kept, lent_by};
+
+use crate::bank::Work;
+use iio_device::{Device, Handled, Plug};
+use iio_event::EventData;
+use iio_kfifo::{Tail, Writer};
+use iio_layout::Shape;
+use iio_sensor::Sensor;
+use iio_text::Errno;
+use iio_trigger::Due;
+use iiod_session::No;
+
+/// EVOPEN of a connection.
+#[derive(Drop)]
+pub struct EvOpenWork {
+    pub who: u32,
+}
+
+impl Work for EvOpenWork {
+    ghost use Rattle.iiod_bank.specs.Jobs.{EvOpenMakes};
+
+    type Out = Result<(), No>;
+
+    ghost may = { λ w shape. Unit {0} };
+
+    ghost does = { λ w a o b. EvOpenMakes w.who a o b };
+
+    fn fits(&self, _shape: &Shape) -> bool {
+        true
+    }
+
+    fn run(self, device: &mut Device<Writer>) -> Result<(), No> {
+        if !device.plugged() {
+            return Err(No::Errno(Errno::ENODEV));
+        }
+        match device.ev_open(self.who) {
+            Ok(()) => Ok(()),
+            Err(_) => Err(No::Errno(Errno::EBUSY)),
+        }
+    }
+}
+
+/// EVREAD of a connection.
+#[derive(Drop)]
+pub struct EvReadWork {
+    pub who: u32,
+}
+
+impl Work for EvReadWork {
+    ghost use Rattle.iiod_bank.specs.Jobs.{EvReadMakes};
+
+    type Out = Result<Option<EventData>, No>;
+
+    ghost may = { λ w shape. Unit {0} };
+
+    ghost does = { λ w a o b. EvReadMakes w.who a o b };
+
+    fn fits(&self, _shape: &Shape) -> bool {
+        true
+    }
+
+    fn run(self, device: &mut Device<Writer>) -> Result<Option<EventData>, No> {
+        if !device.plugged() {
+            return Err(No::Errno(Errno::ENODEV));
+        }
+        match device.ev_read(self.who) {
+            Ok(event) => Ok(event),
+            Err(_) => Err(No::Errno(Errno::EBADF)),
+        }
+    }
+}
+
+/// EVCLOSE of a connection.
+#[derive(Drop)]
+pub struct EvCloseWork {
+    pub who: u32,
+}
+
+impl Work for EvCloseWork {
+    ghost use Rattle.iiod_bank.specs.Jobs.{EvCloseMakes};
+
+    type Out = Result<(), No>;
+
+    ghost may = { λ w shape. Unit {0} };
+
+    ghost does = { λ w a o b. EvCloseMakes w.who a o b };
+
+    fn fits(&self, _shape: &Shape) -> bool {
+        true
+    }
+
+    fn run(self, device: &mut Device<Writer>) -> Result<(), No> {
+        match device.ev_close(self.who) {
+            Ok(()) => Ok(()),
+            Err(_) => Err(No::Errno(Errno::EBADF)),
+        }
+    }
+}
+
+/// The handling of a trigger's entry.
+#[derive(Drop)]
+pub struct HandleWork<'d> {
+    pub due: &'d Due,
+}
+
+impl<'d> Work for HandleWork<'d> {
+    ghost use Rattle.iio_device.specs.Device.{Handles};
+
+    type Out = Handled;
+
+    ghost may = { λ w shape. Unit {0} };
+
+    ghost does = { λ w a o b. Handles ⟦<Writer as Tail>⟧.taken ⟦<Writer as Tail>⟧.lost ⟦<Writer as Tail>⟧.size ⟦<Writer as Tail>⟧.capacity ⟦<Writer as Tail>⟧.offer_gives w.due.now o a b };
+
+    fn fits(&self, _shape: &Shape) -> bool {
+        true
+    }
+
+    fn run(self, device: &mut Device<Writer>) -> Handled {
+        device.handle(self.due)
+    }
+}

@@ -1,0 +1,131 @@
+//! A hub's devices and triggers before anything was done.
+
+ghost use Rattle.std.specs.Prelude.{◌≡◌, ◌≤◌, All, IfOk, Some, length, map};
+ghost use Rattle.iio_desc.specs.WellFormed.{HasPlaces, IsWellFormed};
+ghost use Rattle.iio_desc.specs.declared.limits.TheConstants.{MAX_TRIGGERS};
+ghost use Rattle.iio_device.specs.declared.plug.Plug.TheVariants.{Given};
+ghost use Rattle.iio_probe.specs.Devices.{first_devices};
+ghost use Rattle.iiod_bank.specs.First.{first_face, first_front, first_told, first_triggers};
+ghost use Rattle.iiod_bank.specs.FrontOf.{face_of, front_of};
+ghost use Rattle.iiod_bank.specs.Lent.{IsPlaced, lent_by};
+ghost use Rattle.iiod_bank.specs.Own.{Fits};
+
+use crate::bank::Bank;
+use crate::front::{Face, HubFront};
+use crate::own::OwnBank;
+use iio_base::Mem;
+use iio_desc::{Desc, DeviceDesc, MAX_TRIGGERS, TriggerDesc};
+use iio_device::{Device, Plug};
+use iio_kfifo::Writer;
+use iio_probe::devices_of;
+use iio_sensor::Sensor;
+use iio_trigger::Trigger;
+use std::alloc::Global;
+use std::marker::PhantomData;
+
+// The names and shapes of the devices of a description.
+fn faces_of(alloc: Global, descs: &[DeviceDesc]) -> Result<Vec<Face>, Mem>
+    ensures { IfOk result (λ v. map face_of v.items ≡ map first_face descs.now) }
+{
+    let mut faces = Vec::new(alloc);
+    for desc in descs {
+        faces.push(Face {
+            name: desc.name.copy(),
+            shape: desc.shape.copy(alloc)?,
+        })?;
+    }
+    Ok(faces)
+}
+
+// The triggers of a hub: those of a description, and then ones with one place each.
+fn triggers_of(alloc: Global, described: &[TriggerDesc]) -> Result<Vec<Trigger>, Mem>
+    requires places { All HasPlaces described.now }
+    requires few { length described.now ≤ MAX_TRIGGERS }
+    ensures { IfOk result (λ v. v.items ≡ first_triggers described.now) }
+{
+    let mut triggers = Vec::new(alloc);
+    for t in described {
+        triggers.push(Trigger::new(t.places))?;
+    }
+    for _ in described.len()..MAX_TRIGGERS {
+        triggers.push(Trigger::new(1))?;
+    }
+    Ok(triggers)
+}
+
+/// What a hub consists of, before anything was done.
+pub struct Parts {
+    pub front: HubFront,
+    pub devices: Vec<Device<Writer>>,
+    pub triggers: Vec<Trigger>,
+}
+
+// The parts of the hub of a description.
+fn made_of(alloc: Global, desc: Desc, drivers: Vec<Box<dyn Sensor + Send>>) -> Result<Parts, Mem>
+    requires { IsWellFormed (length drivers.items) desc }
+    ensures front { IfOk result (λ p. front_of p.front ≡ first_front desc) }
+    ensures devices { IfOk result (λ p. map (λ d. lent_by ⟦<Plug as Sensor>⟧.driver d) p.devices.items ≡ first_devices (map (λ d. ⟦<Plug as Sensor>⟧.driver (Given d)) drivers.items) 0 desc.devices) }
+    ensures triggers { IfOk result (λ p. p.triggers.items ≡ first_triggers desc.triggers) }
+{
+    let Desc {
+        context,
+        triggers: described,
+        devices: descs,
+    } = desc;
+    let faces = faces_of(alloc, &descs)?;
+    let triggers = triggers_of(alloc, &described)?;
+    let devices = devices_of(alloc, descs, drivers)?;
+    Ok(Parts {
+        front: HubFront {
+            context,
+            triggers: described,
+            devices: faces,
+        },
+        devices,
+        triggers,
+    })
+}
+
+/// The parts of the hub of a description, which fit each other.
+pub fn parts_of(
+    alloc: Global,
+    desc: Desc,
+    drivers: Vec<Box<dyn Sensor + Send>>,
+) -> Result<Parts, Mem>
+    requires { IsWellFormed (length drivers.items) desc }
+    ensures front { IfOk result (λ p. front_of p.front ≡ first_front desc) }
+    ensures devices { IfOk result (λ p. map (λ d. lent_by ⟦<Plug as Sensor>⟧.driver d) p.devices.items ≡ first_devices (map (λ d. ⟦<Plug as Sensor>⟧.driver (Given d)) drivers.items) 0 desc.devices) }
+    ensures triggers { IfOk result (λ p. p.triggers.items ≡ first_triggers desc.triggers) }
+    ensures fits { IfOk result (λ p. Fits p.front p.devices.items (length p.triggers.items)) }
+    ensures placed { IfOk result (λ p. All (λ d. IsPlaced d.core.trigger d.core.roster.members.items) p.devices.items) }
+{
+    made_of(alloc, desc, drivers)
+}
+
+impl OwnBank {
+    /// The bank of a description, before anything was done: no device has a member, each has the attributes that its
+    /// description writes, no place at a trigger is taken, and the clock shows 0. A device of a driver's number samples the
+    /// driver of that number, any other its recorded rows. Drivers that no device names are dropped.
+    pub fn new(
+        alloc: Global,
+        desc: Desc,
+        drivers: Vec<Box<dyn Sensor + Send>>,
+    ) -> Result<OwnBank, Mem>
+        requires { IsWellFormed (length drivers.items) desc }
+        ensures front { IfOk result (λ b. ⟦<OwnBank as Bank>⟧.front b ≡ first_front desc) }
+        ensures told { IfOk result (λ b. ⟦<OwnBank as Bank>⟧.told b ≡ Some (first_told (map (λ d. ⟦<Plug as Sensor>⟧.driver (Given d)) drivers.items) desc)) }
+    {
+        let Parts {
+            front,
+            devices,
+            triggers,
+        } = parts_of(alloc, desc, drivers)?;
+        Ok(OwnBank {
+            front,
+            devices,
+            triggers,
+            clock: 0,
+            of: PhantomData,
+        })
+    }
+}

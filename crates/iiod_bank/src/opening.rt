@@ -1,0 +1,198 @@
+//! OPEN and CLOSE at a device.
+
+ghost use Rattle.std.specs.Prelude.{◌≡◌, ◌==◌, ◌*◌, ◌^◌, ◌≤◌, ◌<◌, nat_lt, true, Some, None, is_some};
+ghost use Rattle.iio_layout.specs.Layout.{scan_size};
+ghost use Rattle.iio_layout.specs.Shape.{count_of};
+ghost use Rattle.iio_layout.specs.Active.{has_data};
+ghost use Rattle.iiod_session.specs.declared.limits.TheConstants.{MAX_BYTES};
+ghost use Rattle.iiod_bank.specs.Jobs.{LeaveMakes, MayOpenAt, OpenMakes, no_of};
+ghost use Rattle.iiod_bank.specs.Lent.{IsPlaced, Kept, lent_by};
+
+use crate::bank::DeviceJob;
+use iio_device::{Device, JoinFault, JoinRefused, Member, Plug};
+use iio_kfifo::{Reader, Tail, Writer, ring};
+use iio_layout::{Shape, scan_size};
+use iio_mask::Mask;
+use iio_sensor::Sensor;
+use iio_text::Errno;
+use iio_trigger::Trigger;
+use iiod_session::No;
+use std::alloc::Global;
+
+/// A member, and the end of its ring at which scans are taken.
+pub struct Opened {
+    pub member: Member,
+    pub reader: Reader,
+}
+
+// What a fault of joining is answered with.
+fn no_of(fault: JoinFault) -> No
+    ensures { result ≡ no_of fault }
+{
+    match fault {
+        JoinFault::Gone => No::Errno(Errno::ENODEV),
+        JoinFault::BadMask | JoinFault::NoTrigger | JoinFault::NoUnion => No::Errno(Errno::EINVAL),
+        JoinFault::NoPlace => No::Errno(Errno::ENOSPC),
+        JoinFault::Mem => No::Mem,
+    }
+}
+
+// Whether a mask has bits below that number of channels alone.
+fn is_below(mask: Mask, channels: u32) -> bool
+    requires { channels ≤ 64 }
+    ensures { result ≡ nat_lt mask.bits (2 ^ channels) }
+{
+    channels == 64 || mask.bits < 1 << channels
+}
+
+// Whether the scans of a mask have that size at a device of that shape.
+fn is_sized(shape: &Shape, mask: Mask, size: u32) -> bool
+    ensures { result ≡ true → MayOpenAt mask.bits size shape.now }
+{
+    if !is_below(mask, shape.count()) {
+        return false;
+    }
+    scan_size(shape, mask) == size
+}
+
+/// The bytes of a scan under a mask with a data channel.
+pub fn data_scan_size(shape: &Shape, mask: Mask) -> u32
+    requires below { mask.bits < 2 ^ count_of shape.now }
+    requires channel { has_data shape.now mask.bits ≡ true }
+    ensures value { result ≡ scan_size shape.now mask.bits }
+    ensures some { 1 ≤ result }
+{
+    scan_size(shape, mask)
+}
+
+/// A member more at a device and its trigger, with a ring for `capacity` scans of `size` bytes, which is that of the mask's
+/// scans. Refused as by `Device::may_join`, and then for want of memory; a refusal changes nothing.
+pub fn open_at(
+    alloc: Global,
+    device: &mut Device<Writer>,
+    trigger: &mut Trigger,
+    mask: Mask,
+    capacity: u32,
+    size: u32,
+) -> Result<Opened, No>
+    requires may { MayOpenAt mask.bits size device.old.core.roster.shape }
+    requires some { 1 ≤ capacity }
+    requires bytes { 1 ≤ size }
+    requires fits { capacity * size ≤ MAX_BYTES }
+    requires trigger { is_some device.old.core.trigger ≡ true }
+    ensures { OpenMakes ⟦<Writer as Tail>⟧.taken ⟦<Writer as Tail>⟧.lost ⟦<Writer as Tail>⟧.size ⟦<Writer as Tail>⟧.capacity mask capacity size
+        (lent_by ⟦<Plug as Sensor>⟧.driver device.old) (Some trigger.old) result (lent_by ⟦<Plug as Sensor>⟧.driver device.new) (Some trigger.new) }
+{
+    if let Err(fault) = device.may_join(mask, Some(trigger)) {
+        return Err(no_of(fault));
+    }
+    let Ok((writer, reader)) = ring(alloc, capacity, size) else {
+        return Err(No::Mem);
+    };
+    match device.join(mask, writer, trigger) {
+        Ok(member) => Ok(Opened { member, reader }),
+        Err(JoinRefused { fault: _, tail: _ }) => {
+            reader.end();
+            Err(No::Mem)
+        }
+    }
+}
+
+// OPEN at a device without a trigger.
+fn open_alone(device: &Device<Writer>, mask: Mask, _capacity: u32, _size: u32) -> Result<Opened, No>
+    requires none { device.now.core.trigger ≡ None }
+    ensures { OpenMakes ⟦<Writer as Tail>⟧.taken ⟦<Writer as Tail>⟧.lost ⟦<Writer as Tail>⟧.size ⟦<Writer as Tail>⟧.capacity mask _capacity _size
+        (lent_by ⟦<Plug as Sensor>⟧.driver device.now) None result (lent_by ⟦<Plug as Sensor>⟧.driver device.now) None }
+{
+    match device.may_join(mask, None) {
+        Err(fault) => Err(no_of(fault)),
+        Ok(()) => Err(No::Errno(Errno::EINVAL)),
+    }
+}
+
+/// OPEN.
+#[derive(Drop)]
+pub struct OpenJob {
+    pub alloc: Global,
+    pub mask: Mask,
+    pub capacity: u32,
+    pub size: u32,
+    ghost some: { 1 ≤ capacity },
+    ghost bytes: { 1 ≤ size },
+    ghost fits: { capacity * size ≤ MAX_BYTES },
+}
+
+impl OpenJob {
+    /// OPEN of a mask, for so many scans, which have that size.
+    pub fn new(alloc: Global, mask: Mask, capacity: u32, size: u32) -> OpenJob
+        requires some { 1 ≤ capacity }
+        requires bytes { 1 ≤ size }
+        requires fits { capacity * size ≤ MAX_BYTES }
+        ensures { (result.mask ≡ mask) × (result.capacity ≡ capacity) × (result.size ≡ size) }
+    {
+        OpenJob {
+            alloc,
+            mask,
+            capacity,
+            size,
+        }
+    }
+}
+
+impl DeviceJob for OpenJob {
+    ghost use Rattle.iiod_bank.specs.Jobs.{MayOpenAt, OpenMakes};
+
+    type Out = Result<Opened, No>;
+
+    ghost may = { λ j shape. MayOpenAt j.mask.bits j.size shape };
+
+    ghost makes = { λ j a s o b t. OpenMakes ⟦<Writer as Tail>⟧.taken ⟦<Writer as Tail>⟧.lost ⟦<Writer as Tail>⟧.size ⟦<Writer as Tail>⟧.capacity j.mask j.capacity j.size a s o b t };
+
+    fn fits(&self, shape: &Shape) -> bool {
+        is_sized(shape, self.mask, self.size)
+    }
+
+    fn alone(self, device: &mut Device<Writer>) -> Result<Opened, No> {
+        open_alone(device, self.mask, self.capacity, self.size)
+    }
+
+    fn paired(self, device: &mut Device<Writer>, trigger: &mut Trigger) -> Result<Opened, No> {
+        open_at(
+            self.alloc,
+            device,
+            trigger,
+            self.mask,
+            self.capacity,
+            self.size,
+        )
+    }
+}
+
+/// CLOSE.
+#[derive(Drop)]
+pub struct LeaveJob {
+    pub member: Member,
+}
+
+impl DeviceJob for LeaveJob {
+    ghost use Rattle.iiod_bank.specs.Jobs.{LeaveMakes};
+
+    type Out = Option<Writer>;
+
+    ghost may = { λ j shape. Unit {0} };
+
+    ghost makes = { λ j a s o b t. LeaveMakes ⟦<Writer as Tail>⟧.lost j.member.number a s o b t };
+
+    fn fits(&self, _shape: &Shape) -> bool {
+        true
+    }
+
+    // Where there is no trigger there is no member.
+    fn alone(self, _device: &mut Device<Writer>) -> Option<Writer> {
+        None
+    }
+
+    fn paired(self, device: &mut Device<Writer>, trigger: &mut Trigger) -> Option<Writer> {
+        device.leave(self.member, trigger)
+    }
+}

@@ -1,0 +1,5 @@
+mod HandleLaws
+mod OpenLaws
+mod SeatLaws
+mod LockLaws
+mod TickLaws

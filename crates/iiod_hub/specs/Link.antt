@@ -1,0 +1,80 @@
+-- What a link makes of a bank that tells, by jobs; and what its seats are.
+use Rattle.std.specs.Prelude.{◌≡◌, ℕ, ℤ, Bool, true, false, List, [], ◌∷◌, zero, suc, Option, Some, None, Result, Ok, Err}
+use Rattle.iio_mask.specs.declared.Mask.{Mask}
+use Rattle.iio_kfifo.specs.declared.tail.Offered.{Offered}
+use Rattle.iio_trigger.specs.Trigger.{State, Handed, Polls}
+use Rattle.iio_trigger.specs.declared.Polled.{Polled}
+use Rattle.iio_device.specs.declared.handling.Handled.{Handled}
+use Rattle.iio_device.specs.Device.{DeviceView, Handles}
+use Rattle.iiod_session.specs.Front.{Front, size_at}
+use Rattle.iiod_session.specs.declared.iio.No.{No}
+use Rattle.iiod_session.specs.Seat.{SeatRecord}
+use Rattle.iio_kfifo.specs.Ends.{WriterEnd}
+use Rattle.iiod_bank.specs.declared.opening.Opened.{Opened}
+use Rattle.iiod_hub.specs.declared.seat.HubSeat.{HubSeat}
+use Rattle.iiod_bank.specs.Received.{received_of, size_of}
+use Rattle.iiod_bank.specs.Told.{Told, Ran, RanAt, Only}
+use Rattle.iiod_bank.specs.Jobs.{OpenMakes}
+use Rattle.iiod_bank.specs.TriggerJobs.{DoneMakes, DueMakes}
+
+-- ---- seats
+
+abbrev pub seen_of : HubSeat → SeatRecord
+seen_of s = record {
+  number = s.member.number;
+  mask = s.mask.bits;
+  size = size_of s.reader;
+  capacity = s.capacity;
+  tale = Some (record { given = received_of s.reader; empties = s.empties; gone = s.gone });
+}
+
+-- the seat that an accepted OPEN's job gives
+abbrev pub seated : ℕ → Mask → ℕ → Opened → HubSeat
+seated dev mask capacity o = record { dev = dev; member = o.member; mask = mask; capacity = capacity; reader = o.reader; empties = 0; gone = false }
+
+abbrev pub SeatOf : ℕ → Mask → ℕ → Result Opened No → Result HubSeat No → Type 0
+SeatOf dev mask capacity (Ok o) result = result ≡ Ok (seated dev mask capacity o)
+SeatOf dev mask capacity (Err e) result = result ≡ Err e
+
+-- an OPEN answers what its job answers, and the bank is as the job left it
+module _ (taken lost size capacity : WriterEnd → ℕ) where
+  pub record BankOpens (front : Front) (dev : ℕ) (mask : Mask) (scans : ℕ) (b : Told) (result : Result HubSeat No) (c : Told) : Type 0 where
+    pub answer : Result Opened No
+    pub ran : Ran (OpenMakes taken lost size capacity mask scans (size_at front dev mask.bits)) dev b answer c
+    pub seat : SeatOf dev mask scans answer result
+
+-- ---- handling
+
+module _ (taken lost size capacity : WriterEnd → ℕ) (offer_gives : WriterEnd → List ℕ → Offered → WriterEnd → Type 0) where
+  abbrev pub HandleMakes : Handed → DeviceView WriterEnd → Option State → Handled → DeviceView WriterEnd → Option State → Type 0
+  HandleMakes due = Only (λ a o b. Handles taken lost size capacity offer_gives due o a b)
+
+  -- an entry was handed out, handled at the device, and taken off: three steps, one after the other
+  pub record Passes (trigger dev : ℕ) (b : Told) (due : Handed) (h : Handled) (c : Told) : Type 0 where
+    pub handed : Told
+    pub first : RanAt (DueMakes dev) trigger b (Some due) handed
+    pub kept : Told
+    pub second : Ran (HandleMakes due) dev handed h kept
+    pub found : Bool
+    pub third : RanAt (DoneMakes due) trigger kept found c
+
+  abbrev pub BankHandles : ℕ → ℕ → Told → Option Handled → Told → Type 0
+  BankHandles trigger dev b None c = RanAt (DueMakes dev) trigger b None c
+  BankHandles trigger dev b (Some h) c = (due : Handed) × Passes trigger dev b due h c
+
+  -- the first devices, one after the other
+  abbrev pub Swept : ℕ → ℕ → Told → Told → Type 0
+  Swept trigger zero b c = c ≡ b
+  Swept trigger (suc k) b c = (m : Told) × Swept trigger k b m × ((h : Option Handled) × BankHandles trigger k m h c)
+
+-- ---- ticks
+
+-- a tick is answered with whether a moment is left
+abbrev pub HasMoment : Bool → List ℤ → Type 0
+HasMoment answer [] = answer ≡ false
+HasMoment answer (t ∷ ts) = answer ≡ true
+
+-- a tick: the clock is set to the next moment, and the trigger is polled at it, once; where no moment is left, nothing changes
+abbrev pub TicksOnce : ℕ → Told → List ℤ → Option Told → Type 0
+TicksOnce trigger b [] told = told ≡ Some b
+TicksOnce trigger b (t ∷ ts) told = (o : Polled) × (c : Told) × (told ≡ Some c) × RanAt (λ s p u. Polls s t p u) trigger (record b { clock = t }) o c

@@ -1,0 +1,360 @@
+//! A hub as one connection uses it.
+
+ghost use Rattle.std.specs.Prelude.{◌≡◌, ◌≢◌, ℕ, ◌+◌, ◌*◌, ◌<◌, ◌≤◌, length, Option, Some, None, Err, option_map, vec_capacity, IfSome, IfOk, true, false};
+ghost use Rattle.std.specs.Bool.{OnFalse};
+ghost use Rattle.iio_kfifo.specs.Ends.{Ends, WriterEnd};
+ghost use Rattle.iio_desc.specs.declared.limits.TheConstants.{MAX_TRIGGERS};
+ghost use Rattle.iio_trigger.specs.Trigger.{Polls};
+ghost use Rattle.iiod_session.specs.Front.{find_device, find_trigger, shape_at, size_at, trigger_name};
+ghost use Rattle.iiod_session.specs.Reading.{TakesScans};
+ghost use Rattle.iiod_session.specs.Seat.{IsNew, IsOfDevice, MayOpen, after_take};
+ghost use Rattle.iiod_session.specs.Target.{MayRead, MayWrite};
+ghost use Rattle.iiod_bank.specs.Jobs.{EvCloseMakes, EvOpenMakes, EvReadMakes, LeaveMakes, LostMakes, ReadMakes, SetTriggerMakes, UnplugMakes, WriteMakes};
+ghost use Rattle.iiod_hub.specs.Link.{BankHandles, BankOpens, Swept, seen_of};
+ghost use Rattle.iiod_bank.specs.Received.{SawClosed, SawOpen, received_of, size_of};
+ghost use Rattle.iiod_bank.specs.Told.{Moves, Only, Ran, RanAt, Told, is_plugged_at, trigger_number_at};
+
+use crate::seat::HubSeat;
+use iio_attr::{Attr, Value};
+use iio_device::Handled;
+use iio_event::EventData;
+use iio_kfifo::{Ended, Reader, Tail, Writer};
+use iio_layout::Shape;
+use iio_mask::Mask;
+use iio_text::Fixed;
+use iio_trigger::{Due, Polled};
+use iiod_bank::{
+    Alone, Bank, DeviceJob, DoneJob, DueJob, EvCloseWork, EvOpenWork, EvReadWork, HandleWork,
+    HubFront, LeaveJob, LostWork, OpenJob, Opened, PollJob, ReadWork, TriggerJob, TriggerWork,
+    UnplugJob, Work, WriteWork, data_scan_size,
+};
+use iiod_session::{Counts, Iio, No, Took};
+use std::alloc::Global;
+
+/// A hub as one connection uses it.
+#[derive(Drop)]
+pub struct HubLink<B> {
+    pub bank: B,
+    pub alloc: Global,
+}
+
+// A writer that a member left behind is closed.
+fn close_writer(writer: Option<Writer>) {
+    if let Some(writer) = writer {
+        writer.close();
+    }
+}
+
+// How many scans were lost: what the device says of the member, or else what the closed ring says.
+fn lost_of(reader: &mut Reader, told: Option<u64>) -> u64
+    ensures told { IfSome told (λ n. result ≡ n) }
+    ensures same { received_of reader.new ≡ received_of reader.old }
+    ensures size { size_of reader.new ≡ size_of reader.old }
+{
+    match told {
+        Some(lost) => lost,
+        None => reader.lost().unwrap_or(0),
+    }
+}
+
+impl<B: Bank> Iio for HubLink<B> {
+    ghost use Rattle.std.specs.Prelude.{None, Some};
+    ghost use Rattle.iiod_session.specs.Front.{Front};
+    ghost use Rattle.iiod_hub.specs.Link.{seen_of};
+
+    type Seat = HubSeat;
+
+    ghost Kept = { Front };
+
+    ghost kept = { λ l. B.front l.bank };
+
+    ghost front = { λ kept. kept };
+
+    // what it tells is said of its bank, in the clauses below
+    ghost told = { λ l. None };
+
+    ghost seen = { seen_of };
+
+    fn find(&self, device: &[u8]) -> Option<u32> {
+        self.bank.front().find(device)
+    }
+
+    fn shape(&self, dev: u32) -> &Shape {
+        self.bank.front().shape(dev)
+    }
+
+    fn plugged(&self, dev: u32) -> bool
+        requires { dev < length (B.front self.now.bank).devices }
+        ensures { IfSome (B.told self.now.bank) (λ b. result ≡ is_plugged_at b dev) }
+    {
+        self.bank.plugged(dev)
+    }
+
+    fn open(&mut self, dev: u32, mask: Mask, capacity: u32) -> Result<HubSeat, No>
+        requires { MayOpen (B.front self.old.bank) dev mask.bits capacity }
+        ensures kept { B.front self.new.bank ≡ B.front self.old.bank }
+        ensures seat { IfOk result (λ s. IsNew (B.front self.old.bank) dev mask.bits capacity (seen_of s)) }
+        ensures dev { IfOk result (λ s. s.dev ≡ dev) }
+        ensures bank { Moves (B.told self.old.bank) (B.told self.new.bank) (λ b c.
+            BankOpens ⟦<Writer as Tail>⟧.taken ⟦<Writer as Tail>⟧.lost ⟦<Writer as Tail>⟧.size ⟦<Writer as Tail>⟧.capacity (B.front self.old.bank) dev mask capacity b result c) }
+    {
+        let size = data_scan_size(self.bank.front().shape(dev), mask);
+        let job = OpenJob::new(self.alloc, mask, capacity, size);
+        match self.bank.device(dev, job) {
+            Err(no) => Err(no),
+            Ok(Opened { member, reader }) => Ok(HubSeat {
+                dev,
+                member,
+                mask,
+                capacity,
+                reader,
+                empties: 0,
+                gone: false,
+            }),
+        }
+    }
+
+    fn close(&mut self, dev: u32, seat: HubSeat)
+        requires dev { dev < length (B.front self.old.bank).devices }
+        requires owned { IsOfDevice (B.front self.old.bank) dev (seen_of seat) }
+        ensures kept { B.front self.new.bank ≡ B.front self.old.bank }
+        ensures bank { Moves (B.told self.old.bank) (B.told self.new.bank) (λ b c. (o : Option WriterEnd) × Ran (LeaveMakes ⟦<Writer as Tail>⟧.lost seat.member.number) dev b o c) }
+    {
+        self.end_seat(dev, seat);
+    }
+
+    fn take(&mut self, dev: u32, seat: &mut HubSeat, out: &mut [u8]) -> Took
+        requires dev { dev < length (B.front self.old.bank).devices }
+        requires owned { IsOfDevice (B.front self.old.bank) dev (seen_of seat.old) }
+        requires size { length out.old ≡ size_of seat.old.reader }
+        ensures kept { B.front self.new.bank ≡ B.front self.old.bank }
+        ensures seat { seen_of seat.new ≡ record (seen_of seat.old) { tale = option_map (after_take result out.new) (seen_of seat.old).tale } }
+        ensures empty { result ≡ Took.Empty → SawOpen seat.new.reader }
+        ensures gone { result ≡ Took.Gone → SawClosed seat.new.reader }
+        ensures bank { B.told self.new.bank ≡ B.told self.old.bank }
+    {
+        seat.take(out)
+    }
+
+    fn take_scans(&mut self, dev: u32, seat: &mut HubSeat, most: u32, out: &mut Vec<u8>) -> Took
+        requires dev { dev < length (B.front self.old.bank).devices }
+        requires owned { IsOfDevice (B.front self.old.bank) dev (seen_of seat.old) }
+        requires some { 1 ≤ most }
+        requires room { length out.old.items + most * size_of seat.old.reader ≤ vec_capacity out.old }
+        ensures kept { B.front self.new.bank ≡ B.front self.old.bank }
+        ensures takes { TakesScans dev most None None (seen_of seat.old) (seen_of seat.new) out.old.items out.new.items result }
+        ensures most { length out.new.items ≤ length out.old.items + most * size_of seat.old.reader }
+        ensures room { vec_capacity out.old ≤ vec_capacity out.new }
+        ensures empty { result ≡ Took.Empty → SawOpen seat.new.reader }
+        ensures gone { result ≡ Took.Gone → SawClosed seat.new.reader }
+        ensures bank { B.told self.new.bank ≡ B.told self.old.bank }
+    {
+        seat.take_scans(dev, most, out)
+    }
+
+    fn counts(&mut self, dev: u32, seat: &mut HubSeat) -> Counts
+        requires dev { dev < length (B.front self.old.bank).devices }
+        requires owned { IsOfDevice (B.front self.old.bank) dev (seen_of seat.old) }
+        ensures kept { B.front self.new.bank ≡ B.front self.old.bank }
+        ensures seat { seen_of seat.new ≡ seen_of seat.old }
+        ensures bank { Moves (B.told self.old.bank) (B.told self.new.bank) (λ b c. (o : Option ℕ) × Ran (Only (LostMakes ⟦<Writer as Tail>⟧.lost seat.old.member.number)) dev b o c × IfSome o (λ n. result.lost ≡ n)) }
+    {
+        let member = seat.member;
+        let told = self.bank.device(
+            dev,
+            Alone {
+                work: LostWork { member },
+            },
+        );
+        let waiting = seat.reader.waiting();
+        let lost = lost_of(&mut seat.reader, told);
+        Counts { waiting, lost }
+    }
+
+    fn read_attr(&mut self, dev: u32, channel: Option<u32>, attr: Attr) -> Result<Value, No>
+        requires dev { dev < length (B.front self.old.bank).devices }
+        requires may_read { MayRead (B.front self.old.bank) dev channel attr }
+        ensures kept { B.front self.new.bank ≡ B.front self.old.bank }
+        ensures bank { Moves (B.told self.old.bank) (B.told self.new.bank) (λ b c. Ran (Only (ReadMakes b.clock channel attr)) dev b result c) }
+    {
+        let t = self.bank.clock();
+        self.bank.device(
+            dev,
+            Alone {
+                work: ReadWork { t, channel, attr },
+            },
+        )
+    }
+
+    fn write_attr(
+        &mut self,
+        dev: u32,
+        channel: Option<u32>,
+        attr: Attr,
+        value: Fixed,
+    ) -> Result<(), No>
+        requires dev { dev < length (B.front self.old.bank).devices }
+        requires may_write { MayWrite (B.front self.old.bank) dev channel attr value }
+        ensures kept { B.front self.new.bank ≡ B.front self.old.bank }
+        ensures bank { Moves (B.told self.old.bank) (B.told self.new.bank) (λ b c. Ran (Only (WriteMakes channel attr value)) dev b result c) }
+    {
+        self.bank.device(
+            dev,
+            Alone {
+                work: WriteWork {
+                    channel,
+                    attr,
+                    value,
+                },
+            },
+        )
+    }
+
+    fn trigger(&self, dev: u32) -> Option<u32>
+        requires { dev < length (B.front self.now.bank).devices }
+        ensures { IfSome (B.told self.now.bank) (λ b. result ≡ trigger_number_at b dev) }
+    {
+        self.bank.trigger_of(dev)
+    }
+
+    fn trigger_name(&self, trigger: u32) -> &[u8] {
+        self.bank.front().trigger_name(trigger)
+    }
+
+    fn find_trigger(&self, name: &[u8]) -> Option<u32> {
+        self.bank.front().find_trigger(name)
+    }
+
+    fn set_trigger(&mut self, dev: u32, trigger: Option<u32>) -> Result<(), No>
+        requires dev { dev < length (B.front self.old.bank).devices }
+        requires trigger { IfSome trigger (λ t. t < MAX_TRIGGERS) }
+        ensures kept { B.front self.new.bank ≡ B.front self.old.bank }
+        ensures bank { Moves (B.told self.old.bank) (B.told self.new.bank) (λ b c. Ran (Only (SetTriggerMakes trigger)) dev b result c) }
+    {
+        let work = TriggerWork::new(trigger);
+        self.bank.device(dev, Alone { work })
+    }
+
+    fn context(&self) -> &[u8] {
+        self.bank.front().context()
+    }
+
+    fn ev_open(&mut self, dev: u32, who: u32) -> Result<(), No>
+        requires dev { dev < length (B.front self.old.bank).devices }
+        ensures kept { B.front self.new.bank ≡ B.front self.old.bank }
+        ensures bank { Moves (B.told self.old.bank) (B.told self.new.bank) (λ b c. Ran (Only (EvOpenMakes who)) dev b result c) }
+    {
+        self.bank.device(
+            dev,
+            Alone {
+                work: EvOpenWork { who },
+            },
+        )
+    }
+
+    fn ev_read(&mut self, dev: u32, who: u32) -> Result<Option<EventData>, No>
+        requires dev { dev < length (B.front self.old.bank).devices }
+        ensures kept { B.front self.new.bank ≡ B.front self.old.bank }
+        ensures bank { Moves (B.told self.old.bank) (B.told self.new.bank) (λ b c. Ran (Only (EvReadMakes who)) dev b result c) }
+    {
+        self.bank.device(
+            dev,
+            Alone {
+                work: EvReadWork { who },
+            },
+        )
+    }
+
+    fn ev_close(&mut self, dev: u32, who: u32) -> Result<(), No>
+        requires dev { dev < length (B.front self.old.bank).devices }
+        ensures kept { B.front self.new.bank ≡ B.front self.old.bank }
+        ensures no_memory { result ≢ Err No.Mem }
+        ensures bank { Moves (B.told self.old.bank) (B.told self.new.bank) (λ b c. Ran (Only (EvCloseMakes who)) dev b result c) }
+    {
+        self.bank.device(
+            dev,
+            Alone {
+                work: EvCloseWork { who },
+            },
+        )
+    }
+}
+
+impl<B: Bank> HubLink<B> {
+    /// A seat's member leaves the device, its ring is closed, and the reading ends.
+    pub fn end_seat(&mut self, dev: u32, seat: HubSeat) -> Ended
+        requires { dev < length (B.front self.old.bank).devices }
+        ensures front { B.front self.new.bank ≡ B.front self.old.bank }
+        ensures bank { Moves (B.told self.old.bank) (B.told self.new.bank) (λ b c. (o : Option WriterEnd) × Ran (LeaveMakes ⟦<Writer as Tail>⟧.lost seat.member.number) dev b o c) }
+        ensures ended { (rest : _) × Ends seat.reader.knows result rest }
+    {
+        let HubSeat {
+            dev: _,
+            member,
+            mask: _,
+            capacity: _,
+            reader,
+            empties: _,
+            gone: _,
+        } = seat;
+        let left = self.bank.device(dev, LeaveJob { member });
+        close_writer(left);
+        let (ended, _rest) = reader.end();
+        ended
+    }
+
+    /// Polls a trigger at a moment.
+    pub fn poll(&mut self, trigger: u32, t: i64) -> Polled
+        requires { trigger < MAX_TRIGGERS }
+        ensures front { B.front self.new.bank ≡ B.front self.old.bank }
+        ensures bank { Moves (B.told self.old.bank) (B.told self.new.bank) (λ b c. RanAt (λ s o u. Polls s t o u) trigger b result c) }
+    {
+        self.bank.trigger(trigger, PollJob { t })
+    }
+
+    /// Hands a device its entry of a trigger. None comes exactly where it has none that is in no hand.
+    pub fn handle(&mut self, trigger: u32, dev: u32) -> Option<Handled>
+        requires trigger { trigger < MAX_TRIGGERS }
+        requires dev { dev < length (B.front self.old.bank).devices }
+        ensures front { B.front self.new.bank ≡ B.front self.old.bank }
+        ensures bank { Moves (B.told self.old.bank) (B.told self.new.bank) (λ b c.
+            BankHandles ⟦<Writer as Tail>⟧.taken ⟦<Writer as Tail>⟧.lost ⟦<Writer as Tail>⟧.size ⟦<Writer as Tail>⟧.capacity ⟦<Writer as Tail>⟧.offer_gives trigger dev b result c) }
+    {
+        let due = self.bank.trigger(trigger, DueJob { dev })?;
+        let handled = self.bank.device(
+            dev,
+            Alone {
+                work: HandleWork { due: &due },
+            },
+        );
+        self.bank.trigger(trigger, DoneJob { due });
+        if let Handled::Captured(_) = handled {
+            self.bank.chime(dev);
+        }
+        Some(handled)
+    }
+
+    /// Hands each device its entry of a trigger, in the order of devices.
+    pub fn sweep(&mut self, trigger: u32)
+        requires { trigger < MAX_TRIGGERS }
+        ensures front { B.front self.new.bank ≡ B.front self.old.bank }
+        ensures bank { Moves (B.told self.old.bank) (B.told self.new.bank) (λ b c.
+            Swept ⟦<Writer as Tail>⟧.taken ⟦<Writer as Tail>⟧.lost ⟦<Writer as Tail>⟧.size ⟦<Writer as Tail>⟧.capacity ⟦<Writer as Tail>⟧.offer_gives trigger (length (B.front self.old.bank).devices) b c) }
+    {
+        for dev in 0..self.bank.front().count() {
+            self.handle(trigger, dev);
+        }
+    }
+
+    /// Unplugs a device: its driver is dropped, each member leaves, and its ring is closed. It says whether the device was
+    /// plugged.
+    pub fn unplug(&mut self, dev: u32) -> bool
+        requires { dev < length (B.front self.old.bank).devices }
+        ensures front { B.front self.new.bank ≡ B.front self.old.bank }
+        ensures bank { Moves (B.told self.old.bank) (B.told self.new.bank) (λ b c. Ran (UnplugMakes ⟦<Writer as Tail>⟧.lost) dev b result c) }
+    {
+        let was_plugged = self.bank.device(dev, UnplugJob);
+        self.bank.chime(dev);
+        was_plugged
+    }
+}
