@@ -1,0 +1,85 @@
+//! The connections that are living, by their numbers.
+
+ghost use Rattle.std.specs.Prelude.{◌≡◌, ◌-◌, ◌≤◌, None, IfSome, is_some, true};
+ghost use Rattle.slab.specs.Slab.{get};
+
+use iio_base::Mem;
+use slab::Slab;
+use std::alloc::Global;
+use std::sync::{Condvar, Mutex, Wait};
+
+/// The most connections that live at once. (This project's own limit.)
+pub const MAX_CONNECTIONS: usize = 32;
+
+/// The numbers of the living connections, less one.
+#[derive(Drop)]
+struct Numbers {
+    taken: Slab<()>,
+}
+
+impl Numbers {
+    /// A number that no living connection has: the smallest that was given back last, or the next. None comes where
+    /// `MAX_CONNECTIONS` live.
+    fn take(&mut self) -> Option<u32>
+        ensures free { IfSome result (λ n. (1 ≤ n) × (get self.old.taken (n - 1) ≡ None) × (is_some (get self.new.taken (n - 1)) ≡ true)) }
+    {
+        let key = self.taken.vacant_key();
+        if self.taken.len() >= MAX_CONNECTIONS || key >= MAX_CONNECTIONS {
+            return None;
+        }
+        match self.taken.insert(()) {
+            Ok(_) => Some(key as u32 + 1),
+            Err(_) => None,
+        }
+    }
+
+    /// The number is free again.
+    fn give_back(&mut self, number: u32)
+        requires { 1 ≤ number }
+        ensures { get self.new.taken (number - 1) ≡ None }
+    {
+        self.taken.try_remove(number as usize - 1);
+    }
+}
+
+/// The living connections, and those who wait for the last of them to end.
+#[derive(Drop)]
+pub(crate) struct Living {
+    numbers: Mutex<Numbers>,
+    fewer: Condvar,
+}
+
+impl Living {
+    /// Nobody lives yet. Room for all numbers is taken here.
+    pub(crate) fn new(alloc: Global) -> Result<Living, Mem> {
+        let taken = Slab::with_capacity(alloc, MAX_CONNECTIONS)?;
+        Ok(Living {
+            numbers: Mutex::new(Numbers { taken }),
+            fewer: Condvar::new(),
+        })
+    }
+
+    /// A number for one connection more, which no other living one has. None comes where `MAX_CONNECTIONS` live.
+    pub(crate) fn enter<R: Wait>(&self, rt: &R) -> Option<u32>
+        ensures { IfSome result (λ n. 1 ≤ n) }
+    {
+        self.numbers.lock(rt).take()
+    }
+
+    /// A connection has ended.
+    pub(crate) fn leave<R: Wait>(&self, rt: &R, number: u32)
+        requires { 1 ≤ number }
+    {
+        self.numbers.lock(rt).give_back(number);
+        self.fewer.notify_all();
+    }
+
+    /// Waits until no connection lives.
+    pub(crate) fn wait_for_all<R: Wait>(&self, rt: &R) {
+        let _numbers = self.fewer.wait_while(
+            rt,
+            self.numbers.lock(rt),
+            |numbers| !numbers.taken.is_empty(),
+        );
+    }
+}

@@ -1,0 +1,44 @@
+//! What the workers of a server share.
+
+ghost use Rattle.std.specs.Prelude.{◌≡◌, length, IfOk};
+
+use crate::living::Living;
+use iio_base::Mem;
+use iiod_hub::{Bell, bells_of};
+use std::alloc::Global;
+use std::sync::Wait;
+use std::sync::atomic::{AtomicBool, Ordering};
+
+/// A bell of each trigger, which its ticks ring; the living connections; and whether the server ends.
+#[derive(Drop)]
+pub(crate) struct Shared {
+    pub(crate) ticked: Vec<Bell>,
+    pub(crate) living: Living,
+    ending: AtomicBool,
+}
+
+impl Shared {
+    /// For that many triggers.
+    pub(crate) fn new(alloc: Global, triggers: usize) -> Result<Shared, Mem>
+        ensures { IfOk result (λ s. length s.ticked.items ≡ triggers) }
+    {
+        Ok(Shared {
+            ticked: bells_of(alloc, triggers)?,
+            living: Living::new(alloc)?,
+            ending: AtomicBool::new(false),
+        })
+    }
+
+    /// Whether the server ends.
+    pub(crate) fn is_ending(&self) -> bool {
+        self.ending.load(Ordering::SeqCst)
+    }
+
+    /// Tells the workers of the triggers that the server ends.
+    pub(crate) fn end<R: Wait>(&self, rt: &R) {
+        self.ending.store(true, Ordering::SeqCst);
+        for bell in &self.ticked {
+            bell.ring(rt);
+        }
+    }
+}

@@ -1,0 +1,96 @@
+//! One connection over a link in memory.
+
+ghost use Rattle.std.specs.Prelude.{◌≤◌};
+
+use super::hub_of;
+use iio_io::{MemLink, MemSink, MemSource, OpenGate};
+use iiod_hub::{SessionEnd, serve_connection};
+use std::alloc::Global;
+use std::test::Fail;
+
+// A link on which these bytes come, in pieces, and to which so many bytes can be sent. The listed receives fail.
+fn faulty_link(
+    alloc: Global,
+    comes: &[u8],
+    piece: usize,
+    fails: &[u64],
+    room: usize,
+) -> Result<MemLink, Fail>
+    requires { 1 ≤ piece }
+{
+    let source = MemSource::new(comes.to_vec(alloc)?, piece, fails.to_vec(alloc)?);
+    let sink = MemSink::new(alloc, room, Vec::new(alloc))?;
+    Ok(MemLink::new(source, sink))
+}
+
+// What comes, how the connection ends, and what is sent.
+const CONNECTIONS: &[(&[u8], SessionEnd, &[u8])] = &[
+    (b"VERSION\nEXIT\n", SessionEnd::Ended, b"0.25.iiosim0\n"),
+    (b"VERSION\n", SessionEnd::Eof, b"0.25.iiosim0\n"),
+    (b"", SessionEnd::Eof, b""),
+    (b"VERSION", SessionEnd::Eof, b""),
+    (b"EXIT\nVERSION\n", SessionEnd::Ended, b""),
+    (
+        b"\r\nTIMEOUT 100\r\nREADBUF adc9 8\nOPEN adc9 4 00000001\nnothing\nVERSION\n",
+        SessionEnd::Eof,
+        b"0\n-19\n-19\n-22\n0.25.iiosim0\n",
+    ),
+    (
+        b"WRITE adc9 raw 9\nEXIT\nEXIT\nEXIT\n",
+        SessionEnd::Ended,
+        b"-19\n",
+    ),
+    (
+        b"WRITE adc9 raw 4194305\nVERSION\n",
+        SessionEnd::Ended,
+        b"-27\n",
+    ),
+];
+
+#[test]
+fn one_connection_in_memory(rt: HostRuntime) -> Result<(), Fail> {
+    let alloc = rt.alloc();
+    let hub = hub_of(alloc)?;
+    for (comes, end, sent) in CONNECTIONS.iter() {
+        for piece in [1usize, 3, 100] {
+            let mut link = faulty_link(alloc, comes, piece, &[], 1_000)?;
+            let got = serve_connection(&rt, alloc, &hub, 1, &mut link, &OpenGate);
+            assert!(rt; got == *end, "of {comes:?} by {piece}: {got:?}");
+            assert!(rt;
+                link.sent() == *sent,
+                "of {comes:?} by {piece}: {:?}",
+                link.sent()
+            );
+        }
+    }
+    Ok(())
+}
+
+// The receives that fail, the room of the link, and what is sent of the answers to three VERSION that come in one piece each.
+const FAULTS: &[(&[u64], usize, &[u8])] = &[
+    (&[1], 1_000, b""),
+    (&[2], 1_000, b"0.25.iiosim0\n"),
+    (&[4], 1_000, b"0.25.iiosim0\n0.25.iiosim0\n0.25.iiosim0\n"),
+    (&[], 0, b""),
+    (&[], 20, b"0.25.iiosim0\n0.25.ii"),
+];
+
+#[test]
+fn a_link_that_fails(rt: HostRuntime) -> Result<(), Fail> {
+    let alloc = rt.alloc();
+    let hub = hub_of(alloc)?;
+    for (fails, room, sent) in FAULTS.iter() {
+        let mut link = faulty_link(alloc, b"VERSION\nVERSION\nVERSION\n", 8, fails, *room)?;
+        let got = serve_connection(&rt, alloc, &hub, 1, &mut link, &OpenGate);
+        assert!(rt;
+            got == SessionEnd::LinkFault,
+            "with {fails:?} and {room}: {got:?}"
+        );
+        assert!(rt;
+            link.sent() == *sent,
+            "with {fails:?} and {room}: {:?}",
+            link.sent()
+        );
+    }
+    Ok(())
+}

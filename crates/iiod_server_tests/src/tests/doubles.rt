@@ -1,0 +1,291 @@
+//! Links, doors, tickers and gates that a test can see into.
+
+ghost use Rattle.std.specs.Prelude.{◌≡◌, ◌≤◌, None, length};
+
+use crate::tests::TURNS;
+use iio_io::{Door, Failed, Gate, Link, MemLink, Point, Ticker};
+use iiod_hub::Hub;
+use std::alloc::Global;
+use std::sync::Wait;
+use std::sync::atomic::{AtomicBool, AtomicU32, Ordering};
+use std::thread;
+use std::time::{Clock, Duration};
+
+/// Looks again, up to `TURNS` times, whether a flag is set. False where it never was.
+pub fn is_set_in_time<R: Clock>(rt: &R, flag: &AtomicBool) -> bool {
+    for _ in 0..TURNS {
+        if flag.load(Ordering::SeqCst) {
+            return true;
+        }
+        thread::sleep(rt, Duration::from_millis(1));
+    }
+    false
+}
+
+/// A link over which texts come, one after another. Before the text of number `fires_at` the trigger is fired twice.
+#[derive(Drop)]
+pub struct Texts<'a, R> {
+    pub rt: &'a R,
+    pub alloc: Global,
+    pub hub: &'a Hub,
+    pub texts: &'a [&'a [u8]],
+    pub fires_at: usize,
+    pub next: usize,
+    pub sent: MemLink,
+}
+
+// The front of a text, as far as there is room.
+fn copy_front(text: &[u8], out: &mut [u8]) -> usize
+    ensures fits { result ≤ length out.new }
+    ensures same { length out.new ≡ length out.old }
+{
+    let n = text.len().min(out.len());
+    out[..n].copy_from_slice(&text[..n]);
+    n
+}
+
+impl<'a, R: Wait> Link for Texts<'a, R> {
+    ghost use Rattle.std.specs.Prelude.{None};
+
+    ghost left = { λ l. None };
+
+    ghost written = { λ l. None };
+
+    ghost faults = { λ l. ⟦<MemLink as Link>⟧.faults l.sent };
+
+    fn recv(&mut self, out: &mut [u8]) -> Result<usize, Failed> {
+        if self.next == self.fires_at {
+            for t in [1000, 2000] {
+                self.hub.poll(self.rt, self.alloc, 0, t);
+                self.hub.sweep(self.rt, self.alloc, 0);
+            }
+        }
+        if self.next >= self.texts.len() {
+            return Ok(0);
+        }
+        let text = self.texts[self.next];
+        self.next += 1;
+        Ok(copy_front(text, out))
+    }
+
+    fn send(&mut self, bytes: &[u8]) -> Result<usize, Failed> {
+        self.sent.send(bytes)
+    }
+}
+
+/// A link that opens the device and then asks how many scans wait, until there is one, or `TURNS` times.
+#[derive(Drop)]
+pub struct Asking<'a, R> {
+    pub rt: R,
+    pub turn: u32,
+    pub found: &'a AtomicBool,
+    pub sent: MemLink,
+}
+
+impl<'a, R: Clock> Link for Asking<'a, R> {
+    ghost use Rattle.std.specs.Prelude.{None};
+
+    ghost left = { λ l. None };
+
+    ghost written = { λ l. None };
+
+    ghost faults = { λ l. ⟦<MemLink as Link>⟧.faults l.sent };
+
+    fn recv(&mut self, out: &mut [u8]) -> Result<usize, Failed> {
+        let turn = self.turn;
+        self.turn = turn.saturating_add(1);
+        if turn == 0 {
+            return Ok(copy_front(b"OPEN adc0 4 00000009\n", out));
+        }
+        if self.found.load(Ordering::SeqCst) || turn > TURNS {
+            return Ok(0);
+        }
+        thread::sleep(&self.rt, Duration::from_millis(1));
+        Ok(copy_front(b"READ adc0 BUFFER data_available\n", out))
+    }
+
+    fn send(&mut self, bytes: &[u8]) -> Result<usize, Failed> {
+        if bytes == b"1\n1\n".as_slice() {
+            self.found.store(true, Ordering::SeqCst);
+        }
+        self.sent.send(bytes)
+    }
+}
+
+/// The answer to a READBUF of one scan of voltage0 and accel_x.
+pub const BLOCK: &[u8] = b"4\n00000005\n\x10\0\xff\xfd";
+
+/// A link that opens the device, reads one scan once there is one, and closes the device, so many times over; or gives up
+/// after `TURNS` pieces. It tells whether it came to its end, and whether a scan was another than the row's.
+#[derive(Drop)]
+pub struct Rounds<'a, R> {
+    pub rt: R,
+    pub left: u32,
+    pub turn: u32,
+    pub opened: bool,
+    pub available: bool,
+    pub ended: &'a AtomicBool,
+    pub wrong: &'a AtomicBool,
+    pub sent: MemLink,
+}
+
+impl<'a, R: Clock> Link for Rounds<'a, R> {
+    ghost use Rattle.std.specs.Prelude.{None};
+
+    ghost left = { λ l. None };
+
+    ghost written = { λ l. None };
+
+    ghost faults = { λ l. ⟦<MemLink as Link>⟧.faults l.sent };
+
+    fn recv(&mut self, out: &mut [u8]) -> Result<usize, Failed> {
+        if self.left == 0 || self.turn > TURNS {
+            self.ended.store(self.left == 0, Ordering::SeqCst);
+            return Ok(0);
+        }
+        self.turn = self.turn.saturating_add(1);
+        if !self.opened {
+            self.opened = true;
+            return Ok(copy_front(b"OPEN adc0 4 00000005\n", out));
+        }
+        if !self.available {
+            thread::sleep(&self.rt, Duration::from_millis(1));
+            return Ok(copy_front(b"READ adc0 BUFFER data_available\n", out));
+        }
+        self.opened = false;
+        self.available = false;
+        self.left -= 1;
+        Ok(copy_front(b"READBUF adc0 4\nCLOSE adc0\n", out))
+    }
+
+    fn send(&mut self, bytes: &[u8]) -> Result<usize, Failed> {
+        if bytes.starts_with(b"1\n") && bytes != b"1\n0\n".as_slice() {
+            self.available = true;
+        }
+        if bytes.starts_with(b"4\n") && bytes != BLOCK {
+            self.wrong.store(true, Ordering::SeqCst);
+        }
+        self.sent.send(bytes)
+    }
+}
+
+/// A ticker that gives one moment after another, a tenth of a millisecond apart, up to `TURNS` times a hundred.
+#[derive(Drop)]
+pub struct Counting<R> {
+    pub rt: R,
+    pub turn: u32,
+}
+
+impl<R: Clock> Ticker for Counting<R> {
+    ghost use Rattle.std.specs.Prelude.{None};
+
+    ghost moments = { λ t. None };
+
+    fn next(&mut self) -> Option<i64> {
+        if self.turn >= TURNS * 100 {
+            return None;
+        }
+        self.turn += 1;
+        thread::sleep(&self.rt, Duration::from_micros(100));
+        Some(self.turn as i64)
+    }
+}
+
+/// A gate that holds connection 1 where it was heard first, until connection 2 was answered.
+#[derive(Drop)]
+pub struct Second<R> {
+    pub rt: R,
+    pub answered: AtomicBool,
+    pub in_time: AtomicBool,
+}
+
+impl<R: Clock> Gate for Second<R> {
+    fn pass(&self, point: Point) {
+        match point {
+            Point::Heard(1) => {
+                let in_time = is_set_in_time(&self.rt, &self.answered);
+                self.in_time.store(in_time, Ordering::SeqCst);
+            }
+            Point::Answered(2) => self.answered.store(true, Ordering::SeqCst),
+            _ => {}
+        }
+    }
+}
+
+/// A gate that tells when a connection was answered.
+#[derive(Drop)]
+pub struct Answered<'a> {
+    pub flag: &'a AtomicBool,
+}
+
+impl<'a> Gate for Answered<'a> {
+    fn pass(&self, point: Point) {
+        if let Point::Answered(_) = point {
+            self.flag.store(true, Ordering::SeqCst);
+        }
+    }
+}
+
+/// A gate that counts the connections that were heard, and holds each until the door has ended.
+#[derive(Drop)]
+pub struct Crowd<'a, R> {
+    pub rt: R,
+    pub ended: &'a AtomicBool,
+    pub heard: AtomicU32,
+}
+
+impl<'a, R: Clock> Gate for Crowd<'a, R> {
+    fn pass(&self, point: Point) {
+        if let Point::Heard(_) = point {
+            self.heard.fetch_add(1, Ordering::SeqCst);
+            is_set_in_time(&self.rt, self.ended);
+        }
+    }
+}
+
+/// A door that tells when it has ended.
+#[derive(Drop)]
+pub struct Ending<'a, D> {
+    pub door: D,
+    pub ended: &'a AtomicBool,
+}
+
+impl<'a, D: Door> Door for Ending<'a, D> {
+    ghost left = { λ d. D.left d.door };
+
+    ghost faults = { λ d. D.faults d.door };
+
+    type L = D::L;
+
+    fn next(&mut self) -> Result<Option<D::L>, Failed> {
+        match self.door.next() {
+            Ok(None) => {
+                self.ended.store(true, Ordering::SeqCst);
+                Ok(None)
+            }
+            given => given,
+        }
+    }
+}
+
+/// A ticker of one moment, which comes when a flag is set.
+#[derive(Drop)]
+pub struct Once<'a, R> {
+    pub rt: R,
+    pub flag: &'a AtomicBool,
+    pub given: bool,
+}
+
+impl<'a, R: Clock> Ticker for Once<'a, R> {
+    ghost use Rattle.std.specs.Prelude.{None};
+
+    ghost moments = { λ t. None };
+
+    fn next(&mut self) -> Option<i64> {
+        if self.given || !is_set_in_time(&self.rt, self.flag) {
+            return None;
+        }
+        self.given = true;
+        Some(1000)
+    }
+}

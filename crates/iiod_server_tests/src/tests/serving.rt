@@ -1,0 +1,154 @@
+//! Servers: connections at once, ticks and sweeps, and how many live at once.
+
+use super::doubles::{Answered, Asking, Counting, Crowd, Ending, Once, Rounds, Second};
+use super::{hub_of, link_of};
+use iio_io::{ListDoor, ListTicker, OpenGate};
+use iiod_server::{MAX_CONNECTIONS, ServeEnd, serve_all};
+use std::alloc::Global;
+use std::sync::atomic::{AtomicBool, AtomicU32, Ordering};
+use std::test::Fail;
+use std::time::Clock;
+
+// Each connection of a door is served, and a door that fails ends the server. The door's calls are counted from 1.
+#[test]
+fn answers_with_ample_memory(rt: HostRuntime) -> Result<(), Fail> {
+    let alloc = rt.alloc();
+    let hub = hub_of(alloc)?;
+    for (fails, end) in [(0u64, ServeEnd::DoorEnd), (2, ServeEnd::DoorFault)] {
+        let mut links = Vec::new(alloc);
+        links.push(link_of(alloc, b"VERSION\nEXIT\n")?)?;
+        links.push(link_of(alloc, b"VERSION\n")?)?;
+        let mut door = ListDoor::new(links, vec![in alloc; fails]?);
+        let tickers: Vec<ListTicker> = Vec::new(alloc);
+        let got = serve_all(&rt, alloc, &hub, &mut door, tickers, &OpenGate);
+        assert_eq!(rt; got, end);
+    }
+    Ok(())
+}
+
+#[test]
+fn second_is_heard_while_first_waits(rt: HostRuntime) -> Result<(), Fail> {
+    let alloc = rt.alloc();
+    let hub = hub_of(alloc)?;
+    let mut links = Vec::new(alloc);
+    links.push(link_of(alloc, b"VERSION\nEXIT\n")?)?;
+    links.push(link_of(alloc, b"VERSION\nEXIT\n")?)?;
+    let mut door = ListDoor::new(links, Vec::new(alloc));
+    let gate = Second {
+        rt,
+        answered: AtomicBool::new(false),
+        in_time: AtomicBool::new(false),
+    };
+    let tickers: Vec<ListTicker> = Vec::new(alloc);
+    let end = serve_all(&rt, alloc, &hub, &mut door, tickers, &gate);
+    assert_eq!(rt; end, ServeEnd::DoorEnd);
+    assert!(rt; gate.in_time.load(Ordering::SeqCst));
+    Ok(())
+}
+
+// A door with one connection, which asks whether a scan waits.
+fn asking_door<'a, R: Clock>(
+    alloc: Global,
+    rt: R,
+    found: &'a AtomicBool,
+) -> Result<ListDoor<Asking<'a, R>>, Fail>
+where
+    R: Drop,
+{
+    let sent = link_of(alloc, b"")?;
+    let mut links = Vec::new(alloc);
+    links.push(Asking {
+        rt,
+        turn: 0,
+        found,
+        sent,
+    })?;
+    Ok(ListDoor::new(links, Vec::new(alloc)))
+}
+
+#[test]
+fn tick_and_sweep_run(rt: HostRuntime) -> Result<(), Fail> {
+    let alloc = rt.alloc();
+    let hub = hub_of(alloc)?;
+    let opened = AtomicBool::new(false);
+    let found = AtomicBool::new(false);
+    let gate = Answered { flag: &opened };
+    let mut door = asking_door(alloc, rt, &found)?;
+    let mut tickers = Vec::new(alloc);
+    tickers.push(Once {
+        rt,
+        flag: &opened,
+        given: false,
+    })?;
+    let end = serve_all(&rt, alloc, &hub, &mut door, tickers, &gate);
+    assert_eq!(rt; end, ServeEnd::DoorEnd);
+    assert!(rt; found.load(Ordering::SeqCst));
+    Ok(())
+}
+
+#[test]
+fn one_connection_too_many_is_unheard(rt: HostRuntime) -> Result<(), Fail> {
+    let alloc = rt.alloc();
+    let hub = hub_of(alloc)?;
+    let ended = AtomicBool::new(false);
+    let mut links = Vec::new(alloc);
+    for _ in 0..MAX_CONNECTIONS + 1 {
+        links.push(link_of(alloc, b"VERSION\nEXIT\n")?)?;
+    }
+    let mut door = Ending {
+        door: ListDoor::new(links, Vec::new(alloc)),
+        ended: &ended,
+    };
+    let gate = Crowd {
+        rt,
+        ended: &ended,
+        heard: AtomicU32::new(0),
+    };
+    let tickers: Vec<ListTicker> = Vec::new(alloc);
+    let end = serve_all(&rt, alloc, &hub, &mut door, tickers, &gate);
+    assert_eq!(rt; end, ServeEnd::DoorEnd);
+    assert_eq!(rt; gate.heard.load(Ordering::SeqCst) as usize, MAX_CONNECTIONS);
+    Ok(())
+}
+
+// The door with one connection that goes so many rounds.
+fn rounds_door<'a, R: Clock>(
+    alloc: Global,
+    rt: R,
+    ended: &'a AtomicBool,
+    wrong: &'a AtomicBool,
+) -> Result<ListDoor<Rounds<'a, R>>, Fail>
+where
+    R: Drop,
+{
+    let sent = link_of(alloc, b"")?;
+    let mut links = Vec::new(alloc);
+    links.push(Rounds {
+        rt,
+        left: 20,
+        turn: 0,
+        opened: false,
+        available: false,
+        ended,
+        wrong,
+        sent,
+    })?;
+    Ok(ListDoor::new(links, Vec::new(alloc)))
+}
+
+// One worker opens, reads and closes the device, while two others poll its trigger and have it make captures.
+#[test]
+fn three_workers_use_one_hub(rt: HostRuntime) -> Result<(), Fail> {
+    let alloc = rt.alloc();
+    let hub = hub_of(alloc)?;
+    let ended = AtomicBool::new(false);
+    let wrong = AtomicBool::new(false);
+    let mut door = rounds_door(alloc, rt, &ended, &wrong)?;
+    let mut tickers = Vec::new(alloc);
+    tickers.push(Counting { rt, turn: 0 })?;
+    let end = serve_all(&rt, alloc, &hub, &mut door, tickers, &OpenGate);
+    assert_eq!(rt; end, ServeEnd::DoorEnd);
+    assert!(rt; ended.load(Ordering::SeqCst));
+    assert!(rt; !wrong.load(Ordering::SeqCst));
+    Ok(())
+}
