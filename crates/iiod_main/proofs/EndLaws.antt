@@ -9,7 +9,7 @@ use Rattle.iio_script.specs.declared.status.Status.TheVariants.{Done, Refused, U
 use Rattle.iio_script.specs.Ends.{Writes}
 use Rattle.iio_gen.specs.Summary.{EndsGen}
 use Rattle.iiod_main.specs.Complete.{Completes}
-use Rattle.iiod_main.specs.Usage.{IsGen}
+use Rattle.iiod_main.specs.Words.{IsGen}
 
 completes : (outcome : Outcome) (before : List ℕ) (status : Status) (after : Option (List ℕ)) (reads reads' writes writes' : ℕ)
     → Writes outcome before status after → (status ≡ ReadFault → Rose reads reads') → (status ≡ WriteFault → Rose writes writes') → reads ≡ reads' → writes ≡ writes'

@@ -1,5 +1,5 @@
 pub mod EndLaws
+pub mod GenWords
 pub mod LayoutLaws
-pub mod OneWord
 pub mod PlacingLaws
 mod Worked

@@ -1,4 +1,5 @@
 pub mod Complete
+pub mod Exit
 pub mod Layout
 pub mod Placing
-pub mod Usage
+pub mod Words

@@ -1,8 +1,6 @@
 //! What the program does for its words.
 
-ghost use Rattle.std.specs.Prelude.{◌≡◌, ℕ, ◌+◌, ◌^◌, ◌<◌, ◌≤◌, ◌↔◌, List, None, IsNone, IsTrue, IfSome, IfNone, length, map};
-ghost use Rattle.std.specs.Fmt.{decimal};
-ghost use Rattle.iio_base.specs.Faults.{Rose};
+ghost use Rattle.std.specs.Prelude.{◌≡◌, ℕ, ◌+◌, ◌<◌, ◌↔◌, List, None, IsNone, IsTrue, IfSome, length, map};
 ghost use Rattle.iio_io.specs.Bytes.{TakesAtMost};
 ghost use Rattle.iio_device.specs.declared.plug.Plug.TheVariants.{Given};
 ghost use Rattle.iio_history.specs.Input.{input_limit};
@@ -14,18 +12,17 @@ ghost use Rattle.iio_script.specs.Taken.{WritesLines};
 ghost use Rattle.iio_gen.specs.Summary.{EndsGen, summarized};
 ghost use Rattle.iiod_main.specs.Complete.{Completes};
 ghost use Rattle.iiod_main.specs.Layout.{TakesForLine, layout_of};
-ghost use Rattle.iiod_main.specs.Usage.{IsPlay, IsLayout, IsGen, IsOther, IsUsage, PrintsUsage};
+ghost use Rattle.iiod_serve.specs.Usage.{IsUsage, PrintsUsage};
+ghost use Rattle.iiod_main.specs.Words.{IsPlay, IsLayout, IsGen, IsOther};
 
 use crate::layout::layout;
 use iio_device::Plug;
 use iio_gen::gen_;
-use iio_io::{Sink, Source, write_whole};
+use iio_io::{Sink, Source};
 use iio_script::{Status, play};
 use iio_sensor::Sensor;
-use itoa::Buffer;
+use iiod_serve::{print_usage, read_spelled};
 use std::alloc::Global;
-
-const USAGE: &[u8] = b"usage: play | solo NAME | layout DEVICE MASK | gen N\n";
 
 fn is_play(words: &[String]) -> bool
     ensures { IsTrue result ↔ IsPlay words.now }
@@ -50,20 +47,6 @@ fn layout_words(words: &[String]) -> Option<(&[u8], &[u8])>
     Some((device.as_bytes(), mask.as_bytes()))
 }
 
-// The number that a text is the one decimal spelling of. None exactly for other texts.
-fn read_spelled(text: &str) -> Option<u64>
-    ensures found { IfSome result (λ n. (n < 2 ^ 64) × (text.now ≡ decimal n)) }
-    ensures none { IsNone result → (n : ℕ) → n < 2 ^ 64 → text.now ≡ decimal n → ⊥ }
-{
-    let Ok(n) = text.parse::<u64>() else {
-        return None;
-    };
-    if Buffer::new().format(n) != text {
-        return None;
-    }
-    Some(n)
-}
-
 // The number of the words `gen N`. None exactly for other words.
 fn gen_words(words: &[String]) -> Option<u64>
     ensures found { IfSome result (λ n. IsGen words.now n) }
@@ -76,20 +59,6 @@ fn gen_words(words: &[String]) -> Option<u64>
         return None;
     }
     read_spelled(number.as_str())
-}
-
-// Names the commands.
-fn print_usage<K: Sink>(output: &mut K) -> Status
-    ensures status { IsUsage result }
-    ensures line { IfSome (K.written output.old) (λ written. PrintsUsage written result (K.written output.new)) }
-    ensures write_fault { result ≡ Status.WriteFault → Rose (K.faults output.old) (K.faults output.new) }
-    ensures counted { K.faults output.old ≤ K.faults output.new }
-    ensures silent { IfNone (K.written output.old) (K.written output.new ≡ None) }
-{
-    match write_whole(output, USAGE) {
-        Ok(()) => Status::Usage,
-        Err(_) => Status::WriteFault,
-    }
 }
 
 /// Does what the words after the program's name say. `play` plays the input that the source has left, with the drivers

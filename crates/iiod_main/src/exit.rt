@@ -2,14 +2,28 @@
 
 ghost use Rattle.std.specs.Prelude.{◌≡◌};
 ghost use Rattle.std.specs.Process.{exit_status};
-ghost use Rattle.iio_script.specs.Status.{code_of};
+ghost use Rattle.iiod_main.specs.Exit.{end_code};
 
-use iio_script::Status;
+use iio_script::{Mem, Status};
+use iiod_serve::ServeStatus;
 use std::process::ExitCode;
 
-/// The exit code of a run that ended so.
-pub fn exit_code(status: Status) -> ExitCode
-    ensures { exit_status result ≡ code_of status }
+/// How what the program did ended.
+#[derive(Clone, Copy, Debug, PartialEq, Eq)]
+pub enum End {
+    /// A run over an input.
+    Run(Status),
+    /// A server.
+    Serve(ServeStatus),
+}
+
+/// The exit code of what ended so, or for which memory ran out before it began.
+pub fn exit_code(end: Result<End, Mem>) -> ExitCode
+    ensures { exit_status result ≡ end_code end }
 {
-    ExitCode::from(status.code())
+    match end {
+        Ok(End::Run(status)) => ExitCode::from(status.code()),
+        Ok(End::Serve(status)) => ExitCode::from(status.code()),
+        Err(Mem) => ExitCode::from(Status::Memory.code()),
+    }
 }

@@ -5,16 +5,14 @@ ghost use Rattle.iio_base.specs.Faults.{Rose};
 ghost use Rattle.iio_script.specs.Ends.{HasStatus, Finishes, ShowsFaults, Writes};
 ghost use Rattle.iio_script.specs.LineReader.{TakesBlocks};
 ghost use Rattle.iio_script.specs.Plays.{Prints, WritesText};
-ghost use Rattle.iio_script.specs.Told.{told};
-ghost use Rattle.iiod_main.specs.Layout.{TakesForLine, laid, laid_out, layout_of};
+ghost use Rattle.iiod_main.specs.Layout.{TakesForLine, laid_out, layout_of};
 
 use crate::placing::lay_under;
 use iio_desc::Desc;
-use iio_io::{ReadEnd, Sink, Source};
-use iio_script::{
-    LineReader, Mem, Opening, Status, end_cut, end_refused, end_with, open, push_refused,
-};
+use iio_io::{Sink, Source};
+use iio_script::{Mem, Status, end_with, push_refused};
 use iio_text::Why;
+use iiod_serve::read_description;
 use std::alloc::Global;
 
 // The layout of a device of a description.
@@ -54,28 +52,6 @@ fn lay_device<K: Sink>(
     }
 }
 
-// What is printed for the head of an input.
-fn lay_opening<K: Sink>(
-    alloc: Global,
-    opening: Opening,
-    device: &[u8],
-    mask: &[u8],
-    output: &mut K,
-) -> Status
-    ensures prints { (next : ℕ) (more : List (List ℕ)) → (text : List ℕ) × WritesText (K.written output.old) (K.written output.new) text × Prints (laid device.now mask.now (told next more opening)) result text }
-    ensures write_fault { result ≡ Status.WriteFault → Rose (K.faults output.old) (K.faults output.new) }
-    ensures memory { result ≡ Status.Memory → K.faults output.new ≡ K.faults output.old }
-    ensures counted { K.faults output.old ≤ K.faults output.new }
-    ensures silent { IfNone (K.written output.old) (K.written output.new ≡ None) }
-{
-    match opening {
-        Opening::Described { desc, .. } => lay_device(alloc, &desc, device, mask, output),
-        Opening::Alone { desc } => lay_device(alloc, &desc, device, mask, output),
-        Opening::Refused { line, why } => end_refused(alloc, output, line, why),
-        Opening::Cut => end_cut(alloc, output),
-    }
-}
-
 /// Reads a description, which may use so many drivers, from a source, and writes to a sink where each channel of the mask
 /// stands in a scan of the device, and the scan's size. What stands after the line that ends the description isn't looked
 /// at, and at most a piece was taken behind the byte at which a line failed. Where a read fails, nothing is written.
@@ -96,12 +72,8 @@ pub fn layout<S: Source, K: Sink>(
     ensures nothing { result ≡ Status.ReadFault → output.new ≡ output.old }
     ensures faults { ShowsFaults S.left S.faults K.written K.faults result input.old input.new output.old output.new }
 {
-    let Ok(mut lines) = LineReader::new(alloc) else {
-        return Status::Memory;
-    };
-    match open(alloc, &mut lines, input, drivers) {
-        Ok(opening) => lay_opening(alloc, opening, device, mask, output),
-        Err(ReadEnd::Failed) => Status::ReadFault,
-        Err(ReadEnd::Mem) => Status::Memory,
+    match read_description(alloc, drivers, input, output) {
+        Ok(desc) => lay_device(alloc, &desc, device, mask, output),
+        Err(status) => status,
     }
 }

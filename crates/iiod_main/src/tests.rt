@@ -1,5 +1,6 @@
 //! The program over sources and sinks in memory. Expected texts by hand.
 
+mod choosing;
 mod commands;
 mod generated;
 mod more;

@@ -1,7 +1,7 @@
 use Rattle.std.proofs.Common.{◌∙◌, ap, not}
 use Rattle.std.specs.Prelude.{codes}
 use Rattle.std.specs.Str.{bytes_eq}
-use Rattle.iiod_main.proofs.OneWord.{says_gen}
+use Rattle.iiod_main.proofs.GenWords.{says_gen}
 use Rattle.iiod_main.proofs.command.gen_words.Goals as goal
 
 pub returns-clause-found : goal.returns-clause-found

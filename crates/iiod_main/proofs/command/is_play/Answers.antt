@@ -1,7 +1,7 @@
 use Rattle.std.proofs.Common.{◌∙◌, ap}
 use Rattle.std.specs.Prelude.{codes}
 use Rattle.std.specs.Str.{bytes_eq}
-use Rattle.iiod_main.proofs.OneWord.{says}
+use Rattle.iiod_serve.proofs.WordLaws.{says}
 use Rattle.iiod_main.proofs.command.is_play.Goals as goal
 
 pub returns-in-len1 : goal.returns-in-len1

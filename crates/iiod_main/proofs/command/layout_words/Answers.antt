@@ -1,7 +1,7 @@
 use Rattle.std.proofs.Common.{◌∙◌, ap, not}
 use Rattle.std.specs.Prelude.{codes}
 use Rattle.std.specs.Str.{bytes_eq}
-use Rattle.iiod_main.proofs.OneWord.{says_three}
+use Rattle.iiod_serve.proofs.WordLaws.{says_three}
 use Rattle.iiod_main.proofs.command.layout_words.Goals as goal
 
 pub returns-clause-found : goal.returns-clause-found

@@ -1,7 +1,7 @@
 use Rattle.std.proofs.Common.{List, ℕ, subst}
 use Rattle.iio_script.specs.Ends.{Finishes}
 use Rattle.iiod_main.specs.Layout.{laid_out}
-use Rattle.iiod_main.proofs.LayoutLaws.{prints_none}
+use Rattle.iiod_serve.proofs.HeadLaws.{prints_none}
 use Rattle.iiod_main.proofs.layout.lay_device.Goals as goal
 
 pub returns-in-Ok-clause-prints : goal.returns-in-Ok-clause-prints

@@ -1,44 +1,54 @@
-use Rattle.std.proofs.Common.{[]}
-use Rattle.iiod_main.proofs.LayoutLaws.{lay_failed, lay_near, lay_none, lay_status, lay_writes, no_read_fault, no_usage, taken_none}
+use Rattle.std.proofs.Common.{◌≡◌, ◌≤◌, ◌∙◌, ap, subst, None, IfNone}
+use Rattle.iio_base.specs.Faults.{Rose}
+use Rattle.iiod_serve.proofs.HeadLaws.{no_read_fault}
+use Rattle.iiod_main.specs.Layout.{laid_out}
+use Rattle.iiod_main.proofs.LayoutLaws.{PrintsLaid, lay_near, lay_status, lay_writes, no_usage, stops_near, stops_status, stops_words, stops_writes}
 use Rattle.iiod_main.proofs.layout.layout.Goals as goal
 
-pub returns-in_default-clause-lines : goal.returns-in_default-clause-lines
-returns-in_default-clause-lines g c = lay_none c.args.drivers (g.S.Source.left c.args.input.now) (g.K.Sink.written c.args.output.now) c.args.device.now c.args.mask.now
+pub returns-in-Ok-clause-lines : goal.returns-in-Ok-clause-lines
+returns-in-Ok-clause-lines g c =
+    lay_writes c.args.drivers c.in-Ok.desc c.args.device.now c.args.mask.now c.lay_device.result (g.S.Source.left c.args.input.now) (g.K.Sink.written c.args.output.now) (g.K.Sink.written c.lay_device.new.output) c.in-Ok.ensures.described
+    (subst (λ o. PrintsLaid c.in-Ok.desc c.args.device.now c.args.mask.now c.lay_device.result (g.K.Sink.written o) (g.K.Sink.written c.lay_device.new.output)) c.in-Ok.ensures.unwritten c.lay_device.ensures.prints)
 
-pub returns-in_default-clause-taken : goal.returns-in_default-clause-taken
-returns-in_default-clause-taken g c = taken_none (g.S.Source.left c.args.input.now)
+pub returns-in-Ok-clause-status : goal.returns-in-Ok-clause-status
+returns-in-Ok-clause-status g c =
+    lay_status c.args.drivers c.in-Ok.desc c.args.device.now c.args.mask.now c.lay_device.result (g.S.Source.left c.args.input.now) (g.K.Sink.written c.read_description.new.output) (g.K.Sink.written c.lay_device.new.output)
+    c.in-Ok.ensures.described c.lay_device.ensures.prints
 
-pub returns-in-Ok-open-clause-lines : goal.returns-in-Ok-open-clause-lines
-returns-in-Ok-open-clause-lines g c =
-    lay_writes c.args.drivers c.args.device.now c.args.mask.now c.in-Ok-open.opening c.lay_opening.result c.open.new.lines (g.S.Source.left c.args.input.now) (g.S.Source.left c.open.new.source) (g.K.Sink.written c.args.output.now) (g.K.Sink.written c.lay_opening.new.output) c.lay_opening.ensures.prints c.in-Ok-open.ensures.opening
+pub returns-in-Ok-clause-near : goal.returns-in-Ok-clause-near
+returns-in-Ok-clause-near g c =
+    lay_near c.in-Ok.desc c.args.device.now c.args.mask.now c.lay_device.result (g.S.Source.left c.args.input.now) (g.S.Source.left c.read_description.new.input) (g.K.Sink.written c.read_description.new.output) (g.K.Sink.written c.lay_device.new.output)
+    c.lay_device.ensures.prints
 
-pub returns-in-Ok-open-clause-status : goal.returns-in-Ok-open-clause-status
-returns-in-Ok-open-clause-status g c =
-    lay_status c.args.drivers c.args.device.now c.args.mask.now c.in-Ok-open.opening c.lay_opening.result c.open.new.lines (g.S.Source.left c.args.input.now) (g.S.Source.left c.open.new.source) (g.K.Sink.written c.args.output.now) (g.K.Sink.written c.lay_opening.new.output) c.lay_opening.ensures.prints c.in-Ok-open.ensures.opening
+pub returns-in-Ok-clause-words : goal.returns-in-Ok-clause-words
+returns-in-Ok-clause-words g c = λ is. let run = c.lay_device.ensures.prints in no_usage (laid_out c.in-Ok.desc c.args.device.now c.args.mask.now) c.lay_device.result run.0 run.2 is
 
-pub returns-in-Ok-open-clause-near : goal.returns-in-Ok-open-clause-near
-returns-in-Ok-open-clause-near g c =
-    lay_near c.args.drivers c.args.device.now c.args.mask.now c.in-Ok-open.opening c.lay_opening.result c.open.new.lines (g.S.Source.left c.args.input.now) (g.S.Source.left c.open.new.source) (g.K.Sink.written c.args.output.now) (g.K.Sink.written c.lay_opening.new.output) c.lay_opening.ensures.prints c.in-Ok-open.ensures.opening
+pub returns-in-Ok-clause-nothing : goal.returns-in-Ok-clause-nothing
+returns-in-Ok-clause-nothing g c = λ is. let run = c.lay_device.ensures.prints in absurd (no_read_fault (laid_out c.in-Ok.desc c.args.device.now c.args.mask.now) c.lay_device.result run.0 run.2 is)
 
-pub returns-in-Err-Failed-clause-lines : goal.returns-in-Err-Failed-clause-lines
-returns-in-Err-Failed-clause-lines g c = lay_failed c.args.drivers (g.S.Source.left c.args.input.now) (g.K.Sink.written c.args.output.now) c.args.device.now c.args.mask.now
-
-pub returns-clause-lines : goal.returns-clause-lines
-returns-clause-lines g c = lay_none c.args.drivers (g.S.Source.left c.args.input.now) (g.K.Sink.written c.args.output.now) c.args.device.now c.args.mask.now
-
-pub returns-in-Ok-open-clause-words : goal.returns-in-Ok-open-clause-words
-returns-in-Ok-open-clause-words g c = λ is. let run = c.lay_opening.ensures.prints 0 [] in no_usage _ c.lay_opening.result run.0 run.2 is
-
-pub returns-in-Ok-open-clause-nothing : goal.returns-in-Ok-open-clause-nothing
-returns-in-Ok-open-clause-nothing g c = λ is. let run = c.lay_opening.ensures.prints 0 [] in absurd (no_read_fault _ c.lay_opening.result run.0 run.2 is)
-
-pub returns-in-Ok-open-clause-faults : goal.returns-in-Ok-open-clause-faults
-returns-in-Ok-open-clause-faults g c =
-    let run = c.lay_opening.ensures.prints 0 [] in
+pub returns-in-Ok-clause-faults : goal.returns-in-Ok-clause-faults
+returns-in-Ok-clause-faults g c =
+    let run = c.lay_device.ensures.prints in
+    let same = c.in-Ok.ensures.unwritten in
+    let new = c.lay_device.new.output in
     record {
-      read_fault = λ is. absurd (no_read_fault _ c.lay_opening.result run.0 run.2 is);
-      write_fault = c.lay_opening.ensures.write_fault;
-      memory = λ is. (c.in-Ok-open.ensures.steady, c.lay_opening.ensures.memory is);
-      counted = (c.open.ensures.counted, c.lay_opening.ensures.counted);
-      silent = (c.open.ensures.silent, c.lay_opening.ensures.silent);
+      read_fault = λ is. absurd (no_read_fault (laid_out c.in-Ok.desc c.args.device.now c.args.mask.now) c.lay_device.result run.0 run.2 is);
+      write_fault = λ is. subst (λ o. Rose (g.K.Sink.faults o) (g.K.Sink.faults new)) same (c.lay_device.ensures.write_fault is);
+      memory = λ is. (c.in-Ok.ensures.steady, c.lay_device.ensures.memory is ∙ ap g.K.Sink.faults same);
+      counted = (c.read_description.ensures.faults.counted.0, subst (λ o. g.K.Sink.faults o ≤ g.K.Sink.faults new) same c.lay_device.ensures.counted);
+      silent = (c.read_description.ensures.faults.silent.0, subst (λ o. IfNone (g.K.Sink.written o) (g.K.Sink.written new ≡ None)) same c.lay_device.ensures.silent);
     }
+
+pub returns-in-Err-clause-lines : goal.returns-in-Err-clause-lines
+returns-in-Err-clause-lines g c =
+    stops_writes c.args.drivers c.args.device.now c.args.mask.now c.in-Err.status (g.S.Source.left c.args.input.now) (g.K.Sink.written c.args.output.now) (g.K.Sink.written c.read_description.new.output) c.in-Err.ensures.stopped c.in-Err.ensures.lines
+
+pub returns-in-Err-clause-status : goal.returns-in-Err-clause-status
+returns-in-Err-clause-status g c =
+    stops_status c.args.drivers c.args.device.now c.args.mask.now c.in-Err.status (g.S.Source.left c.args.input.now) c.in-Err.ensures.stopped c.in-Err.ensures.status
+
+pub returns-in-Err-clause-near : goal.returns-in-Err-clause-near
+returns-in-Err-clause-near g c = stops_near c.in-Err.status (g.S.Source.left c.args.input.now) (g.S.Source.left c.read_description.new.input) c.in-Err.ensures.near
+
+pub returns-in-Err-clause-words : goal.returns-in-Err-clause-words
+returns-in-Err-clause-words g c = stops_words c.in-Err.status c.in-Err.ensures.stopped

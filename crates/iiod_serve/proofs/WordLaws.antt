@@ -1,10 +1,11 @@
 -- Lists of one word, of two, and of three, and texts of numbers.
-use Rattle.std.proofs.Common.{◌≡◌, ◌↔◌, ◌<◌, ◌≤◌, ◌^◌, ◌∙◌, ℕ, Bool, true, false, not, IsTrue, Option, Some, None, IfSome, Result, Ok, Err, refl, List, [], ◌∷◌, length, get_or, slice_index_or, arith, ap, sym}
+use Rattle.std.proofs.Common.{◌≡◌, ◌↔◌, ◌<◌, ◌≤◌, ◌^◌, ◌∙◌, ℕ, Bool, true, false, not, IsTrue, Result, Ok, Err, refl, List, [], ◌∷◌, length, get_or, slice_index_or, arith, ap, sym, subst}
 use Rattle.std.proofs.lemmas.Bool.{false≢true}
 use Rattle.std.proofs.lemmas.Slice.Eq.{bytes_eq-Decides}
+use Rattle.std.proofs.lemmas.Fmt.{decimal_injective}
 use Rattle.std.specs.Str.{bytes_eq}
 use Rattle.std.specs.Prelude.{codes, decimal, map, String, string_bytes}
-use Rattle.iiod_main.specs.Usage.{IsGen}
+use Rattle.iiod_serve.specs.Words.{IsServe}
 
 one_word : {A : Type 0} (words : List (String A)) (w : String A) → 1 ≤ length words → length words < 2 → w ≡ slice_index_or words 0 w
     → map string_bytes words ≡ string_bytes w ∷ []
@@ -30,10 +31,10 @@ not_false true h = refl
 not_false false h = absurd (false≢true (sym h))
 
 -- a first word that isn't other than the text
-first_is : (bs text : List ℕ) (r : Bool) → r ≡ not (bytes_eq bs text) → r ≡ false → bs ≡ text
+pub first_is : (bs text : List ℕ) (r : Bool) → r ≡ not (bytes_eq bs text) → r ≡ false → bs ≡ text
 first_is bs text r test said = (bytes_eq-Decides bs text).0 (not_false (bytes_eq bs text) (sym test ∙ said))
 
-two_words : {A : Type 0} (words : List (String A)) (u v : String A) → 2 ≤ length words → length words < 3
+pub two_words : {A : Type 0} (words : List (String A)) (u v : String A) → 2 ≤ length words → length words < 3
     → u ≡ slice_index_or words 0 u → v ≡ slice_index_or words 1 v → map string_bytes words ≡ string_bytes u ∷ string_bytes v ∷ []
 two_words [] u v some few a b = absurd (omega arith)
 two_words (x ∷ []) u v some few a b = absurd (omega arith)
@@ -58,18 +59,23 @@ says_three words u v w text device mask r some few a b c test said second third 
     let first : string_bytes u ≡ text = first_is (string_bytes u) text r test said in
     rw (second, third, ← first) (three_words words u v w some few a b c)
 
--- ---- the words `gen N`
+-- ---- the words `serve ADDRESS PERIOD`
 
--- of two words, the first of which isn't other than `gen`, the number that the second spells is theirs
-pub says_gen : {A : Type 0} (words : List (String A)) (u v : String A) (number : List ℕ) (r : Bool) (spelled : Option ℕ) → 2 ≤ length words → length words < 3
-    → u ≡ slice_index_or words 0 u → v ≡ slice_index_or words 1 v → r ≡ not (bytes_eq (string_bytes u) (codes "gen")) → r ≡ false → number ≡ string_bytes v
-    → IfSome spelled (λ n. (n < 2 ^ 64) × (number ≡ decimal n)) → IfSome spelled (λ n. IsGen words n)
-says_gen words u v number r None some few a b test said second h = tt
-says_gen words u v number r (Some n) some few a b test said second (fits, is) =
-    let first : string_bytes u ≡ codes "gen" = first_is (string_bytes u) (codes "gen") r test said in
-    (fits, two_words words u v some few a b ∙ ap (λ (t : List ℕ). t ∷ string_bytes v ∷ []) first ∙ ap (λ (t : List ℕ). codes "gen" ∷ t ∷ []) (sym second ∙ is))
+-- of three words, the first of which isn't other than `serve`, the second and the number that the third spells are theirs
+pub says_serve : {A : Type 0} (words : List (String A)) (u v w : String A) (address number : List ℕ) (period : ℕ) (r : Bool) → 3 ≤ length words → length words < 4
+    → u ≡ slice_index_or words 0 u → v ≡ slice_index_or words 1 v → w ≡ slice_index_or words 2 w
+    → r ≡ not (bytes_eq (string_bytes u) (codes "serve")) → r ≡ false → address ≡ string_bytes v → number ≡ string_bytes w
+    → (1 ≤ period) × (period ≤ 60000) × (number ≡ decimal period) → IsServe words address period
+says_serve words u v w address number period r some few a b c test said second third (one, most, is) =
+    (one, most, says_three words u v w (codes "serve") address (decimal period) r some few a b c test said second (sym is ∙ third))
 
 -- ---- texts of numbers
+
+-- a text of a number that is no period is the text of none
+pub no_period : (text : List ℕ) (n m : ℕ) → (n < 2 ^ 64) × (text ≡ decimal n) → (1 ≤ n → n ≤ 60000 → ⊥) → 1 ≤ m → m ≤ 60000 → text ≡ decimal m → ⊥
+no_period text n m (fits, is) out one most other =
+    let same : m ≡ n = decimal_injective m n (omega (arith, most)) fits (sym other ∙ is) in
+    out (subst (λ (k : ℕ). 1 ≤ k) same one) (subst (λ (k : ℕ). k ≤ 60000) same most)
 
 -- a text that was found other isn't the same
 pub not_other : (bs text : List ℕ) (r : Bool) → r ≡ not (bytes_eq bs text) → r ≡ true → bs ≡ text → ⊥

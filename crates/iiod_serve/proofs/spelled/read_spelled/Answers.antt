@@ -1,8 +1,8 @@
 use Rattle.std.proofs.Common.{◌∙◌, ap, sym}
 use Rattle.std.specs.Prelude.{decimal}
 use Rattle.std.proofs.lemmas.Fmt.{parse-decimal}
-use Rattle.iiod_main.proofs.OneWord.{no_number, not_other, same_number}
-use Rattle.iiod_main.proofs.command.read_spelled.Goals as goal
+use Rattle.iiod_serve.proofs.WordLaws.{no_number, not_other, same_number}
+use Rattle.iiod_serve.proofs.spelled.read_spelled.Goals as goal
 
 pub returns-in_default-clause-none : goal.returns-in_default-clause-none
 returns-in_default-clause-none c = λ is_none n fits is. no_number c.parse.result c.in_default.field-0 n c.in_default.is (parse-decimal 64 n _ _ fits fits is c.parse.ensures.value.0)

@@ -1,0 +1,4 @@
+pub mod Usage
+pub mod Words
+pub mod Reading
+pub mod Served
