@@ -18,8 +18,8 @@ struct Numbers {
 }
 
 impl Numbers {
-    /// A number that no living connection has: the smallest that was given back last, or the next. None comes where
-    /// `MAX_CONNECTIONS` live.
+    /// A number that no living connection has: the one that was given back last, else the next above all taken ones.
+    /// None comes where `MAX_CONNECTIONS` live.
     fn take(&mut self) -> Option<u32>
         ensures free { IfSome result (λ n. (1 ≤ n) × (get self.old.taken (n - 1) ≡ None) × (is_some (get self.new.taken (n - 1)) ≡ true)) }
     {

@@ -37,9 +37,10 @@ fn hub_of(alloc: Global) -> Result<Hub, Fail> {
     Ok(Hub::new(alloc, described(alloc)?, Vec::new(alloc))?)
 }
 
-// A link in memory that has these bytes left, which come in pieces of at most 100.
+// A link in memory that has these bytes left, which come in pieces of at most 100. It has room for an answer at each of
+// `TURNS`.
 fn link_of(alloc: Global, bytes: &[u8]) -> Result<MemLink, Fail> {
     let source = MemSource::new(bytes.to_vec(alloc)?, 100, Vec::new(alloc));
-    let sink = MemSink::new(alloc, 10_000, Vec::new(alloc))?;
+    let sink = MemSink::new(alloc, 100_000, Vec::new(alloc))?;
     Ok(MemLink::new(source, sink))
 }

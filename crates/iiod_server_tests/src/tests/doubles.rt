@@ -3,7 +3,7 @@
 ghost use Rattle.std.specs.Prelude.{◌≡◌, ◌≤◌, None, length};
 
 use crate::tests::TURNS;
-use iio_io::{Door, Failed, Gate, Link, MemLink, Point, Ticker};
+use iio_io::{Door, Failed, Gate, Link, ListDoor, MemLink, Point, Ticker};
 use iiod_hub::Hub;
 use std::alloc::Global;
 use std::sync::Wait;
@@ -73,6 +73,11 @@ impl<'a, R: Wait> Link for Texts<'a, R> {
     }
 }
 
+// Whether an answer is a number other than 0, of one digit or two.
+fn tells_of_scans(answer: &[u8]) -> bool {
+    (answer.starts_with(b"1\n") && answer != b"1\n0\n".as_slice()) || answer.starts_with(b"2\n")
+}
+
 /// A link that opens the device and then asks how many scans wait, until there is one, or `TURNS` times.
 #[derive(Drop)]
 pub struct Asking<'a, R> {
@@ -105,7 +110,7 @@ impl<'a, R: Clock> Link for Asking<'a, R> {
     }
 
     fn send(&mut self, bytes: &[u8]) -> Result<usize, Failed> {
-        if bytes == b"1\n1\n".as_slice() {
+        if tells_of_scans(bytes) {
             self.found.store(true, Ordering::SeqCst);
         }
         self.sent.send(bytes)
@@ -159,7 +164,7 @@ impl<'a, R: Clock> Link for Rounds<'a, R> {
     }
 
     fn send(&mut self, bytes: &[u8]) -> Result<usize, Failed> {
-        if bytes.starts_with(b"1\n") && bytes != b"1\n0\n".as_slice() {
+        if tells_of_scans(bytes) {
             self.available = true;
         }
         if bytes.starts_with(b"4\n") && bytes != BLOCK {
@@ -287,5 +292,32 @@ impl<'a, R: Clock> Ticker for Once<'a, R> {
         }
         self.given = true;
         Some(1000)
+    }
+}
+
+/// A door with one connection. When it is asked for the next, it waits for a flag, unplugs the hub's first device, and ends.
+#[derive(Drop)]
+pub struct Unplugging<'a, R> {
+    pub rt: R,
+    pub alloc: Global,
+    pub hub: &'a Hub,
+    pub opened: &'a AtomicBool,
+    pub unplugged: bool,
+    pub door: ListDoor<MemLink>,
+}
+
+impl<'a, R: Clock + Wait> Door for Unplugging<'a, R> {
+    ghost left = { λ d. ⟦<ListDoor<MemLink> as Door>⟧.left d.door };
+
+    ghost faults = { λ d. ⟦<ListDoor<MemLink> as Door>⟧.faults d.door };
+
+    type L = MemLink;
+
+    fn next(&mut self) -> Result<Option<MemLink>, Failed> {
+        let given = self.door.next()?;
+        if given.is_none() && self.hub.front.count() > 0 && is_set_in_time(&self.rt, self.opened) {
+            self.unplugged = self.hub.unplug(&self.rt, self.alloc, 0);
+        }
+        Ok(given)
     }
 }

@@ -1,10 +1,12 @@
 //! Servers: connections at once, ticks and sweeps, and how many live at once.
 
-use super::doubles::{Answered, Asking, Counting, Crowd, Ending, Once, Rounds, Second};
+use super::doubles::{Answered, Asking, Counting, Crowd, Ending, Once, Rounds, Second, Unplugging};
 use super::{hub_of, link_of};
-use iio_io::{ListDoor, ListTicker, OpenGate};
+use iio_io::{ListDoor, ListTicker, MemLink, MemSink, MemSource, OpenGate};
+use iiod_hub::Hub;
 use iiod_server::{MAX_CONNECTIONS, ServeEnd, serve_all};
 use std::alloc::Global;
+use std::sync::Wait;
 use std::sync::atomic::{AtomicBool, AtomicU32, Ordering};
 use std::test::Fail;
 use std::time::Clock;
@@ -150,5 +152,45 @@ fn three_workers_use_one_hub(rt: HostRuntime) -> Result<(), Fail> {
     assert_eq!(rt; end, ServeEnd::DoorEnd);
     assert!(rt; ended.load(Ordering::SeqCst));
     assert!(rt; !wrong.load(Ordering::SeqCst));
+    Ok(())
+}
+
+// The door with one connection whose OPEN comes alone and whose READBUF waits, and which then unplugs the device.
+fn unplugging_door<'a, R: Clock + Wait>(
+    alloc: Global,
+    rt: R,
+    hub: &'a Hub,
+    opened: &'a AtomicBool,
+) -> Result<Unplugging<'a, R>, Fail>
+where
+    R: Drop,
+{
+    let said = b"OPEN adc0 1 00000005\nREADBUF adc0 4\nREADBUF adc0 4\nCLOSE adc0\nEXIT\n";
+    let source = MemSource::new(said.to_vec(alloc)?, 21, Vec::new(alloc));
+    let sink = MemSink::new(alloc, 1_000, Vec::new(alloc))?;
+    let mut links = Vec::new(alloc);
+    links.push(MemLink::new(source, sink))?;
+    Ok(Unplugging {
+        rt,
+        alloc,
+        hub,
+        opened,
+        unplugged: false,
+        door: ListDoor::new(links, Vec::new(alloc)),
+    })
+}
+
+// A device is unplugged by another thread while its reader waits. The server ends, so the reader was woken.
+#[test]
+fn unplugged_while_a_reader_waits(rt: HostRuntime) -> Result<(), Fail> {
+    let alloc = rt.alloc();
+    let hub = hub_of(alloc)?;
+    let opened = AtomicBool::new(false);
+    let gate = Answered { flag: &opened };
+    let mut door = unplugging_door(alloc, rt, &hub, &opened)?;
+    let tickers: Vec<ListTicker> = Vec::new(alloc);
+    let end = serve_all(&rt, alloc, &hub, &mut door, tickers, &gate);
+    assert_eq!(rt; end, ServeEnd::DoorEnd);
+    assert!(rt; door.unplugged);
     Ok(())
 }
