@@ -205,10 +205,14 @@ impl LineReader {
         self.looked = 0;
     }
 
-    // Moves the bytes in hand to the front.
+    // Moves the bytes in hand to the front, where they don't stand there: at most once for each line, and then no more of
+    // them than came in the last piece.
     fn close_up(&mut self)
         ensures same { self.new ≡ self.old }
     {
+        if self.begin == 0 {
+            return;
+        }
         let len = self.bytes.len() - self.begin;
         self.bytes.copy_within(self.begin.., 0);
         self.bytes.truncate(len);
@@ -258,7 +262,7 @@ impl LineReader {
         }
     }
 
-    /// What stands next, where a look has told it; else as `find`.
+    /// What stands next, where a look has told it, and then nothing is read; else as `find`.
     pub(crate) fn find_on<S: Source>(
         &mut self,
         seen: Option<Found>,
@@ -266,6 +270,8 @@ impl LineReader {
     ) -> Result<Found, ReadEnd>
         requires seen { IfSome seen (λ found. Shows found self.old) }
         requires hand { IsHand self.old }
+        ensures told { IfSome seen (λ _. source.new ≡ source.old) }
+        ensures asked { OnErr result (seen ≡ None) }
         ensures found { IfOk result (λ found. Shows found self.new) }
         ensures more { OnErr result (NeedsMore self.new) }
         ensures follows { (input : List ℕ) (front : List (List ℕ)) → Follows input front self.old (S.left source.old) → Follows input front self.new (S.left source.new) }
