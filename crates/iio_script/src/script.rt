@@ -101,6 +101,8 @@ fn write_ready<K: Sink>(
     ensures follows { (input : List ℕ) (front : List (List ℕ)) (left : Option (List ℕ)) → Follows input front lines.old left → Follows input front lines.new left }
     ensures given { lines.new.given ≡ lines.old.given }
     ensures hand { IsHand lines.new }
+    ensures flushed { IfOk result (λ seen. seen ≡ None → out.new.items ≡ []) }
+    ensures few { OnOk result (length out.new.items < 61_440) }
     ensures sends { OnOk result (Sends (K.written output.old) (K.written output.new) out.old.items out.new.items) }
     ensures part { OnErr result ((rest : List ℕ) × Sends (K.written output.old) (K.written output.new) out.old.items rest) }
     ensures fault { OnErr result (Rose (K.faults output.old) (K.faults output.new)) }
@@ -144,6 +146,7 @@ pub(crate) fn play_steps<S: Source, K: Sink>(
         → Follows input' front lines.old (S.left input.old) → looked_lines input' ≡ front ++ more
         → StandsFor ⟦<Plug as Sensor>⟧.driver s (with_steps s [] (script_from s.desc (last_ending (is_overlong input')) [] first more).steps) system.new }
     ensures over { IsOver result }
+    ensures flushed { result ≡ Ok Status.ReadFault → out.new.items ≡ [] }
     ensures read_fault { result ≡ Ok Status.ReadFault → Rose (S.faults input.old) (S.faults input.new) }
     ensures steady { IfOk result (λ _. K.faults output.new ≡ K.faults output.old) }
     ensures write_fault { result ≡ Err Status.WriteFault → Rose (K.faults output.old) (K.faults output.new) }
