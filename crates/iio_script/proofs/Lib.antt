@@ -8,6 +8,7 @@ pub mod FollowLaws
 pub mod FrontLaws
 pub mod ToldLaws
 pub mod TakenLaws
+pub mod AnswerLaws
 pub mod OpeningLaws
 pub mod PlayLaws
 pub mod EndLaws

@@ -22,8 +22,9 @@ use Rattle.iio_script.specs.declared.opening.Opening.{Opening}
 use Rattle.iio_script.specs.declared.opening.Opening.TheVariants.{Alone, Described, Refused}
 use Rattle.iio_script.specs.declared.opening.Opening.TheVariants as read
 use Rattle.iio_script.specs.LineReader.{Follows, Hand, HasLine, IsCut, IsDone, IsHand, IsLong, NeedsMore, TakesBlocks, TakesNear, empty_hand, line_of, taken_of}
-use Rattle.iio_script.specs.Told.{FailsWithin, IsEnded, IsRefusedAt, IsUnended, Opens, RefusesAt, told}
+use Rattle.iio_script.specs.Told.{FailsWithin, IsEnded, IsRefusedAt, IsUnended, Opens, RefusesAt, TakesUnended, told}
 use Rattle.iio_script.proofs.FollowLaws.{cut_line, follows_first, long_line, near, next_line, no_line, whole_lines}
+use Rattle.iio_script.proofs.AnswerLaws.{takes_unended}
 use Rattle.iio_script.proofs.TakenLaws.{takes_blocks}
 
 -- a line that ends the description
@@ -175,6 +176,14 @@ opens_failed drivers reader number h h' left left' empty is needs ok so =
       rest = whole.1;
       head = ap (head_from true (new_reader drivers) 1) (whole.0 ∙ sym (append-nil so.front)) ∙ so.reads.head true [] ∙ cut_after reader number ok;
     })
+
+-- whatever was found
+pub opens_unended : (drivers : ℕ) (reader : Reader) (number : ℕ) (h h' : Hand) (left left' : Option (List ℕ)) → h ≡ empty_hand → IsHand h' → IsOk reader → OpensSoFar drivers reader number h h' left left'
+    → IfSome left (λ input. TakesUnended drivers input left')
+opens_unended drivers reader number h h' left left' empty is ok so =
+    followed (λ input. TakesUnended drivers input left') drivers reader number h h' left left' empty so
+    (λ input follows. takes_unended drivers input so.front h' left' is
+    (ap (head_from true (new_reader drivers) 1) (sym (append-nil so.front)) ∙ so.reads.head true [] ∙ cut_after reader number ok) follows)
 
 pub opens_long : (drivers : ℕ) (reader : Reader) (number : ℕ) (h h' : Hand) (left left' : Option (List ℕ)) → h ≡ empty_hand → IsHand h' → IsLong h' → IsOk reader → line_count reader + 1 ≡ number
     → OpensSoFar drivers reader number h h' left left' → IfSome left (λ input. RefusesAt drivers (Refused number Long) number input left')

@@ -1,5 +1,5 @@
 -- What a run over an input has printed, from what its parts did.
-use Rattle.std.proofs.Common.{◌≡◌, ℕ, ◌+◌, Bool, true, List, [], ◌++◌, length, take, Option, Some, None, IfSome, refl, sym, ap, ◌∙◌, subst, arith}
+use Rattle.std.proofs.Common.{◌≡◌, ℕ, ◌+◌, Bool, true, List, [], ◌++◌, length, take, Option, Some, None, IfSome, refl, sym, ap, ◌∙◌, inl, inr, subst, arith}
 use Rattle.iio_io.specs.Bytes.{TakesAtMost}
 use Rattle.iio_text.specs.Lines.{lines_of}
 use Rattle.iio_text.specs.declared.refusals.Why.{Why}
@@ -16,9 +16,10 @@ use Rattle.iio_script.specs.declared.status.Status.{Status}
 use Rattle.iio_script.specs.declared.status.Status.TheVariants.{Done, Memory, ReadFault, Refused, TooLong, Usage, WriteFault}
 use Rattle.iio_script.specs.Ends.{Finishes, HasStatus, Writes, WritesFront, WritesWhole, status_of}
 use Rattle.iio_script.specs.LineReader.{Follows, Hand, IsHand, TakesBlocks, TakesNear}
-use Rattle.iio_script.specs.Plays.{EndsScript, FinishesAt, IsFrontOf, IsRefusedOr, Prints, TakesFor, WritesText}
-use Rattle.iio_script.specs.Taken.{EndsRun, Runs, WritesLines, so_far}
-use Rattle.iio_script.specs.Told.{EndsAlone, EndsAt, FailsWithin, RefusesAt}
+use Rattle.iio_script.specs.Plays.{AnswersScript, EndsScript, FinishesAt, IsFrontOf, IsRefusedOr, Prints, TakesFor, WritesText}
+use Rattle.iio_script.specs.Taken.{AnswersFirst, EndsRun, Runs, WritesFirst, WritesLines, so_far, whole_lines_of}
+use Rattle.iio_script.specs.Told.{EndsAlone, EndsAt, FailsWithin, RefusesAt, TakesUnended}
+use Rattle.iio_script.proofs.AnswerLaws.{unended_none}
 use Rattle.iio_script.proofs.FollowLaws.{follows_begin}
 use Rattle.iio_script.proofs.RunLaws.{nothing_sent}
 
@@ -31,6 +32,38 @@ outcome_by drivers count input head many is =
 
 pub takes_of : (input : List ℕ) (left : Option (List ℕ)) → TakesBlocks input left → TakesAtMost input (input_limit + 1) left
 takes_of input left takes = record { count = takes.count; within = takes.within; rest = takes.rest }
+
+-- ---- what was written before a further piece was taken
+
+-- nothing is printed before the description's end
+nothing_before : (drivers : List Driver) (count : ℕ) (taken : List ℕ) → count ≡ length drivers → head_from true (new_reader count) 1 (lines_of (ended_part taken)) ≡ Cut
+    → whole_lines_of drivers taken ≡ []
+nothing_before drivers count taken many head = ap (so_far drivers) (ap (λ (n : ℕ). head_from true (new_reader n) 1 (lines_of (ended_part taken))) (sym many) ∙ head)
+
+answers_unended : (drivers : List Driver) (count : ℕ) (input text : List ℕ) (left left' : Option (List ℕ)) → count ≡ length drivers → TakesUnended count input left → left' ≡ left
+    → AnswersFirst drivers input text left'
+answers_unended drivers count input text left left' many u same = record {
+  count = u.count;
+  rest = same ∙ u.rest;
+  before = u.before;
+  near = u.near;
+  more = text;
+  written = sym (ap (λ t. t ++ text) (nothing_before drivers count (take u.before input) many u.head));
+}
+
+answers_script : (drivers : List Driver) (count : ℕ) (desc : Description) (first : ℕ) (front : List (List ℕ)) (input text : List ℕ) (left left' : Option (List ℕ)) → count ≡ length drivers
+    → ((overlong : Bool) (lines : List (List ℕ)) → head_from overlong (new_reader count) 1 (front ++ lines) ≡ Described desc first lines) → TakesUnended count input left
+    → AnswersScript (record { desc = desc; drivers = drivers }) first front input text left left' → AnswersFirst drivers input text left'
+answers_script drivers count desc first front input text left left' many heads u (inl same) = answers_unended drivers count input text left left' many u same
+answers_script drivers count desc first front input text left left' many heads u (inr a) = record {
+  count = a.count;
+  rest = a.rest;
+  before = a.before;
+  near = a.near;
+  more = a.more;
+  written = a.written ∙ ap (λ t. t ++ a.more)
+      (sym (ap (so_far drivers) (ap (λ (n : ℕ). head_from true (new_reader n) 1 (lines_of (ended_part (take a.before input)))) (sym many) ∙ ap (head_from true (new_reader count) 1) a.lines ∙ heads true a.given)));
+}
 
 -- ---- what was printed is told by the outcome
 
@@ -70,12 +103,13 @@ run_of_script drivers count desc first front more input status text left many he
     }
 
 pub runs_described : (drivers : List Driver) (count : ℕ) (desc : Description) (first : ℕ) (input : List ℕ) (h : Hand) (left left' before after : Option (List ℕ)) (status : Status)
-    → count ≡ length drivers → IsHand h → (ends : EndsAt count desc first input h left)
+    → count ≡ length drivers → IsHand h → (ends : EndsAt count desc first input h left) → TakesUnended count input left
     → ((front more : List (List ℕ)) → Follows input front h left → first ≡ length front + 1 → looked_lines input ≡ front ++ more → (text : List ℕ) × WritesText before after text
     × EndsScript (record { desc = desc; drivers = drivers }) first front
     (outcome_of_script (record { desc = desc; drivers = drivers }) (script_from desc (last_ending (is_overlong input)) [] first more)) input status text left'
-    × TakesAtMost input (input_limit + 1) left') → Runs drivers input status left' before after
-runs_described drivers count desc first input h left left' before after status many is ends played =
+    × TakesAtMost input (input_limit + 1) left'
+    × AnswersScript (record { desc = desc; drivers = drivers }) first front input text left left') → Runs drivers input status left' before after
+runs_described drivers count desc first input h left left' before after status many is ends unended played =
     let begins = follows_begin input ends.front h left is ends.follows in
     let run = played ends.front begins.more ends.follows ends.next begins.parts in
     record {
@@ -83,11 +117,12 @@ runs_described drivers count desc first input h left left' before after status m
       writes = run.1;
       ends = run_of_script drivers count desc first ends.front begins.more input status run.0 left' many ends.head begins.parts run.2;
       takes = run.3;
+      answers = answers_script drivers count desc first ends.front input run.0 left left' many ends.head unended run.4;
     }
 
 pub runs_alone : (drivers : List Driver) (count : ℕ) (desc : Description) (input : List ℕ) (left before : Option (List ℕ)) → count ≡ length drivers → EndsAlone count desc input → TakesBlocks input left
-    → Runs drivers input Done left before before
-runs_alone drivers count desc input left before many alone takes =
+    → TakesUnended count input left → Runs drivers input Done left before before
+runs_alone drivers count desc input left before many alone takes unended =
     let same = outcome_by drivers count input (Described desc alone.next []) many alone.head ∙ ap (λ (o : Bool). outcome_of_head drivers o (Described desc alone.next [])) alone.short in
     record {
       text = [];
@@ -97,6 +132,7 @@ runs_alone drivers count desc input left before many alone takes =
         near = tt;
       };
       takes = takes_of input left takes;
+      answers = answers_unended drivers count input [] left left many unended refl;
     }
 
 near_refused : (status : Status) (line : ℕ) (input : List ℕ) (left : Option (List ℕ)) → IsRefusedOr line status → TakesNear line input left → TakesFor status input left
@@ -119,14 +155,15 @@ run_of_prints drivers outcome input WriteFault text left same near f = front_as 
 run_of_prints drivers outcome input Memory text left same near f = front_as outcome (outcome_of drivers input) text same f
 
 pub runs_refused : (drivers : List Driver) (count : ℕ) (line : ℕ) (why : Why) (input : List ℕ) (left before after : Option (List ℕ)) (status : Status) → count ≡ length drivers
-    → RefusesAt count (read.Refused line why) line input left → TakesBlocks input left → IsRefusedOr line status
+    → RefusesAt count (read.Refused line why) line input left → TakesBlocks input left → TakesUnended count input left → IsRefusedOr line status
     → ((text : List ℕ) × WritesText before after text × Prints (only_ending (ending.Refused line why)) status text) → Runs drivers input status left before after
-runs_refused drivers count line why input left before after status many refuses takes at prints = record {
+runs_refused drivers count line why input left before after status many refuses takes unended at prints = record {
   text = prints.0;
   writes = prints.1;
   ends = run_of_prints drivers (only_ending (ending.Refused line why)) input status prints.0 left (sym (outcome_by drivers count input (Faulty (Line line why)) many refuses.head))
       (near_refused status line input left at refuses.near) prints.2;
   takes = takes_of input left takes;
+  answers = answers_unended drivers count input prints.0 left left many unended refl;
 }
 
 cut_near : (status : Status) (input text : List ℕ) (left : Option (List ℕ)) → Prints (only_ending ending.TooLong) status text → TakesFor status input left
@@ -139,17 +176,19 @@ cut_near WriteFault input text left f = tt
 cut_near Memory input text left f = tt
 
 pub runs_cut : (drivers : List Driver) (count : ℕ) (input : List ℕ) (left before after : Option (List ℕ)) (status : Status) → count ≡ length drivers → head_of count input ≡ Cut
-    → TakesBlocks input left → ((text : List ℕ) × WritesText before after text × Prints (only_ending ending.TooLong) status text) → Runs drivers input status left before after
-runs_cut drivers count input left before after status many cut takes prints = record {
+    → TakesBlocks input left → TakesUnended count input left → ((text : List ℕ) × WritesText before after text × Prints (only_ending ending.TooLong) status text)
+    → Runs drivers input status left before after
+runs_cut drivers count input left before after status many cut takes unended prints = record {
   text = prints.0;
   writes = prints.1;
   ends = run_of_prints drivers (only_ending ending.TooLong) input status prints.0 left (sym (outcome_by drivers count input Cut many cut)) (cut_near status input prints.0 left prints.2) prints.2;
   takes = takes_of input left takes;
+  answers = answers_unended drivers count input prints.0 left left many unended refl;
 }
 
 pub runs_failed : (drivers : List Driver) (count : ℕ) (input : List ℕ) (left before : Option (List ℕ)) → count ≡ length drivers → FailsWithin count input left → TakesBlocks input left
-    → Runs drivers input ReadFault left before before
-runs_failed drivers count input left before many fails takes = record {
+    → TakesUnended count input left → Runs drivers input ReadFault left before before
+runs_failed drivers count input left before many fails takes unended = record {
   text = [];
   writes = nothing_sent before;
   ends = record {
@@ -159,10 +198,18 @@ runs_failed drivers count input left before many fails takes = record {
     lines = sym (ap (so_far drivers) (ap (λ (n : ℕ). head_from true (new_reader n) 1 (lines_of (ended_part (take fails.count input)))) (sym many) ∙ fails.head));
   };
   takes = takes_of input left takes;
+  answers = answers_unended drivers count input [] left left many unended refl;
 }
 
-pub runs_none : (drivers : List Driver) (input : List ℕ) (left before : Option (List ℕ)) → TakesAtMost input (input_limit + 1) left → Runs drivers input Memory left before before
-runs_none drivers input left before takes = record { text = []; writes = nothing_sent before; ends = record { rest = (outcome_of drivers input).printed; parts = refl }; takes = takes }
+pub runs_none : (drivers : List Driver) (count : ℕ) (input : List ℕ) (left before : Option (List ℕ)) → count ≡ length drivers → TakesAtMost input (input_limit + 1) left → TakesUnended count input left
+    → Runs drivers input Memory left before before
+runs_none drivers count input left before many takes unended = record {
+  text = [];
+  writes = nothing_sent before;
+  ends = record { rest = (outcome_of drivers input).printed; parts = refl };
+  takes = takes;
+  answers = answers_unended drivers count input [] left left many unended refl;
+}
 
 -- nothing was taken
 pub takes_none : (input : List ℕ) → TakesAtMost input (input_limit + 1) (Some input)
@@ -171,7 +218,7 @@ takes_none input = record { count = 0; within = omega arith; rest = refl }
 -- nothing was taken, and nothing written
 pub runs_nothing : (drivers : List Driver) (left before : Option (List ℕ)) → IfSome left (λ input. Runs drivers input Memory left before before)
 runs_nothing drivers None before = tt
-runs_nothing drivers (Some input) before = runs_none drivers input (Some input) before (takes_none input)
+runs_nothing drivers (Some input) before = runs_none drivers (length drivers) input (Some input) before refl (takes_none input) (unended_none (length drivers) input)
 
 -- ---- where the source tells
 
@@ -179,6 +226,11 @@ runs_nothing drivers (Some input) before = runs_none drivers input (Some input) 
 pub both_told : (P Q R : List ℕ → Type 0) (left : Option (List ℕ)) → ((input : List ℕ) → P input → Q input → R input) → IfSome left P → IfSome left Q → IfSome left R
 both_told P Q R None each p q = tt
 both_told P Q R (Some input) each p q = each input p q
+
+-- or of three
+pub all_told : (P Q R T : List ℕ → Type 0) (left : Option (List ℕ)) → ((input : List ℕ) → P input → Q input → R input → T input) → IfSome left P → IfSome left Q → IfSome left R → IfSome left T
+all_told P Q R T None each p q r = tt
+all_told P Q R T (Some input) each p q r = each input p q r
 
 pub each_told : (P R : List ℕ → Type 0) (left : Option (List ℕ)) → ((input : List ℕ) → P input → R input) → IfSome left P → IfSome left R
 each_told P R None each p = tt
@@ -237,3 +289,8 @@ lines_by drivers input left (Some xs) after run =
 pub run_lines : (drivers : List Driver) (input : List ℕ) (status : Status) (left before after : Option (List ℕ)) → status ≡ ReadFault → Runs drivers input status left before after
     → IfSome before (λ xs. WritesLines drivers input xs left after)
 run_lines drivers input status left before after is run = lines_by drivers input left before after (subst (λ (x : Status). Runs drivers input x left before after) is run)
+
+pub run_answers : (drivers : List Driver) (input : List ℕ) (status : Status) (left before after : Option (List ℕ)) → Runs drivers input status left before after
+    → IfSome before (λ xs. WritesFirst drivers input xs left after)
+run_answers drivers input status left None after run = tt
+run_answers drivers input status left (Some xs) after run = record { text = run.text; written = run.writes; answers = run.answers }

@@ -8,7 +8,8 @@ use Rattle.iio_script.specs.declared.status.Status.{Status}
 use Rattle.iio_script.specs.declared.status.Status.TheVariants.{Done, Memory, ReadFault, Refused, TooLong, Usage, WriteFault}
 use Rattle.iio_script.specs.Ends.{Finishes, Sends}
 use Rattle.iio_script.specs.LineReader.{Follows, Hand, IsHand}
-use Rattle.iio_script.specs.Plays.{EndsScript, EndsSteps, EndsWriting, IsFrontOf, IsOver, Prints, WritesText}
+use Rattle.iio_script.specs.Plays.{AnswersScript, EndsScript, EndsSteps, EndsWriting, IsFrontOf, IsOver, Prints, WritesText}
+use Rattle.iio_script.proofs.AnswerLaws.{answers_more}
 use Rattle.iio_script.proofs.EndLaws.{sends_more}
 use Rattle.iio_script.proofs.FollowLaws.{takes_at_most}
 
@@ -49,16 +50,16 @@ sent_all first before after sent kept writes sends =
 
 pub script_written : (s : Setup) (first : ℕ) (front : List (List ℕ)) (outcome : Outcome) (input : List ℕ) (status result : Status) (sent kept : List ℕ) (left w0 w1 w2 : Option (List ℕ))
     → WritesText w0 w1 sent → EndsSteps s first front outcome input (Ok status) sent kept left → EndsWriting status result w1 w2 kept
-    → (text : List ℕ) × WritesText w0 w2 text × EndsScript s first front outcome input result text left
+    → (more : List ℕ) × WritesText w0 w2 (sent ++ more) × EndsScript s first front outcome input result (sent ++ more) left
 script_written s first front outcome input status result sent kept left w0 w1 w2 writes ends (inl (is, sends)) = (
-  sent ++ kept,
+  kept,
   sent_all w0 w1 w2 sent kept writes sends,
   subst (λ (r : Status). EndsScript s first front outcome input r (sent ++ kept) left) (sym is) (script_of_steps s first front outcome input status sent kept left ends),
 )
 script_written s first front outcome input status result sent kept left w0 w1 w2 writes ends (inr (is, (rest, sends))) =
     let all : IsFrontOf outcome (sent ++ kept) = front_of_steps s first front outcome input status sent kept left ends in
     let part : IsFrontOf outcome ((sent ++ sends.sent) ++ rest) = subst (λ (t : List ℕ). IsFrontOf outcome t) (ap (λ k. sent ++ k) sends.parts ∙ sym (append_assoc sent sends.sent rest)) all in (
-      sent ++ sends.sent,
+      sends.sent,
       sends_more w0 w1 w2 sent kept rest writes sends,
       subst (λ (r : Status). EndsScript s first front outcome input r (sent ++ sends.sent) left) (sym is) (front_shorter outcome (sent ++ sends.sent) rest part),
     )
@@ -107,24 +108,27 @@ end_none outcome before = ([], nothing_sent before, record { rest = outcome.prin
 
 -- ---- a script with what it took
 
-abbrev Whole : Setup → (first : ℕ) (front : List (List ℕ)) → Outcome → (input : List ℕ) → Status → (left before after : Option (List ℕ)) → Type 0
-Whole s first front outcome input result left before after =
+abbrev Whole : Setup → (first : ℕ) (front : List (List ℕ)) → Outcome → (input : List ℕ) → Status → (begin left before after : Option (List ℕ)) → Type 0
+Whole s first front outcome input result begin left before after =
     (text : List ℕ) × WritesText before after text × EndsScript s first front outcome input result text left × TakesAtMost input (input_limit + 1) left
+    × AnswersScript s first front input text begin left
 
-pub whole_none : (front : List (List ℕ)) (outcome : Outcome) (input : List ℕ) (h : Hand) (left before : Option (List ℕ)) → IsHand h → Follows input front h left
-    → (text : List ℕ) × WritesText before before text × IsFrontOf outcome text × TakesAtMost input (input_limit + 1) left
-whole_none front outcome input h left before is follows =
-    ([], nothing_sent before, record { rest = outcome.printed; parts = refl }, takes_at_most input front h left is follows)
+pub whole_none : (s : Setup) (first : ℕ) (front : List (List ℕ)) (outcome : Outcome) (input : List ℕ) (h : Hand) (left before : Option (List ℕ)) → IsHand h → Follows input front h left
+    → Whole s first front outcome input Memory left left before before
+whole_none s first front outcome input h left before is follows =
+    ([], nothing_sent before, record { rest = outcome.printed; parts = refl }, takes_at_most input front h left is follows, inl refl)
 
-pub whole_written : (s : Setup) (first : ℕ) (front : List (List ℕ)) (outcome : Outcome) (input : List ℕ) (status result : Status) (kept : List ℕ) (left w0 w1 w2 : Option (List ℕ))
-    → ((sent : List ℕ) × WritesText w0 w1 sent × EndsSteps s first front outcome input (Ok status) sent kept left × TakesAtMost input (input_limit + 1) left)
-    → EndsWriting status result w1 w2 kept → Whole s first front outcome input result left w0 w2
-whole_written s first front outcome input status result kept left w0 w1 w2 ends writing =
+pub whole_written : (s : Setup) (first : ℕ) (front : List (List ℕ)) (outcome : Outcome) (input : List ℕ) (status result : Status) (kept : List ℕ) (begin left w0 w1 w2 : Option (List ℕ))
+    → ((sent : List ℕ) × WritesText w0 w1 sent × EndsSteps s first front outcome input (Ok status) sent kept left × TakesAtMost input (input_limit + 1) left
+    × AnswersScript s first front input sent begin left)
+    → EndsWriting status result w1 w2 kept → Whole s first front outcome input result begin left w0 w2
+whole_written s first front outcome input status result kept begin left w0 w1 w2 ends writing =
     let written = script_written s first front outcome input status result ends.0 kept left w0 w1 w2 ends.1 ends.2 writing in
-    (written.0, written.1, written.2, ends.3)
+    (ends.0 ++ written.0, written.1, written.2, ends.3, answers_more s first front input ends.0 written.0 begin left ends.4)
 
-pub whole_fault : (s : Setup) (first : ℕ) (front : List (List ℕ)) (outcome : Outcome) (input : List ℕ) (status : Status) (kept : List ℕ) (left w0 w1 : Option (List ℕ))
-    → ((sent : List ℕ) × WritesText w0 w1 sent × EndsSteps s first front outcome input (Err status) sent kept left × TakesAtMost input (input_limit + 1) left)
-    → IsOver (Err status) → Whole s first front outcome input status left w0 w1
-whole_fault s first front outcome input status kept left w0 w1 ends over =
-    (ends.0, ends.1, script_fault s first front outcome input status ends.0 kept left over ends.2, ends.3)
+pub whole_fault : (s : Setup) (first : ℕ) (front : List (List ℕ)) (outcome : Outcome) (input : List ℕ) (status : Status) (kept : List ℕ) (begin left w0 w1 : Option (List ℕ))
+    → ((sent : List ℕ) × WritesText w0 w1 sent × EndsSteps s first front outcome input (Err status) sent kept left × TakesAtMost input (input_limit + 1) left
+    × AnswersScript s first front input sent begin left)
+    → IsOver (Err status) → Whole s first front outcome input status begin left w0 w1
+whole_fault s first front outcome input status kept begin left w0 w1 ends over =
+    (ends.0, ends.1, script_fault s first front outcome input status ends.0 kept left over ends.2, ends.3, ends.4)

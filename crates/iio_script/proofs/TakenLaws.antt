@@ -34,13 +34,17 @@ looked_front input front h left is goes =
     let size : h.given + h.looked ≡ length (goes.bytes ++ line) = omega (arith, goes.given, length-append goes.bytes line, length-take-le h.looked h.bytes is.looked) in
     ap (λ n. take n input) size ∙ ap (take (length (goes.bytes ++ line))) parts ∙ take-append_seam (goes.bytes ++ line) (drop h.looked h.bytes ++ goes.rest)
 
+-- whose whole lines are those that were given
+pub looked_given : (input : List ℕ) (front : List (List ℕ)) (h : Hand) (left : Option (List ℕ)) → IsHand h → FollowsFront input front h left
+    → lines_of (ended_part (take (h.given + h.looked) input)) ≡ front
+looked_given input front h left is goes =
+    ap (λ t. lines_of (ended_part t)) (looked_front input front h left is goes)
+    ∙ ap lines_of (goes.front_is.ended (line_of h) ∙ ap (λ t. goes.bytes ++ t) (ended_none (line_of h) is.plain)) ∙ goes.front_is.lines [] ∙ append-nil front
+
 -- none of its lines ends a description
 none_ends : (input : List ℕ) (front : List (List ℕ)) (h : Hand) (left : Option (List ℕ)) → IsHand h → FollowsFront input front h left → list_any is_end front ≡ false
     → has_end (take (h.given + h.looked) input) ≡ false
-none_ends input front h left is goes none =
-    let lines : lines_of (ended_part (goes.bytes ++ line_of h)) ≡ front =
-    ap lines_of (goes.front_is.ended (line_of h) ∙ ap (λ t. goes.bytes ++ t) (ended_none (line_of h) is.plain)) ∙ goes.front_is.lines [] ∙ append-nil front in
-    ap has_end (looked_front input front h left is goes) ∙ ap (list_any is_end) lines ∙ none
+none_ends input front h left is goes none = ap (list_any is_end) (looked_given input front h left is goes) ∙ none
 
 -- so a front part that has such a line is longer
 pub takes_blocks : (input : List ℕ) (front : List (List ℕ)) (h : Hand) (left : Option (List ℕ)) → IsHand h → list_any is_end front ≡ false → Follows input front h left

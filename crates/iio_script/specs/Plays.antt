@@ -1,5 +1,5 @@
 -- A run that has come to a line of a script.
-use Rattle.std.specs.Prelude.{◌≡◌, ◌⊎◌, ℕ, ◌+◌, List, [], ◌∷◌, ◌++◌, length, take, drop, Option, Some, None, IfSome, Result, Ok, Err}
+use Rattle.std.specs.Prelude.{◌≡◌, ◌⊎◌, ℕ, ◌+◌, ◌≤◌, List, [], ◌∷◌, ◌++◌, length, take, drop, Option, Some, None, IfSome, Result, Ok, Err}
 use Rattle.iio_text.specs.Lines.{lines_of}
 use Rattle.iio_sensor.specs.Driver.{Driver}
 use Rattle.iio_device.specs.declared.plug.Plug.{Plug}
@@ -15,7 +15,7 @@ use Rattle.iio_system.specs.Standing.{StandsFor, names_by}
 use Rattle.iio_script.specs.declared.status.Status.{Status}
 use Rattle.iio_script.specs.declared.status.Status.TheVariants.{Done, Memory, ReadFault, Refused, TooLong, Usage, WriteFault}
 use Rattle.iio_script.specs.Ends.{Finishes, Sends}
-use Rattle.iio_script.specs.LineReader.{TakesNear}
+use Rattle.iio_script.specs.LineReader.{TakesNear, piece_size}
 
 -- the same names, in whatever order
 pub record AreSame (one other : List (List ℕ)) : Type 0 where
@@ -84,6 +84,21 @@ abbrev pub EndsSteps : Setup → (first : ℕ) (front : List (List ℕ)) → Out
 EndsSteps s first front outcome input (Ok ReadFault) sent kept left = FailsAt s first front outcome input (sent ++ kept) left
 EndsSteps s first front outcome input (Ok status) sent kept left = FinishesAt outcome status input (sent ++ kept) left
 EndsSteps s first front outcome input (Err status) sent kept left = IsFrontOf outcome sent
+
+-- before the last piece was taken, all that the whole lines taken till then print was written
+pub record AnswersSteps (s : Setup) (first : ℕ) (front : List (List ℕ)) (input sent : List ℕ) (left : Option (List ℕ)) : Type 0 where
+  pub count : ℕ
+  pub rest : left ≡ Some (drop count input)
+  pub before : ℕ
+  pub near : count ≤ before + piece_size
+  pub given : List (List ℕ)
+  pub lines : lines_of (ended_part (take before input)) ≡ front ++ given
+  pub more : List ℕ
+  pub written : sent ≡ script_text s (script_from s.desc Finished [] first given) ++ more
+
+-- so it is once a script has read on
+abbrev pub AnswersScript : Setup → (first : ℕ) (front : List (List ℕ)) → (input sent : List ℕ) → (begin left : Option (List ℕ)) → Type 0
+AnswersScript s first front input sent begin left = (left ≡ begin) ⊎ AnswersSteps s first front input sent left
 
 -- a run that has more to write ends by itself, or by a failed read; one that has not ends by a failed write or want of memory
 abbrev pub IsOver : Result Status Status → Type 0

@@ -1,5 +1,5 @@
 -- What a run has written whose input couldn't be read on.
-use Rattle.std.specs.Prelude.{◌≡◌, ℕ, ◌+◌, true, false, List, [], ◌++◌, length, take, drop, Option, Some}
+use Rattle.std.specs.Prelude.{◌≡◌, ℕ, ◌+◌, ◌≤◌, true, false, List, [], ◌++◌, length, take, drop, Option, Some}
 use Rattle.iio_text.specs.Lines.{lines_of}
 use Rattle.iio_sensor.specs.Driver.{Driver}
 use Rattle.iio_desc.specs.DescReader.{new_reader}
@@ -8,6 +8,7 @@ use Rattle.iio_history.specs.Input.{ended_part, input_limit}
 use Rattle.iio_history.specs.Outcome.{Head, Cut, Described, Faulty, head_from, outcome_of, outcome_of_head}
 use Rattle.iio_script.specs.declared.status.Status.{Status}
 use Rattle.iio_script.specs.declared.status.Status.TheVariants.{Memory, ReadFault, WriteFault}
+use Rattle.iio_script.specs.LineReader.{piece_size}
 use Rattle.iio_script.specs.Plays.{FinishesAt, IsFrontOf, WritesText}
 
 -- what the lines up to here print, where more may follow: nothing before the end of the description
@@ -27,6 +28,15 @@ pub record FailsRun (drivers : List Driver) (input text : List ℕ) (left : Opti
   pub rest : left ≡ Some (drop count input)
   pub lines : text ≡ whole_lines_of drivers (take count input)
 
+-- before the last piece was taken, all that the whole lines taken till then print was written
+pub record AnswersFirst (drivers : List Driver) (input text : List ℕ) (left : Option (List ℕ)) : Type 0 where
+  pub count : ℕ
+  pub rest : left ≡ Some (drop count input)
+  pub before : ℕ
+  pub near : count ≤ before + piece_size
+  pub more : List ℕ
+  pub written : text ≡ whole_lines_of drivers (take before input) ++ more
+
 -- how a run ends that has written that text
 abbrev pub EndsRun : List Driver → (input : List ℕ) → Status → (text : List ℕ) → (left : Option (List ℕ)) → Type 0
 EndsRun drivers input ReadFault text left = FailsRun drivers input text left
@@ -40,9 +50,16 @@ pub record Runs (drivers : List Driver) (input : List ℕ) (status : Status) (le
   pub writes : WritesText before after text
   pub ends : EndsRun drivers input status text left
   pub takes : TakesAtMost input (input_limit + 1) left
+  pub answers : AnswersFirst drivers input text left
 
 -- a front part was taken, and written is exactly what its whole lines print
 pub record WritesLines (drivers : List Driver) (left before : List ℕ) (remaining after : Option (List ℕ)) : Type 0 where
   pub count : ℕ
   pub rest : remaining ≡ Some (drop count left)
   pub written : after ≡ Some (before ++ whole_lines_of drivers (take count left))
+
+-- what was written is what a run has written that writes before it reads on
+pub record WritesFirst (drivers : List Driver) (left before : List ℕ) (remaining after : Option (List ℕ)) : Type 0 where
+  pub text : List ℕ
+  pub written : after ≡ Some (before ++ text)
+  pub answers : AnswersFirst drivers left text remaining

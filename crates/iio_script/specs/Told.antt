@@ -7,7 +7,7 @@ use Rattle.iio_desc.specs.DescReader.{new_reader}
 use Rattle.iio_desc.specs.WellFormed.{IsWellFormed}
 use Rattle.iio_history.specs.Input.{ended_part, is_overlong}
 use Rattle.iio_history.specs.Outcome.{Head, Cut, Described, Faulty, head_from, head_of}
-use Rattle.iio_script.specs.LineReader.{Follows, Hand, TakesNear}
+use Rattle.iio_script.specs.LineReader.{Follows, Hand, TakesNear, piece_size}
 use Rattle.iio_script.specs.declared.opening.Opening.{Opening}
 use Rattle.iio_script.specs.declared.opening.Opening.TheVariants as read
 
@@ -77,3 +77,11 @@ pub record FailsWithin (drivers : ℕ) (input : List ℕ) (left : Option (List �
   pub count : ℕ
   pub rest : left ≡ Some (drop count input)
   pub head : head_from true (new_reader drivers) 1 (lines_of (ended_part (take count input))) ≡ Cut
+
+-- before the last piece was taken, none of the whole lines ended the description, and none was refused
+pub record TakesUnended (drivers : ℕ) (input : List ℕ) (left : Option (List ℕ)) : Type 0 where
+  pub count : ℕ
+  pub rest : left ≡ Some (drop count input)
+  pub before : ℕ
+  pub near : count ≤ before + piece_size
+  pub head : head_from true (new_reader drivers) 1 (lines_of (ended_part (take before input))) ≡ Cut

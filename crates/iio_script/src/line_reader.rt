@@ -159,6 +159,7 @@ impl LineReader {
         ensures more { IfNone result (NeedsMore self.new) }
         ensures hand { IsHand self.new }
         ensures given { self.new.given ≡ self.old.given }
+        ensures over { self.new.over ≡ self.old.over }
         ensures to_take { to_take self.new ≡ to_take self.old }
         ensures follows { (input : List ℕ) (front : List (List ℕ)) (left : Option (List ℕ)) → Follows input front self.old left → Follows input front self.new left }
     {
@@ -225,6 +226,7 @@ impl LineReader {
         ensures follows { (input : List ℕ) (front : List (List ℕ)) → Follows input front self.old (S.left source.old) → Follows input front self.new (S.left source.new) }
         ensures hand { IsHand self.new }
         ensures given { self.new.given ≡ self.old.given }
+        ensures over { self.new.over ≡ self.old.over }
         ensures further { OnOk result (to_take self.new < to_take self.old) }
         ensures same { OnErr result (self.new ≡ self.old) }
         ensures silent { IfNone (S.left source.old) (S.left source.new ≡ None) }
@@ -248,6 +250,7 @@ impl LineReader {
         ensures follows { (input : List ℕ) (front : List (List ℕ)) → Follows input front self.old (S.left source.old) → Follows input front self.new (S.left source.new) }
         ensures hand { IsHand self.new }
         ensures given { self.new.given ≡ self.old.given }
+        ensures over { self.new.over ≡ self.old.over }
         ensures silent { IfNone (S.left source.old) (S.left source.new ≡ None) }
         ensures counted { S.faults source.old ≤ S.faults source.new }
         ensures failed { result ≡ Err ReadEnd.Failed → Rose (S.faults source.old) (S.faults source.new) }
@@ -270,13 +273,14 @@ impl LineReader {
     ) -> Result<Found, ReadEnd>
         requires seen { IfSome seen (λ found. Shows found self.old) }
         requires hand { IsHand self.old }
-        ensures told { IfSome seen (λ _. source.new ≡ source.old) }
+        ensures told { IfSome seen (λ _. S.left source.new ≡ S.left source.old) }
         ensures asked { OnErr result (seen ≡ None) }
         ensures found { IfOk result (λ found. Shows found self.new) }
         ensures more { OnErr result (NeedsMore self.new) }
         ensures follows { (input : List ℕ) (front : List (List ℕ)) → Follows input front self.old (S.left source.old) → Follows input front self.new (S.left source.new) }
         ensures hand { IsHand self.new }
         ensures given { self.new.given ≡ self.old.given }
+        ensures over { self.new.over ≡ self.old.over }
         ensures silent { IfNone (S.left source.old) (S.left source.new ≡ None) }
         ensures counted { S.faults source.old ≤ S.faults source.new }
         ensures failed { result ≡ Err ReadEnd.Failed → Rose (S.faults source.old) (S.faults source.new) }

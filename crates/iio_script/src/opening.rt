@@ -5,7 +5,7 @@ ghost use Rattle.iio_base.specs.Faults.{Rose};
 ghost use Rattle.iio_desc.specs.DescReader.{drivers_of, ended_by, finished, line_count, new_reader};
 ghost use Rattle.iio_history.specs.Outcome.{described};
 ghost use Rattle.iio_script.specs.LineReader.{IsHand, TakesBlocks, empty_hand};
-ghost use Rattle.iio_script.specs.Told.{FailsWithin, IsEnded, IsRefusedAt, IsSoundOpening, IsUnended, Opens, StartsAt, told};
+ghost use Rattle.iio_script.specs.Told.{FailsWithin, IsEnded, IsRefusedAt, IsSoundOpening, IsUnended, Opens, StartsAt, TakesUnended, told};
 
 use crate::line_reader::{Found, LineReader};
 use iio_desc::{Desc, DescFault, DescReader, is_end};
@@ -75,6 +75,7 @@ pub fn open<S: Source>(
     ensures opening { IfOk result (λ opening. IfSome (S.left source.old) (λ input. Opens drivers opening input lines.new (S.left source.new))) }
     ensures fault { result ≡ Err ReadEnd.Failed → IfSome (S.left source.old) (λ input. FailsWithin drivers input (S.left source.new)) }
     ensures taken { IfSome (S.left source.old) (λ input. TakesBlocks input (S.left source.new)) }
+    ensures unended { IfSome (S.left source.old) (λ input. TakesUnended drivers input (S.left source.new)) }
     ensures sound { IfOk result (IsSoundOpening drivers) }
     ensures starts { IfOk result (λ opening. StartsAt opening lines.new) }
     ensures hand { IsHand lines.new }

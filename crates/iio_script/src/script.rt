@@ -14,10 +14,10 @@ ghost use Rattle.iio_system.specs.Bench.{front_of};
 ghost use Rattle.iio_system.specs.Standing.{StandsFor, names_by};
 ghost use Rattle.iio_system.specs.Step.{step_view};
 ghost use Rattle.iio_script.specs.Ends.{HasStatus, Sends, ShowsFaults, Writes};
-ghost use Rattle.iio_script.specs.LineReader.{Follows, IsHand, Shows};
+ghost use Rattle.iio_script.specs.LineReader.{Follows, IsHand, NeedsMore, Shows};
 ghost use Rattle.iio_script.specs.Outline.{FindsSame};
-ghost use Rattle.iio_script.specs.Taken.{Runs, WritesLines};
-ghost use Rattle.iio_script.specs.Plays.{EndsScript, EndsSteps, IsOver, IsRefusedWith, Plays, PlaysLine, TakesFor, WritesText};
+ghost use Rattle.iio_script.specs.Taken.{Runs, WritesFirst, WritesLines};
+ghost use Rattle.iio_script.specs.Plays.{AnswersScript, EndsScript, EndsSteps, IsOver, IsRefusedWith, Plays, PlaysLine, TakesFor, WritesText};
 
 use crate::ends::{end_cut, end_refused, end_with, push_end, push_refused, write_out};
 use crate::line_reader::{Found, LineReader};
@@ -101,6 +101,7 @@ fn write_ready<K: Sink>(
     ensures follows { (input : List ℕ) (front : List (List ℕ)) (left : Option (List ℕ)) → Follows input front lines.old left → Follows input front lines.new left }
     ensures given { lines.new.given ≡ lines.old.given }
     ensures hand { IsHand lines.new }
+    ensures more { IfOk result (λ seen. IfNone seen (NeedsMore lines.new)) }
     ensures flushed { IfOk result (λ seen. seen ≡ None → out.new.items ≡ []) }
     ensures few { OnOk result (length out.new.items < 61_440) }
     ensures sends { OnOk result (Sends (K.written output.old) (K.written output.new) out.old.items out.new.items) }
@@ -141,7 +142,8 @@ pub(crate) fn play_steps<S: Source, K: Sink>(
         → Follows input' front lines.old (S.left input.old) → first ≡ length front + 1 → looked_lines input' ≡ front ++ more
         → (sent : List ℕ) × (IfSome (K.written output.old) (λ written. K.written output.new ≡ Some (written ++ sent)))
         × EndsSteps s first front (outcome_of_script s (script_from s.desc (last_ending (is_overlong input')) [] first more)) input' result sent out.new.items (S.left input.new)
-        × TakesAtMost input' (input_limit + 1) (S.left input.new) }
+        × TakesAtMost input' (input_limit + 1) (S.left input.new)
+        × AnswersScript s first front input' sent (S.left input.old) (S.left input.new) }
     ensures stands { result ≡ Ok Status.Done → (s : Setup) (input' : List ℕ) (front more : List (List ℕ)) → StandsFor ⟦<Plug as Sensor>⟧.driver s [] system.old → FindsSame names.now s.desc
         → Follows input' front lines.old (S.left input.old) → looked_lines input' ≡ front ++ more
         → StandsFor ⟦<Plug as Sensor>⟧.driver s (with_steps s [] (script_from s.desc (last_ending (is_overlong input')) [] first more).steps) system.new }
@@ -199,7 +201,9 @@ fn play_described<S: Source, K: Sink>(
         → (text : List ℕ) × WritesText (K.written output.old) (K.written output.new) text
         × EndsScript (record { desc = desc; drivers = map (λ d. ⟦<Plug as Sensor>⟧.driver (Given d)) drivers.items }) first front
         (outcome_of_script (record { desc = desc; drivers = map (λ d. ⟦<Plug as Sensor>⟧.driver (Given d)) drivers.items }) (script_from desc (last_ending (is_overlong input')) [] first more)) input' result text (S.left input.new)
-        × TakesAtMost input' (input_limit + 1) (S.left input.new) }
+        × TakesAtMost input' (input_limit + 1) (S.left input.new)
+        × AnswersScript (record { desc = desc; drivers = map (λ d. ⟦<Plug as Sensor>⟧.driver (Given d)) drivers.items }) first front
+        input' text (S.left input.old) (S.left input.new) }
     ensures faults { ShowsFaults S.left S.faults K.written K.faults result input.old input.new output.old output.new }
     ensures words { result ≡ Status.Usage → ⊥ }
 {
@@ -274,6 +278,10 @@ pub fn play<S: Source, K: Sink>(
     // Where a read failed, what the whole lines before it print was written.
     ensures whole_lines { result ≡ Status.ReadFault → IfSome (S.left input.old) (λ left. IfSome (K.written output.old) (λ written.
         WritesLines (map (λ d. ⟦<Plug as Sensor>⟧.driver (Given d)) drivers.items) left written (S.left input.new) (K.written output.new))) }
+    // However it ends, at most a piece was taken since all was written that the whole lines before it print. So no answer
+    // waits for more of the input.
+    ensures answered { IfSome (S.left input.old) (λ left. IfSome (K.written output.old) (λ written.
+        WritesFirst (map (λ d. ⟦<Plug as Sensor>⟧.driver (Given d)) drivers.items) left written (S.left input.new) (K.written output.new))) }
     ensures faults { ShowsFaults S.left S.faults K.written K.faults result input.old input.new output.old output.new }
 {
     let Ok(count) = u32::try_from(drivers.len()) else {

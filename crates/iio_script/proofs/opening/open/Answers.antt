@@ -5,7 +5,7 @@ use Rattle.iio_desc.specs.DescReader.{after_line, line_count, new_reader}
 use Rattle.std.specs.Prelude.{IsOk}
 use Rattle.iio_script.specs.LineReader.{IsHand}
 use Rattle.iio_script.proofs.HandLaws.{hand_first}
-use Rattle.iio_script.proofs.OpeningLaws.{line_counts, opens_at, opens_cut, opens_end_by, opens_failed, opens_first, opens_found, opens_line, opens_long, opens_more, opens_taken}
+use Rattle.iio_script.proofs.OpeningLaws.{line_counts, opens_at, opens_cut, opens_end_by, opens_failed, opens_first, opens_found, opens_line, opens_long, opens_more, opens_taken, opens_unended}
 use Rattle.iio_io.proofs.Told.{silent_more}
 use Rattle.iio_script.proofs.EndLaws.{silent_first}
 use Rattle.iio_script.proofs.opening.open.Goals as goal
@@ -59,6 +59,38 @@ returns-in-Err-Mem-clause-taken g c =
 pub returns-then-is_end-clause-taken : goal.returns-then-is_end-clause-taken
 returns-then-is_end-clause-taken g c =
     opens_taken c.args.drivers c.loop-reader.reader c.loop-reader.number c.args.lines.now c.find.new.self (g.S.Source.left c.args.source.now) (g.S.Source.left c.find.new.source) c.requires c.find.ensures.hand (opens_found c.args.drivers c.loop-reader.reader c.loop-reader.number c.args.lines.now c.loop-reader.lines c.find.new.self (g.S.Source.left c.args.source.now) (g.S.Source.left c.loop-reader.source) (g.S.Source.left c.find.new.source) c.find.ensures.follows c.loop-reader.invariant.so_far)
+
+pub returns-in_err-find-clause-unended : goal.returns-in_err-find-clause-unended
+returns-in_err-find-clause-unended g c =
+    opens_unended c.args.drivers c.loop-reader.reader c.loop-reader.number c.args.lines.now c.find.new.self (g.S.Source.left c.args.source.now) (g.S.Source.left c.find.new.source) c.requires c.find.ensures.hand c.loop-reader.invariant.reading (opens_found c.args.drivers c.loop-reader.reader c.loop-reader.number c.args.lines.now c.loop-reader.lines c.find.new.self (g.S.Source.left c.args.source.now) (g.S.Source.left c.loop-reader.source) (g.S.Source.left c.find.new.source) c.find.ensures.follows c.loop-reader.invariant.so_far)
+
+pub returns-in-Long-clause-unended : goal.returns-in-Long-clause-unended
+returns-in-Long-clause-unended g c =
+    opens_unended c.args.drivers c.loop-reader.reader c.loop-reader.number c.args.lines.now c.find.new.self (g.S.Source.left c.args.source.now) (g.S.Source.left c.find.new.source) c.requires c.find.ensures.hand c.loop-reader.invariant.reading (opens_found c.args.drivers c.loop-reader.reader c.loop-reader.number c.args.lines.now c.loop-reader.lines c.find.new.self (g.S.Source.left c.args.source.now) (g.S.Source.left c.loop-reader.source) (g.S.Source.left c.find.new.source) c.find.ensures.follows c.loop-reader.invariant.so_far)
+
+pub returns-in-End-clause-unended : goal.returns-in-End-clause-unended
+returns-in-End-clause-unended g c =
+    opens_unended c.args.drivers c.loop-reader.reader c.loop-reader.number c.args.lines.now c.find.new.self (g.S.Source.left c.args.source.now) (g.S.Source.left c.find.new.source) c.requires c.find.ensures.hand c.loop-reader.invariant.reading (opens_found c.args.drivers c.loop-reader.reader c.loop-reader.number c.args.lines.now c.loop-reader.lines c.find.new.self (g.S.Source.left c.args.source.now) (g.S.Source.left c.loop-reader.source) (g.S.Source.left c.find.new.source) c.find.ensures.follows c.loop-reader.invariant.so_far)
+
+pub returns-in-Cut-clause-unended : goal.returns-in-Cut-clause-unended
+returns-in-Cut-clause-unended g c =
+    opens_unended c.args.drivers c.loop-reader.reader c.loop-reader.number c.args.lines.now c.find.new.self (g.S.Source.left c.args.source.now) (g.S.Source.left c.find.new.source) c.requires c.find.ensures.hand c.loop-reader.invariant.reading (opens_found c.args.drivers c.loop-reader.reader c.loop-reader.number c.args.lines.now c.loop-reader.lines c.find.new.self (g.S.Source.left c.args.source.now) (g.S.Source.left c.loop-reader.source) (g.S.Source.left c.find.new.source) c.find.ensures.follows c.loop-reader.invariant.so_far)
+
+pub returns-in_err-opening-clause-unended : goal.returns-in_err-opening-clause-unended
+returns-in_err-opening-clause-unended g c =
+    opens_unended c.args.drivers c.loop-reader.reader c.loop-reader.number c.args.lines.now c.find.new.self (g.S.Source.left c.args.source.now) (g.S.Source.left c.find.new.source) c.requires c.find.ensures.hand c.loop-reader.invariant.reading (opens_found c.args.drivers c.loop-reader.reader c.loop-reader.number c.args.lines.now c.loop-reader.lines c.find.new.self (g.S.Source.left c.args.source.now) (g.S.Source.left c.loop-reader.source) (g.S.Source.left c.find.new.source) c.find.ensures.follows c.loop-reader.invariant.so_far)
+
+pub returns-in-Err-Line-clause-unended : goal.returns-in-Err-Line-clause-unended
+returns-in-Err-Line-clause-unended g c =
+    opens_unended c.args.drivers c.loop-reader.reader c.loop-reader.number c.args.lines.now c.find.new.self (g.S.Source.left c.args.source.now) (g.S.Source.left c.find.new.source) c.requires c.find.ensures.hand c.loop-reader.invariant.reading (opens_found c.args.drivers c.loop-reader.reader c.loop-reader.number c.args.lines.now c.loop-reader.lines c.find.new.self (g.S.Source.left c.args.source.now) (g.S.Source.left c.loop-reader.source) (g.S.Source.left c.find.new.source) c.find.ensures.follows c.loop-reader.invariant.so_far)
+
+pub returns-in-Err-Mem-clause-unended : goal.returns-in-Err-Mem-clause-unended
+returns-in-Err-Mem-clause-unended g c =
+    opens_unended c.args.drivers c.loop-reader.reader c.loop-reader.number c.args.lines.now c.find.new.self (g.S.Source.left c.args.source.now) (g.S.Source.left c.find.new.source) c.requires c.find.ensures.hand c.loop-reader.invariant.reading (opens_found c.args.drivers c.loop-reader.reader c.loop-reader.number c.args.lines.now c.loop-reader.lines c.find.new.self (g.S.Source.left c.args.source.now) (g.S.Source.left c.loop-reader.source) (g.S.Source.left c.find.new.source) c.find.ensures.follows c.loop-reader.invariant.so_far)
+
+pub returns-then-is_end-clause-unended : goal.returns-then-is_end-clause-unended
+returns-then-is_end-clause-unended g c =
+    opens_unended c.args.drivers c.loop-reader.reader c.loop-reader.number c.args.lines.now c.find.new.self (g.S.Source.left c.args.source.now) (g.S.Source.left c.find.new.source) c.requires c.find.ensures.hand c.loop-reader.invariant.reading (opens_found c.args.drivers c.loop-reader.reader c.loop-reader.number c.args.lines.now c.loop-reader.lines c.find.new.self (g.S.Source.left c.args.source.now) (g.S.Source.left c.loop-reader.source) (g.S.Source.left c.find.new.source) c.find.ensures.follows c.loop-reader.invariant.so_far)
 
 pub returns-in-Long-clause-opening : goal.returns-in-Long-clause-opening
 returns-in-Long-clause-opening g c =

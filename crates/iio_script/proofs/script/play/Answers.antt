@@ -1,5 +1,5 @@
 use Rattle.std.proofs.Common.{[]}
-use Rattle.iio_script.proofs.OutcomeLaws.{each_told, run_lines, run_near, run_status, run_writes, runs_nothing}
+use Rattle.iio_script.proofs.OutcomeLaws.{each_told, run_answers, run_lines, run_near, run_status, run_writes, runs_nothing}
 use Rattle.iio_script.proofs.script.play.Goals as goal
 
 pub returns-in_default-clause-transcript : goal.returns-in_default-clause-transcript
@@ -29,3 +29,11 @@ returns-clause-near g c =
 pub returns-clause-whole_lines : goal.returns-clause-whole_lines
 returns-clause-whole_lines g c =
     λ is. each_told _ _ (g.S.Source.left c.args.input.now) (λ input run. run_lines _ input c.play_input.result (g.S.Source.left c.play_input.new.input) (g.K.Sink.written c.args.output.now) (g.K.Sink.written c.play_input.new.output) is run) c.play_input.ensures.runs
+
+pub returns-in_default-clause-answered : goal.returns-in_default-clause-answered
+returns-in_default-clause-answered g c =
+    each_told _ _ (g.S.Source.left c.args.input.now) (λ input run. run_answers _ input _ (g.S.Source.left c.args.input.now) (g.K.Sink.written c.args.output.now) (g.K.Sink.written c.args.output.now) run) (runs_nothing _ (g.S.Source.left c.args.input.now) (g.K.Sink.written c.args.output.now))
+
+pub returns-clause-answered : goal.returns-clause-answered
+returns-clause-answered g c =
+    each_told _ _ (g.S.Source.left c.args.input.now) (λ input run. run_answers _ input c.play_input.result (g.S.Source.left c.play_input.new.input) (g.K.Sink.written c.args.output.now) (g.K.Sink.written c.play_input.new.output) run) c.play_input.ensures.runs

@@ -1,0 +1,112 @@
+-- What was written before a further piece was taken.
+use Rattle.std.proofs.Common.{◌≡◌, ◌⊎◌, ℕ, zero, suc, ◌+◌, Bool, true, false, cond, List, [], ◌∷◌, ◌++◌, length, take, Option, Some, None, IfSome, IfNone, Result, Ok, Err, refl, sym, ap, ◌∙◌, inl, inr, arith, append_assoc, append-nil}
+use Rattle.std.proofs.lemmas.List.{take_all, drop_all}
+use Rattle.iio_text.specs.Lines.{lines_of}
+use Rattle.iio_desc.specs.declared.reader.DescFault.{DescFault}
+use Rattle.iio_desc.specs.Description.{Description}
+use Rattle.iio_desc.specs.DescReader.{Reader, after_line, ended_by, new_reader}
+use Rattle.iio_desc.specs.Lines.{is_end}
+use Rattle.iio_history.specs.Input.{ended_part}
+use Rattle.iio_history.specs.Outcome.{Cut, Faulty, Head, described, head_from}
+use Rattle.iio_history.specs.Registry.{Setup}
+use Rattle.iio_history.specs.Script.{Finished, script_from, script_text}
+use Rattle.iio_script.specs.declared.line_reader.Found.{Found}
+use Rattle.iio_script.specs.LineReader.{Follows, Hand, IsHand, NeedsMore, taken_of}
+use Rattle.iio_script.specs.Plays.{AnswersScript}
+use Rattle.iio_script.specs.Told.{TakesUnended}
+use Rattle.iio_script.proofs.FrontLaws.{end_count}
+use Rattle.iio_script.proofs.HandLaws.{going_of}
+use Rattle.iio_script.proofs.FollowLaws.{by_over, taken_front}
+use Rattle.iio_script.proofs.TakenLaws.{looked_given}
+use Rattle.iio_script.proofs.ToldLaws.{lines_of-ended_part}
+
+-- ---- the description
+
+no_fault : (fault : DescFault) → Faulty fault ≡ Cut → ⊥
+no_fault fault is = cc
+
+no_described : (n : ℕ) (lines : List (List ℕ)) (read : Result Description DescFault) → described n lines read ≡ Cut → ⊥
+no_described n lines (Ok desc) is = cc
+no_described n lines (Err fault) is = cc
+
+cut_step : (ends : Bool) (one one' other other' : Head) → (one ≡ Cut → one' ≡ Cut) → (other ≡ Cut → other' ≡ Cut) → cond ends one other ≡ Cut → cond ends one' other' ≡ Cut
+cut_step true one one' other other' first second is = first is
+cut_step false one one' other other' first second is = second is
+
+-- where no line ends it or is refused, none of the first ones does or is
+head_take : (reader : Reader) (n k : ℕ) (lines : List (List ℕ)) → head_from true reader n lines ≡ Cut → head_from true reader n (take k lines) ≡ Cut
+head_take (Err fault) n k lines is = absurd (no_fault fault is)
+head_take (Ok reading) n zero lines is = refl
+head_take (Ok reading) n (suc k) [] is = refl
+head_take (Ok reading) n (suc k) (line ∷ lines) is =
+    cut_step (is_end line) (described (n + 1) lines (ended_by (Ok reading) line)) (described (n + 1) (take k lines) (ended_by (Ok reading) line))
+    (head_from true (after_line (Ok reading) line) (n + 1) lines) (head_from true (after_line (Ok reading) line) (n + 1) (take k lines))
+    (λ ends. absurd (no_described (n + 1) lines (ended_by (Ok reading) line) ends)) (head_take (after_line (Ok reading) line) (n + 1) k lines) is
+
+pub takes_unended : (drivers : ℕ) (input : List ℕ) (front : List (List ℕ)) (h : Hand) (left : Option (List ℕ)) → IsHand h → head_from true (new_reader drivers) 1 front ≡ Cut
+    → Follows input front h left → TakesUnended drivers input left
+takes_unended drivers input front h left is cut follows =
+    by_over (TakesUnended drivers input left) input front h left
+    (λ going goes. record {
+      count = taken_of h;
+      rest = (taken_front input front h left goes).1;
+      before = h.given + h.looked;
+      near = omega (arith, is.near);
+      head = ap (head_from true (new_reader drivers) 1) (looked_given input front h left is goes) ∙ cut;
+    })
+    (λ over all. record {
+      count = length input;
+      rest = all.none_left ∙ ap Some (sym (drop_all (length input) input (omega arith)));
+      before = length input;
+      near = omega arith;
+      head = ap (λ t. head_from true (new_reader drivers) 1 (lines_of (ended_part t))) (take_all (length input) input (omega arith))
+          ∙ ap (head_from true (new_reader drivers) 1) (lines_of-ended_part input ∙ ap (take (end_count input)) all.every)
+          ∙ head_take (new_reader drivers) 1 (end_count input) front cut;
+    }) follows
+
+-- nothing was taken
+pub unended_none : (drivers : ℕ) (input : List ℕ) → TakesUnended drivers input (Some input)
+unended_none drivers input = record { count = 0; rest = refl; before = 0; near = omega arith; head = refl }
+
+pub unended_first : (drivers : ℕ) (left : Option (List ℕ)) → IfSome left (λ input. TakesUnended drivers input left)
+unended_first drivers None = tt
+unended_first drivers (Some input) = unended_none drivers input
+
+-- ---- the script
+
+-- more was written
+pub answers_more : (s : Setup) (first : ℕ) (front : List (List ℕ)) (input sent more : List ℕ) (begin left : Option (List ℕ)) → AnswersScript s first front input sent begin left
+    → AnswersScript s first front input (sent ++ more) begin left
+answers_more s first front input sent more begin left (inl same) = inl same
+answers_more s first front input sent more begin left (inr a) = inr (record {
+  count = a.count;
+  rest = a.rest;
+  before = a.before;
+  near = a.near;
+  given = a.given;
+  lines = a.lines;
+  more = a.more ++ more;
+  written = ap (λ t. t ++ more) a.written ∙ append_assoc (script_text s (script_from s.desc Finished [] first a.given)) a.more more;
+})
+
+-- all was written, and then read on
+pub answers_found : (s : Setup) (first : ℕ) (front given : List (List ℕ)) (input sent : List ℕ) (h : Hand) (begin left : Option (List ℕ)) → IsHand h
+    → sent ≡ script_text s (script_from s.desc Finished [] first given) → h.over ≡ false → Follows input (front ++ given) h left → AnswersScript s first front input sent begin left
+answers_found s first front given input sent h begin left is all going follows =
+    let goes = going_of input (front ++ given) h left going follows in
+    inr (record {
+      count = taken_of h;
+      rest = (taken_front input (front ++ given) h left goes).1;
+      before = h.given + h.looked;
+      near = omega (arith, is.near);
+      given = given;
+      lines = looked_given input (front ++ given) h left is goes;
+      more = [];
+      written = all ∙ sym (append-nil (script_text s (script_from s.desc Finished [] first given)));
+    })
+
+-- a line that a look has told needs no read; for any other nothing was kept
+pub read_on : (seen : Option Found) (l1 l2 : Option (List ℕ)) (h1 h2 : Hand) (kept : List ℕ) → IfSome seen (λ _. l2 ≡ l1) → (seen ≡ None → kept ≡ []) → IfNone seen (NeedsMore h1)
+    → h2.over ≡ h1.over → (l2 ≡ l1) ⊎ ((h2.over ≡ false) × (kept ≡ []))
+read_on (Some found) l1 l2 h1 h2 kept same flushed needs over = inl same
+read_on None l1 l2 h1 h2 kept same flushed needs over = inr (over ∙ needs.going, flushed refl)
