@@ -8,7 +8,7 @@ ghost use Rattle.iio_history.specs.Outcome.{outcome_of};
 ghost use Rattle.iio_script.specs.Ends.{HasStatus, ShowsFaults, Writes};
 ghost use Rattle.iio_script.specs.LineReader.{TakesBlocks};
 ghost use Rattle.iio_script.specs.Plays.{TakesFor};
-ghost use Rattle.iio_script.specs.Taken.{WritesLines};
+ghost use Rattle.iio_script.specs.Taken.{WritesFirst, WritesLines};
 ghost use Rattle.iio_gen.specs.Summary.{EndsGen, summarized};
 ghost use Rattle.iiod_main.specs.Complete.{Completes};
 ghost use Rattle.iiod_main.specs.Layout.{TakesForLine, layout_of};
@@ -86,6 +86,9 @@ pub fn run<S: Source, K: Sink>(
     // Where a read failed, exactly what the whole lines before it print was written.
     ensures whole_lines { IsPlay words.now → result ≡ Status.ReadFault → IfSome (S.left input.old) (λ left. IfSome (K.written output.old) (λ written.
         WritesLines (map (λ d. ⟦<Plug as Sensor>⟧.driver (Given d)) drivers.items) left written (S.left input.new) (K.written output.new))) }
+    // However it ends, at most 65,536 bytes were taken since all was written that the whole lines before them print.
+    ensures answered { IsPlay words.now → IfSome (S.left input.old) (λ left. IfSome (K.written output.old) (λ written.
+        WritesFirst (map (λ d. ⟦<Plug as Sensor>⟧.driver (Given d)) drivers.items) left written (S.left input.new) (K.written output.new))) }
 
     ensures layout { (device mask : List ℕ) → IsLayout words.now device mask → IfSome (S.left input.old) (λ left. IfSome (K.written output.old) (λ written.
         Writes (layout_of (length drivers.items) left device mask) written result (K.written output.new))) }
