@@ -4,16 +4,15 @@ ghost use Rattle.std.specs.Prelude.{◌≡◌, IfOk, length};
 
 use iio_base::Mem;
 use std::alloc::Global;
-use std::sync::atomic::{AtomicU32, AtomicU64, Ordering};
-use std::sync::{Condvar, Mutex, Wait};
+use std::sync::Wait;
+use std::sync::atomic::{AtomicU64, Ordering};
 
-/// How often it was rung, and those who wait for the next time. Ringing takes no lock where nobody waits.
+/// How often it was rung, and how many wait for the next time. It has no lock; ringing it makes no call of the system where
+/// nobody waits. No clause speaks of it: any thread may ring it at any time.
 #[derive(Drop)]
 pub struct Bell {
     count: AtomicU64,
-    waiting: AtomicU32,
-    lock: Mutex<()>,
-    rung: Condvar,
+    waiting: AtomicU64,
 }
 
 impl Bell {
@@ -21,9 +20,7 @@ impl Bell {
     pub fn new() -> Bell {
         Bell {
             count: AtomicU64::new(0),
-            waiting: AtomicU32::new(0),
-            lock: Mutex::new(()),
-            rung: Condvar::new(),
+            waiting: AtomicU64::new(0),
         }
     }
 
@@ -34,20 +31,23 @@ impl Bell {
 
     /// Counts, and then wakes those who wait. Who comes to wait after this look at `waiting` sees the new count: each side
     /// writes its own word before it reads the other's.
-    pub fn ring<R: Wait>(&self, rt: &R) {
+    pub fn ring(&self) {
         self.count.fetch_add(1, Ordering::SeqCst);
         if self.waiting.load(Ordering::SeqCst) > 0 {
-            let _guard = self.lock.lock(rt);
-            self.rung.notify_all();
+            self.count.wake_all();
         }
     }
 
-    /// Waits until the count isn't the one that was seen; returns at once where it isn't.
+    /// Waits until the count isn't the one that was seen; returns at once where it isn't. The system compares the low 32 bits
+    /// of the count once more before a thread sleeps on it, so a ring that comes between isn't slept through.
     pub fn wait<R: Wait>(&self, rt: &R, seen: u64) {
         self.waiting.fetch_add(1, Ordering::SeqCst);
-        let _guard = self
-            .rung
-            .wait_while(rt, self.lock.lock(rt), |_| self.count() == seen);
+        for _ in rt.forever() {
+            if self.count() != seen {
+                break;
+            }
+            self.count.park(rt, (seen & 0xffff_ffff) as u32);
+        }
         self.waiting.fetch_sub(1, Ordering::SeqCst);
     }
 }

@@ -135,6 +135,6 @@ impl<'a, R: Wait> Bank for Locks<'a, R> {
     }
 
     fn chime(&mut self, dev: u32) {
-        self.hub.bells[dev as usize].ring(self.rt);
+        self.hub.bells[dev as usize].ring();
     }
 }

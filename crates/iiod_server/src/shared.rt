@@ -6,7 +6,6 @@ use crate::living::Living;
 use iio_base::Mem;
 use iiod_hub::{Bell, bells_of};
 use std::alloc::Global;
-use std::sync::Wait;
 use std::sync::atomic::{AtomicBool, Ordering};
 
 /// A bell of each trigger, which its ticks ring; the living connections; and whether the server ends.
@@ -35,10 +34,10 @@ impl Shared {
     }
 
     /// Tells the workers of the triggers that the server ends.
-    pub(crate) fn end<R: Wait>(&self, rt: &R) {
+    pub(crate) fn end(&self) {
         self.ending.store(true, Ordering::SeqCst);
         for bell in &self.ticked {
-            bell.ring(rt);
+            bell.ring();
         }
     }
 }

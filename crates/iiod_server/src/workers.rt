@@ -29,7 +29,7 @@ impl<'a, R: Wait, H: Host> Workplace<'a, R, H> {
             if !self.host.tick(self.rt, self.alloc, trigger, &mut ticker) {
                 return;
             }
-            self.shared.ticked[trigger as usize].ring(self.rt);
+            self.shared.ticked[trigger as usize].ring();
             if self.shared.is_ending() {
                 return;
             }
@@ -65,6 +65,6 @@ impl<'a, R: Wait, H: Host> Workplace<'a, R, H> {
     /// Waits for the living connections to end, and tells the workers of the triggers.
     pub(crate) fn end(&self) {
         self.shared.living.wait_for_all(self.rt);
-        self.shared.end(self.rt);
+        self.shared.end();
     }
 }
