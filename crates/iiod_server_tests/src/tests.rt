@@ -3,6 +3,7 @@
 mod connections;
 mod doubles;
 mod hubs;
+mod playback;
 mod serving;
 
 ghost use Rattle.std.specs.Prelude.{IfOk};

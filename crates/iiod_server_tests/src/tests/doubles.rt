@@ -3,13 +3,14 @@
 ghost use Rattle.std.specs.Prelude.{◌≡◌, ◌≤◌, None, length};
 
 use crate::tests::TURNS;
-use iio_io::{Door, Failed, Gate, Link, ListDoor, MemLink, Point, Ticker};
+use crate::tests::playback::{ROW, ROWS};
+use iio_io::{ClockTicker, Door, Failed, Gate, Link, ListDoor, MemLink, Point, Ticker};
 use iiod_hub::Hub;
 use std::alloc::Global;
 use std::sync::Wait;
 use std::sync::atomic::{AtomicBool, AtomicU32, Ordering};
 use std::thread;
-use std::time::{Clock, Duration};
+use std::time::{Clock, Duration, Instant};
 
 /// Looks again, up to `TURNS` times, whether a flag is set. False where it never was.
 pub fn is_set_in_time<R: Clock>(rt: &R, flag: &AtomicBool) -> bool {
@@ -73,9 +74,11 @@ impl<'a, R: Wait> Link for Texts<'a, R> {
     }
 }
 
-// Whether an answer is a number other than 0, of one digit or two.
+// Whether an answer is a number other than 0, of at most three digits.
 fn tells_of_scans(answer: &[u8]) -> bool {
-    (answer.starts_with(b"1\n") && answer != b"1\n0\n".as_slice()) || answer.starts_with(b"2\n")
+    (answer.starts_with(b"1\n") && answer != b"1\n0\n".as_slice())
+        || answer.starts_with(b"2\n")
+        || answer.starts_with(b"3\n")
 }
 
 /// A link that opens the device and then asks how many scans wait, until there is one, or `TURNS` times.
@@ -319,5 +322,110 @@ impl<'a, R: Clock + Wait> Door for Unplugging<'a, R> {
             self.unplugged = self.hub.unplug(&self.rt, self.alloc, 0);
         }
         Ok(given)
+    }
+}
+
+/// A ticker of one tick a millisecond, by the clock, from when a flag is set.
+#[derive(Drop)]
+pub struct Starting<'a, R> {
+    pub rt: R,
+    pub opened: &'a AtomicBool,
+    pub stop: &'a AtomicBool,
+    pub ticker: Option<ClockTicker<'a, R>>,
+}
+
+impl<'a, R: Clock + Copy> Ticker for Starting<'a, R> {
+    ghost use Rattle.std.specs.Prelude.{None};
+
+    ghost moments = { λ t. None };
+
+    fn next(&mut self) -> Option<i64> {
+        if self.ticker.is_none() && is_set_in_time(&self.rt, self.opened) {
+            let start = Instant::now(&self.rt).ok();
+            self.ticker = Some(ClockTicker::new(self.rt, self.stop, start, 1));
+        }
+        self.ticker.as_mut()?.next()
+    }
+}
+
+// The value and the moment of the scan that a block answer has, where it has one.
+fn played_scan(answer: &[u8]) -> Option<(i64, i64)> {
+    let scan = answer.strip_prefix(b"16\n00000003\n")?;
+    if scan.len() != 16 {
+        return None;
+    }
+    let value = u16::from_le_bytes([scan[0], scan[1]]) >> 4;
+    let mut moment = [0; 8];
+    moment.copy_from_slice(&scan[8..]);
+    Some((value as i64, i64::from_le_bytes(moment)))
+}
+
+/// A link that opens the device, reads that many scans one by one, each once there is one, and then stops the ticker; or gives
+/// up after `TURNS` pieces. It counts the scans that are of the row of their moment, at a whole millisecond above the one
+/// before.
+#[derive(Drop)]
+pub struct Playing<'a, R> {
+    pub rt: R,
+    pub left: u32,
+    pub turn: u32,
+    pub available: bool,
+    pub last: i64,
+    pub opened: &'a AtomicBool,
+    pub stop: &'a AtomicBool,
+    pub right: &'a AtomicU32,
+    pub sent: MemLink,
+}
+
+impl<'a, R> Playing<'a, R> {
+    // Looks at the scan of an answer, where it has one.
+    fn look(&mut self, answer: &[u8])
+        ensures { self.new.sent ≡ self.old.sent }
+    {
+        let Some((value, moment)) = played_scan(answer) else {
+            return;
+        };
+        let is_next = moment > self.last && moment % 1_000_000 == 0;
+        if is_next && value == (moment / ROW).min(ROWS - 1) {
+            self.right.fetch_add(1, Ordering::SeqCst);
+        }
+        self.last = moment;
+    }
+}
+
+impl<'a, R: Clock> Link for Playing<'a, R> {
+    ghost use Rattle.std.specs.Prelude.{None};
+
+    ghost left = { λ l. None };
+
+    ghost written = { λ l. None };
+
+    ghost faults = { λ l. ⟦<MemLink as Link>⟧.faults l.sent };
+
+    fn recv(&mut self, out: &mut [u8]) -> Result<usize, Failed> {
+        let turn = self.turn;
+        self.turn = turn.saturating_add(1);
+        if turn == 0 {
+            return Ok(copy_front(b"OPEN adc0 256 00000003\n", out));
+        }
+        self.opened.store(true, Ordering::SeqCst);
+        if self.left == 0 || turn > TURNS {
+            self.stop.store(true, Ordering::SeqCst);
+            return Ok(0);
+        }
+        if !self.available {
+            thread::sleep(&self.rt, Duration::from_millis(1));
+            return Ok(copy_front(b"READ adc0 BUFFER data_available\n", out));
+        }
+        self.available = false;
+        self.left -= 1;
+        Ok(copy_front(b"READBUF adc0 16\n", out))
+    }
+
+    fn send(&mut self, bytes: &[u8]) -> Result<usize, Failed> {
+        if tells_of_scans(bytes) {
+            self.available = true;
+        }
+        self.look(bytes);
+        self.sent.send(bytes)
     }
 }

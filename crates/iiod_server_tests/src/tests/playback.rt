@@ -1,0 +1,91 @@
+//! A description whose rows play back in real time.
+
+ghost use Rattle.std.specs.Prelude.{IfOk};
+ghost use Rattle.iio_desc.specs.WellFormed.{IsWellFormed};
+
+use super::doubles::{Playing, Starting};
+use super::link_of;
+use iio_desc::{Desc, DescReader};
+use iio_io::{ListDoor, OpenGate};
+use iiod_hub::Hub;
+use iiod_server::{ServeEnd, serve_all};
+use std::alloc::Global;
+use std::sync::atomic::{AtomicBool, AtomicU32, Ordering};
+use std::test::Fail;
+use std::time::Clock;
+
+/// How long a row lasts, in nanoseconds.
+pub const ROW: i64 = 10_000_000;
+
+/// How many rows there are; the last one stays.
+pub const ROWS: i64 = 6;
+
+// How many scans are read, a millisecond apart: more than the rows take.
+const SCANS: u32 = 60;
+
+// A device of one voltage and a timestamp. Row k begins at k times `ROW`, and its value is k.
+fn played(alloc: Global) -> Result<Desc, Fail>
+    ensures { IfOk result (λ desc. IsWellFormed 0 desc) }
+{
+    let mut reader = DescReader::new(alloc, 0)?;
+    reader.line(b"trigger t0 2")?;
+    reader.line(b"device adc0 t0")?;
+    reader.line(b"channel voltage0 le:u12/16>>4")?;
+    reader.line(b"timestamp")?;
+    reader.line(b"row 0 0")?;
+    reader.line(b"row 10000000 1")?;
+    reader.line(b"row 20000000 2")?;
+    reader.line(b"row 30000000 3")?;
+    reader.line(b"row 40000000 4")?;
+    reader.line(b"row 50000000 5")?;
+    Ok(reader.finish()?)
+}
+
+// The door with one connection that reads that many scans.
+fn playing_door<'a, R: Clock>(
+    alloc: Global,
+    rt: R,
+    opened: &'a AtomicBool,
+    stop: &'a AtomicBool,
+    right: &'a AtomicU32,
+) -> Result<ListDoor<Playing<'a, R>>, Fail>
+where
+    R: Drop,
+{
+    let sent = link_of(alloc, b"")?;
+    let mut links = Vec::new(alloc);
+    links.push(Playing {
+        rt,
+        left: SCANS,
+        turn: 0,
+        available: false,
+        last: 0,
+        opened,
+        stop,
+        right,
+        sent,
+    })?;
+    Ok(ListDoor::new(links, Vec::new(alloc)))
+}
+
+// Each scan is of the row that its timestamp falls into, and the timestamps are whole milliseconds that rise.
+#[test]
+fn rows_play_back_in_real_time(rt: HostRuntime) -> Result<(), Fail> {
+    let alloc = rt.alloc();
+    let hub = Hub::new(alloc, played(alloc)?, Vec::new(alloc))?;
+    let opened = AtomicBool::new(false);
+    let stop = AtomicBool::new(false);
+    let right = AtomicU32::new(0);
+    let mut door = playing_door(alloc, rt, &opened, &stop, &right)?;
+    let mut tickers = Vec::new(alloc);
+    tickers.push(Starting {
+        rt,
+        opened: &opened,
+        stop: &stop,
+        ticker: None,
+    })?;
+    let end = serve_all(&rt, alloc, &hub, &mut door, tickers, &OpenGate);
+    assert_eq!(rt; end, ServeEnd::DoorEnd);
+    assert_eq!(rt; right.load(Ordering::SeqCst), SCANS);
+    Ok(())
+}
