@@ -7,10 +7,10 @@ pub const MAX_TRIGGERS: usize = 16;
 pub const MAX_DEVICES: usize = 16;
 
 /// The most devices that a trigger serves at once.
-pub(crate) const MAX_PLACES: u8 = 8;
+pub const MAX_PLACES: u8 = 8;
 
 /// The most masks that a device lists.
-pub(crate) const MAX_MASKS: usize = 16;
+pub const MAX_MASKS: usize = 16;
 
 /// The most rows of all devices.
-pub(crate) const MAX_ROWS: usize = 1_000_000;
+pub const MAX_ROWS: usize = 1_000_000;

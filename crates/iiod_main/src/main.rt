@@ -4,6 +4,7 @@
 mod command;
 mod exit;
 mod layout;
+mod limits;
 mod placing;
 #[cfg(test)]
 mod tests;

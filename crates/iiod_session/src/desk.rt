@@ -3,10 +3,10 @@
 use iio_mask::Mask;
 
 /// The buffers count of a device of which the connection has set none.
-pub(crate) const FIRST_BUFFERS: u32 = 4;
+pub const FIRST_BUFFERS: u32 = 4;
 
 /// The most buffers.
-pub(crate) const MAX_BUFFERS: u32 = 64;
+pub const MAX_BUFFERS: u32 = 64;
 
 /// A seat, with its device, the mask and the capacity of its OPEN, and the bytes of its scans.
 #[derive(Drop)]

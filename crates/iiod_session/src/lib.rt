@@ -21,6 +21,7 @@ mod targets;
 mod triggers;
 mod wanted;
 
+pub use desk::{FIRST_BUFFERS, MAX_BUFFERS};
 pub use iio::{Bells, Counts, Iio, No, Took};
 pub use iio_base::Mem;
 pub use limits::{MAX_BYTES, MAX_SCANS};
