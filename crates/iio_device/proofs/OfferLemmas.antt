@@ -10,7 +10,7 @@ use Rattle.iio_mask.specs.Mask.{is_within, union_of_all}
 use Rattle.iio_mask.specs.declared.Mask.{Mask}
 use Rattle.iio_mask.proofs.PlaceLemmas.{has-within}
 use Rattle.iio_mask.specs.Mask.{matching_mask}
-use Rattle.iio_layout.specs.Active.{active_of, data_part, with_stamp}
+use Rattle.iio_layout.specs.Active.{active_of, data_part, has_data, with_stamp}
 use Rattle.iio_layout.proofs.ActiveLemmas.{active_contains, matching_mask_contains}
 use Rattle.iio_layout.specs.Layout.{scan_size}
 use Rattle.iio_layout.specs.Scan.{scan_of}
@@ -209,6 +209,7 @@ module _ {Q : Type 0} (taken lost size capacity : Q → ℕ) (offer_gives : Q �
         record {
           numbered = subst (λ n. n < next) (sym number) low;
           below = subst (λ k. k < 2 ^ count_of shape) (sym mask) is.below;
+          channel = ap (has_data shape) mask ∙ is.channel;
           counted = omega (arith, joined, was, one);
           sized = r.sized ∙ is.sized ∙ ap (scan_size shape) (sym mask);
         }

@@ -110,7 +110,7 @@ module _ {Q : Type 0} (taken lost size : Q → ℕ) where
   wanted_at (m ∷ ms) (suc k) d within = let later = wanted_at ms k d (omega arith) in rw later (or_true (m.mask.bits == (slice_index_or ms k d).mask.bits))
 
   later_member : (shape : ShapeRecord) (captures next : ℕ) (m : Membership Q) → IsMember taken lost size shape captures next m → IsMember taken lost size shape captures (next + 1) m
-  later_member shape captures next m is = let low = is.numbered in record { numbered = omega (arith, low); below = is.below; counted = is.counted; sized = is.sized }
+  later_member shape captures next m is = let low = is.numbered in record { numbered = omega (arith, low); below = is.below; channel = is.channel; counted = is.counted; sized = is.sized }
 
   -- the next number is no member's
   next_free : (shape : ShapeRecord) (captures next : ℕ) (members : List (Membership Q)) → All (IsMember taken lost size shape captures next) members → is_live next members ≡ false

@@ -2,6 +2,7 @@
 use Rattle.std.proofs.Common.{◌≡◌, ℕ, zero, suc, ◌+◌, ◌^◌, ◌<◌, Bool, true, false, List, [], ◌∷◌, ◌++◌, length, take, drop, get_or, slice_set, Option, Some, subst, refl, sym, ap, ◌∙◌, arith}
 use Rattle.std.specs.List.{AllZip}
 use Rattle.iio_mask.specs.declared.Mask.{Mask}
+use Rattle.iio_layout.specs.Active.{has_data}
 use Rattle.iio_layout.specs.Layout.{scan_size}
 use Rattle.iio_layout.specs.Shape.{ShapeRecord, count_of}
 use Rattle.iio_kfifo.specs.Queue.{Queue}
@@ -84,6 +85,7 @@ keeps_member shape captures next a b is r =
     record {
       numbered = subst (λ n. n < next) (sym number) is.numbered;
       below = subst (λ k. k < 2 ^ count_of shape) (sym mask) is.below;
+      channel = ap (has_data shape) mask ∙ is.channel;
       counted = omega (arith, joined, was, taken, lost);
       sized = r.size ∙ is.sized ∙ ap (scan_size shape) (sym mask);
     }

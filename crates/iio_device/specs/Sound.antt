@@ -3,6 +3,7 @@ use Rattle.std.specs.Prelude.{◌≡◌, IfSome, ℕ, ◌+◌, ◌*◌, ◌^◌,
 use Rattle.std.specs.List.{IsDistinct}
 use Rattle.iio_mask.specs.declared.Mask.{Mask}
 use Rattle.iio_scan_type.specs.declared.TheConstants.{MAX_CHANNEL_SIZE}
+use Rattle.iio_layout.specs.Active.{has_data}
 use Rattle.iio_layout.specs.Layout.{scan_size}
 use Rattle.iio_layout.specs.Shape.{ShapeRecord, count_of}
 use Rattle.iio_device.specs.declared.membership.Membership.{Membership}
@@ -27,11 +28,12 @@ abbrev pub HasRoom : ShapeRecord → List ℕ → Type 0
 HasRoom shape room = MAX_CHANNEL_SIZE * count_of shape ≤ length room
 
 module _ {Q : Type 0} (taken lost size : Q → ℕ) where
-  -- a member: its number was given out, its mask is one of the shape, the captures since its joining are the scans taken in
-  -- and those lost, and its queue is of its mask's scans
+  -- a member: its number was given out, its mask is one of the shape and has a data channel, the captures since its joining
+  -- are the scans taken in and those lost, and its queue is of its mask's scans
   pub record IsMember (shape : ShapeRecord) (captures next : ℕ) (m : Membership Q) : Type 0 where
     pub numbered : m.number < next
     pub below : m.mask.bits < 2 ^ count_of shape
+    pub channel : has_data shape m.mask.bits ≡ true
     pub counted : m.joined + (taken m.tail + lost m.tail) ≡ captures
     pub sized : size m.tail ≡ scan_size shape m.mask.bits
 

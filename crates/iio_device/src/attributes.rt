@@ -1,6 +1,7 @@
 //! A device's attributes, its trigger, its events, and its end.
 
 ghost use Rattle.std.specs.Prelude.{◌≡◌, ◌<◌, ⊤, true, is_some, nat_eq, length, IfSome};
+ghost use Rattle.iio_desc.specs.declared.limits.TheConstants.{MAX_TRIGGERS};
 ghost use Rattle.iio_event.specs.Monitor.{after_close, after_open, after_read, close_answer, open_answer, read_answer};
 ghost use Rattle.iio_device.specs.Device.{after_trigger, after_write, at_site, site_of, trigger_answer, view_of, write_answer};
 ghost use Rattle.iio_device.specs.Site.{unplugged, with_monitor};
@@ -49,10 +50,10 @@ impl<Q: Tail> Fitted<IioDev<Q>> {
         Ok(())
     }
 
-    /// Sets the device's trigger, or none. `ENODEV` comes exactly where the device is unplugged, then `EBUSY` exactly where
-    /// it has a member.
+    /// Sets the device's trigger, or none; a number that is given is below 16. `ENODEV` comes exactly where the device is
+    /// unplugged, then `EBUSY` exactly where it has a member.
     pub fn set_trigger(&mut self, trigger: Option<u32>) -> Result<(), Errno>
-        requires { ⊤ }
+        requires { IfSome trigger (λ t. t < MAX_TRIGGERS) }
         ensures answer { result ≡ trigger_answer (view_of ⟦<Plug as Sensor>⟧.driver self.old.core self.old.plug) }
         ensures state { view_of ⟦<Plug as Sensor>⟧.driver self.new.core self.new.plug ≡ after_trigger trigger (view_of ⟦<Plug as Sensor>⟧.driver self.old.core self.old.plug) }
     {

@@ -1,8 +1,9 @@
 //! A device: its members, what the core keeps of it, and its driver.
 
-ghost use Rattle.std.specs.Prelude.{◌≡◌, ◌+◌, ◌-◌, ◌*◌, ◌^◌, ◌≤◌, ◌<◌, ⊤, IfOk, All, drop, is_some, length, min, option_map, unwrap_or, vec_capacity};
+ghost use Rattle.std.specs.Prelude.{◌≡◌, ◌+◌, ◌-◌, ◌*◌, ◌^◌, ◌≤◌, ◌<◌, ⊤, IfOk, IfSome, All, drop, is_some, length, min, option_map, unwrap_or, vec_capacity};
 ghost use Rattle.std.specs.List.{sum_by};
 ghost use Rattle.iio_desc.specs.WellFormed.{IsWrite};
+ghost use Rattle.iio_desc.specs.declared.limits.TheConstants.{MAX_TRIGGERS};
 ghost use Rattle.iio_kfifo.specs.Queue.{Queue};
 ghost use Rattle.iio_layout.specs.Layout.{scan_size};
 ghost use Rattle.iio_device.specs.declared.membership.Member.{Member};
@@ -39,10 +40,12 @@ pub struct Fitted<C> {
 pub type Device<Q> = Fitted<IioDev<Q>>;
 
 impl<Q: Tail> Fitted<IioDev<Q>> {
-    /// A device of that number: it is plugged, has the description's trigger and no member. What it samples is `plug`. The
-    /// attribute lines of the description are written, in their order. Its room for a capture and for events is made here.
+    /// A device of that number: it is plugged, has the description's trigger, whose number is below 16, and no member. What it
+    /// samples is `plug`. The attribute lines of the description are written, in their order. Its room for a capture and for
+    /// events is made here.
     pub fn new(alloc: Global, desc: DeviceDesc, number: u32, plug: Plug) -> Result<Device<Q>, Mem>
-        requires { All (IsWrite (length desc.shape.channels)) desc.attrs }
+        requires writes { All (IsWrite (length desc.shape.channels)) desc.attrs }
+        requires trigger { IfSome desc.trigger (λ t. t < MAX_TRIGGERS) }
         ensures { IfOk result (λ d. view_of ⟦<Plug as Sensor>⟧.driver d.core d.plug ≡ new_view desc number (⟦<Plug as Sensor>⟧.driver plug)) }
     {
         let mut plug = plug;

@@ -1,6 +1,7 @@
 //! What the core keeps of a device.
 
 ghost use Rattle.std.specs.Prelude.{length};
+ghost use Rattle.std.proofs.Props.{props};
 ghost use Rattle.iio_device.specs.Whole.{IsWhole};
 
 use crate::roster::Roster;
@@ -16,11 +17,11 @@ pub struct IioDev<Q: Tail> {
     pub name: Name,
     /// Its number in the description.
     pub number: u32,
-    /// The number of its trigger.
+    /// The number of its trigger, below 16. There is one where there is a member.
     pub trigger: Option<u32>,
     /// How often a first member has joined: the number of the present attachment.
     pub attachment: u64,
     pub stored: Stored,
     pub totals: Totals,
-    ghost whole: { IsWhole (length roster.shape.channels) attachment roster.next stored },
+    ghost whole: { IsWhole (length roster.shape.channels) attachment roster.next trigger roster.members.items stored } by { Prim.hlevel props },
 }

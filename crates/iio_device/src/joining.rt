@@ -1,6 +1,6 @@
 //! Members that come and go.
 
-ghost use Rattle.std.specs.Prelude.{◌≡◌, ◌+◌, ◌-◌, ◌^◌, ◌==◌, ◌&&◌, ◌||◌, ◌≤◌, ◌<◌, nat_lt, true, false, is_some, Some, None};
+ghost use Rattle.std.specs.Prelude.{◌≡◌, ◌+◌, ◌-◌, ◌^◌, ◌==◌, ◌&&◌, ◌||◌, ◌≤◌, ◌<◌, nat_lt, ⊤, true, false, is_some, Some, None};
 ghost use Rattle.std.specs.Option.{option_copied};
 ghost use Rattle.iio_base.specs.Refusals.{first_refusal, unless_refused};
 ghost use Rattle.iio_layout.specs.Active.{has_data};
@@ -130,10 +130,10 @@ impl<Q: Tail> Fitted<IioDev<Q>> {
         Ok(Member { number })
     }
 
-    /// A member leaves, and gives its queue's end back; what it lost counts in the device's totals. None exactly where it isn't live, and then nothing changes. The
-    /// device's place at the trigger is freed with the last member.
+    /// A member leaves, and gives its queue's end back; what it lost counts in the device's totals. None exactly where it isn't
+    /// live, and then nothing changes. The device's place at the trigger is freed with the last member.
     pub fn leave(&mut self, member: Member, trigger: &mut Trigger) -> Option<Q>
-        requires { is_some self.old.core.trigger ≡ true }
+        requires { ⊤ }
         ensures { LeavesDevice Q.lost member.number result (view_of ⟦<Plug as Sensor>⟧.driver self.old.core self.old.plug) (view_of ⟦<Plug as Sensor>⟧.driver self.new.core self.new.plug) trigger.old trigger.new }
     {
         let Some(tail) = self.core.roster.leave(member.number) else {

@@ -4,7 +4,7 @@ ghost use Rattle.std.specs.Prelude.{◌≡◌, ◌==◌, ◌&&◌, ℕ, ℤ, ◌
 ghost use Rattle.std.specs.List.{AllZip};
 ghost use Rattle.std.proofs.Props.{props};
 ghost use Rattle.iio_mask.specs.Mask.{is_within, union_of, union_of_all};
-ghost use Rattle.iio_layout.specs.Active.{active_of};
+ghost use Rattle.iio_layout.specs.Active.{active_of, has_data};
 ghost use Rattle.iio_layout.specs.Layout.{scan_size};
 ghost use Rattle.iio_layout.specs.Scan.{scan_of};
 ghost use Rattle.iio_layout.specs.Shape.{count_of, width_of};
@@ -244,6 +244,7 @@ impl<Q: Tail> Roster<Q> {
     /// A member more. Where it is refused, the queue's end comes back, and nothing changes.
     pub(crate) fn join(&mut self, mask: Mask, tail: Q) -> Result<u64, JoinRefused<Q>>
         requires own { mask.bits < 2 ^ count_of self.old.shape }
+        requires channel { has_data self.old.shape mask.bits ≡ true }
         requires size { Q.size tail ≡ scan_size self.old.shape mask.bits }
         requires fresh { Q.taken tail + Q.lost tail ≡ 0 }
         ensures { Joins mask tail result (standing_of self.old) (standing_of self.new) }

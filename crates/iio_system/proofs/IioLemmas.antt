@@ -23,7 +23,7 @@ use Rattle.iio_device.specs.declared.device.Fitted.{Fitted}
 use Rattle.iio_device.specs.declared.iio_dev.IioDev.{IioDev}
 use Rattle.iio_device.specs.declared.membership.Membership.{Membership}
 use Rattle.iio_device.specs.declared.plug.Plug.{Plug}
-use Rattle.iio_device.specs.Device.{DeviceView, after_trigger, after_write, is_idle}
+use Rattle.iio_device.specs.Device.{DeviceView, after_raw, after_trigger, after_write, is_idle}
 use Rattle.iio_device.specs.Members.{member_of as membership_of}
 use Rattle.iio_device.specs.Site.{Site, no_driver, sampled, site_written, with_monitor}
 use Rattle.iiod_session.specs.declared.iio.No.{No}
@@ -55,6 +55,9 @@ trigger_keeps trigger d d' e = site_keeps _ (is_idle d) d d' e
 
 pub write_keeps : (channel : Option ℕ) (a : Attr) (v : Fixed) (d d' : DeviceView Queue) → d' ≡ after_write channel a v d → KeepsCaptures d d'
 write_keeps channel a v d d' e = site_keeps _ d.site.plugged d d' e
+
+pub raw_keeps : (d d' : DeviceView Queue) → d' ≡ after_raw d → KeepsCaptures d d'
+raw_keeps d d' e = site_keeps (sampled d.site) (is_idle d) d d' e
 
 -- ---- positions
 

@@ -4,6 +4,7 @@ ghost use Rattle.std.specs.Prelude.{◌≡◌, ◌≢◌, ◌==◌, true, false,
 ghost use Rattle.iio_base.specs.Refusals.{ensure};
 ghost use Rattle.iio_text.specs.declared.errors.Errno.TheVariants.{EBADF, ENODEV};
 ghost use Rattle.iio_attr.specs.declared.attributes.Attr.TheVariants.{Raw};
+ghost use Rattle.iio_desc.specs.declared.limits.TheConstants.{MAX_TRIGGERS};
 ghost use Rattle.iio_event.specs.Monitor.{after_close, after_open, after_read};
 ghost use Rattle.iio_layout.specs.Layout.{scan_size};
 ghost use Rattle.iio_trigger.specs.Trigger.{without_entry};
@@ -99,9 +100,9 @@ pub(crate) fn write_attr(
     }
 }
 
-/// Gives the device another trigger, or none.
+/// Gives the device another trigger, or none; a number that is given is below 16.
 pub(crate) fn set_trigger(device: &mut Device<Kfifo>, trigger: Option<u32>) -> Result<(), No>
-    requires { ⊤ }
+    requires { IfSome trigger (λ t. t < MAX_TRIGGERS) }
     ensures acts { Acts (with_site (λ site. record site { trigger = trigger })) (trigger_answer (station_by ⟦<Plug as Sensor>⟧.driver device.old))
         result (station_by ⟦<Plug as Sensor>⟧.driver device.old) (station_by ⟦<Plug as Sensor>⟧.driver device.new) }
     ensures keeps { KeepsCaptures (view_by ⟦<Plug as Sensor>⟧.driver device.old) (view_by ⟦<Plug as Sensor>⟧.driver device.new) }

@@ -68,7 +68,7 @@ module _ {X : Type 0} {V : X → Type 0} {g : Ghosts WriterEnd} where
   same_device devices i s t e d = cc
 
   pub below : (f : HubFront) (devices : List (Fitted (IioDev WriterEnd g) X V)) (n i k : ℕ) (s : (Fitted (IioDev WriterEnd g) X V)) → Fits f devices n → slice_get devices i ≡ Some s → s.core.trigger ≡ Some k → k < n
-  below f devices n i k s fits at e = rw fits.sixteen (by s.core.trigger e (fits.each i s at).placed.below)
+  below f devices n i k s fits at e = rw fits.sixteen (by s.core.trigger e s.core.whole.below)
     where
       by : (o : Option ℕ) → o ≡ Some k → IfSome o (λ j. j < MAX_TRIGGERS) → k < MAX_TRIGGERS
       by None e h = absurd (cc)
@@ -89,7 +89,6 @@ module _ {X : Type 0} {V : X → Type 0} {g : Ghosts WriterEnd} where
       here = record {
         number = kept.number ∙ there.number;
         shaped = kept.shape ∙ there.shaped;
-        placed = kept.placed;
       }
 
       by : (j : ℕ) (y : (Fitted (IioDev WriterEnd g) X V)) → ((j ≡ i) × (y ≡ t)) ⊎ (slice_get devices j ≡ Some y) → FitsAt f j y

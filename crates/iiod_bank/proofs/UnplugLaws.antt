@@ -1,5 +1,5 @@
 -- Members that leave one after another.
-use Rattle.std.proofs.Common.{◌≡◌, ℕ, suc, ◌<◌, ◌≤◌, Bool, true, false, cond, List, [], ◌∷◌, length, Option, Some, None, is_some, refl, sym, ap, ◌∙◌, arith, not}
+use Rattle.std.proofs.Common.{◌≡◌, ℕ, suc, ◌<◌, ◌≤◌, Bool, true, false, cond, List, [], ◌∷◌, length, Option, Some, None, refl, sym, ap, ◌∙◌, arith, not}
 use Rattle.std.specs.Prelude.{◌==◌, option_map}
 use Rattle.std.proofs.lemmas.Bool.Decides.{nat_tests}
 use Rattle.iio_trigger.specs.Trigger.{State}
@@ -10,13 +10,13 @@ use Rattle.iio_device.specs.Members.{first_number, without}
 use Rattle.iio_kfifo.specs.Ends.{WriterEnd}
 use Rattle.iiod_bank.specs.Jobs.{Emptied, Left, gone}
 use Rattle.iiod_bank.specs.Lent.{Kept}
-use Rattle.iiod_bank.proofs.JobLemmas.{is_hosted, kept_along, kept_left, kept_members, kept_same}
+use Rattle.iiod_bank.proofs.JobLemmas.{kept_along, kept_left, kept_same}
 
 pub kept_twice : (a b c : DeviceView WriterEnd) → Kept a b → Kept b c → Kept a c
-kept_twice a b c k l = record { name = l.name ∙ k.name; number = l.number ∙ k.number; shape = l.shape ∙ k.shape; placed = l.placed }
+kept_twice a b c k l = record { name = l.name ∙ k.name; number = l.number ∙ k.number; shape = l.shape ∙ k.shape }
 
-pub kept_gone : (a b : DeviceView WriterEnd) → is_hosted a → b ≡ gone a → Kept a b
-kept_gone a b placed e = kept_along a (gone a) b e (kept_members a (gone a) placed refl refl refl refl refl)
+pub kept_gone : (a b : DeviceView WriterEnd) → b ≡ gone a → Kept a b
+kept_gone a b e = kept_along a (gone a) b e (record { name = refl; number = refl; shape = refl })
 
 fewer_by : (number : ℕ) (ms : List (Membership WriterEnd)) → length (without number ms) ≤ length ms
 fewer_by number [] = omega arith
@@ -49,26 +49,17 @@ module _ (lost : WriterEnd → ℕ) where
   pub record IsEmptying (a : DeviceView WriterEnd) (s : State) (b : DeviceView WriterEnd) (t : State) : Type 0 where
     pub members : ℕ
     pub left : Left lost members a s b t
-    pub hosted : is_some b.site.trigger ≡ true
     pub kept : Kept a b
 
-  begins : (a : DeviceView WriterEnd) (s : State) → is_some a.site.trigger ≡ true → is_hosted a → IsEmptying a s a s
-  begins a s some placed = record { members = 0; left = (refl, refl); hosted = some; kept = kept_same a a placed refl }
-
-  pub begun : (a x : DeviceView WriterEnd) (s : State) → is_some a.site.trigger ≡ true → is_hosted a → x ≡ gone a → IsEmptying x s x s
-  begun a x s some placed e = begins x s (rw e some) (kept_gone a x placed e).placed
-
-  trigger_stays : (number : ℕ) (o : Option WriterEnd) (a b : DeviceView WriterEnd) (s t : State) → LeavesDevice lost number o a b s t → b.site.trigger ≡ a.site.trigger
-  trigger_stays number None a b s t left = ap (λ (v : DeviceView WriterEnd). v.site.trigger) left.1
-  trigger_stays number (Some tail) a b s t left = ap (λ (v : DeviceView WriterEnd). v.site.trigger) left.1
+  pub begins : (a : DeviceView WriterEnd) (s : State) → IsEmptying a s a s
+  begins a s = record { members = 0; left = (refl, refl); kept = kept_same a a refl }
 
   pub goes_on : (a : DeviceView WriterEnd) (s : State) (c : DeviceView WriterEnd) (u : State) (b : DeviceView WriterEnd) (t : State) (number : ℕ) (tail : WriterEnd)
       → IsEmptying a s c u → first_number c.standing.members ≡ Some number → LeavesDevice lost number (Some tail) c b u t → IsEmptying a s b t
   goes_on a s c u b t number tail now first left = record {
     members = suc now.members;
     left = (c, u, now.left, record { number = number; tail = tail; first = first; left = left });
-    hosted = rw (trigger_stays number (Some tail) c b u t left) now.hosted;
-    kept = kept_twice a c b now.kept (kept_left lost number (Some tail) c b u t now.kept.placed now.hosted left);
+    kept = kept_twice a c b now.kept (kept_left lost number (Some tail) c b u t left);
   }
 
   pub smaller : (c b : DeviceView WriterEnd) (u t : State) (number : ℕ) (tail : WriterEnd) → first_number c.standing.members ≡ Some number → LeavesDevice lost number (Some tail) c b u t → length b.standing.members < length c.standing.members

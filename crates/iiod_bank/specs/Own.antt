@@ -8,12 +8,10 @@ use Rattle.iiod_session.specs.Front.{shape_at}
 use Rattle.iio_kfifo.specs.Ends.{WriterEnd}
 use Rattle.iiod_bank.specs.declared.front.HubFront.{HubFront}
 use Rattle.iiod_bank.specs.FrontOf.{front_of}
-use Rattle.iiod_bank.specs.Lent.{IsPlaced}
 
 pub record FitsAt {X : Type 0} {V : X → Type 0} {g : Ghosts WriterEnd} (front : HubFront) (i : ℕ) (d : Fitted (IioDev WriterEnd g) X V) : Type 0 where
   pub number : d.core.number ≡ i
   pub shaped : d.core.roster.shape ≡ shape_at (front_of front) i
-  pub placed : IsPlaced d.core.trigger d.core.roster.members.items
 
 pub record Fits {X : Type 0} {V : X → Type 0} {g : Ghosts WriterEnd} (front : HubFront) (devices : List (Fitted (IioDev WriterEnd g) X V)) (triggers : ℕ) : Type 0 where
   pub many : length devices ≡ length front.devices.items

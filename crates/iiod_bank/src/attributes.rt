@@ -5,7 +5,7 @@ ghost use Rattle.std.proofs.Props.{props};
 ghost use Rattle.iio_attr.specs.declared.attributes.Attr.TheVariants.{Raw};
 ghost use Rattle.iio_desc.specs.declared.limits.TheConstants.{MAX_TRIGGERS};
 ghost use Rattle.iiod_bank.specs.Jobs.{HasChannel, LostMakes, ReadMakes, SetTriggerMakes, WriteMakes};
-ghost use Rattle.iiod_bank.specs.Lent.{IsPlaced, Kept, lent_by};
+ghost use Rattle.iiod_bank.specs.Lent.{Kept, lent_by};
 
 use crate::bank::Work;
 use iio_attr::{Attr, Fixed, Value};

@@ -15,7 +15,7 @@ pub trait DeviceJob: Drop {
     ghost use Rattle.iio_trigger.specs.Trigger.{State};
     ghost use Rattle.iio_device.specs.Device.{DeviceView};
     ghost use Rattle.iio_kfifo.specs.Ends.{WriterEnd};
-    ghost use Rattle.iiod_bank.specs.Lent.{IsPlaced, Kept, lent_by};
+    ghost use Rattle.iiod_bank.specs.Lent.{Kept, lent_by};
 
     type Out;
 
@@ -32,7 +32,6 @@ pub trait DeviceJob: Drop {
     /// Does it at a device without a trigger.
     fn alone(self, device: &mut Device<Writer>) -> Self::Out
         requires may { may self device.old.core.roster.shape }
-        requires placed { IsPlaced device.old.core.trigger device.old.core.roster.members.items }
         requires none { device.old.core.trigger ≡ None }
         ensures makes { makes self (lent_by ⟦<Plug as Sensor>⟧.driver device.old) None result (lent_by ⟦<Plug as Sensor>⟧.driver device.new) None }
         ensures kept { Kept (lent_by ⟦<Plug as Sensor>⟧.driver device.old) (lent_by ⟦<Plug as Sensor>⟧.driver device.new) };
@@ -40,7 +39,6 @@ pub trait DeviceJob: Drop {
     /// Does it at a device and its trigger.
     fn paired(self, device: &mut Device<Writer>, trigger: &mut Trigger) -> Self::Out
         requires may { may self device.old.core.roster.shape }
-        requires placed { IsPlaced device.old.core.trigger device.old.core.roster.members.items }
         requires some { is_some device.old.core.trigger ≡ true }
         ensures makes { makes self (lent_by ⟦<Plug as Sensor>⟧.driver device.old) (Some trigger.old) result (lent_by ⟦<Plug as Sensor>⟧.driver device.new) (Some trigger.new) }
         ensures kept { Kept (lent_by ⟦<Plug as Sensor>⟧.driver device.old) (lent_by ⟦<Plug as Sensor>⟧.driver device.new) };
@@ -51,7 +49,7 @@ pub trait Work: Drop {
     ghost use Rattle.iio_layout.specs.Shape.{ShapeRecord};
     ghost use Rattle.iio_device.specs.Device.{DeviceView};
     ghost use Rattle.iio_kfifo.specs.Ends.{WriterEnd};
-    ghost use Rattle.iiod_bank.specs.Lent.{IsPlaced, Kept, lent_by};
+    ghost use Rattle.iiod_bank.specs.Lent.{Kept, lent_by};
 
     type Out;
 
@@ -68,7 +66,6 @@ pub trait Work: Drop {
     /// Does it.
     fn run(self, device: &mut Device<Writer>) -> Self::Out
         requires may { may self device.old.core.roster.shape }
-        requires placed { IsPlaced device.old.core.trigger device.old.core.roster.members.items }
         ensures does { does self (lent_by ⟦<Plug as Sensor>⟧.driver device.old) result (lent_by ⟦<Plug as Sensor>⟧.driver device.new) }
         ensures kept { Kept (lent_by ⟦<Plug as Sensor>⟧.driver device.old) (lent_by ⟦<Plug as Sensor>⟧.driver device.new) };
 }

@@ -3,7 +3,7 @@
 ghost use Rattle.std.specs.Prelude.{◌≡◌, true};
 ghost use Rattle.iio_device.specs.Device.{Handles};
 ghost use Rattle.iiod_bank.specs.Jobs.{EvCloseMakes, EvOpenMakes, EvReadMakes};
-ghost use Rattle.iiod_bank.specs.Lent.{IsPlaced, Kept, lent_by};
+ghost use Rattle.iiod_bank.specs.Lent.{Kept, lent_by};
 
 use crate::bank::Work;
 use iio_device::{Device, Handled, Plug};

@@ -7,7 +7,7 @@ ghost use Rattle.iio_device.specs.declared.plug.Plug.TheVariants.{Given};
 ghost use Rattle.iio_probe.specs.Devices.{first_devices};
 ghost use Rattle.iiod_bank.specs.First.{first_face, first_front, first_told, first_triggers};
 ghost use Rattle.iiod_bank.specs.FrontOf.{face_of, front_of};
-ghost use Rattle.iiod_bank.specs.Lent.{IsPlaced, lent_by};
+ghost use Rattle.iiod_bank.specs.Lent.{lent_by};
 ghost use Rattle.iiod_bank.specs.Own.{Fits};
 
 use crate::bank::Bank;
@@ -97,7 +97,6 @@ pub fn parts_of(
     ensures devices { IfOk result (λ p. map (λ d. lent_by ⟦<Plug as Sensor>⟧.driver d) p.devices.items ≡ first_devices (map (λ d. ⟦<Plug as Sensor>⟧.driver (Given d)) drivers.items) 0 desc.devices) }
     ensures triggers { IfOk result (λ p. p.triggers.items ≡ first_triggers desc.triggers) }
     ensures fits { IfOk result (λ p. Fits p.front p.devices.items (length p.triggers.items)) }
-    ensures placed { IfOk result (λ p. All (λ d. IsPlaced d.core.trigger d.core.roster.members.items) p.devices.items) }
 {
     made_of(alloc, desc, drivers)
 }

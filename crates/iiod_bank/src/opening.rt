@@ -6,7 +6,7 @@ ghost use Rattle.iio_layout.specs.Shape.{count_of};
 ghost use Rattle.iio_layout.specs.Active.{has_data};
 ghost use Rattle.iiod_session.specs.declared.limits.TheConstants.{MAX_BYTES};
 ghost use Rattle.iiod_bank.specs.Jobs.{LeaveMakes, MayOpenAt, OpenMakes, no_of};
-ghost use Rattle.iiod_bank.specs.Lent.{IsPlaced, Kept, lent_by};
+ghost use Rattle.iiod_bank.specs.Lent.{Kept, lent_by};
 
 use crate::bank::DeviceJob;
 use iio_device::{Device, JoinFault, JoinRefused, Member, Plug};

@@ -2,7 +2,7 @@
 
 ghost use Rattle.std.specs.Prelude.{◌≡◌, ◌<◌, ◌≤◌, true, Some, None, is_some, length};
 ghost use Rattle.iiod_bank.specs.Jobs.{Emptied, UnplugMakes};
-ghost use Rattle.iiod_bank.specs.Lent.{IsPlaced, Kept, lent_by};
+ghost use Rattle.iiod_bank.specs.Lent.{Kept, lent_by};
 
 use crate::bank::DeviceJob;
 use iio_device::{Device, Plug};

@@ -1,5 +1,4 @@
 mod HandleLaws
 mod OpenLaws
 mod SeatLaws
-mod LockLaws
 mod TickLaws

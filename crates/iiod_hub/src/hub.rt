@@ -1,19 +1,18 @@
 //! The calls of a running hub.
 
-ghost use Rattle.std.specs.Prelude.{◌≡◌, ◌+◌, ◌*◌, ◌≤◌, ◌<◌, All, Some, drop, length, vec_capacity, IfOk, IfSome};
+ghost use Rattle.std.specs.Prelude.{◌≡◌, ◌+◌, ◌*◌, ◌≤◌, ◌<◌, Some, drop, length, vec_capacity, IfOk, IfSome};
 ghost use Rattle.iio_desc.specs.WellFormed.{IsWellFormed};
 ghost use Rattle.iio_desc.specs.declared.limits.TheConstants.{MAX_TRIGGERS};
 ghost use Rattle.iiod_session.specs.Seat.{IsNew, IsOfDevice, MayOpen};
 ghost use Rattle.iiod_bank.specs.First.{first_front};
 ghost use Rattle.iiod_bank.specs.FrontOf.{front_of};
-ghost use Rattle.iiod_bank.specs.Lent.{IsPlaced};
 ghost use Rattle.iiod_hub.specs.Link.{HasMoment, seen_of};
 ghost use Rattle.iiod_hub.specs.Reads.{HubReads};
 ghost use Rattle.iiod_bank.specs.Received.{size_of};
 
 use crate::bell::bells_of;
 use crate::link::HubLink;
-use crate::locks::{Bellows, Hub, Locks, Site};
+use crate::locks::{Bellows, Hub, Locks};
 use crate::seat::{HubSeat, ReadEnd};
 use crate::ticking::tick;
 use crossbeam_utils::CachePadded;
@@ -32,18 +31,17 @@ use std::sync::atomic::{AtomicI64, Ordering};
 use std::sync::{Mutex, Wait};
 
 // Each device under a lock.
-fn sites_of(
+fn locked_devices(
     alloc: Global,
     devices: Vec<Device<Writer>>,
-) -> Result<Vec<CachePadded<Mutex<Site>>>, Mem>
-    requires { All (λ d. IsPlaced d.core.trigger d.core.roster.members.items) devices.items }
+) -> Result<Vec<CachePadded<Mutex<Device<Writer>>>>, Mem>
     ensures { IfOk result (λ v. length v.items ≡ length devices.items) }
 {
-    let mut sites = Vec::new(alloc);
+    let mut locked = Vec::new(alloc);
     for device in devices {
-        sites.push(CachePadded::new(Mutex::new(Site::new(device))))?;
+        locked.push(CachePadded::new(Mutex::new(device)))?;
     }
-    Ok(sites)
+    Ok(locked)
 }
 
 // Each trigger under a lock.
@@ -72,11 +70,11 @@ impl Hub {
             triggers,
         } = parts_of(alloc, desc, drivers)?;
         let bells = bells_of(alloc, front.devices.len())?;
-        let sites = sites_of(alloc, devices)?;
+        let devices = locked_devices(alloc, devices)?;
         let triggers = locked_triggers(alloc, triggers)?;
         Ok(Hub {
             front,
-            sites,
+            devices,
             triggers,
             bells,
             clock: AtomicI64::new(0),

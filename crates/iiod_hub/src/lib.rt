@@ -13,6 +13,6 @@ pub use bell::{Bell, bells_of};
 pub use connection::serve_connection;
 pub use iiod_connection::SessionEnd;
 pub use link::HubLink;
-pub use locks::{Bellows, Hub, Locks, Site};
+pub use locks::{Bellows, Hub, Locks};
 pub use seat::{HubSeat, ReadEnd};
 pub use ticking::tick;

@@ -1,64 +1,26 @@
 //! A running hub: a lock for each device and for each trigger.
 
-ghost use Rattle.std.specs.Prelude.{◌≡◌, length, Some, None, true, is_some};
-ghost use Rattle.std.proofs.Props.{props};
+ghost use Rattle.std.specs.Prelude.{◌≡◌, length};
 ghost use Rattle.iio_desc.specs.declared.limits.TheConstants.{MAX_TRIGGERS};
-ghost use Rattle.iiod_bank.specs.Lent.{IsPlaced, Kept, lent_by};
-ghost use Rattle.iiod_bank.specs.Told.{Allowed};
 
 use crate::bell::Bell;
 use crossbeam_utils::CachePadded;
-use iio_device::{Device, Plug};
+use iio_device::Device;
 use iio_kfifo::Writer;
-use iio_sensor::Sensor;
 use iio_trigger::Trigger;
 use iiod_bank::{Bank, DeviceJob, HubFront, TriggerJob};
 use std::sync::atomic::{AtomicI64, Ordering};
 use std::sync::{Mutex, Wait};
 
-/// A device as it lies under its lock.
-#[derive(Drop)]
-pub struct Site {
-    device: Device<Writer>,
-    ghost placed: { IsPlaced device.core.trigger device.core.roster.members.items } by { Prim.hlevel props },
-}
-
-impl Site {
-    /// A device of which this holds.
-    pub(crate) fn new(device: Device<Writer>) -> Site
-        requires { IsPlaced device.core.trigger device.core.roster.members.items }
-    {
-        Site { device }
-    }
-
-    // Does a job at a device without a trigger.
-    fn alone<J: DeviceJob>(&mut self, job: J) -> J::Out
-        requires may { J.may job self.old.device.core.roster.shape }
-        requires none { self.old.device.core.trigger ≡ None }
-        ensures { Allowed (J.may job) (J.makes job) self.old.device.core.number result }
-    {
-        job.alone(&mut self.device)
-    }
-
-    // Does a job at a device and its trigger.
-    fn paired<J: DeviceJob>(&mut self, job: J, trigger: &mut Trigger) -> J::Out
-        requires may { J.may job self.old.device.core.roster.shape }
-        requires some { is_some self.old.device.core.trigger ≡ true }
-        ensures { Allowed (J.may job) (J.makes job) self.old.device.core.number result }
-    {
-        job.paired(&mut self.device, trigger)
-    }
-}
-
 /// A running hub. All its calls take it by `&`. A device's lock is always taken before a trigger's.
 #[derive(Drop)]
 pub struct Hub {
     pub front: HubFront,
-    pub sites: Vec<CachePadded<Mutex<Site>>>,
+    pub devices: Vec<CachePadded<Mutex<Device<Writer>>>>,
     pub triggers: Vec<CachePadded<Mutex<Trigger>>>,
     pub bells: Vec<Bell>,
     pub clock: AtomicI64,
-    ghost many: { length sites.items ≡ length front.devices.items },
+    ghost many: { length devices.items ≡ length front.devices.items },
     ghost sixteen: { length triggers.items ≡ MAX_TRIGGERS },
     ghost rung: { length bells.items ≡ length front.devices.items },
 }
@@ -98,15 +60,15 @@ impl<'a, R: Wait> Bank for Locks<'a, R> {
     }
 
     fn device<J: DeviceJob>(&mut self, dev: u32, job: J) -> J::Out {
-        let mut site = self.hub.sites[dev as usize].lock(self.rt);
-        if site.device.number() != dev || !job.fits(site.device.shape()) {
+        let mut device = self.hub.devices[dev as usize].lock(self.rt);
+        if device.number() != dev || !job.fits(device.shape()) {
             stand_still(self.rt);
         }
-        match site.device.trigger() {
-            None => site.alone(job),
+        match device.trigger() {
+            None => job.alone(&mut device),
             Some(n) => {
                 let mut trigger = self.hub.triggers[n as usize].lock(self.rt);
-                site.paired(job, &mut trigger)
+                job.paired(&mut device, &mut trigger)
             }
         }
     }
@@ -117,13 +79,13 @@ impl<'a, R: Wait> Bank for Locks<'a, R> {
     }
 
     fn plugged(&self, dev: u32) -> bool {
-        let site = self.hub.sites[dev as usize].lock(self.rt);
-        site.device.plugged()
+        let device = self.hub.devices[dev as usize].lock(self.rt);
+        device.plugged()
     }
 
     fn trigger_of(&self, dev: u32) -> Option<u32> {
-        let site = self.hub.sites[dev as usize].lock(self.rt);
-        site.device.trigger()
+        let device = self.hub.devices[dev as usize].lock(self.rt);
+        device.trigger()
     }
 
     fn clock(&self) -> i64 {

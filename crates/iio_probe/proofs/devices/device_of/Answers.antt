@@ -4,5 +4,5 @@ use Rattle.iio_desc.specs.Description.{DeviceRecord}
 use Rattle.iio_desc.specs.WellFormed.{IsWrite}
 use Rattle.iio_probe.proofs.devices.device_of.Goals as goal
 
-pub new-requires-3 : goal.new-requires-3
-new-requires-3 g c = subst (λ (d : DeviceRecord). All (IsWrite (length d.shape.channels)) d.attrs) (sym c.desc.view_is) c.requires.writes
+pub new-requires-3-clause-writes : goal.new-requires-3-clause-writes
+new-requires-3-clause-writes g c = subst (λ (d : DeviceRecord). All (IsWrite (length d.shape.channels)) d.attrs) (sym c.desc.view_is) c.requires.writes

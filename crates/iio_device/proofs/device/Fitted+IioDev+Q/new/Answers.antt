@@ -2,7 +2,7 @@ use Rattle.iio_device.proofs.DeviceLemmas.{made, right_writes}
 use Rattle.iio_device.proofs.device.Fitted+IioDev+Q.new.Goals as goal
 
 pub first_stored-requires : goal.first_stored-requires
-first_stored-requires g c = rw c.deref.ensures.value (right_writes _ c.args.desc c.desc.view_is c.requires)
+first_stored-requires g c = rw c.deref.ensures.value (right_writes _ c.args.desc c.desc.view_is c.requires.writes)
 
 pub returns : goal.returns
 returns g c =

@@ -24,7 +24,7 @@ invariant_of-self g c =
     let small : length roster.members.items < 2 ^ 32 - 1 = search rules in
     let longer = length-append roster.members.items (m ∷ []) in
     let is : IsMember tail.taken tail.lost tail.size roster.shape roster.captures (roster.next + 1) m =
-    record { numbered = omega arith; below = search rules; counted = omega (arith, fresh); sized = search rules } in
+    record { numbered = omega arith; below = search rules; channel = search rules; counted = omega (arith, fresh); sized = search rules } in
     record {
       sound = rw (c.push_reserved.ensures.items, c.add_group.ensures, c.remake_for.ensures.remade)
           (sound_joins tail.taken tail.lost tail.size roster.shape roster.active c.in-Ok.made.0 roster.captures roster.next roster.members.items roster.groups.items m c.in-Ok.made.1

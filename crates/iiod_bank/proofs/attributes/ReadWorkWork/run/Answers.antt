@@ -11,4 +11,4 @@ returns-in-Some-clause-does g c =
     (lent_by (driver_of (λ p. (g.dyn-1.0.entry p.vtable).1.driver p.value)) c.args.device.now) (lent_by (driver_of (λ p. (g.dyn-1.0.entry p.vtable).1.driver p.value)) c.read_channel.new.device) _ whole c.in-Some.is c.read_channel.ensures
 
 pub returns-in-Some-clause-kept : goal.returns-in-Some-clause-kept
-returns-in-Some-clause-kept g c = kept_read (Some c.in-Some.c) c.args.self.attr _ _ c.requires.placed c.read_channel.ensures.1
+returns-in-Some-clause-kept g c = kept_read (Some c.in-Some.c) c.args.self.attr _ _ c.read_channel.ensures.1

@@ -8,11 +8,6 @@ alone-requires-clause-may g c =
     let inside = within _ _ _ _ c.args.self.now.fits c.requires.dev in
     may_at (g.J.DeviceJob.may c.args.job) _ _ _ _ _ c.args.self.now.fits (reads _ _ _ inside c.index_mut.ensures.value) c.requires.may
 
-pub alone-requires-clause-placed : goal.alone-requires-clause-placed
-alone-requires-clause-placed g c =
-    let inside = within _ _ _ _ c.args.self.now.fits c.requires.dev in
-    (c.args.self.now.fits.each _ _ (reads _ _ _ inside c.index_mut.ensures.value)).placed
-
 pub invariant_of-self : goal.invariant_of-self
 invariant_of-self g c =
     let inside = within _ _ _ _ c.args.self.now.fits c.requires.dev in
@@ -28,11 +23,6 @@ pub paired-requires-clause-may : goal.paired-requires-clause-may
 paired-requires-clause-may g c =
     let inside = within _ _ _ _ c.args.self.now.fits c.requires.dev in
     may_at (g.J.DeviceJob.may c.args.job) _ _ _ _ _ c.args.self.now.fits (reads _ _ _ inside c.index_mut-in-Some.ensures.value) c.requires.may
-
-pub paired-requires-clause-placed : goal.paired-requires-clause-placed
-paired-requires-clause-placed g c =
-    let inside = within _ _ _ _ c.args.self.now.fits c.requires.dev in
-    (c.args.self.now.fits.each _ _ (reads _ _ _ inside c.index_mut-in-Some.ensures.value)).placed
 
 pub invariant_of-self-in-Some : goal.invariant_of-self-in-Some
 invariant_of-self-in-Some g c =

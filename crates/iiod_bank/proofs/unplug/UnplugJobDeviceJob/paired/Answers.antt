@@ -1,15 +1,12 @@
 use Rattle.iio_device.specs.Plug.{driver_of}
 use Rattle.iio_kfifo.specs.contracts.writer.WriterTail.TheImpl.{ghosts}
 use Rattle.iiod_bank.specs.Lent.{lent_by}
-use Rattle.iiod_bank.proofs.UnplugLaws.{begun, emptied, first_is, goes_on, kept_gone, kept_twice, none_left, smaller}
+use Rattle.iiod_bank.proofs.UnplugLaws.{begins, emptied, first_is, goes_on, kept_gone, kept_twice, none_left, smaller}
 use Rattle.iiod_bank.proofs.unplug.UnplugJobDeviceJob.paired.Goals as goal
 
 pub loop-member-init : goal.loop-member-init
 loop-member-init g c =
-    begun ghosts.lost (lent_by (driver_of (λ p. (g.dyn-1.0.entry p.vtable).1.driver p.value)) c.args.device.now) (lent_by (driver_of (λ p. (g.dyn-1.0.entry p.vtable).1.driver p.value)) c.unplug-was_plugged.new.self) c.args.trigger.now c.requires.some c.requires.placed c.unplug-was_plugged.ensures.state
-
-pub leave-requires : goal.leave-requires
-leave-requires g c = c.loop-member.invariant.hosted
+    begins ghosts.lost (lent_by (driver_of (λ p. (g.dyn-1.0.entry p.vtable).1.driver p.value)) c.unplug-was_plugged.new.self) c.args.trigger.now
 
 pub loop-member-smaller-in-Some-leave : goal.loop-member-smaller-in-Some-leave
 loop-member-smaller-in-Some-leave g c = smaller ghosts.lost (lent_by (driver_of (λ p. (g.dyn-1.0.entry p.vtable).1.driver p.value)) c.loop-member.device) (lent_by (driver_of (λ p. (g.dyn-1.0.entry p.vtable).1.driver p.value)) c.leave.new.self) c.loop-member.trigger c.leave.new.trigger c.in-Some.member.number c.in-Some-leave.writer (first_is _ _ c.in-Some.member c.first_member.ensures c.in-Some.is) c.in-Some-leave.ensures
@@ -23,4 +20,4 @@ returns-clause-makes g c =
     (c.unplug-was_plugged.ensures.answer, emptied ghosts.lost _ _ _ _ _ c.unplug-was_plugged.ensures.state c.loop-member.invariant (none_left _ _ c.first_member.ensures c.in_default.is))
 
 pub returns-clause-kept : goal.returns-clause-kept
-returns-clause-kept g c = kept_twice _ _ _ (kept_gone _ _ c.requires.placed c.unplug-was_plugged.ensures.state) c.loop-member.invariant.kept
+returns-clause-kept g c = kept_twice _ _ _ (kept_gone _ _ c.unplug-was_plugged.ensures.state) c.loop-member.invariant.kept
