@@ -132,6 +132,11 @@ step_text before after step text = text
 abbrev pub with_step : Setup → List Event → Step → List Event
 with_step s h step = and_then h (events_of_step (told s h) step)
 
+-- the history with steps, the first of them first
+abbrev pub with_steps : Setup → List Event → List Step → List Event
+with_steps s h [] = h
+with_steps s h (t ∷ ts) = with_steps s (with_step s h t) ts
+
 -- the lines that a step prints after a history
 abbrev pub lines_of_step : Setup → List Event → Step → List ℕ
 lines_of_step s h step = step_text (told s h) (told s (with_step s h step)) step (texts_after s h (events_of_step (told s h) step))

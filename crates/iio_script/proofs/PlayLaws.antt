@@ -13,8 +13,7 @@ use Rattle.iio_history.specs.Event.{Event}
 use Rattle.iio_history.specs.Outcome.{Outcome, only_ending, outcome_of_script}
 use Rattle.iio_history.specs.Registry.{Setup}
 use Rattle.iio_history.specs.Script.{Ending, Finished, Refused, Script, ending_text, first_step, is_known, keeps_names, max_names, names_after, script_from, script_text, step_of}
-use Rattle.iio_script.specs.Steps.{with_steps}
-use Rattle.iio_history.specs.Transcript.{Step, Feed, Fire, Poll, Handle, Sense, SetClock, Drop, Unplug, lines_of_step, transcript, with_step}
+use Rattle.iio_history.specs.Transcript.{Step, Feed, Fire, Poll, Handle, Sense, SetClock, Drop, Unplug, lines_of_step, transcript, with_step, with_steps}
 use Rattle.iio_system.specs.declared.system.System.{System}
 use Rattle.iio_system.specs.Standing.{StandsFor, has_room, names_by, names_with}
 use Rattle.iio_script.specs.declared.status.Status.{Status}

@@ -11,7 +11,7 @@ use Rattle.iio_history.specs.Input.{input_limit, is_overlong, looked_lines}
 use Rattle.iio_history.specs.Outcome.{Outcome, last_ending, only_ending, outcome_of_script}
 use Rattle.iio_history.specs.Registry.{Setup}
 use Rattle.iio_history.specs.Script.{Ending, Refused, script_from}
-use Rattle.iio_script.specs.Steps.{with_steps}
+use Rattle.iio_history.specs.Transcript.{with_steps}
 use Rattle.iio_system.specs.declared.system.System.{System}
 use Rattle.iio_system.specs.Standing.{StandsFor}
 use Rattle.iio_script.specs.declared.line_reader.Found.TheVariants as found

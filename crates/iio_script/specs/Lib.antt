@@ -2,7 +2,6 @@ pub mod Status
 pub mod Step
 pub mod Outline
 pub mod LineReader
-pub mod Steps
 pub mod Plays
 pub mod Taken
 pub mod Told

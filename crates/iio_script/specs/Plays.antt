@@ -8,8 +8,7 @@ use Rattle.iio_history.specs.Input.{ended_part}
 use Rattle.iio_history.specs.Outcome.{Outcome, outcome_of_script}
 use Rattle.iio_history.specs.Registry.{Setup}
 use Rattle.iio_history.specs.Script.{Ending, Finished, Script, ending_text, is_known, script_from, script_text}
-use Rattle.iio_script.specs.Steps.{with_steps}
-use Rattle.iio_history.specs.Transcript.{transcript}
+use Rattle.iio_history.specs.Transcript.{transcript, with_steps}
 use Rattle.iio_system.specs.declared.system.System.{System}
 use Rattle.iio_system.specs.Standing.{StandsFor, names_by}
 use Rattle.iio_script.specs.declared.status.Status.{Status}

@@ -6,7 +6,7 @@ use Rattle.iio_history.specs.Outcome.{Head, Described, head_of, last_ending, out
 use Rattle.iio_history.specs.Registry.{Setup}
 use Rattle.iio_history.specs.Script.{Script, Finished, script_from}
 use Rattle.iio_history.specs.Script as ending
-use Rattle.iio_script.specs.Steps.{with_steps}
+use Rattle.iio_history.specs.Transcript.{with_steps}
 use Rattle.iio_history.specs.Summary.{Summary, summary_in, summary_of}
 use Rattle.iio_system.specs.declared.tally.Tally.{Tally}
 use Rattle.iio_system.specs.Tally.{tally_of}

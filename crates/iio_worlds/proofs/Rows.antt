@@ -4,9 +4,9 @@ use Rattle.std.specs.Fmt.{digits}
 use Rattle.iio_desc.specs.Description.{Description}
 use Rattle.iio_desc.specs.DescReader.{read_of}
 use Rattle.iio_history.specs.Registry.{Setup}
-use Rattle.iio_history.specs.Transcript.{Step, Feed, Fire, Drop, transcript}
+use Rattle.iio_history.specs.Transcript.{Step, Feed, Fire, Drop, transcript, with_steps}
 use Rattle.iio_worlds.specs.Bystanders.{only_bystanders}
-use Rattle.iio_worlds.specs.Worlds.{without_others, transcript_kept, with_steps, first_offence}
+use Rattle.iio_worlds.specs.Worlds.{without_others, transcript_kept, first_offence}
 
 abbrev described : List ℕ → Description
 described text = elim (read_of 4 text) [ Ok d ↦ d | Err e ↦ record { context = []; triggers = []; devices = [] } ]

@@ -10,11 +10,11 @@ use Rattle.iio_history.specs.Registry.{Setup, Entry, Registry, has_ended}
 use Rattle.iio_history.specs.Fold.{registry_after}
 use Rattle.iio_history.specs.Told.{Told, registry_of, told}
 use Rattle.iio_history.specs.Machine.{step}
-use Rattle.iio_history.specs.Transcript.{Step, Feed, Fire, Poll, Handle, Sense, SetClock, Drop, Unplug, begun_by, poll_entries, events_of_step, event_text, and_then, texts_after, printed, closed_line, step_text, with_step, lines_of_step, transcript}
+use Rattle.iio_history.specs.Transcript.{Step, Feed, Fire, Poll, Handle, Sense, SetClock, Drop, Unplug, begun_by, poll_entries, events_of_step, event_text, and_then, texts_after, printed, closed_line, step_text, with_step, lines_of_step, transcript, with_steps}
 use Rattle.iio_history.proofs.ToldLaws.{registry_is, step_is_told}
 use Rattle.iio_text.specs.Escape.{quoted}
 use Rattle.iio_worlds.specs.Bystanders.{is_bystander, only_bystanders, others_are_modest}
-use Rattle.iio_worlds.specs.Worlds.{is_others, without_others, with_steps, transcript_kept, first_offence}
+use Rattle.iio_worlds.specs.Worlds.{is_others, without_others, transcript_kept, first_offence}
 use Rattle.iio_worlds.proofs.Alone.{own}
 use Rattle.iio_worlds.proofs.ActLaws.{AllEven, IsOwn}
 use Rattle.iio_worlds.proofs.StepLaws.{AreUnparted, step_alike}

@@ -5,7 +5,7 @@ use Rattle.iiod_grammar.specs.Stream.{Item}
 use Rattle.iio_history.specs.Event.{Event, Heard}
 use Rattle.iio_history.specs.Registry.{Setup}
 use Rattle.iio_history.specs.Fold.{registry_after}
-use Rattle.iio_history.specs.Transcript.{Step, Feed, Drop, and_then, with_step, lines_of_step, transcript}
+use Rattle.iio_history.specs.Transcript.{Step, Feed, Drop, and_then, with_step, with_steps, lines_of_step, transcript}
 use Rattle.iio_worlds.specs.Bystanders.{only_bystanders, all_meet_by}
 
 -- a feed or a drop of another connection
@@ -18,11 +18,6 @@ is_others a step = false
 abbrev pub without_others : List ℕ → List Step → List Step
 without_others a [] = []
 without_others a (t ∷ ts) = if is_others a t then without_others a ts else t ∷ without_others a ts
-
--- the history after steps
-abbrev pub with_steps : Setup → List Event → List Step → List Event
-with_steps s h [] = h
-with_steps s h (t ∷ ts) = with_steps s (with_step s h t) ts
 
 -- the transcript of the steps, less the lines of the steps of other connections
 abbrev pub transcript_kept : Setup → List ℕ → List Event → List Step → List ℕ
