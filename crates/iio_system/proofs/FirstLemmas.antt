@@ -9,10 +9,10 @@ use Rattle.iio_device.specs.Site.{is_empty}
 use Rattle.iio_trigger.specs.Trigger.{State}
 use Rattle.iio_desc.specs.declared.description.TriggerDesc.{TriggerDesc}
 use Rattle.iio_desc.specs.declared.limits.TheConstants.{MAX_TRIGGERS, MAX_DEVICES}
-use Rattle.iiod_session.specs.Front.{DeviceFront}
+use Rattle.iiod_session.specs.Front.{DeviceFront, first_face}
 use Rattle.iiod_session.specs.Machine.{Station}
 use Rattle.iio_probe.specs.Devices.{first_devices, first_driver}
-use Rattle.iio_system.specs.First.{face_of, first_state, first_station}
+use Rattle.iio_system.specs.First.{first_state, first_station}
 use Rattle.iio_system.specs.Places.{IsBench, IsNumbered, TriggerRecord, first_trigger, has_in_hand, has_trigger, is_hosted, places_from, trigger_of}
 use Rattle.iio_system.specs.Station.{station_of}
 use Rattle.iio_system.proofs.ListLemmas.{length_map_is}
@@ -34,14 +34,14 @@ module _ {D : Type 0} (view : D → DeviceView Queue) (drivers : List Driver) wh
       let tail : map view ds ≡ first_devices drivers (suc n) xs = cc in
       ap (λ (v : DeviceView Queue). station_of v ∷ map (λ (d : D). station_of (view d)) ds) head ∙ ap (λ (sts : List Station). first_station drivers x ∷ sts) (stations_made (suc n) ds xs tail)
 
-  fronts_made : (n : ℕ) (ds : List D) (descs : List DeviceRecord) → map view ds ≡ first_devices drivers n descs → map (λ (d : D). front_in (view d)) ds ≡ map face_of descs
+  fronts_made : (n : ℕ) (ds : List D) (descs : List DeviceRecord) → map view ds ≡ first_devices drivers n descs → map (λ (d : D). front_in (view d)) ds ≡ map first_face descs
   fronts_made n [] [] e = refl
   fronts_made n [] (x ∷ xs) e = absurd (cc)
   fronts_made n (d ∷ ds) [] e = absurd (cc)
   fronts_made n (d ∷ ds) (x ∷ xs) e =
       let head : view d ≡ new_view x n (first_driver drivers x) = cc in
       let tail : map view ds ≡ first_devices drivers (suc n) xs = cc in
-      ap (λ (v : DeviceView Queue). front_in v ∷ map (λ (d : D). front_in (view d)) ds) head ∙ ap (λ (fs : List DeviceFront). face_of x ∷ fs) (fronts_made (suc n) ds xs tail)
+      ap (λ (v : DeviceView Queue). front_in v ∷ map (λ (d : D). front_in (view d)) ds) head ∙ ap (λ (fs : List DeviceFront). first_face x ∷ fs) (fronts_made (suc n) ds xs tail)
 
   numbered_made : (n : ℕ) (ds : List D) (descs : List DeviceRecord) → map view ds ≡ first_devices drivers n descs → (k : ℕ) (d : D) → slice_get ds k ≡ Some d → (view d).number ≡ n + k
   numbered_made n [] descs e k d at = absurd (cc)
@@ -72,7 +72,7 @@ module _ {C D E : Type 0} (items : C → List D) (view : D → DeviceView Queue)
   made_stations (Err e) made = tt
   made_stations (Ok v) made = stations_made view drivers 0 (items v) descs made
 
-  pub made_fronts : (r : Result C E) → IfOk r (λ v. map view (items v) ≡ first_devices drivers 0 descs) → IfOk r (λ v. map (λ (d : D). front_in (view d)) (items v) ≡ map face_of descs)
+  pub made_fronts : (r : Result C E) → IfOk r (λ v. map view (items v) ≡ first_devices drivers 0 descs) → IfOk r (λ v. map (λ (d : D). front_in (view d)) (items v) ≡ map first_face descs)
   made_fronts (Err e) made = tt
   made_fronts (Ok v) made = fronts_made view drivers 0 (items v) descs made
 

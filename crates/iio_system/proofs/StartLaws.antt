@@ -10,6 +10,7 @@ use Rattle.iio_device.specs.declared.plug.Plug.{Plug}
 use Rattle.iio_device.specs.Site.{Site, new_site, number_in, with_attr}
 use Rattle.iio_device.specs.Totals.{no_totals}
 use Rattle.iiod_session.specs.Machine.{Machine, Station as MachineStation}
+use Rattle.iiod_session.specs.Front.{first_front}
 use Rattle.iio_history.specs.Who.{Who}
 use Rattle.iio_history.specs.Places.{map_from}
 use Rattle.iio_history.specs.Registry.{Setup, Trigger}
@@ -22,7 +23,7 @@ use Rattle.iio_history.proofs.BenchSites.{written_same}
 use Rattle.iio_history.proofs.BenchSizes.{sizes_from}
 use Rattle.iio_system.specs.declared.bench.Bench.{Bench}
 use Rattle.iio_system.specs.Bench.{front_of, machine_of, triggers_of}
-use Rattle.iio_system.specs.First.{first_front, first_machine, first_station, first_triggers}
+use Rattle.iio_system.specs.First.{first_machine, first_station, first_triggers}
 use Rattle.iio_system.specs.Places.{TriggerRecord, first_trigger}
 use Rattle.iio_system.specs.Standing.{Holds, trigger_by}
 

@@ -7,7 +7,6 @@ use Rattle.iio_trigger.specs.Trigger.{State}
 use Rattle.iio_device.specs.Site.{first_site}
 use Rattle.iio_device.specs.Totals.{no_totals}
 use Rattle.iio_probe.specs.Devices.{first_driver}
-use Rattle.iiod_session.specs.Front.{DeviceFront, Front}
 use Rattle.iiod_session.specs.Machine.{Machine, Station}
 use Rattle.iio_system.specs.Places.{TriggerRecord, first_trigger}
 
@@ -17,12 +16,6 @@ first_station drivers d = record { next = 0; captures = 0; totals = no_totals; m
 
 abbrev pub first_machine : List Driver → Description → Machine
 first_machine drivers desc = record { clock = pos 0; stations = map (first_station drivers) desc.devices }
-
-abbrev pub face_of : DeviceRecord → DeviceFront
-face_of d = record { name = d.name; shape = d.shape }
-
-abbrev pub first_front : Description → Front
-first_front desc = record { context = desc.context; triggers = desc.triggers; devices = map face_of desc.devices }
 
 abbrev pub first_triggers : Description → List TriggerRecord
 first_triggers desc = map (λ (t : TriggerDesc). first_trigger) desc.triggers

@@ -5,7 +5,8 @@ ghost use Rattle.iio_desc.specs.WellFormed.{HasPlaces, IsWellFormed, share_drive
 ghost use Rattle.iio_desc.specs.declared.limits.TheConstants.{MAX_DEVICES};
 ghost use Rattle.iio_device.specs.declared.plug.Plug.TheVariants.{Given};
 ghost use Rattle.iio_probe.specs.Devices.{IsFit};
-ghost use Rattle.iio_system.specs.First.{face_of, first_front, first_machine, first_state, first_station, first_triggers};
+ghost use Rattle.iiod_session.specs.Front.{first_face, first_front};
+ghost use Rattle.iio_system.specs.First.{first_machine, first_state, first_station, first_triggers};
 ghost use Rattle.iio_system.specs.Bench.{front_of, machine_of, triggers_of};
 ghost use Rattle.iio_system.specs.Places.{IsNumbered};
 ghost use Rattle.iio_system.specs.Station.{captures_by, front_by, number_by, stations_by};
@@ -30,7 +31,7 @@ fn devices_of(
     requires fit { All (IsFit (length drivers.items)) descs.items }
     requires apart { AllPairs (λ a b. share_driver a b ≡ false) descs.items }
     ensures stations { IfOk result (λ v. stations_by ⟦<Plug as Sensor>⟧.driver v.items ≡ map (first_station (map (λ d. ⟦<Plug as Sensor>⟧.driver (Given d)) drivers.items)) descs.items) }
-    ensures fronts { IfOk result (λ v. map front_by v.items ≡ map face_of descs.items) }
+    ensures fronts { IfOk result (λ v. map front_by v.items ≡ map first_face descs.items) }
     ensures numbered { IfOk result (λ v. IsNumbered number_by v.items) }
     ensures captures { IfOk result (λ v. All (λ d. captures_by d ≡ 0) v.items) }
 {

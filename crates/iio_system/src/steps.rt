@@ -4,6 +4,7 @@ ghost use Rattle.std.specs.Prelude.{◌≡◌, ◌+◌, ◌++◌, ◌<◌, ◌�
 ghost use Rattle.iio_scan_type.specs.Format.{size_of};
 ghost use Rattle.iio_desc.specs.WellFormed.{IsWellFormed};
 ghost use Rattle.iio_device.specs.declared.plug.Plug.TheVariants.{Given};
+ghost use Rattle.iiod_session.specs.Front.{first_front};
 ghost use Rattle.iio_history.specs.Bench.{Every, HasDeviceSizes};
 ghost use Rattle.iio_history.specs.Event.{Event};
 ghost use Rattle.iio_history.specs.Registry.{Setup};
@@ -11,7 +12,6 @@ ghost use Rattle.iio_history.specs.Script.{max_names};
 ghost use Rattle.iio_history.specs.Transcript.{lines_of_step, with_step};
 ghost use Rattle.iio_system.specs.Bench.{captures_of, front_of};
 ghost use Rattle.iio_system.specs.Feeding.{AreOwning};
-ghost use Rattle.iio_system.specs.First.{first_front};
 ghost use Rattle.iio_system.specs.Standing.{CanCapture, IsTaken, MakesStep, RiseBy, StandsFor, has_room, name_by, names_by, names_with};
 ghost use Rattle.iio_system.specs.Seat.{seen_of};
 ghost use Rattle.iio_system.specs.Step.{IsValid, cost_of, step_view};

@@ -14,7 +14,7 @@ use Rattle.iio_desc.specs.declared.description.TriggerDesc.{TriggerDesc}
 use Rattle.iio_device.specs.declared.device.Fitted.{Fitted}
 use Rattle.iio_device.specs.declared.iio_dev.IioDev.{IioDev}
 use Rattle.iio_device.specs.declared.plug.Plug.{Plug}
-use Rattle.iiod_session.specs.Front.{DeviceFront, Front, no_shape, shape_at}
+use Rattle.iiod_session.specs.Front.{DeviceFront, Front, no_shape, shape_at, first_face, first_front}
 use Rattle.iio_kfifo.specs.Ends.{WriterEnd}
 use Rattle.iio_base.specs.declared.Mem.{Mem}
 use Rattle.iiod_bank.specs.declared.first.Parts.{Parts}
@@ -24,7 +24,7 @@ use Rattle.iiod_bank.specs.Lent.{lent_by}
 use Rattle.iiod_bank.specs.Own.{Fits, FitsAt}
 use Rattle.iiod_bank.proofs.OwnLaws.{map_at}
 use Rattle.iio_probe.specs.Devices.{first_devices, first_driver}
-use Rattle.iiod_bank.specs.First.{first_face, first_front, first_triggers, idle_trigger}
+use Rattle.iiod_bank.specs.First.{first_triggers, idle_trigger}
 
 -- ---- what holds of it
 

@@ -1,20 +1,12 @@
 -- A hub before anything was done.
 use Rattle.std.specs.Prelude.{ℕ, ◌-◌, List, [], ◌++◌, map, length, replicate, pos}
 use Rattle.iio_sensor.specs.Driver.{Driver}
-use Rattle.iio_desc.specs.Description.{Description, DeviceRecord}
+use Rattle.iio_desc.specs.Description.{Description}
 use Rattle.iio_desc.specs.declared.description.TriggerDesc.{TriggerDesc}
 use Rattle.iio_desc.specs.declared.limits.TheConstants.{MAX_TRIGGERS}
 use Rattle.iio_trigger.specs.Trigger.{State}
 use Rattle.iio_probe.specs.Devices.{first_devices}
-use Rattle.iiod_session.specs.Front.{DeviceFront, Front}
 use Rattle.iiod_bank.specs.Told.{Told}
-
--- the name and the shape of a device
-abbrev pub first_face : DeviceRecord → DeviceFront
-first_face d = record { name = d.name; shape = d.shape }
-
-abbrev pub first_front : Description → Front
-first_front desc = record { context = desc.context; triggers = desc.triggers; devices = map first_face desc.devices }
 
 -- a trigger with so many places, none of which is taken
 abbrev pub idle_trigger : ℕ → State

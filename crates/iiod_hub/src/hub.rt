@@ -3,8 +3,8 @@
 ghost use Rattle.std.specs.Prelude.{◌≡◌, ◌+◌, ◌*◌, ◌≤◌, ◌<◌, Some, drop, length, vec_capacity, IfOk, IfSome};
 ghost use Rattle.iio_desc.specs.WellFormed.{IsWellFormed};
 ghost use Rattle.iio_desc.specs.declared.limits.TheConstants.{MAX_TRIGGERS};
+ghost use Rattle.iiod_session.specs.Front.{first_front};
 ghost use Rattle.iiod_session.specs.Seat.{IsNew, IsOfDevice, MayOpen};
-ghost use Rattle.iiod_bank.specs.First.{first_front};
 ghost use Rattle.iiod_bank.specs.FrontOf.{front_of};
 ghost use Rattle.iiod_hub.specs.Link.{HasMoment, seen_of};
 ghost use Rattle.iiod_hub.specs.Reads.{HubReads};

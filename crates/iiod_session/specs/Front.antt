@@ -1,10 +1,10 @@
 -- What no call of an `Iio` changes: the context, the triggers, and the names and shapes of the devices.
-use Rattle.std.specs.Prelude.{ℕ, List, [], Option, None, position, slice_get}
+use Rattle.std.specs.Prelude.{ℕ, List, [], map, Option, None, position, slice_get}
 use Rattle.std.specs.Option.{option_map_or}
 use Rattle.std.specs.Str.{bytes_eq}
 use Rattle.iio_layout.specs.Shape.{ShapeRecord, count_of}
 use Rattle.iio_layout.specs.Layout.{scan_size}
-use Rattle.iio_desc.specs.Description.{trigger_number}
+use Rattle.iio_desc.specs.Description.{Description, DeviceRecord, trigger_number}
 use Rattle.iio_desc.specs.declared.description.TriggerDesc.{TriggerDesc}
 
 pub record DeviceFront : Type 0 where
@@ -15,6 +15,13 @@ pub record Front : Type 0 where
   pub context : List ℕ
   pub triggers : List TriggerDesc
   pub devices : List DeviceFront
+
+-- those of a description
+abbrev pub first_face : DeviceRecord → DeviceFront
+first_face d = record { name = d.name; shape = d.shape }
+
+abbrev pub first_front : Description → Front
+first_front desc = record { context = desc.context; triggers = desc.triggers; devices = map first_face desc.devices }
 
 -- the number of the device, or of the trigger, of that name
 unfoldable pub find_device : Front → List ℕ → Option ℕ

@@ -1,5 +1,5 @@
 use Rattle.std.proofs.Common.{◌≡◌, map, take}
-use Rattle.iiod_bank.specs.First.{first_face}
+use Rattle.iiod_session.specs.Front.{first_face}
 use Rattle.iiod_bank.specs.FrontOf.{face_of}
 use Rattle.iiod_bank.proofs.first.faces_of.Given as goal
 
