@@ -1,6 +1,10 @@
 //! The program: its words, its streams, its door, and the status that it ends with.
 #![tactic(auto)]
 
+ghost use Rattle.std.specs.Prelude.{◌≡◌, false, IfSome};
+ghost use Rattle.iiod_main.specs.Played.{EndsPlayed};
+ghost use Rattle.iiod_main.specs.Words.{IsPlay};
+
 mod command;
 mod exit;
 mod layout;
@@ -38,7 +42,9 @@ fn words_of(rt: &HostRuntime) -> Result<Vec<String>, Mem> {
 }
 
 // Whether the first word is `serve`.
-fn is_server(words: &[String]) -> bool {
+fn is_server(words: &[String]) -> bool
+    ensures { IsPlay words.now → result ≡ false }
+{
     match words {
         [word, ..] => word.as_str() == "serve",
         [] => false,
@@ -53,7 +59,10 @@ pub(crate) fn end_of<R: Threads + Wait + Sync, S: Source, K: Sink, D: Listen>(
     input: &mut S,
     output: &mut K,
     door: &mut D,
-) -> Result<End, Mem> {
+) -> Result<End, Mem>
+    ensures played { IsPlay words.now → IfSome (S.left input.old) (λ left. IfSome (K.written output.old) (λ written.
+        EndsPlayed left written result (K.written output.new))) }
+{
     let mut drivers: Vec<Box<dyn Sensor + Send>> = Vec::new(alloc);
     drivers.push(Box::new(alloc, Ramp::new())?)?;
     drivers.push(Box::new(alloc, Ramp::new())?)?;
