@@ -225,3 +225,23 @@ fn each_ask_fails(rt: HostRuntime) -> Result<(), Fail> {
     }
     Ok(())
 }
+
+// One step that sends 80,000 commands prints more than a million bytes, with memory for them.
+#[test]
+fn a_step_of_many_answers(rt: HostRuntime) -> Result<(), Fail> {
+    let alloc = rt.alloc();
+    let mut text = joined(alloc, &["%%\nA \""])?;
+    let mut printed = joined(alloc, &["A \""])?;
+    for _ in 0..80_000 {
+        text.extend_from_slice(b"VERSION\\n")?;
+        printed.extend_from_slice(b"0.25.iiosim0\\n")?;
+    }
+    text.extend_from_slice(b"\"\n")?;
+    printed.extend_from_slice(b"\"\n")?;
+    let mut input = MemSource::new(text, 65_536, Vec::new(alloc));
+    let mut output = MemSink::new(alloc, 2_000_000, Vec::new(alloc))?;
+    let ended = run_words(alloc, &["play"], &mut input, &mut output)?.code();
+    assert_eq!(rt; ended, 0);
+    assert!(rt; output.written() == printed.as_slice());
+    Ok(())
+}
