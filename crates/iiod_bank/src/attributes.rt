@@ -18,7 +18,8 @@ use iiod_session::No;
 
 // Whether a channel, where one is given, is one of the shape.
 fn has_channel(shape: &Shape, channel: Option<u32>) -> bool
-    ensures { result ≡ true → HasChannel channel shape.now }
+    ensures may { result ≡ true → HasChannel channel shape.now }
+    ensures exactly { HasChannel channel shape.now → result ≡ true }
 {
     match channel {
         None => true,

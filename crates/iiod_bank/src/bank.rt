@@ -27,7 +27,8 @@ pub trait DeviceJob: Drop {
 
     /// Whether it may be done at a device of that shape.
     fn fits(&self, shape: &Shape) -> bool
-        ensures { result ≡ true → may self.now shape.now };
+        ensures may { result ≡ true → may self.now shape.now }
+        ensures exactly { may self.now shape.now → result ≡ true };
 
     /// Does it at a device without a trigger.
     fn alone(self, device: &mut Device<Writer>) -> Self::Out
@@ -61,7 +62,8 @@ pub trait Work: Drop {
 
     /// Whether it may be done at a device of that shape.
     fn fits(&self, shape: &Shape) -> bool
-        ensures { result ≡ true → may self.now shape.now };
+        ensures may { result ≡ true → may self.now shape.now }
+        ensures exactly { may self.now shape.now → result ≡ true };
 
     /// Does it.
     fn run(self, device: &mut Device<Writer>) -> Self::Out

@@ -47,7 +47,8 @@ fn is_below(mask: Mask, channels: u32) -> bool
 
 // Whether the scans of a mask have that size at a device of that shape.
 fn is_sized(shape: &Shape, mask: Mask, size: u32) -> bool
-    ensures { result ≡ true → MayOpenAt mask.bits size shape.now }
+    ensures may { result ≡ true → MayOpenAt mask.bits size shape.now }
+    ensures exactly { MayOpenAt mask.bits size shape.now → result ≡ true }
 {
     if !is_below(mask, shape.count()) {
         return false;
