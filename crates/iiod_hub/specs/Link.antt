@@ -1,5 +1,5 @@
 -- What a link makes of a bank that tells, by jobs; and what its seats are.
-use Rattle.std.specs.Prelude.{◌≡◌, ℕ, ℤ, Bool, true, false, List, [], ◌∷◌, zero, suc, Option, Some, None, Result, Ok, Err}
+use Rattle.std.specs.Prelude.{◌≡◌, ℕ, ℤ, ◌+◌, ◌-◌, ◌^◌, min, nat_lt, Bool, true, false, if◌then◌else◌, List, [], ◌∷◌, zero, suc, Option, Some, None, Result, Ok, Err}
 use Rattle.iio_mask.specs.declared.Mask.{Mask}
 use Rattle.iio_kfifo.specs.declared.tail.Offered.{Offered}
 use Rattle.iio_trigger.specs.Trigger.{State, Handed, Polls}
@@ -12,6 +12,7 @@ use Rattle.iiod_session.specs.Seat.{SeatRecord}
 use Rattle.iio_kfifo.specs.Ends.{WriterEnd}
 use Rattle.iiod_bank.specs.declared.opening.Opened.{Opened}
 use Rattle.iiod_hub.specs.declared.seat.HubSeat.{HubSeat}
+use Rattle.iiod_hub.specs.declared.seat.ReadEnd.{ReadEnd}
 use Rattle.iiod_bank.specs.Received.{received_of, size_of}
 use Rattle.iiod_bank.specs.Told.{Told, Ran, RanAt, Only}
 use Rattle.iiod_bank.specs.Jobs.{OpenMakes}
@@ -27,6 +28,18 @@ seen_of s = record {
   capacity = s.capacity;
   tale = Some (record { given = received_of s.reader; empties = s.empties; gone = s.gone });
 }
+
+-- whether the last take of a read found nothing: fewer scans came than were wanted
+abbrev pub is_short : (want : ℕ) → Result ℕ ReadEnd → Bool
+is_short want (Ok count) = nat_lt count want
+is_short want (Err end) = true
+
+-- what a read leaves of its seat beside the reader; a take that found nothing is counted
+pub record KeepsSeat (want : ℕ) (result : Result ℕ ReadEnd) (old new : HubSeat) : Type 0 where
+  pub member : new.member ≡ old.member
+  pub mask : new.mask ≡ old.mask
+  pub capacity : new.capacity ≡ old.capacity
+  pub empties : new.empties ≡ (if is_short want result then min (old.empties + 1) (2 ^ 64 - 1) else old.empties)
 
 -- the seat that an accepted OPEN's job gives
 abbrev pub seated : ℕ → Mask → ℕ → Opened → HubSeat

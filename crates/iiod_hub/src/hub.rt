@@ -6,7 +6,7 @@ ghost use Rattle.iio_desc.specs.declared.limits.TheConstants.{MAX_TRIGGERS};
 ghost use Rattle.iiod_session.specs.Front.{first_front};
 ghost use Rattle.iiod_session.specs.Seat.{IsNew, IsOfDevice, MayOpen};
 ghost use Rattle.iiod_bank.specs.FrontOf.{front_of};
-ghost use Rattle.iiod_hub.specs.Link.{HasMoment, seen_of};
+ghost use Rattle.iiod_hub.specs.Link.{HasMoment, KeepsSeat, seen_of};
 ghost use Rattle.iiod_hub.specs.Reads.{HubReads};
 ghost use Rattle.iiod_bank.specs.Received.{size_of};
 
@@ -120,6 +120,7 @@ impl Hub {
         requires some { 1 ≤ want }
         requires room { length out.old.items + want * size_of seat.old.reader ≤ vec_capacity out.old }
         ensures reads { HubReads want seat.old.reader.knows seat.new.reader.knows out.old.items out.new.items result }
+        ensures kept { KeepsSeat want result seat.old seat.new }
         ensures room { vec_capacity out.old ≤ vec_capacity out.new }
     {
         seat.read(want, out)

@@ -1,12 +1,12 @@
 //! A member of a device of a hub, as a connection has it.
 
-ghost use Rattle.std.specs.Prelude.{◌≡◌, ◌+◌, ◌*◌, ◌≤◌, ◌<◌, ◌++◌, ◌∷◌, [], true, false, length, option_map, vec_capacity, None, if◌then◌else◌};
+ghost use Rattle.std.specs.Prelude.{◌≡◌, ◌+◌, ◌-◌, ◌*◌, ◌^◌, ◌≤◌, ◌<◌, min, ◌++◌, ◌∷◌, [], true, false, length, option_map, vec_capacity, None, if◌then◌else◌};
 ghost use Rattle.iiod_reply.specs.Reply.{joined_scans};
 ghost use Rattle.iiod_session.specs.Reading.{TakesScans};
 ghost use Rattle.iiod_session.specs.Seat.{after_nothing, after_take};
 ghost use Rattle.iiod_session.specs.declared.iio.Took.{Took};
 ghost use Rattle.iiod_session.specs.declared.iio.Took.TheVariants.{Empty, Gone};
-ghost use Rattle.iiod_hub.specs.Link.{seen_of};
+ghost use Rattle.iiod_hub.specs.Link.{KeepsSeat, seen_of};
 ghost use Rattle.iiod_hub.specs.Reads.{HubReads};
 ghost use Rattle.iiod_bank.specs.Received.{SawClosed, SawOpen, received_of, size_of};
 
@@ -43,6 +43,8 @@ impl HubSeat {
         ensures took { result ≡ (if gone then Gone else Empty) }
         ensures reader { self.new.reader ≡ self.old.reader }
         ensures dev { self.new.dev ≡ self.old.dev }
+        ensures same { (self.new.member ≡ self.old.member) × (self.new.mask ≡ self.old.mask) × (self.new.capacity ≡ self.old.capacity) }
+        ensures empties { self.new.empties ≡ min (self.old.empties + 1) (2 ^ 64 - 1) }
     {
         self.empties = self.empties.saturating_add(1);
         self.gone = gone;
@@ -96,6 +98,7 @@ impl HubSeat {
         ensures reads { HubReads want self.old.reader.knows self.new.reader.knows out.old.items out.new.items result }
         ensures room { vec_capacity out.old ≤ vec_capacity out.new }
         ensures dev { self.new.dev ≡ self.old.dev }
+        ensures kept { KeepsSeat want result self.old self.new }
     {
         let closed = self.reader.closed();
         let count = self.reader.take_scans(want, out);
