@@ -8,6 +8,7 @@ use Rattle.iio_device.specs.declared.handling.Handled.{Handled}
 use Rattle.iio_device.specs.Device.{DeviceView, Handles}
 use Rattle.iiod_session.specs.Front.{Front, size_at}
 use Rattle.iiod_session.specs.declared.iio.No.{No}
+use Rattle.iiod_session.specs.declared.iio.No.TheVariants.{Errno as NoErrno, Mem as NoMem}
 use Rattle.iiod_session.specs.Seat.{SeatRecord}
 use Rattle.iio_kfifo.specs.Ends.{WriterEnd}
 use Rattle.iiod_bank.specs.declared.opening.Opened.{Opened}
@@ -15,7 +16,7 @@ use Rattle.iiod_hub.specs.declared.seat.HubSeat.{HubSeat}
 use Rattle.iiod_hub.specs.declared.seat.ReadEnd.{ReadEnd}
 use Rattle.iiod_bank.specs.Received.{received_of, size_of}
 use Rattle.iiod_bank.specs.Told.{Told, Ran, RanAt, Only}
-use Rattle.iiod_bank.specs.Jobs.{OpenMakes}
+use Rattle.iiod_bank.specs.Jobs.{OpenMakes, open_refusal}
 use Rattle.iiod_bank.specs.TriggerJobs.{DoneMakes, DueMakes}
 
 -- ---- seats
@@ -55,6 +56,12 @@ module _ (taken lost size capacity : WriterEnd → ℕ) where
     pub answer : Result Opened No
     pub ran : Ran (OpenMakes taken lost size capacity mask scans (size_at front dev mask.bits)) dev b answer c
     pub seat : SeatOf dev mask scans answer result
+
+-- an errno is one by which some device of that number refuses an OPEN of that mask, as it then stands
+abbrev pub RefusedBySome : (dev : ℕ) → Mask → Result HubSeat No → Type 0
+RefusedBySome dev mask (Err (NoErrno e)) = (a : DeviceView WriterEnd) × (s : Option State) × (a.number ≡ dev) × (open_refusal mask.bits a s ≡ Some e)
+RefusedBySome dev mask (Err NoMem) = Unit {0}
+RefusedBySome dev mask (Ok s) = Unit {0}
 
 -- ---- handling
 

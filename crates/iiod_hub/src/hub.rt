@@ -6,7 +6,7 @@ ghost use Rattle.iio_desc.specs.declared.limits.TheConstants.{MAX_TRIGGERS};
 ghost use Rattle.iiod_session.specs.Front.{first_front};
 ghost use Rattle.iiod_session.specs.Seat.{IsNew, IsOfDevice, MayOpen};
 ghost use Rattle.iiod_bank.specs.FrontOf.{front_of};
-ghost use Rattle.iiod_hub.specs.Link.{HasMoment, KeepsSeat, seen_of};
+ghost use Rattle.iiod_hub.specs.Link.{HasMoment, KeepsSeat, RefusedBySome, seen_of};
 ghost use Rattle.iiod_hub.specs.Reads.{HubReads};
 ghost use Rattle.iiod_bank.specs.Received.{size_of};
 
@@ -101,7 +101,8 @@ impl Hub {
         capacity: u32,
     ) -> Result<HubSeat, No>
         requires { MayOpen (front_of self.now.front) dev mask.bits capacity }
-        ensures { IfOk result (λ s. IsNew (front_of self.now.front) dev mask.bits capacity (seen_of s) × (s.dev ≡ dev)) }
+        ensures seat { IfOk result (λ s. IsNew (front_of self.now.front) dev mask.bits capacity (seen_of s) × (s.dev ≡ dev)) }
+        ensures refused { RefusedBySome dev mask result }
     {
         self.link(rt, alloc).open(dev, mask, capacity)
     }

@@ -10,7 +10,7 @@ ghost use Rattle.iiod_session.specs.Reading.{TakesScans};
 ghost use Rattle.iiod_session.specs.Seat.{IsNew, IsOfDevice, MayOpen, after_take};
 ghost use Rattle.iiod_session.specs.Target.{MayRead, MayWrite};
 ghost use Rattle.iiod_bank.specs.Jobs.{EvCloseMakes, EvOpenMakes, EvReadMakes, LeaveMakes, LostMakes, ReadMakes, SetTriggerMakes, UnplugMakes, WriteMakes};
-ghost use Rattle.iiod_hub.specs.Link.{BankHandles, BankOpens, Swept, seen_of};
+ghost use Rattle.iiod_hub.specs.Link.{BankHandles, BankOpens, RefusedBySome, Swept, seen_of};
 ghost use Rattle.iiod_bank.specs.Received.{SawClosed, SawOpen, received_of, size_of};
 ghost use Rattle.iiod_bank.specs.Told.{Moves, Only, Ran, RanAt, Told, is_plugged_at, trigger_number_at};
 
@@ -95,6 +95,7 @@ impl<B: Bank> Iio for HubLink<B> {
         ensures kept { B.front self.new.bank ≡ B.front self.old.bank }
         ensures seat { IfOk result (λ s. IsNew (B.front self.old.bank) dev mask.bits capacity (seen_of s)) }
         ensures dev { IfOk result (λ s. s.dev ≡ dev) }
+        ensures refused { RefusedBySome dev mask result }
         ensures bank { Moves (B.told self.old.bank) (B.told self.new.bank) (λ b c.
             BankOpens ⟦<Writer as Tail>⟧.taken ⟦<Writer as Tail>⟧.lost ⟦<Writer as Tail>⟧.size ⟦<Writer as Tail>⟧.capacity (B.front self.old.bank) dev mask capacity b result c) }
     {
