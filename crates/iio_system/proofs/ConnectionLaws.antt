@@ -22,9 +22,9 @@ script_isnt_server e = absurd (cc)
 -- after a feed in a script nothing whole is left
 left_is : (front : Front) (a b : State) (all left : Scanned) (before after : List ℕ) (going : Going) → (going ≡ On → left.items ≡ []) → Feeds Script front a all before after b left going
     → left ≡ no_item all.next
-left_is front a b all left before after On whole f = ap (λ items. (let x : Scanned = record { items = items; next = left.next } in x)) (whole refl) ∙ ap (λ next. no_item next) f.fed.next
-left_is front a b all left before after (Waits dev) whole f = absurd (script_isnt_server f.stands.server)
-left_is front a b all left before after Ended whole f = f.stands.1 ∙ ap (λ next. no_item next) (sym (ap (λ (x : Scanned). x.next) f.stands.1) ∙ f.fed.next)
+left_is front a b all left before after On whole f = ap (λ items. (let x : Scanned = record { items = items; next = left.next } in x)) (whole refl) ∙ ap (λ next. no_item next) f.carried.fed.next
+left_is front a b all left before after (Waits dev) whole f = absurd (script_isnt_server f.carried.stands.server)
+left_is front a b all left before after Ended whole f = f.carried.stands.1 ∙ ap (λ next. no_item next) (sym (ap (λ (x : Scanned). x.next) f.carried.stands.1) ∙ f.carried.fed.next)
 
 module _ {S : Type 0} (seen : S → SeatRecord) where
   pub has_heard : (front : Front) (told told' : Option Machine) (x x' : SessionRecord S) (bytes before after : List ℕ) (going : Going)

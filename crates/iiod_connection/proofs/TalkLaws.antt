@@ -80,8 +80,8 @@ read_within front dev item r = absurd r
 
 pub stands_by : (front : Front) (a b : Place) (bytes text : List ℕ) (going : Going) → FeedsOnce front a bytes text going b → (going ≡ On → b.stream.items ≡ []) → StandsBy front going b
 stands_by front a b bytes text On f all = all refl
-stands_by front a b bytes text (Waits dev) f all = let w = f.feeds.stands in read_within front dev w.item w.read
-stands_by front a b bytes text going.Ended f all = f.feeds.stands.1
+stands_by front a b bytes text (Waits dev) f all = let w = f.feeds.carried.stands in read_within front dev w.item w.read
+stands_by front a b bytes text going.Ended f all = f.feeds.carried.stands.1
 
 pub on_err : {A E : Type 0} (r : Result A E) (P : Type 0) → is_err r ≡ true → OnErr r P → P
 on_err (Ok x) P e p = absurd (cc)

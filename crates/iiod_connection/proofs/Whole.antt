@@ -54,13 +54,13 @@ answered_none front a = record {
 
 answered_more : ItemsCutAnywhere → ScannerCutAnywhere → (front : Front) (a m b : Place) (h x bytes text : List ℕ) (g : Going) → Answers front a h x m → FeedsOnce front m bytes text g b → Answers front a (h ++ bytes) (x ++ text) b
 answered_more cut cut2 front a m b h x bytes text g s f =
-    let fed = f.feeds.fed in
+    let fed = f.feeds.carried.fed in
     let more : List Item = items_from m.stream.next bytes in
     record {
       runs = suc s.runs;
       items = s.items ++ fed.items;
       replies = s.replies ++ fed.replies;
-      run = (m.state, s.items, s.replies, f.feeds.mid, fed.items, fed.replies, s.run, fed.run, stands_so front f.feeds.mid b.state b.stream g f.feeds.stands, refl, refl);
+      run = (m.state, s.items, s.replies, f.feeds.carried.mid, fed.items, fed.replies, s.run, fed.run, stands_so front f.feeds.carried.mid b.state b.stream g f.feeds.carried.stands, refl, refl);
       whole =
           scanned_items cut a.stream h bytes
           ∙ ap (λ (is : List Item). is ++ items_from (scan_on a.stream h).next bytes) s.whole

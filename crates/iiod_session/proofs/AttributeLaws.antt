@@ -13,9 +13,11 @@ use Rattle.iio_attr.specs.declared.values.Value.TheVariants.{Number as StoredNum
 use Rattle.iio_layout.specs.Shape.{ShapeRecord}
 use Rattle.iio_sensor.specs.Driver.{ask_fails, value_of}
 use Rattle.iio_device.specs.Site.{is_empty}
-use Rattle.iiod_grammar.specs.Command.{Place, Read}
+use Rattle.iiod_grammar.specs.Command.{Place, Read, Target}
 use Rattle.iiod_grammar.specs.Stream.{Said, Written}
 use Rattle.iiod_reply.specs.Reply.{Reply, Refusal, Value, NoMemory}
+use Rattle.iiod_session.specs.declared.attributes.AttrText.{AttrText}
+use Rattle.iiod_session.specs.declared.attributes.AttrText.TheVariants as text
 use Rattle.iiod_session.specs.declared.desk.Held.{Held}
 use Rattle.iiod_session.specs.declared.iio.No.{No}
 use Rattle.iiod_session.specs.declared.iio.No.TheVariants.{Errno as NoErrno, Mem as NoMem}
@@ -25,14 +27,14 @@ use Rattle.iiod_session.specs.Calls.{raw_answer, read_attr_of, write_attr_of}
 use Rattle.iiod_session.specs.Desk.{DeskRecord, bare_of, place_of, seats_of, with_seats}
 use Rattle.iiod_session.specs.Front.{Front, find_device, shape_at}
 use Rattle.iiod_session.specs.Machine.{Machine, MemberId, Station, is_plugged, lost_of, queue_of, station_at}
-use Rattle.iiod_session.specs.Moves.{Serves}
+use Rattle.iiod_session.specs.Moves.{AnswersAs, Serves}
 use Rattle.iiod_session.specs.Performs.{Comes}
 use Rattle.iiod_session.specs.Seat.{Answers, SeatRecord, Tale, seat_id}
 use Rattle.iiod_session.specs.Targets.{text_by, written_by}
 use Rattle.iiod_session.proofs.HeldLaws.{id_is}
 use Rattle.iiod_session.proofs.PlainLaws.{serves_only}
 use Rattle.iiod_session.proofs.SeatsLaws.{get_is}
-use Rattle.iiod_session.proofs.ServeLaws.{all_comes}
+use Rattle.iiod_session.proofs.ServeLaws.{all_comes, alone_at}
 
 -- ---- an attribute of the device
 
@@ -155,9 +157,11 @@ read_is front m desk device place name = refl
 pub serves_read_attribute : (front : Front) (told told' : Option Machine) (desk desk' : DeskRecord) (tales tales' : List (Option Tale)) (device : List ℕ) (place : Place) (name : Option (List ℕ)) (reply : Reply)
     → IfSome told (λ m. Comes m desk (at_device m desk (read_attribute_at front m desk place name) (find_device front device)) reply told' desk)
     → desk' ≡ desk → tales' ≡ tales
+    → (find_device front device ≡ None → reply ≡ Refusal ENODEV) → AnswersAs front (Said (Ok (Read device place name))) reply
     → Serves front told desk tales (Said (Ok (Read device place name))) reply told' desk' tales'
-serves_read_attribute front told told' desk desk' tales tales' device place name reply c d t = record {
-  alone = tt;
+serves_read_attribute front told told' desk desk' tales tales' device place name reply c d t none formed = record {
+  alone = alone_at (find_device front device) reply none;
+  formed = formed;
   exact = rw d (all_comes front told told' desk desk _ (λ m. at_device m desk (read_attribute_at front m desk place name) (find_device front device)) reply (λ m. read_is front m desk device place name) c);
   moves = (d, t);
 }
@@ -169,9 +173,23 @@ written_is front m desk device place name payload = refl
 
 pub serves_write_attribute : (front : Front) (told told' : Option Machine) (desk : DeskRecord) (tales : List (Option Tale)) (device : List ℕ) (place : Place) (name : Option (List ℕ)) (payload : List ℕ) (reply : Reply)
     → IfSome told (λ m. Comes m desk (at_device m desk (write_attribute_at front m desk place name payload) (find_device front device)) reply told' desk)
+    → (find_device front device ≡ None → reply ≡ Refusal ENODEV) → AnswersAs front (Written device (Some (place, name)) payload) reply
     → Serves front told desk tales (Written device (Some (place, name)) payload) reply told' desk tales
-serves_write_attribute front told told' desk tales device place name payload reply c =
-    record { alone = tt; exact = all_comes front told told' desk desk _ (λ m. at_device m desk (write_attribute_at front m desk place name payload) (find_device front device)) reply (λ m. written_is front m desk device place name payload) c; moves = (refl, refl) }
+serves_write_attribute front told told' desk tales device place name payload reply c none formed =
+    record { alone = alone_at (find_device front device) reply none; formed = formed; exact = all_comes front told told' desk desk _ (λ m. at_device m desk (write_attribute_at front m desk place name payload) (find_device front device)) reply (λ m. written_is front m desk device place name payload) c; moves = (refl, refl) }
+
+pub text_formed : (front : Front) (device : List ℕ) (place : Place) (name : Option (List ℕ)) (r : Result AttrText No) → AnswersAs front (Said (Ok (Read device place name))) (text_by r)
+text_formed front device place name (Ok (text.Fixed digits)) = (_, refl)
+text_formed front device place name (Ok (text.Int n)) = (_, refl)
+text_formed front device place name (Ok (text.Count n)) = (_, refl)
+text_formed front device place name (Ok (text.Name bytes)) = (_, refl)
+text_formed front device place name (Err (NoErrno e)) = tt
+text_formed front device place name (Err NoMem) = tt
+
+pub written_formed : (front : Front) (device : List ℕ) (target : Target) (payload : List ℕ) (r : Result ⊤ No) → AnswersAs front (Written device (Some target) payload) (written_by (length payload) r)
+written_formed front device target payload (Ok done) = refl
+written_formed front device target payload (Err (NoErrno e)) = tt
+written_formed front device target payload (Err NoMem) = tt
 
 -- a WRITE whose words name nothing
 nameless_is : (front : Front) (m : Machine) (desk : DeskRecord) (device payload : List ℕ) → act front m desk (Written device None payload) ≡ only (Refusal EINVAL) m desk
@@ -180,7 +198,7 @@ nameless_is front m desk device payload = refl
 
 pub serves_nameless : (front : Front) (told : Option Machine) (desk : DeskRecord) (tales : List (Option Tale)) (device payload : List ℕ)
     → Serves front told desk tales (Written device None payload) (Refusal EINVAL) told desk tales
-serves_nameless front told desk tales device payload = serves_only front told desk tales _ (Refusal EINVAL) tt (inl refl) (λ m. nameless_is front m desk device payload) (refl, refl)
+serves_nameless front told desk tales device payload = serves_only front told desk tales _ (Refusal EINVAL) tt (inl refl) tt (λ m. nameless_is front m desk device payload) (refl, refl)
 
 -- ---- refusals
 

@@ -11,10 +11,10 @@ use Rattle.iiod_session.specs.declared.manner.Manner.{Manner}
 use Rattle.iio_text.specs.declared.errors.Errno.TheVariants.{EAGAIN}
 use Rattle.iiod_session.specs.Desk.{Bare}
 use Rattle.iiod_session.specs.Front.{Front}
-use Rattle.iiod_session.specs.Given.{AreSeated, GivenIs}
+use Rattle.iiod_session.specs.Given.{GivenIs}
 use Rattle.iiod_session.specs.Seat.{Tale}
-use Rattle.iiod_session.specs.Run.{State, IsAnswered, Run, Fed, Feeds, Stands}
-use Rattle.iiod_session.proofs.GivenLaws.{gives, run_gives, waiting_gives, waiting_seated}
+use Rattle.iiod_session.specs.Run.{State, IsAnswered, Run, Fed, Carries, Feeds, Stands}
+use Rattle.iiod_session.proofs.GivenLaws.{AreSeated, gives, run_gives, waiting_gives}
 use Rattle.iiod_session.proofs.StreamLaws.{scan_end}
 
 run_then : (manner : Manner) (front : Front) (a b c : State) (items more : List Item) (replies further : List Reply)
@@ -53,11 +53,6 @@ fed_more manner front a b all left before after bytes f = record {
 }
 
 -- what the seats gave follows from the answers
-seated_by : (manner : Manner) (front : Front) (a b : State) (left : Scanned) (going : Going) → Stands manner front a left b going → AreSeated a.desk.seats a.tales → AreSeated b.desk.seats b.tales
-seated_by manner front a b left On s seated = rw s.0 seated
-seated_by manner front a b left (Waits dev) s seated = waiting_seated front a b s.item EAGAIN s.served.moves seated
-seated_by manner front a b left Ended s seated = rw s.0 seated
-
 given_then : (manner : Manner) (front : Front) (items : List Item) (replies : List Reply) (seats : List Bare) (tales : List (Option Tale)) (a b : State) (left : Scanned) (going : Going)
     → Stands manner front a left b going → AreSeated a.desk.seats a.tales
     → GivenIs front items replies seats tales a.desk.seats a.tales → GivenIs front items replies seats tales b.desk.seats b.tales
@@ -65,25 +60,31 @@ given_then manner front items replies seats tales a b left On s seated g = rw s.
 given_then manner front items replies seats tales a b left (Waits dev) s seated g = waiting_gives front items replies seats tales a b s.item EAGAIN s.served.moves seated g
 given_then manner front items replies seats tales a b left Ended s seated g = rw s.0 g
 
+-- a feed, with what its seats gave
+pub feeds_given : (manner : Manner) (front : Front) (a b : State) (all left : Scanned) (before after : List ℕ) (going : Going) → AreSeated a.desk.seats a.tales
+    → Carries manner front a all before after b left going → Feeds manner front a all before after b left going
+feeds_given manner front a b all left before after going seated c = record {
+  carried = c;
+  given = given_then manner front c.fed.items c.fed.replies a.desk.seats a.tales c.mid b left going c.stands
+      (run_gives manner front a c.mid c.fed.items c.fed.replies c.fed.run seated).0 (gives manner front a c.mid c.fed.items c.fed.replies c.fed.run seated);
+}
+
 pub feeds_of : (manner : Manner) (front : Front) (a mid b : State) (all left : Scanned) (before after : List ℕ) (going : Going)
-    → Fed manner front a all before after mid left → Stands manner front mid left b going → Feeds manner front a all before after b left going
+    → Fed manner front a all before after mid left → Stands manner front mid left b going → Carries manner front a all before after b left going
 feeds_of manner front a mid b all left before after going f s = record {
   mid = mid;
   fed = f;
   stands = s;
-  seated = λ seated. seated_by manner front mid b left going s (run_gives manner front a mid f.items f.replies f.run seated).0;
-  given = λ seated. given_then manner front f.items f.replies a.desk.seats a.tales mid b left going s (run_gives manner front a mid f.items f.replies f.run seated).0
-      (gives manner front a mid f.items f.replies f.run seated);
 }
 
 pub feeds_then : (manner : Manner) (front : Front) (a b c : State) (all left rest : Scanned) (before mid after : List ℕ) (going : Going)
-    → Fed manner front a all before mid b left → Feeds manner front b left mid after c rest going → Feeds manner front a all before after c rest going
+    → Fed manner front a all before mid b left → Carries manner front b left mid after c rest going → Carries manner front a all before after c rest going
 feeds_then manner front a b c all left rest before mid after going f g =
     feeds_of manner front a g.mid c all rest before after going (fed_then manner front a b g.mid all left rest before mid after f g.fed) g.stands
 
 -- where the connection doesn't go on, further bytes stay behind
 pub feeds_more : (manner : Manner) (front : Front) (a b : State) (all left : Scanned) (before after bytes : List ℕ) (going : Going) → going ≢ On
-    → Feeds manner front a all before after b left going → Feeds manner front a (scan_on all bytes) before after b (scan_on left bytes) going
+    → Carries manner front a all before after b left going → Carries manner front a (scan_on all bytes) before after b (scan_on left bytes) going
 feeds_more manner front a b all left before after bytes going stops f =
     feeds_of manner front a f.mid b (scan_on all bytes) (scan_on left bytes) before after going (fed_more manner front a f.mid all left before after bytes f.fed) (by going stops f.stands)
   where
@@ -101,11 +102,11 @@ feeds_more manner front a b all left before after bytes going stops f =
 
 -- where it goes on, nothing else happened
 pub feeds_on : (manner : Manner) (front : Front) (a b : State) (all left : Scanned) (before after : List ℕ)
-    → Feeds manner front a all before after b left On → Fed manner front a all before after b left
+    → Carries manner front a all before after b left On → Fed manner front a all before after b left
 feeds_on manner front a b all left before after f = rw (sym f.stands.0) at f.fed
 
 pub goes_on : (manner : Manner) (front : Front) (a b : State) (all left : Scanned) (before after : List ℕ) → left.next ≢ AtEnd
-    → Fed manner front a all before after b left → Feeds manner front a all before after b left On
+    → Fed manner front a all before after b left → Carries manner front a all before after b left On
 goes_on manner front a b all left before after on f = feeds_of manner front a b b all left before after On f (refl, on)
 
 -- one item

@@ -12,13 +12,35 @@ use Rattle.iiod_grammar.specs.Stream.{Item, Said, End}
 use Rattle.iiod_reply.specs.Reply.{Reply, Number, Refusal, Block, NoMemory}
 use Rattle.iiod_session.specs.declared.manner.Manner.{Manner}
 use Rattle.iiod_session.specs.Acts.{zero_reply}
-use Rattle.iiod_session.specs.Desk.{Bare, DeskRecord, place_of}
+use Rattle.iiod_session.specs.Desk.{Bare, DeskRecord, are_apart, has_seat, place_of}
 use Rattle.iiod_session.specs.Front.{Front, find_device, size_at}
-use Rattle.iiod_session.specs.Given.{AreApart, AreSeated, GivenIs, given_after, given_by, given_in, has_seat, is_named, tale_at}
+use Rattle.iiod_session.specs.Given.{GivenIs, given_after, given_by, given_in, is_named, tale_at}
 use Rattle.iiod_session.specs.Moves.{Moves, ReadMoves, ReadsAs, ReadsAt, ReadsBy, ReadsFrom}
 use Rattle.iiod_session.specs.Reading.{Reads}
 use Rattle.iiod_session.specs.Run.{State, Run}
 use Rattle.iiod_session.specs.Seat.{Tale, after_nothing, after_scans, first_tale}
+
+-- no two seats are at one device
+abbrev pub AreApart : List Bare → Type 0
+AreApart [] = Unit {0}
+AreApart (s ∷ ss) = (has_seat s.dev ss ≡ false) × AreApart ss
+
+pub apart_by : (seats : List Bare) → are_apart seats ≡ true → AreApart seats
+apart_by [] e = tt
+apart_by (s ∷ ss) e = by (has_seat s.dev ss) refl (λ rest. apart_by ss rest)
+  where
+    by : (b : Bool) → has_seat s.dev ss ≡ b → (are_apart ss ≡ true → AreApart ss) → AreApart (s ∷ ss)
+    by true h more = let n : false ≡ true = rw h at e in cc
+    by false h more = (h, more (rw h at e))
+
+pub are_apart_by : (seats : List Bare) → AreApart seats → are_apart seats ≡ true
+are_apart_by [] a = refl
+are_apart_by (s ∷ ss) a = rw a.0 (are_apart_by ss a.1)
+
+-- ... and each has its tale
+pub record AreSeated (seats : List Bare) (tales : List (Option Tale)) : Type 0 where
+  pub apart : AreApart seats
+  pub told : length tales ≡ length seats
 
 -- ---- the first seat at a device
 
@@ -37,7 +59,7 @@ has_lt dev (s ∷ ss) h = by (λ more. has_lt dev ss more) (s.dev == dev) refl
     by rest true e = rw e (omega arith)
     by rest false e = let n : position_or_len (λ (x : Bare). x.dev == dev) ss < length ss = rest (rw e at h) in rw e (omega arith)
 
-none_has : (dev : ℕ) (seats : List Bare) → place_of dev seats ≡ None → has_seat dev seats ≡ false
+pub none_has : (dev : ℕ) (seats : List Bare) → place_of dev seats ≡ None → has_seat dev seats ≡ false
 none_has dev seats e = by (has_seat dev seats) refl
   where
     by : (b : Bool) → has_seat dev seats ≡ b → has_seat dev seats ≡ false
@@ -98,7 +120,7 @@ has_last dev (x ∷ xs) s h n = by (λ none. has_last dev xs s none n) (x.dev ==
 turned : (a b : ℕ) → (a == b) ≡ false → (b == a) ≡ false
 turned a b e = grind (arith, nat_tests)
 
-apart_last : (seats : List Bare) (s : Bare) → AreApart seats → has_seat s.dev seats ≡ false → AreApart (seats ++ s ∷ [])
+pub apart_last : (seats : List Bare) (s : Bare) → AreApart seats → has_seat s.dev seats ≡ false → AreApart (seats ++ s ∷ [])
 apart_last [] s a h = (refl, tt)
 apart_last (x ∷ xs) s a h = by (λ none. apart_last xs s a.1 none) (x.dev == s.dev) refl
   where
@@ -157,7 +179,7 @@ has_kept dev i (x ∷ xs) h = by (λ j none. has_kept dev j xs none) (x.dev == d
     by rest false e zero = rw e at h
     by rest false e (suc i) = rw e (rest i (rw e at h))
 
-apart_kept : (i : ℕ) (seats : List Bare) → AreApart seats → AreApart (remove seats i)
+pub apart_kept : (i : ℕ) (seats : List Bare) → AreApart seats → AreApart (remove seats i)
 apart_kept zero [] a = tt
 apart_kept (suc i) [] a = tt
 apart_kept zero (x ∷ xs) a = a.1
@@ -367,9 +389,6 @@ pub gives : (manner : Manner) (front : Front) (a b : State) (items : List Item) 
 gives manner front a b items replies r s = (run_gives manner front a b items replies r s).1 (λ dev. given_in (tale_at dev a.desk.seats a.tales)) (first_told a.desk.seats a.tales)
 
 -- a READBUF that finds nothing gives nothing
-pub waiting_seated : (front : Front) (a b : State) (item : Item) (e : Errno) → Moves front a.desk a.tales item (Refusal e) b.desk b.tales → AreSeated a.desk.seats a.tales → AreSeated b.desk.seats b.tales
-waiting_seated front a b item e m s = (moved front a.desk b.desk a.tales b.tales item (Refusal e) s m).0
-
 none_gives : (front : Front) (dev : ℕ) (item : Item) (e : Errno) (g : List (List ℕ)) → given_by front dev item (Refusal e) g ≡ g
 none_gives front dev item e g = by item
   where

@@ -1,5 +1,5 @@
 -- What a piece of the stream is to the items, and what is made of it.
-use Rattle.std.proofs.Common.{◌≡◌, ◌≢◌, ℕ, ◌<◌, ◌≤◌, nat_lt, true, false, List, [], ◌∷◌, ◌++◌, ◌+◌, ◌-◌, take, drop, length, refl, sym, ap, ◌∙◌, append-nil, Option, Some, None, IfSome, Result, Ok, Err, IfOk, arith}
+use Rattle.std.proofs.Common.{◌≡◌, ◌≢◌, inl, ℕ, ◌<◌, ◌≤◌, nat_lt, true, false, List, [], ◌∷◌, ◌++◌, ◌+◌, ◌-◌, take, drop, length, refl, sym, ap, ◌∙◌, append-nil, Option, Some, None, IfSome, Result, Ok, Err, IfOk, arith}
 use Rattle.std.proofs.lemmas.List.{drop-drop, length-drop, take_rest}
 use Rattle.std.proofs.Math.Seq.{drop-append_seam}
 use Rattle.iio_base.specs.declared.Mem.{Mem}
@@ -27,12 +27,13 @@ use Rattle.iiod_session.specs.declared.manner.Manner.TheVariants.{Script, Server
 use Rattle.iiod_session.specs.declared.manner.Performed.{Performed}
 use Rattle.iiod_session.specs.declared.manner.Performed.TheVariants.{Done, Waits as PerformedWaits}
 use Rattle.iiod_session.specs.Acts.{Acts, act, end_reply, left_desk, left_machine}
-use Rattle.iiod_session.specs.Desk.{tales_of}
+use Rattle.iiod_session.specs.Desk.{DeskRecord, tales_of}
 use Rattle.iiod_session.specs.Front.{Front}
 use Rattle.iiod_session.specs.Machine.{Machine}
+use Rattle.iiod_session.specs.Moves.{AnswersAlone, AnswersAs}
 use Rattle.iiod_session.specs.PendingWrite.{PendingRecord}
 use Rattle.iiod_session.specs.Performs.{IsAllowed, Performs}
-use Rattle.iiod_session.specs.Run.{State, Fed, Feeds}
+use Rattle.iiod_session.specs.Run.{State, Fed, Carries}
 use Rattle.iiod_session.specs.Seat.{SeatRecord}
 use Rattle.iiod_session.specs.Session.{IsKept, IsPlain, IsReady, piece_by, stream_by, unread_of}
 use Rattle.iiod_session.proofs.FeedLaws.{fed_more, fed_none, fed_one, fed_then, feeds_more, feeds_of, feeds_on, feeds_then, goes_on}
@@ -45,6 +46,14 @@ end_allowed Script None = tt
 end_allowed Script (Some e) = tt
 end_allowed Server None = tt
 end_allowed Server (Some e) = tt
+
+end_alone : (front : Front) (desk : DeskRecord) (error : Option Errno) → AnswersAlone front desk (End error) (end_reply error)
+end_alone front desk None = refl
+end_alone front desk (Some e) = inl refl
+
+end_formed : (front : Front) (error : Option Errno) → AnswersAs front (End error) (end_reply error)
+end_formed front None = tt
+end_formed front (Some e) = tt
 
 end_acts : (front : Front) (a b : State) (error : Option Errno) → IfSome a.told (λ m. b.told ≡ Some (left_machine m a.desk)) → b.desk ≡ left_desk a.desk
     → IfSome a.told (λ m. Acts front m a.desk (End error) (end_reply error) b.told b.desk)
@@ -60,11 +69,11 @@ end_acts front a b error t d = by a.told t error
 ends : (manner : Manner) (front : Front) (a b : State) (error : Option Errno) (before after : List ℕ)
     → after ≡ before ++ text_of (end_reply error)
     → IfSome a.told (λ m. b.told ≡ Some (left_machine m a.desk)) → b.desk ≡ left_desk a.desk → b.tales ≡ []
-    → Feeds manner front a (ended_by error) before after b (no_item AtEnd) Ended
+    → Carries manner front a (ended_by error) before after b (no_item AtEnd) Ended
 ends manner front a b error before after text t d none =
     feeds_of manner front a b b (ended_by error) (no_item AtEnd) before after Ended
     (fed_one manner front a b (ended_by error) (no_item AtEnd) before after (End error) (end_reply error) refl refl text
-    (record { allowed = end_allowed manner error; answer = tt; served = record { alone = tt; exact = end_acts front a b error t d; moves = (refl, d, none) } }))
+    (record { allowed = end_allowed manner error; answer = tt; served = record { alone = end_alone front a.desk error; formed = end_formed front error; exact = end_acts front a b error t d; moves = (refl, d, none) } }))
     (refl, refl)
 
 none_seen : {S : Type 0} (seen : S → SeatRecord) (held : List (Held S)) → held ≡ [] → tales_of seen held ≡ []
@@ -74,14 +83,14 @@ none_seen seen held e = ap (λ hs. tales_of seen hs) e
 pub end_feeds : {S : Type 0} (seen : S → SeatRecord) (manner : Manner) (front : Front) (a b : State) (held : List (Held S)) (error : Option Errno) (before after : List ℕ)
     → after ≡ before ++ text_of (end_reply error)
     → IfSome a.told (λ m. b.told ≡ Some (left_machine m a.desk)) → b.desk ≡ left_desk a.desk → b.tales ≡ tales_of seen held → held ≡ []
-    → Feeds manner front a (ended_by error) before after b (no_item AtEnd) Ended
+    → Carries manner front a (ended_by error) before after b (no_item AtEnd) Ended
 end_feeds seen manner front a b held error before after text t d tales none = ends manner front a b error before after text t d (tales ∙ none_seen seen held none)
 
 -- a line that ends the connection
 pub ended_line : (manner : Manner) (front : Front) (a b : State) (error : Option Errno) (all : Scanned) (before after : List ℕ) (lines : LinesRecord) (pending : PendingRecord) (r : Result Going Mem)
     → all ≡ ended_by error → IfOk r (λ going. going ≡ Ended)
-    → IfOk r (λ going. Feeds manner front a (ended_by error) before after b (no_item AtEnd) going)
-    → IfOk r (λ going. Feeds manner front a all before after b (stream_by going lines pending) going)
+    → IfOk r (λ going. Carries manner front a (ended_by error) before after b (no_item AtEnd) going)
+    → IfOk r (λ going. Carries manner front a all before after b (stream_by going lines pending) going)
 ended_line manner front a b error all before after lines pending (Ok Ended) is e f = rw is f
 ended_line manner front a b error all before after lines pending (Ok On) is e f = cc
 ended_line manner front a b error all before after lines pending (Ok (Waits dev)) is e f = cc
@@ -109,7 +118,7 @@ write_stream line device target count e within =
 
 pub write_feeds : (manner : Manner) (front : Front) (a : State) (line device : List ℕ) (target : Option Target) (count : ℕ) (before : List ℕ) (lines : LinesRecord) (kept : PendingRecord)
     → command_of line ≡ Ok (Write device target count) → count ≤ MAX_PAYLOAD → lines ≡ record (after_piece line) { wanted = Some count } → kept ≡ record { device = device; target = target }
-    → Feeds manner front a (after_line line) before before a (stream_by On lines kept) On
+    → Carries manner front a (after_line line) before before a (stream_by On lines kept) On
 write_feeds manner front a line device target count before lines kept e within is same =
     let here : after_line line ≡ stream_by On lines kept = write_stream line device target count e within ∙ rw (is, same) refl in
     goes_on manner front a a (after_line line) (stream_by On lines kept) before before (scanner_goes_on lines kept.device kept.target)
@@ -127,7 +136,7 @@ going_of (PerformedWaits dev) = Waits dev
 pub plain_feeds : (manner : Manner) (front : Front) (a b : State) (line : List ℕ) (kept : PendingRecord) (said : Result Command Refused) (lines : LinesRecord) (before after : List ℕ) (p : Performed)
     → command_of line ≡ said → IsPlain said → lines ≡ after_piece line
     → Performs manner front a.told b.told a.desk a.tales (Said said) b.desk b.tales before after p
-    → Feeds manner front a (after_line line) before after b (stream_by (going_of p) lines kept) (going_of p)
+    → Carries manner front a (after_line line) before after b (stream_by (going_of p) lines kept) (going_of p)
 plain_feeds manner front a b line kept said lines before after Done e plain is x =
     let all : after_line line ≡ one_item (Said said) = ap (λ z. after_said z) e ∙ plain_line said plain in
     let left : stream_by On lines kept ≡ no_item (InLine []) = rw is refl in
@@ -145,7 +154,7 @@ plain_feeds manner front a b line kept said lines before after (PerformedWaits d
 pub written_feeds : (manner : Manner) (front : Front) (a b : State) (lines : LinesRecord) (kept : PendingRecord) (device : List ℕ) (target : Option Target) (payload before after : List ℕ) (p : Performed)
     → lines ≡ after_piece lines.piece
     → Performs manner front a.told b.told a.desk a.tales (Written device target payload) b.desk b.tales before after p
-    → Feeds manner front a (one_item (Written device target payload)) before after b (stream_by On lines kept) On
+    → Carries manner front a (one_item (Written device target payload)) before after b (stream_by On lines kept) On
 written_feeds manner front a b lines kept device target payload before after Done is x =
     let left : stream_by On lines kept ≡ no_item (InLine []) = ap (λ (z : LinesRecord). stream_by On z kept) is in
     goes_on manner front a b (one_item (Written device target payload)) (stream_by On lines kept) before after (scanner_goes_on lines kept.device kept.target)
@@ -155,7 +164,7 @@ written_feeds manner front a b lines kept device target payload before after (Pe
 pub said_feeds : (manner : Manner) (front : Front) (a b : State) (kept : PendingRecord) (said : Result Command Refused) (lines : LinesRecord) (before after : List ℕ) (p : Performed)
     → lines ≡ after_piece lines.piece → command_of lines.piece ≡ said → IsPlain said
     → Performs manner front a.told b.told a.desk a.tales (Said said) b.desk b.tales before after p
-    → Feeds manner front a (after_line lines.piece) before after b (stream_by (going_of p) lines kept) (going_of p)
+    → Carries manner front a (after_line lines.piece) before after b (stream_by (going_of p) lines kept) (going_of p)
 said_feeds manner front a b kept said lines before after p is e plain x = plain_feeds manner front a b lines.piece kept said lines before after p e plain is x
 
 -- ---- pieces of further bytes
@@ -164,7 +173,7 @@ said_feeds manner front a b kept said lines before after p is e plain x = plain_
 pub more_feeds : (manner : Manner) (front : Front) (a b : State) (all : Scanned) (before after : List ℕ) (old new : LinesRecord) (device : List ℕ) (target : Option Target) (rest whole tail : List ℕ)
     → scan_on (scanner_at old device target) rest ≡ scanner_at new device target → rest ≡ whole → tail ≡ []
     → Fed manner front a all before after b (scan_on (scanner_at old device target) whole)
-    → Feeds manner front a all before after b (scan_on (scanner_at new device target) tail) On
+    → Carries manner front a all before after b (scan_on (scanner_at new device target) tail) On
 more_feeds manner front a b all before after old new device target rest whole tail scans same none f =
     let left : scan_on (scanner_at new device target) tail ≡ scanner_at new device target =
     ap (λ bs. scan_on (scanner_at new device target) bs) none ∙ scan_nil (scanner_at new device target) in
@@ -200,32 +209,32 @@ piece_scans items scanner old new kept rest taken Payload n going scans =
 piece_scans items scanner old new kept rest taken TooLong n going scans = scans going ∙ sym (ended_stays (Some E2BIG) (drop taken rest))
 
 pub on_fed : (manner : Manner) (front : Front) (a b c : State) (all left piece next : Scanned) (before mid after tail tail' : List ℕ)
-    → left ≡ scan_on piece tail → tail ≡ tail' → Fed manner front a all before mid b left → Feeds manner front b piece mid after c next On
+    → left ≡ scan_on piece tail → tail ≡ tail' → Fed manner front a all before mid b left → Carries manner front b piece mid after c next On
     → Fed manner front a all before after c (scan_on next tail')
 on_fed manner front a b c all left piece next before mid after tail tail' e same f g =
     rw (sym same) (fed_then manner front a b c all left (scan_on next tail) before mid after f
     (rw e (fed_more manner front b c piece next mid after tail (feeds_on manner front b c piece next mid after g))))
 
 pub stop_feeds : (manner : Manner) (front : Front) (a b c : State) (all left piece next : Scanned) (before mid after tail tail' : List ℕ) (going : Going) → going ≢ On
-    → left ≡ scan_on piece tail → tail ≡ tail' → Fed manner front a all before mid b left → Feeds manner front b piece mid after c next going
-    → Feeds manner front a all before after c (scan_on next tail') going
+    → left ≡ scan_on piece tail → tail ≡ tail' → Fed manner front a all before mid b left → Carries manner front b piece mid after c next going
+    → Carries manner front a all before after c (scan_on next tail') going
 stop_feeds manner front a b c all left piece next before mid after tail tail' going stops e same f g =
     rw (sym same) (feeds_then manner front a b c all left (scan_on next tail) before mid after going f
     (rw e (feeds_more manner front b c piece next mid after tail going stops g)))
 
 -- a line that is too long ends the connection
-pub too_long_stops : (manner : Manner) (front : Front) (a b : State) (e : Option Errno) (next : Scanned) (before after : List ℕ) → Feeds manner front a (ended_by e) before after b next On → ⊥
+pub too_long_stops : (manner : Manner) (front : Front) (a b : State) (e : Option Errno) (next : Scanned) (before after : List ℕ) → Carries manner front a (ended_by e) before after b next On → ⊥
 too_long_stops manner front a b e next before after f = f.stands.1 (f.fed.next)
 
 -- ---- bytes after a READBUF that waits
 
-pub ended_feeds : (manner : Manner) (front : Front) (a : State) (before bytes more : List ℕ) → Feeds manner front a (scan_on (no_item AtEnd) bytes) before before a (scan_on (no_item AtEnd) more) Ended
+pub ended_feeds : (manner : Manner) (front : Front) (a : State) (before bytes more : List ℕ) → Carries manner front a (scan_on (no_item AtEnd) bytes) before before a (scan_on (no_item AtEnd) more) Ended
 ended_feeds manner front a before bytes more =
     rw (scan_end bytes, scan_end more) (feeds_of manner front a a a (no_item AtEnd) (no_item AtEnd) before before Ended (fed_none manner front a (no_item AtEnd) before) (refl, refl))
 
 pub resumed : (manner : Manner) (front : Front) (a b c : State) (all left : Scanned) (before mid after bytes : List ℕ) (next : ℕ × Going → Scanned) (r : Result (ℕ × Going) Mem)
-    → Feeds manner front a all before mid b left On → IfOk r (λ x. Feeds manner front b (scan_on left bytes) mid after c (next x) x.1)
-    → IfOk r (λ x. Feeds manner front a (scan_on all bytes) before after c (next x) x.1)
+    → Carries manner front a all before mid b left On → IfOk r (λ x. Carries manner front b (scan_on left bytes) mid after c (next x) x.1)
+    → IfOk r (λ x. Carries manner front a (scan_on all bytes) before after c (next x) x.1)
 resumed manner front a b c all left before mid after bytes next (Ok x) f g =
     feeds_then manner front a b c (scan_on all bytes) (scan_on left bytes) (next x) before mid after x.1
     (fed_more manner front a b all left before mid bytes (feeds_on manner front a b all left before mid f)) g
@@ -234,8 +243,8 @@ resumed manner front a b c all left before mid after bytes next (Err fault) f g 
 -- the bytes that are kept
 pub unread_feeds : (manner : Manner) (front : Front) (a b : State) (all : Scanned) (before after bytes : List ℕ) (taken : ℕ) (going : Going) (lines : LinesRecord) (kept : PendingRecord)
     → (going ≡ On → (taken ≡ length bytes) × ((stream_by On lines kept).items ≡ []))
-    → Feeds manner front a all before after b (scan_on (stream_by going lines kept) (drop taken bytes)) going
-    → Feeds manner front a all before after b (scan_on (stream_by going lines kept) (unread_of going taken bytes)) going
+    → Carries manner front a all before after b (scan_on (stream_by going lines kept) (drop taken bytes)) going
+    → Carries manner front a all before after b (scan_on (stream_by going lines kept) (unread_of going taken bytes)) going
 unread_feeds manner front a b all before after bytes taken On lines kept on f =
     let none : drop taken bytes ≡ [] = ap (λ n. drop n bytes) (on refl).0 ∙ drop_all bytes in rw none at f
 unread_feeds manner front a b all before after bytes taken (Waits dev) lines kept on f = f

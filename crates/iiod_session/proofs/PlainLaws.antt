@@ -16,7 +16,7 @@ use Rattle.iiod_session.specs.Acts.{Acts, act, only, zero_reply}
 use Rattle.iiod_session.specs.Desk.{DeskRecord}
 use Rattle.iiod_session.specs.Front.{Front}
 use Rattle.iiod_session.specs.Machine.{Machine}
-use Rattle.iiod_session.specs.Moves.{AnswersAlone, Moves, Serves}
+use Rattle.iiod_session.specs.Moves.{AnswersAlone, AnswersAs, Moves, Serves}
 use Rattle.iiod_session.specs.Performs.{Comes, IsAllowed, IsAnswerOf, IsWhole, Performs}
 use Rattle.iiod_session.specs.Plain.{EndsPush, Keeps}
 use Rattle.iiod_session.specs.Seat.{Tale}
@@ -33,19 +33,19 @@ only_comes m desk (Value t) w = (m, refl, refl)
 only_comes m desk (Raw t) w = (m, refl, refl)
 only_comes m desk (Block a b c d) w = (m, refl, refl)
 
-pub serves_only : (front : Front) (told : Option Machine) (desk : DeskRecord) (tales : List (Option Tale)) (item : Item) (reply : Reply) → IsWhole reply → AnswersAlone front item reply
+pub serves_only : (front : Front) (told : Option Machine) (desk : DeskRecord) (tales : List (Option Tale)) (item : Item) (reply : Reply) → IsWhole reply → AnswersAlone front desk item reply → AnswersAs front item reply
     → ((m : Machine) → act front m desk item ≡ only reply m desk) → Moves front desk tales item reply desk tales
     → Serves front told desk tales item reply told desk tales
-serves_only front told desk tales item reply w alone is moves = record { alone = alone; exact = all_comes front told told desk desk item (λ m. only reply m desk) reply is (by told); moves = moves }
+serves_only front told desk tales item reply w alone formed is moves = record { alone = alone; formed = formed; exact = all_comes front told told desk desk item (λ m. only reply m desk) reply is (by told); moves = moves }
   where
     by : (told : Option Machine) → IfSome told (λ m. Comes m desk (only reply m desk) reply told desk)
     by None = tt
     by (Some m) = only_comes m desk reply w
 
 -- want of memory, before which nothing had changed
-pub serves_short : (front : Front) (told : Option Machine) (desk : DeskRecord) (tales : List (Option Tale)) (item : Item) → AnswersAlone front item NoMemory → Moves front desk tales item NoMemory desk tales
+pub serves_short : (front : Front) (told : Option Machine) (desk : DeskRecord) (tales : List (Option Tale)) (item : Item) → AnswersAlone front desk item NoMemory → Moves front desk tales item NoMemory desk tales
     → Serves front told desk tales item NoMemory told desk tales
-serves_short front told desk tales item alone moves = record { alone = alone; exact = by told; moves = moves }
+serves_short front told desk tales item alone moves = record { alone = alone; formed = tt; exact = by told; moves = moves }
   where
     by : (told : Option Machine) → IfSome told (λ m. Acts front m desk item NoMemory told desk)
     by None = tt
@@ -93,7 +93,7 @@ pub help_keeps : (manner : Manner) (before mid after : List ℕ) (done : Result 
     → Appends (text_of (Line (codes "Commands of libiio 0.25 iiod, profile iiosim0"))) before done mid → IfOk r (EndsPush manner done mid after)
     → IfOk r (λ p. (front : Front) → Keeps manner front (Said (Ok Help)) before after p)
 help_keeps manner before mid after done (Ok p) w e = λ front told desk tales.
-    pushed_by manner front told told desk tales _ desk tales before mid after _ done p (serves_only front told desk tales _ _ tt (inl refl) (λ m. help_is front m desk) (refl, refl))
+    pushed_by manner front told told desk tales _ desk tales before mid after _ done p (serves_only front told desk tales _ _ tt (inl refl) tt (λ m. help_is front m desk) (refl, refl))
     (allowed manner (Line (codes "Commands of libiio 0.25 iiod, profile iiosim0")) tt) tt (serves_short front told desk tales (Said (Ok Help)) (inr refl) (refl, refl)) w e
 help_keeps manner before mid after done (Err mem) w e = tt
 
@@ -101,7 +101,7 @@ pub version_keeps : (manner : Manner) (before mid after : List ℕ) (done : Resu
     → Appends (text_of (Line (codes "0.25.iiosim0"))) before done mid → IfOk r (EndsPush manner done mid after)
     → IfOk r (λ p. (front : Front) → Keeps manner front (Said (Ok Version)) before after p)
 version_keeps manner before mid after done (Ok p) w e = λ front told desk tales.
-    pushed_by manner front told told desk tales _ desk tales before mid after _ done p (serves_only front told desk tales _ _ tt (inl refl) (λ m. version_is front m desk) (refl, refl))
+    pushed_by manner front told told desk tales _ desk tales before mid after _ done p (serves_only front told desk tales _ _ tt (inl refl) tt (λ m. version_is front m desk) (refl, refl))
     (allowed manner (Line (codes "0.25.iiosim0")) tt) tt (serves_short front told desk tales (Said (Ok Version)) (inr refl) (refl, refl)) w e
 version_keeps manner before mid after done (Err mem) w e = tt
 
@@ -109,7 +109,7 @@ pub print_keeps : (manner : Manner) (front : Front) (before mid after : List ℕ
     → Appends (text_of (Value front.context)) before done mid → IfOk r (EndsPush manner done mid after)
     → IfOk r (Keeps manner front (Said (Ok Print)) before after)
 print_keeps manner front before mid after done (Ok p) w e = λ told desk tales.
-    pushed_by manner front told told desk tales _ desk tales before mid after _ done p (serves_only front told desk tales _ _ tt (inl refl) (λ m. print_is front m desk) (refl, refl))
+    pushed_by manner front told told desk tales _ desk tales before mid after _ done p (serves_only front told desk tales _ _ tt (inl refl) tt (λ m. print_is front m desk) (refl, refl))
     (allowed manner (Value front.context) tt) tt (serves_short front told desk tales (Said (Ok Print)) (inr refl) (refl, refl)) w e
 print_keeps manner front before mid after done (Err mem) w e = tt
 
@@ -125,7 +125,7 @@ pub timeout_keeps : (manner : Manner) (n : ℕ) (before after : List ℕ) (r : R
     → IfOk r (λ p. p ≡ Done) → OnOk r (after ≡ before ++ text_of zero_reply) → OnOk r (IsAllowed manner zero_reply)
     → IfOk r (λ p. (front : Front) → Keeps manner front (Said (Ok (Timeout n))) before after p)
 timeout_keeps manner n before after r d t a =
-    finished_keeps manner _ before after zero_reply r (λ front told desk tales. serves_only front told desk tales _ _ tt (inl refl) (λ m. timeout_is front m desk n) (refl, refl)) d t a tt
+    finished_keeps manner _ before after zero_reply r (λ front told desk tales. serves_only front told desk tales _ _ tt (inl refl) tt (λ m. timeout_is front m desk n) (refl, refl)) d t a tt
 
 -- ---- no answer: a line without a word, EXIT, and a WRITE whose payload isn't there yet
 
@@ -142,22 +142,22 @@ unfolding act
 write_is front m desk device target count = refl
 
 nothing_said : (manner : Manner) (front : Front) (told : Option Machine) (desk : DeskRecord) (tales : List (Option Tale)) (item : Item) (before : List ℕ)
-    → IsAnswerOf item manner Nothing → AnswersAlone front item Nothing
+    → IsAnswerOf item manner Nothing → AnswersAlone front desk item Nothing → AnswersAs front item Nothing
     → ((m : Machine) → act front m desk item ≡ only Nothing m desk) → Moves front desk tales item Nothing desk tales
     → Performs manner front told told desk tales item desk tales before before Done
-nothing_said manner front told desk tales item before answer alone is moves =
-    (Nothing, sym (append-nil before), allowed manner Nothing tt, answer, serves_only front told desk tales item Nothing tt alone is moves)
+nothing_said manner front told desk tales item before answer alone formed is moves =
+    (Nothing, sym (append-nil before), allowed manner Nothing tt, answer, serves_only front told desk tales item Nothing tt alone formed is moves)
 
 pub empty_keeps : (manner : Manner) (front : Front) (before : List ℕ) → Keeps manner front (Said (Err Empty)) before before Done
-empty_keeps manner front before = λ told desk tales. nothing_said manner front told desk tales (Said (Err Empty)) before tt refl (λ m. empty_is front m desk) (refl, refl)
+empty_keeps manner front before = λ told desk tales. nothing_said manner front told desk tales (Said (Err Empty)) before tt refl tt (λ m. empty_is front m desk) (refl, refl)
 
 pub exit_keeps : (manner : Manner) (front : Front) (before : List ℕ) → Keeps manner front (Said (Ok Exit)) before before Done
-exit_keeps manner front before = λ told desk tales. nothing_said manner front told desk tales (Said (Ok Exit)) before tt tt (λ m. exit_is front m desk) (refl, refl)
+exit_keeps manner front before = λ told desk tales. nothing_said manner front told desk tales (Said (Ok Exit)) before tt refl tt (λ m. exit_is front m desk) (refl, refl)
 
 pub write_keeps : (manner : Manner) (front : Front) (device : List ℕ) (target : Option Target) (count : ℕ) (before : List ℕ)
     → Keeps manner front (Said (Ok (Write device target count))) before before Done
 write_keeps manner front device target count before = λ told desk tales.
-    nothing_said manner front told desk tales (Said (Ok (Write device target count))) before tt tt (λ m. write_is front m desk device target count) (refl, refl)
+    nothing_said manner front told desk tales (Said (Ok (Write device target count))) before tt refl tt (λ m. write_is front m desk device target count) (refl, refl)
 
 -- ---- a line that is no command
 
@@ -168,11 +168,11 @@ refused_is front m desk Unknown some = refl
 refused_is front m desk Shape some = refl
 refused_is front m desk BadNumber some = refl
 
-refused_alone : (front : Front) (why : Refused) → why ≢ Empty → AnswersAlone front (Said (Err why)) (Refusal EINVAL)
-refused_alone front Empty some = absurd (some refl)
-refused_alone front Unknown some = inl refl
-refused_alone front Shape some = inl refl
-refused_alone front BadNumber some = inl refl
+refused_alone : (front : Front) (desk : DeskRecord) (why : Refused) → why ≢ Empty → AnswersAlone front desk (Said (Err why)) (Refusal EINVAL)
+refused_alone front desk Empty some = absurd (some refl)
+refused_alone front desk Unknown some = inl refl
+refused_alone front desk Shape some = inl refl
+refused_alone front desk BadNumber some = inl refl
 
 pub has_word : (why : Refused) → (why ≡ Unknown) ⊎ ((why ≡ Shape) ⊎ (why ≡ BadNumber)) → why ≢ Empty
 has_word why (inl u) e = absurd (cc)
@@ -183,7 +183,7 @@ pub refused_keeps : (manner : Manner) (why : Refused) (before after : List ℕ) 
     → IfOk r (λ p. p ≡ Done) → OnOk r (after ≡ before ++ text_of (Refusal EINVAL)) → OnOk r (IsAllowed manner (Refusal EINVAL))
     → IfOk r (λ p. (front : Front) → Keeps manner front (Said (Err why)) before after p)
 refused_keeps manner why before after r some d t a =
-    finished_keeps manner _ before after (Refusal EINVAL) r (λ front told desk tales. serves_only front told desk tales _ _ tt (refused_alone front why some) (λ m. refused_is front m desk why some) (refl, refl)) d t a tt
+    finished_keeps manner _ before after (Refusal EINVAL) r (λ front told desk tales. serves_only front told desk tales _ _ tt (refused_alone front desk why some) tt (λ m. refused_is front m desk why some) (refl, refl)) d t a tt
 
 -- ---- what nothing changes for, at what stands
 

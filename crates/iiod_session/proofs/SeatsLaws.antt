@@ -1,5 +1,5 @@
 -- A connection's seats as lists.
-use Rattle.std.proofs.Common.{◌≡◌, ◌≢◌, ℕ, zero, suc, ◌+◌, ◌<◌, ◌==◌, Bool, not, cond, List, [], ◌∷◌, ◌++◌, map, length, slice_get, slice_set, slice_index_or, remove, Option, Some, None, IfSome, is_some, Result, Ok, Err, refl, sym, ap, ◌∙◌, arith}
+use Rattle.std.proofs.Common.{◌≡◌, ◌≢◌, ℕ, zero, suc, ◌+◌, ◌<◌, ◌==◌, Bool, true, not, cond, List, [], ◌∷◌, ◌++◌, map, length, slice_get, slice_set, slice_index_or, remove, Option, Some, None, IfSome, is_some, Result, Ok, Err, refl, sym, ap, ◌∙◌, arith}
 use Rattle.std.proofs.lemmas.List.{length-map}
 use Rattle.std.specs.Prelude.{⊤}
 use Rattle.std.specs.List.{position, prefix_len}
@@ -8,6 +8,7 @@ use Rattle.iio_layout.specs.Shape.{ShapeRecord}
 use Rattle.iio_text.specs.declared.errors.Errno.{Errno}
 use Rattle.iio_text.specs.declared.errors.Errno.TheVariants.{EBADF}
 use Rattle.iiod_reply.specs.Reply.{Reply, Refusal}
+use Rattle.iiod_session.specs.declared.desk.Desk.{Desk}
 use Rattle.iiod_session.specs.declared.desk.Held.{Held}
 use Rattle.iiod_session.specs.declared.iio.No.{No}
 use Rattle.iiod_session.specs.declared.iio.No.TheVariants.{Errno as NoErrno, Mem as NoMem}
@@ -17,12 +18,13 @@ use Rattle.iiod_session.specs.declared.wanted.Wanted.{Wanted as CodeWanted}
 use Rattle.iio_mask.specs.declared.Mask.{Mask}
 use Rattle.iiod_session.specs.Acts.{all_closed, all_released, zero_reply, open_at, open_wanted, joined_at, close_at, close_seat, read_at, read_seat, read_at_seat}
 use Rattle.iiod_session.specs.Calls.{closed, ev_close_of}
-use Rattle.iiod_session.specs.Desk.{Wanted, Bare, DeskRecord, bare_of, tale_of, seats_of, tales_of, place_of, buffers_of, with_seats, wanted_of}
+use Rattle.iiod_session.specs.Desk.{IsDesk, IsWanted, Wanted, Bare, DeskRecord, are_apart, bare_of, tale_of, seats_of, tales_of, place_of, buffers_of, with_seats, wanted_of}
 use Rattle.iiod_session.specs.Front.{Front, shape_at}
 use Rattle.iiod_session.specs.Machine.{Machine, is_plugged}
 use Rattle.iiod_session.specs.Moves.{ReadsBy}
-use Rattle.iiod_session.specs.Performs.{Comes, JoinsBy, LeavesBy, ReadAt, ReadHeld, ReadServed, ReadServedAt}
+use Rattle.iiod_session.specs.Performs.{Comes, JoinsBy, LeavesBy, OpensBy, ReadAt, ReadHeld, ReadServed, ReadServedAt}
 use Rattle.iiod_session.specs.Seat.{Answers, SeatRecord, Tale, IsNew}
+use Rattle.iiod_session.proofs.GivenLaws.{AreSeated, apart_by, apart_kept, apart_last, are_apart_by, none_has}
 use Rattle.iiod_session.specs.Wanted.{wanted_of_code}
 
 module _ {S : Type 0} (seen : S → SeatRecord) where
@@ -33,17 +35,23 @@ module _ {S : Type 0} (seen : S → SeatRecord) where
   pub joins : (front : Front) (dev capacity size : ℕ) (mask : Mask) (base : DeskRecord) (held mid held' : List (Held S)) (s : S) → IsNew front dev mask.bits capacity (seen s)
       → place_of dev (seats_of seen held) ≡ None
       → mid ≡ held → held' ≡ mid ++ record { dev = dev; mask = mask; capacity = capacity; size = size; seat = s } ∷ []
-      → JoinsBy dev (with_seats (seats_of seen held) base) (tales_of seen held) (Ok tt) (with_seats (seats_of seen held') base) (tales_of seen held')
+      → JoinsBy dev (record { mask = mask.bits; capacity = capacity }) (with_seats (seats_of seen held) base) (tales_of seen held) (Ok tt) (with_seats (seats_of seen held') base) (tales_of seen held')
   joins front dev capacity size mask base held mid held' s is free z e' =
-      let e : held' ≡ held ++ record { dev = dev; mask = mask; capacity = capacity; size = size; seat = s } ∷ [] = rw z at e' in (
-        bare_of seen (record { dev = dev; mask = mask; capacity = capacity; size = size; seat = s }),
-        (seen s).tale,
-        refl,
-        free,
-        ap (λ hs. with_seats (seats_of seen hs) base) e ∙ ap (λ (bs : List Bare). with_seats bs base) (one_more_held (bare_of seen) held _),
-        ap (λ hs. tales_of seen hs) e ∙ one_more_held (tale_of seen) held _,
-        is.fresh,
-      )
+      let e : held' ≡ held ++ record { dev = dev; mask = mask; capacity = capacity; size = size; seat = s } ∷ [] = rw z at e' in
+      record {
+        number = (seen s).number;
+        t = (seen s).tale;
+        free = free;
+        added = ap (λ hs. with_seats (seats_of seen hs) base) e ∙ ap (λ (bs : List Bare). with_seats bs base) (one_more_held (bare_of seen) held _);
+        told = ap (λ hs. tales_of seen hs) e ∙ one_more_held (tale_of seen) held _;
+        fresh = is.fresh;
+      }
+
+  -- no two seats are at one device, with one more at a device where there was none
+  pub apart_joined : (held mid held' : List (Held S)) (h : Held S) → are_apart (seats_of seen held) ≡ true → place_of h.dev (seats_of seen held) ≡ None
+      → mid ≡ held → held' ≡ mid ++ h ∷ [] → are_apart (seats_of seen held') ≡ true
+  apart_joined held mid held' h a free z e =
+      rw (e, z, one_more_held (bare_of seen) held h) (are_apart_by (seats_of seen held ++ bare_of seen h ∷ []) (apart_last (seats_of seen held) (bare_of seen h) (apart_by (seats_of seen held) a) (none_has h.dev (seats_of seen held) free)))
 
   prefix_is : (dev : ℕ) (held : List (Held S)) → prefix_len (λ (s : Bare). not (s.dev == dev)) (seats_of seen held) ≡ prefix_len (λ (h : Held S). not (h.dev == dev)) held
   prefix_is dev [] = refl
@@ -94,6 +102,9 @@ module _ {S : Type 0} (seen : S → SeatRecord) where
   map_set f (x ∷ xs) zero y = refl
   map_set f (x ∷ xs) (suc i) y = ap (λ ys. f x ∷ ys) (map_set f xs i y)
 
+  pub apart_removed : (held held' : List (Held S)) (i : ℕ) → are_apart (seats_of seen held) ≡ true → held' ≡ remove held i → are_apart (seats_of seen held') ≡ true
+  apart_removed held held' i a e = rw (e, map_remove (bare_of seen) held i) (are_apart_by (remove (seats_of seen held) i) (apart_kept i (seats_of seen held) (apart_by (seats_of seen held) a)))
+
   pub map_set_same : {B : Type 0} (f : Held S → B) (held : List (Held S)) (i : ℕ) (y h : Held S) → i < length held → h ≡ slice_index_or held i h → f y ≡ f h
       → map f (slice_set held i y) ≡ map f held
   map_set_same f [] i y h l e same = absurd (omega arith)
@@ -137,6 +148,15 @@ module _ {S : Type 0} (seen : S → SeatRecord) where
   reads_at front dev asked i told told' base held h h' before after (Ok Empty) at l e r = (r.0, served_at front dev asked i told told' base held h h' _ (sym at) l e r.1)
   reads_at front dev asked i told told' base held h h' before after (Ok Gone) at l e r = (r.0, served_at front dev asked i told told' base held h h' _ (sym at) l e r.1)
   reads_at front dev asked i told told' base held h h' before after (Err fault) at l e r = (r.0, r.1, map_set_same (tale_of seen) held i h' h l e r.2)
+
+  -- a seat that changed nothing but its tale
+  pub apart_set : (held : List (Held S)) (i : ℕ) (y h : Held S) → i < length held → h ≡ slice_index_or held i h → bare_of seen y ≡ bare_of seen h
+      → are_apart (seats_of seen held) ≡ true → are_apart (seats_of seen (slice_set held i y)) ≡ true
+  apart_set held i y h l e same a = rw (map_set_same (bare_of seen) held i y h l e same) a
+
+  -- what a connection has is seated
+  pub seated : (front : Front) (d : Desk S) → IsDesk seen front d → AreSeated (seats_of seen d.held.items) (tales_of seen d.held.items)
+  seated front d is = record { apart = apart_by (seats_of seen d.held.items) is.apart; told = length-map d.held.items (tale_of seen) ∙ sym (length-map d.held.items (bare_of seen)) }
 
   closed_last : (m : Machine) (xs : List Bare) (s : Bare) → all_closed m (xs ++ s ∷ []) ≡ all_closed (closed m s.dev s.number) xs
   closed_last m [] s = refl
@@ -227,3 +247,10 @@ pub refuses : (front : Front) (told : Option Machine) (desk : DeskRecord) (dev s
 refuses front None desk dev samples text cyclic is_open plugged shape buffers errno e0 e1 e2 e3 e = tt
 refuses front (Some m) desk dev samples text cyclic is_open plugged shape buffers errno e0 e1 e2 e3 e =
     (m, refl, wanted_is front m desk dev samples text cyclic is_open plugged shape buffers _ e0 e1 e2 e3 e)
+
+-- an OPEN by what it asks for, at the shape and the buffers count that the code found
+pub opens_by : (front : Front) (dev samples : ℕ) (text : List ℕ) (cyclic : Bool) (desk desk' : DeskRecord) (tales tales' : List (Option Tale)) (shape : ShapeRecord) (buffers : ℕ) (x : Wanted) (r : Result ⊤ No)
+    → shape ≡ shape_at front dev → buffers ≡ buffers_of dev desk.buffers → IsWanted shape buffers samples text cyclic x
+    → JoinsBy dev x desk tales r desk' tales' → OpensBy front dev samples text cyclic desk tales r desk' tales'
+opens_by front dev samples text cyclic desk desk' tales tales' shape buffers x (Ok done) e n w j = (x, rw (e, n) at w, j)
+opens_by front dev samples text cyclic desk desk' tales tales' shape buffers x (Err why) e n w j = j

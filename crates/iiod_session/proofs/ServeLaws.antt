@@ -1,9 +1,10 @@
 -- One item and its answer.
-use Rattle.std.proofs.Common.{◌≡◌, ℕ, Bool, List, ◌++◌, Option, Some, None, IfSome, Result, Ok, Err, IfOk, OnOk, refl, sym, ap, ◌∙◌}
+use Rattle.std.proofs.Common.{◌≡◌, ℕ, Bool, List, ◌++◌, length, inl, inr, Option, Some, None, IfSome, Result, Ok, Err, IfOk, OnOk, refl, sym, ap, ◌∙◌}
 use Rattle.std.specs.Prelude.{⊤}
 use Rattle.iio_base.specs.declared.Mem.{Mem}
 use Rattle.iio_text.specs.declared.errors.Errno.{Errno}
-use Rattle.iio_text.specs.declared.errors.Errno.TheVariants.{ENODEV, EAGAIN}
+use Rattle.iio_text.specs.declared.errors.Errno.TheVariants.{EAGAIN, EBADF, ENODEV}
+use Rattle.iio_event.specs.declared.event.EventData.{EventData}
 use Rattle.iiod_grammar.specs.Command.{Open, Close, ReadBuf, GetTrig, SetTrig, SetBuffers, WriteBuf, EvOpen, EvRead, EvClose}
 use Rattle.iiod_grammar.specs.Stream.{Item, Said}
 use Rattle.iiod_reply.specs.Reply.{Reply, Nothing, Number, Refusal, Line, Value, Raw, Block, NoMemory, text_of}
@@ -16,11 +17,11 @@ use Rattle.iiod_session.specs.declared.manner.Manner.TheVariants.{Script, Server
 use Rattle.iiod_session.specs.declared.manner.Performed.{Performed}
 use Rattle.iiod_session.specs.declared.manner.Performed.TheVariants.{Done, Waits}
 use Rattle.iiod_session.specs.Acts.{Acted, Acts, act, at_device, refused, open_at, close_at, read_at, ev_close_at, ev_open_at, ev_read_at, get_trigger_at, set_buffers_at, set_trigger_at, write_buffer_at, zero_reply}
-use Rattle.iiod_session.specs.Desk.{DeskRecord, place_of, with_count, with_holding, without_holding}
+use Rattle.iiod_session.specs.Desk.{Bare, DeskRecord, place_of, with_count, with_holding, without_holding}
 use Rattle.iiod_session.specs.Front.{Front, find_device, trigger_name}
 use Rattle.iiod_session.specs.Machine.{Machine}
-use Rattle.iiod_session.specs.Moves.{Moves, ReadsFrom, Serves}
-use Rattle.iiod_session.specs.Performs.{AltersBy, AnswersRead, Comes, IsAllowed, IsAnswerOf, IsFound, IsWhole, JoinsBy, LeavesBy, Performs, ReadAt, ReadServedAt, reply_by, trigger_by}
+use Rattle.iiod_session.specs.Moves.{Accepts, AnswersAs, IsOrShort, Moves, ReadsBy, ReadsFrom, Serves, at_known, at_seat}
+use Rattle.iiod_session.specs.Performs.{AltersBy, AnswersRead, Comes, IsAllowed, IsAnswerOf, IsFound, IsNowhere, IsWhole, LeavesBy, OpensBy, Performs, ReadAt, ReadServedAt, event_by, reply_by, trigger_by}
 use Rattle.iiod_session.specs.Seat.{Tale}
 
 -- an outcome that is the item's
@@ -47,6 +48,41 @@ pub all_refused : (front : Front) (told : Option Machine) (desk : DeskRecord) (i
 all_refused front None desk item e is = tt
 all_refused front (Some m) desk item e is = (m, refl, is m)
 
+-- ---- answers over any devices
+
+-- at a device that isn't there, where a device is asked
+pub alone_at : (o : Option ℕ) (reply : Reply) → (o ≡ None → reply ≡ Refusal ENODEV) → IfSome (at_known (λ dev. None) o) (λ answer. IsOrShort answer reply)
+alone_at None reply h = inl (h refl)
+alone_at (Some dev) reply h = tt
+
+-- ... and where the connection has no seat at it
+seatless : (p : Option ℕ) (reply : Reply) → (p ≡ None → reply ≡ Refusal EBADF) → IfSome (at_seat p) (λ answer. IsOrShort answer reply)
+seatless None reply h = inl (h refl)
+seatless (Some i) reply h = tt
+
+-- want of memory, in the place of another answer
+pub short_at : (o : Option ℕ) → IfSome (at_known (λ dev. None) o) (λ answer. IsOrShort answer NoMemory)
+short_at None = inr refl
+short_at (Some dev) = tt
+
+pub short_seat : (seats : List Bare) (o : Option ℕ) → IfSome (at_known (λ dev. at_seat (place_of dev seats)) o) (λ answer. IsOrShort answer NoMemory)
+short_seat seats None = inr refl
+short_seat seats (Some dev) = by (place_of dev seats)
+  where
+    by : (p : Option ℕ) → IfSome (at_seat p) (λ answer. IsOrShort answer NoMemory)
+    by None = inr refl
+    by (Some i) = tt
+
+-- a command that is answered by 0 where it isn't refused
+pub settles : (front : Front) (item : Item) (r : Result ⊤ No) → Accepts front item zero_reply → AnswersAs front item (reply_by r)
+settles front item (Ok done) a = a
+settles front item (Err (NoErrno e)) a = tt
+settles front item (Err NoMem) a = tt
+
+-- ... and refused at a device that isn't there
+nowhere_by : (front : Front) (device : List ℕ) (r : Result ⊤ No) → IsNowhere front device (Err (NoErrno ENODEV)) r → find_device front device ≡ None → reply_by r ≡ Refusal ENODEV
+nowhere_by front device r n e = ap reply_by (n e)
+
 -- ---- OPEN
 
 open_is : (front : Front) (desk : DeskRecord) (device : List ℕ) (samples : ℕ) (text : List ℕ) (cyclic : Bool) (dev : ℕ) → find_device front device ≡ Some dev → (m : Machine)
@@ -57,13 +93,22 @@ open_is front desk device samples text cyclic dev e m = ap (λ o. at_device m de
 pub serves_open : (front : Front) (told told' : Option Machine) (desk desk' : DeskRecord) (tales tales' : List (Option Tale)) (device : List ℕ) (samples : ℕ) (text : List ℕ) (cyclic : Bool) (dev : ℕ) (r : Result ⊤ No)
     → find_device front device ≡ Some dev
     → IfSome told (λ m. Comes m desk (open_at front m desk dev samples text cyclic) (reply_by r) told' desk')
-    → JoinsBy dev desk tales r desk' tales'
+    → OpensBy front dev samples text cyclic desk tales r desk' tales'
     → Serves front told desk tales (Said (Ok (Open device samples text cyclic))) (reply_by r) told' desk' tales'
 serves_open front told told' desk desk' tales tales' device samples text cyclic dev r e t j =
-    record { alone = tt; exact = all_comes front told told' desk desk' _ (λ m. open_at front m desk dev samples text cyclic) (reply_by r) (open_is front desk device samples text cyclic dev e) t; moves = moved r j }
+    record { alone = rw e tt; formed = settles front (Said (Ok (Open device samples text cyclic))) r refl; exact = all_comes front told told' desk desk' _ (λ m. open_at front m desk dev samples text cyclic) (reply_by r) (open_is front desk device samples text cyclic dev e) t; moves = moved r j }
   where
-    moved : (r : Result ⊤ No) → JoinsBy dev desk tales r desk' tales' → Moves front desk tales (Said (Ok (Open device samples text cyclic))) (reply_by r) desk' tales'
-    moved (Ok n) j = record { s = j.0; t = j.1; named = e ∙ ap (λ (k : ℕ). Some k) (sym j.2); free = rw j.2 j.3; added = j.4; told = j.5; fresh = j.6 }
+    moved : (r : Result ⊤ No) → OpensBy front dev samples text cyclic desk tales r desk' tales' → Moves front desk tales (Said (Ok (Open device samples text cyclic))) (reply_by r) desk' tales'
+    moved (Ok n) j = record {
+      s = record { dev = dev; number = j.2.number; mask = j.0.mask; capacity = j.0.capacity };
+      t = j.2.t;
+      named = e;
+      free = j.2.free;
+      wanted = j.1;
+      added = j.2.added;
+      told = j.2.told;
+      fresh = j.2.fresh;
+    }
     moved (Err (NoErrno x)) j = j
     moved (Err NoMem) j = j
 
@@ -75,7 +120,7 @@ unknown_open front desk device samples text cyclic e m = ap (λ o. at_device m d
 pub no_open : (front : Front) (told : Option Machine) (desk : DeskRecord) (tales : List (Option Tale)) (device : List ℕ) (samples : ℕ) (text : List ℕ) (cyclic : Bool) → find_device front device ≡ None
     → Serves front told desk tales (Said (Ok (Open device samples text cyclic))) (Refusal ENODEV) told desk tales
 no_open front told desk tales device samples text cyclic e =
-    record { alone = tt; exact = all_refused front told desk _ ENODEV (unknown_open front desk device samples text cyclic e); moves = (refl, refl) }
+    record { alone = rw e (inl refl); formed = tt; exact = all_refused front told desk _ ENODEV (unknown_open front desk device samples text cyclic e); moves = (refl, refl) }
 
 -- ---- CLOSE
 
@@ -87,10 +132,11 @@ close_is front desk device dev e m = ap (λ o. at_device m desk (λ k. close_at 
 pub serves_close : (front : Front) (told told' : Option Machine) (desk desk' : DeskRecord) (tales tales' : List (Option Tale)) (device : List ℕ) (dev : ℕ) (r : Result ⊤ No)
     → find_device front device ≡ Some dev
     → IfSome told (λ m. Comes m desk (close_at m desk (place_of dev desk.seats)) (reply_by r) told' desk')
+    → (place_of dev desk.seats ≡ None → r ≡ Err (NoErrno EBADF))
     → LeavesBy dev desk tales r desk' tales'
     → Serves front told desk tales (Said (Ok (Close device))) (reply_by r) told' desk' tales'
-serves_close front told told' desk desk' tales tales' device dev r e t j =
-    record { alone = tt; exact = all_comes front told told' desk desk' _ (λ m. close_at m desk (place_of dev desk.seats)) (reply_by r) (close_is front desk device dev e) t; moves = moved r j }
+serves_close front told told' desk desk' tales tales' device dev r e t none j =
+    record { alone = rw e (seatless (place_of dev desk.seats) (reply_by r) (λ n. ap reply_by (none n))); formed = settles front (Said (Ok (Close device))) r refl; exact = all_comes front told told' desk desk' _ (λ m. close_at m desk (place_of dev desk.seats)) (reply_by r) (close_is front desk device dev e) t; moves = moved r j }
   where
     moved : (r : Result ⊤ No) → LeavesBy dev desk tales r desk' tales' → Moves front desk tales (Said (Ok (Close device))) (reply_by r) desk' tales'
     moved (Ok n) j = record { dev = dev; i = j.0; named = e; at = j.1; gone = j.2; told = j.3 }
@@ -104,7 +150,7 @@ unknown_close front desk device e m = ap (λ o. at_device m desk (λ k. close_at
 
 pub no_close : (front : Front) (told : Option Machine) (desk : DeskRecord) (tales : List (Option Tale)) (device : List ℕ) → find_device front device ≡ None
     → Serves front told desk tales (Said (Ok (Close device))) (Refusal ENODEV) told desk tales
-no_close front told desk tales device e = record { alone = tt; exact = all_refused front told desk _ ENODEV (unknown_close front desk device e); moves = (refl, refl) }
+no_close front told desk tales device e = record { alone = rw e (inl refl); formed = tt; exact = all_refused front told desk _ ENODEV (unknown_close front desk device e); moves = (refl, refl) }
 
 -- ---- READBUF
 
@@ -118,8 +164,17 @@ pub serves_read : (front : Front) (told told' : Option Machine) (desk desk' : De
     → ReadServedAt front dev asked told told' desk tales tales' reply
     → Serves front told desk tales (Said (Ok (ReadBuf device asked))) reply told' desk' tales'
 serves_read front told told' desk desk' tales tales' device asked dev reply e same r =
-    record { alone = tt; exact = by told r.exact; moves = moved reply r.whole r.moves }
+    record { alone = rw e (unseated (place_of dev desk.seats) r.moves); formed = formed reply; exact = by told r.exact; moves = moved reply r.whole r.moves }
   where
+    unseated : (p : Option ℕ) → ReadsBy front asked desk.seats tales p reply tales' → IfSome (at_seat p) (λ answer. IsOrShort answer reply)
+    unseated None x = inl x.0
+    unseated (Some i) x = tt
+
+    formed : (reply : Reply) → AnswersAs front (Said (Ok (ReadBuf device asked))) reply
+    formed (Refusal k) = tt
+    formed NoMemory = tt
+    formed reply = tt
+
     moved : (reply : Reply) → IsWhole reply → ReadsFrom front asked desk.seats tales (Some dev) reply tales' → Moves front desk tales (Said (Ok (ReadBuf device asked))) reply desk' tales'
     moved NoMemory w x = absurd w
     moved Nothing w x = (same, rw e x)
@@ -155,12 +210,12 @@ unknown_read front desk device asked e m = ap (λ o. at_device m desk (λ k. rea
 pub no_read : (front : Front) (told : Option Machine) (desk : DeskRecord) (tales : List (Option Tale)) (device : List ℕ) (asked : ℕ) → find_device front device ≡ None
     → Serves front told desk tales (Said (Ok (ReadBuf device asked))) (Refusal ENODEV) told desk tales
 no_read front told desk tales device asked e =
-    record { alone = tt; exact = all_refused front told desk _ ENODEV (unknown_read front desk device asked e); moves = (refl, rw e (refl, refl)) }
+    record { alone = rw e (inl refl); formed = tt; exact = all_refused front told desk _ ENODEV (unknown_read front desk device asked e); moves = (refl, rw e (refl, refl)) }
 
 -- want of memory, before which nothing had changed
 short_read : (front : Front) (told told' : Option Machine) (desk desk' : DeskRecord) (tales tales' : List (Option Tale)) (device : List ℕ) (asked : ℕ)
     → told' ≡ told → desk' ≡ desk → tales' ≡ tales → Serves front told desk tales (Said (Ok (ReadBuf device asked))) NoMemory told' desk' tales'
-short_read front told told' desk desk' tales tales' device asked t d s = record { alone = tt; exact = by told t; moves = (d, s) }
+short_read front told told' desk desk' tales tales' device asked t d s = record { alone = short_seat desk.seats (find_device front device); formed = tt; exact = by told t; moves = (d, s) }
   where
     by : (told : Option Machine) → told' ≡ told → IfSome told (λ m. (told' ≡ Some m) × (desk' ≡ desk))
     by None t = tt
@@ -247,9 +302,10 @@ set_trigger_is front m desk device name = refl
 
 pub serves_set_trigger : (front : Front) (told told' : Option Machine) (desk : DeskRecord) (tales : List (Option Tale)) (device : List ℕ) (name : Option (List ℕ)) (r : Result ⊤ No)
     → IfSome told (λ m. Comes m desk (at_device m desk (set_trigger_at front m desk name) (find_device front device)) (reply_by r) told' desk)
+    → IsNowhere front device (Err (NoErrno ENODEV)) r
     → Serves front told desk tales (Said (Ok (SetTrig device name))) (reply_by r) told' desk tales
-serves_set_trigger front told told' desk tales device name r c =
-    record { alone = tt; exact = all_comes front told told' desk desk _ (λ m. at_device m desk (set_trigger_at front m desk name) (find_device front device)) (reply_by r) (λ m. set_trigger_is front m desk device name) c; moves = moved r }
+serves_set_trigger front told told' desk tales device name r c none =
+    record { alone = alone_at (find_device front device) (reply_by r) (nowhere_by front device r none); formed = settles front (Said (Ok (SetTrig device name))) r refl; exact = all_comes front told told' desk desk _ (λ m. at_device m desk (set_trigger_at front m desk name) (find_device front device)) (reply_by r) (λ m. set_trigger_is front m desk device name) c; moves = moved r }
   where
     moved : (r : Result ⊤ No) → Moves front desk tales (Said (Ok (SetTrig device name))) (reply_by r) desk tales
     moved (Ok done) = (refl, refl)
@@ -266,9 +322,10 @@ set_buffers_is front m desk device n = refl
 pub serves_set_buffers : (front : Front) (told : Option Machine) (desk desk' : DeskRecord) (tales tales' : List (Option Tale)) (device : List ℕ) (n : ℕ) (r : Result ⊤ No)
     → IfSome told (λ m. Comes m desk (at_device m desk (set_buffers_at m desk n) (find_device front device)) (reply_by r) told desk')
     → AltersBy front device (λ dev. with_count dev n) desk r desk' → tales' ≡ tales
+    → IsNowhere front device (Err (NoErrno ENODEV)) r
     → Serves front told desk tales (Said (Ok (SetBuffers device n))) (reply_by r) told desk' tales'
-serves_set_buffers front told desk desk' tales tales' device n r c a t =
-    record { alone = tt; exact = all_comes front told told desk desk' _ (λ m. at_device m desk (set_buffers_at m desk n) (find_device front device)) (reply_by r) (λ m. set_buffers_is front m desk device n) c; moves = moved r a }
+serves_set_buffers front told desk desk' tales tales' device n r c a t none =
+    record { alone = alone_at (find_device front device) (reply_by r) (nowhere_by front device r none); formed = settles front (Said (Ok (SetBuffers device n))) r refl; exact = all_comes front told told desk desk' _ (λ m. at_device m desk (set_buffers_at m desk n) (find_device front device)) (reply_by r) (λ m. set_buffers_is front m desk device n) c; moves = moved r a }
   where
     moved : (r : Result ⊤ No) → AltersBy front device (λ dev. with_count dev n) desk r desk' → Moves front desk tales (Said (Ok (SetBuffers device n))) (reply_by r) desk' tales'
     moved (Ok done) a = record { dev = a.0; named = a.1; made = a.2; told = t }
@@ -284,9 +341,15 @@ get_trigger_is front m desk device = refl
 
 pub serves_get_trigger : (front : Front) (told : Option Machine) (desk : DeskRecord) (tales : List (Option Tale)) (device : List ℕ) (reply : Reply)
     → IfSome told (λ m. Comes m desk (at_device m desk (get_trigger_at front m desk) (find_device front device)) reply told desk)
+    → (find_device front device ≡ None → reply ≡ Refusal ENODEV) → AnswersAs front (Said (Ok (GetTrig device))) reply
     → Serves front told desk tales (Said (Ok (GetTrig device))) reply told desk tales
-serves_get_trigger front told desk tales device reply c =
-    record { alone = tt; exact = all_comes front told told desk desk _ (λ m. at_device m desk (get_trigger_at front m desk) (find_device front device)) reply (λ m. get_trigger_is front m desk device) c; moves = (refl, refl) }
+serves_get_trigger front told desk tales device reply c none formed =
+    record { alone = alone_at (find_device front device) reply none; formed = formed; exact = all_comes front told told desk desk _ (λ m. at_device m desk (get_trigger_at front m desk) (find_device front device)) reply (λ m. get_trigger_is front m desk device) c; moves = (refl, refl) }
+
+pub trigger_formed : (front : Front) (device : List ℕ) (trigger : Result (Option ℕ) Errno) → AnswersAs front (Said (Ok (GetTrig device))) (trigger_by front trigger)
+trigger_formed front device (Ok None) = (None, refl)
+trigger_formed front device (Ok (Some t)) = (Some t, refl)
+trigger_formed front device (Err e) = tt
 
 pub trigger_allowed : (manner : Manner) (front : Front) (trigger : Result (Option ℕ) Errno) → IsAllowed manner (trigger_by front trigger)
 trigger_allowed manner front (Ok None) = allowed manner zero_reply tt
@@ -303,9 +366,10 @@ ev_open_is front m desk device = refl
 pub serves_ev_open : (front : Front) (told told' : Option Machine) (desk desk' : DeskRecord) (tales tales' : List (Option Tale)) (device : List ℕ) (r : Result ⊤ No)
     → IfSome told (λ m. Comes m desk (at_device m desk (ev_open_at m desk) (find_device front device)) (reply_by r) told' desk')
     → AltersBy front device with_holding desk r desk' → tales' ≡ tales
+    → IsNowhere front device (Err (NoErrno ENODEV)) r
     → Serves front told desk tales (Said (Ok (EvOpen device))) (reply_by r) told' desk' tales'
-serves_ev_open front told told' desk desk' tales tales' device r c a t =
-    record { alone = tt; exact = all_comes front told told' desk desk' _ (λ m. at_device m desk (ev_open_at m desk) (find_device front device)) (reply_by r) (λ m. ev_open_is front m desk device) c; moves = moved r a }
+serves_ev_open front told told' desk desk' tales tales' device r c a t none =
+    record { alone = alone_at (find_device front device) (reply_by r) (nowhere_by front device r none); formed = settles front (Said (Ok (EvOpen device))) r refl; exact = all_comes front told told' desk desk' _ (λ m. at_device m desk (ev_open_at m desk) (find_device front device)) (reply_by r) (λ m. ev_open_is front m desk device) c; moves = moved r a }
   where
     moved : (r : Result ⊤ No) → AltersBy front device with_holding desk r desk' → Moves front desk tales (Said (Ok (EvOpen device))) (reply_by r) desk' tales'
     moved (Ok done) a = record { dev = a.0; named = a.1; made = a.2; told = t }
@@ -322,9 +386,10 @@ ev_close_is front m desk device = refl
 pub serves_ev_close : (front : Front) (told told' : Option Machine) (desk desk' : DeskRecord) (tales tales' : List (Option Tale)) (device : List ℕ) (r : Result ⊤ No)
     → IfSome told (λ m. Comes m desk (at_device m desk (ev_close_at m desk) (find_device front device)) (reply_by r) told' desk')
     → AltersBy front device without_holding desk r desk' → tales' ≡ tales
+    → IsNowhere front device (Err (NoErrno ENODEV)) r
     → Serves front told desk tales (Said (Ok (EvClose device))) (reply_by r) told' desk' tales'
-serves_ev_close front told told' desk desk' tales tales' device r c a t =
-    record { alone = tt; exact = all_comes front told told' desk desk' _ (λ m. at_device m desk (ev_close_at m desk) (find_device front device)) (reply_by r) (λ m. ev_close_is front m desk device) c; moves = moved r a }
+serves_ev_close front told told' desk desk' tales tales' device r c a t none =
+    record { alone = alone_at (find_device front device) (reply_by r) (nowhere_by front device r none); formed = settles front (Said (Ok (EvClose device))) r refl; exact = all_comes front told told' desk desk' _ (λ m. at_device m desk (ev_close_at m desk) (find_device front device)) (reply_by r) (λ m. ev_close_is front m desk device) c; moves = moved r a }
   where
     moved : (r : Result ⊤ No) → AltersBy front device without_holding desk r desk' → Moves front desk tales (Said (Ok (EvClose device))) (reply_by r) desk' tales'
     moved (Ok done) a = record { dev = a.0; named = a.1; made = a.2; told = t }
@@ -340,9 +405,16 @@ ev_read_is front m desk device = refl
 
 pub serves_ev_read : (front : Front) (told told' : Option Machine) (desk : DeskRecord) (tales : List (Option Tale)) (device : List ℕ) (reply : Reply)
     → IfSome told (λ m. Comes m desk (at_device m desk (ev_read_at m desk) (find_device front device)) reply told' desk)
+    → (find_device front device ≡ None → reply ≡ Refusal ENODEV) → AnswersAs front (Said (Ok (EvRead device))) reply
     → Serves front told desk tales (Said (Ok (EvRead device))) reply told' desk tales
-serves_ev_read front told told' desk tales device reply c =
-    record { alone = tt; exact = all_comes front told told' desk desk _ (λ m. at_device m desk (ev_read_at m desk) (find_device front device)) reply (λ m. ev_read_is front m desk device) c; moves = (refl, refl) }
+serves_ev_read front told told' desk tales device reply c none formed =
+    record { alone = alone_at (find_device front device) reply none; formed = formed; exact = all_comes front told told' desk desk _ (λ m. at_device m desk (ev_read_at m desk) (find_device front device)) reply (λ m. ev_read_is front m desk device) c; moves = (refl, refl) }
+
+pub event_formed : (front : Front) (device : List ℕ) (r : Result (Option EventData) No) → AnswersAs front (Said (Ok (EvRead device))) (event_by r)
+event_formed front device (Ok None) = tt
+event_formed front device (Ok (Some event)) = (event, refl)
+event_formed front device (Err (NoErrno e)) = tt
+event_formed front device (Err NoMem) = tt
 
 -- ---- WRITEBUF
 
@@ -353,6 +425,7 @@ write_buffer_is front m desk device bytes = refl
 
 pub serves_write_buffer : (front : Front) (told : Option Machine) (desk : DeskRecord) (tales : List (Option Tale)) (device : List ℕ) (bytes : ℕ) (e : Errno)
     → IfSome told (λ m. Comes m desk (at_device m desk (write_buffer_at m desk) (find_device front device)) (Refusal e) told desk)
+    → IsNowhere front device ENODEV e
     → Serves front told desk tales (Said (Ok (WriteBuf device bytes))) (Refusal e) told desk tales
-serves_write_buffer front told desk tales device bytes e c =
-    record { alone = tt; exact = all_comes front told told desk desk _ (λ m. at_device m desk (write_buffer_at m desk) (find_device front device)) (Refusal e) (λ m. write_buffer_is front m desk device bytes) c; moves = (refl, refl) }
+serves_write_buffer front told desk tales device bytes e c none =
+    record { alone = alone_at (find_device front device) (Refusal e) (λ n. ap Refusal (none n)); formed = tt; exact = all_comes front told told desk desk _ (λ m. at_device m desk (write_buffer_at m desk) (find_device front device)) (Refusal e) (λ m. write_buffer_is front m desk device bytes) c; moves = (refl, refl) }

@@ -12,7 +12,7 @@ use Rattle.iiod_session.specs.Acts.{Acted, Acts, act}
 use Rattle.iiod_session.specs.Front.{Front}
 use Rattle.iiod_session.specs.Machine.{Machine}
 use Rattle.iiod_session.specs.Performs.{IsAllowed}
-use Rattle.iiod_session.specs.Run.{State, IsAnswered, Run, Feeds, FeedTells, Tells}
+use Rattle.iiod_session.specs.Run.{State, IsAnswered, Run, Carries, FeedTells, Tells}
 
 -- what one item made
 record Acting (front : Front) (a mid : State) (m : Machine) (item : Item) (reply : Reply) : Type 0 where
@@ -57,20 +57,20 @@ run_tells front a b m (x ∷ xs) (y ∷ ys) r told =
 
 -- all items that were whole are answered
 all_tell : (front : Front) (a b : State) (all left : Scanned) (before after : List ℕ) (going : Going) (told : Option Machine) → a.told ≡ told → left.items ≡ []
-    → (f : Feeds Script front a all before after b left going) → b ≡ f.mid → FeedTells Script front a all.items before after b
+    → (f : Carries Script front a all before after b left going) → b ≡ f.mid → FeedTells Script front a all.items before after b
 all_tell front a b all left before after going None is none f same = rw is tt
 all_tell front a b all left before after going (Some m) is none f same =
     let items : all.items ≡ f.fed.items = f.fed.heard ∙ ap (λ (xs : List Item). f.fed.items ++ xs) none ∙ append-nil f.fed.items in
     rw (is, items, same) (flat_map text_of f.fed.replies, f.fed.text, run_tells front a f.mid m f.fed.items f.fed.replies f.fed.run is)
 
 feeds_tell : (front : Front) (a b : State) (all left : Scanned) (before after : List ℕ) (going : Going) → (going ≡ On → left.items ≡ [])
-    → Feeds Script front a all before after b left going → FeedTells Script front a all.items before after b
+    → Carries Script front a all before after b left going → FeedTells Script front a all.items before after b
 feeds_tell front a b all left before after On none f = all_tell front a b all left before after On a.told refl (none refl) f f.stands.0
 feeds_tell front a b all left before after Ended none f = all_tell front a b all left before after Ended a.told refl (ap (λ (x : Scanned). x.items) f.stands.1) f f.stands.0
 feeds_tell front a b all left before after (Waits dev) none f = let never : Script ≡ Server = f.stands.server in cc
 
 pub feed_tells : (manner : Manner) (front : Front) (a b : State) (all left : Scanned) (before after : List ℕ) (r : Result Going Mem)
-    → IfOk r (λ going. going ≡ On → left.items ≡ []) → IfOk r (Feeds manner front a all before after b left)
+    → IfOk r (λ going. going ≡ On → left.items ≡ []) → IfOk r (Carries manner front a all before after b left)
     → IfOk r (λ going. FeedTells manner front a all.items before after b)
 feed_tells Script front a b all left before after (Ok going) none f = feeds_tell front a b all left before after going none f
 feed_tells Server front a b all left before after (Ok going) none f = tt

@@ -1,6 +1,6 @@
 -- What a connection has of the devices: its seats, its buffers counts, and the devices whose events go to it. The seats'
 -- tales stand beside, in the same order.
-use Rattle.std.specs.Prelude.{◌≡◌, ℕ, ◌*◌, ◌==◌, ◌<◌, ◌≤◌, not, Bool, List, [], ◌∷◌, ◌++◌, map, filter, length, if◌then◌else◌, Option, is_none, unwrap_or, All, Result, position}
+use Rattle.std.specs.Prelude.{◌≡◌, ℕ, ◌*◌, ◌==◌, ◌<◌, ◌≤◌, ◌||◌, ◌&&◌, not, Bool, true, false, List, [], ◌∷◌, ◌++◌, map, filter, length, if◌then◌else◌, Option, Some, is_none, unwrap_or, All, Result, position}
 use Rattle.iio_base.specs.Refusals.{first_refusal, unless_refused}
 use Rattle.iio_text.specs.declared.errors.Errno.{Errno}
 use Rattle.iio_mask.specs.Text.{mask_of}
@@ -37,6 +37,16 @@ pub record DeskRecord : Type 0 where
 abbrev pub place_of : ℕ → List Bare → Option ℕ
 place_of dev seats = position (λ (s : Bare). s.dev == dev) seats
 
+-- whether there is a seat at a device
+abbrev pub has_seat : ℕ → List Bare → Bool
+has_seat dev [] = false
+has_seat dev (s ∷ ss) = (s.dev == dev) || has_seat dev ss
+
+-- whether no two seats are at one device
+abbrev pub are_apart : List Bare → Bool
+are_apart [] = true
+are_apart (s ∷ ss) = not (has_seat s.dev ss) && are_apart ss
+
 -- the buffers count of a device: the one of its SET
 abbrev pub buffers_of : ℕ → List BuffersCount → ℕ
 buffers_of dev [] = FIRST_BUFFERS
@@ -71,6 +81,13 @@ wanted_of is_open plugged shape buffers samples text cyclic =
     unless_refused (record { mask = mask; capacity = capacity })
     (first_refusal (asked_refusals (not plugged) cyclic (is_none (mask_of text (count_of shape))) (not (has_data shape mask)) (is_excess capacity (scan_size shape mask)) is_open))
 
+-- what an OPEN asks for that isn't refused by it: the mask of its text, the samples times the buffers count as the capacity,
+-- and no CYCLIC
+pub record IsWanted (shape : ShapeRecord) (buffers samples : ℕ) (text : List ℕ) (cyclic : Bool) (x : Wanted) : Type 0 where
+  pub mask : mask_of text (count_of shape) ≡ Some x.mask
+  pub capacity : x.capacity ≡ samples * buffers
+  pub once : cyclic ≡ false
+
 -- ---- a connection's seats as these lists
 
 module _ {S : Type 0} (seen : S → SeatRecord) where
@@ -99,7 +116,8 @@ module _ {S : Type 0} (seen : S → SeatRecord) where
   abbrev pub AllHeld : Front → List (Held S) → Type 0
   AllHeld front held = All (IsHeld front) held
 
-  -- each seat is, and each device whose events are held is there
+  -- each seat is, no two are at one device, and each device whose events are held is there
   pub record IsDesk (front : Front) (d : Desk S) : Type 0 where
     pub seats : AllHeld front d.held.items
+    pub apart : are_apart (seats_of d.held.items) ≡ true
     pub holdings : All (λ dev. dev < length front.devices) d.holdings.items

@@ -1,5 +1,5 @@
 -- The scans that READBUF's answers give, device by device, by the items and their answers alone.
-use Rattle.std.specs.Prelude.{◌≡◌, ℕ, ◌==◌, ◌||◌, Bool, false, List, [], ◌∷◌, ◌++◌, length, Option, Some, None, Ok, if◌then◌else◌}
+use Rattle.std.specs.Prelude.{◌≡◌, ℕ, ◌==◌, Bool, false, List, [], ◌∷◌, ◌++◌, Option, Some, None, Ok, if◌then◌else◌}
 use Rattle.std.specs.Option.{option_map_or}
 use Rattle.iiod_grammar.specs.Command.{Open, ReadBuf}
 use Rattle.iiod_grammar.specs.Stream.{Item, Said}
@@ -34,20 +34,6 @@ tale_at dev seats tales = None
 abbrev pub given_in : Option Tale → List (List ℕ)
 given_in None = []
 given_in (Some t) = t.given
-
-abbrev pub has_seat : ℕ → List Bare → Bool
-has_seat dev [] = false
-has_seat dev (s ∷ ss) = (s.dev == dev) || has_seat dev ss
-
--- no two seats are at one device
-abbrev pub AreApart : List Bare → Type 0
-AreApart [] = Unit {0}
-AreApart (s ∷ ss) = (has_seat s.dev ss ≡ false) × AreApart ss
-
--- and each seat has its tale
-pub record AreSeated (seats : List Bare) (tales : List (Option Tale)) : Type 0 where
-  pub apart : AreApart seats
-  pub told : length tales ≡ length seats
 
 -- for each device whose seat tells: the scans that it gave are those before and those of the answers
 abbrev pub GivenIs : Front → List Item → List Reply → (seats : List Bare) → (tales : List (Option Tale)) → (seats' : List Bare) → (tales' : List (Option Tale)) → Type 0

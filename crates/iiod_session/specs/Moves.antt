@@ -1,15 +1,17 @@
--- What an item and its answer make of a connection's seats, over any `Iio`.
-use Rattle.std.specs.Prelude.{◌≡◌, ◌⊎◌, ℕ, nat_lt, false, true, List, [], ◌∷◌, ◌++◌, slice_get, slice_set, remove, Option, Some, None, option_map, IfSome, MatchBool, Ok, Err}
+-- What an item may be answered, and what it and its answer make of a connection's seats, over any `Iio`.
+use Rattle.std.specs.Prelude.{◌≡◌, ◌⊎◌, ℕ, pos, nat_lt, Bool, false, true, List, [], ◌∷◌, ◌++◌, length, slice_get, slice_set, remove, Option, Some, None, option_map, IfSome, MatchBool, Ok, Err}
 use Rattle.iio_text.specs.declared.errors.Errno.TheVariants.{EAGAIN, EBADF, EINVAL, ENODEV}
+use Rattle.iio_event.specs.Code.{event_bytes}
+use Rattle.iio_event.specs.declared.event.EventData.{EventData}
 use Rattle.iiod_grammar.specs.declared.command.Refused.TheVariants.{Empty}
-use Rattle.iiod_grammar.specs.Command.{Help, Version, Print, Timeout, Open, Close, ReadBuf, SetBuffers, EvOpen, EvClose}
+use Rattle.iiod_grammar.specs.Command.{Help, Exit, Version, Print, Timeout, Open, Close, Read, Write, ReadBuf, WriteBuf, GetTrig, SetTrig, SetBuffers, EvOpen, EvRead, EvClose}
 use Rattle.iiod_grammar.specs.Stream.{Item, Said, Written, End}
-use Rattle.iiod_reply.specs.Reply.{Reply, Nothing, Number, Refusal, Value, Block, NoMemory}
-use Rattle.iiod_session.specs.Acts.{Acts, end_reply, help_reply, left_desk, version_reply, zero_reply}
-use Rattle.iiod_session.specs.Front.{Front, channel_count, find_device, size_at}
+use Rattle.iiod_reply.specs.Reply.{Reply, Nothing, Number, Refusal, Value, Raw, Block, NoMemory}
+use Rattle.iiod_session.specs.Acts.{Acts, end_reply, help_reply, left_desk, trigger_reply, version_reply, zero_reply}
+use Rattle.iiod_session.specs.Front.{Front, channel_count, find_device, shape_at, size_at}
 use Rattle.iiod_session.specs.Machine.{Machine}
 use Rattle.iiod_session.specs.Seat.{Tale, after_nothing, first_tale}
-use Rattle.iiod_session.specs.Desk.{Bare, DeskRecord, place_of, with_count, with_holding, with_seats, without_holding}
+use Rattle.iiod_session.specs.Desk.{Bare, DeskRecord, IsWanted, buffers_of, place_of, with_count, with_holding, with_seats, without_holding}
 use Rattle.iiod_session.specs.Reading.{Reads, most_scans}
 
 -- what a READBUF's answer says of the tale of its seat: its scans are those by which the tale grew
@@ -44,12 +46,14 @@ abbrev pub ReadsFrom : Front → ℕ → List Bare → List (Option Tale) → Op
 ReadsFrom front asked seats tales None reply tales' = (reply ≡ Refusal ENODEV) × (tales' ≡ tales)
 ReadsFrom front asked seats tales (Some dev) reply tales' = ReadsBy front asked seats tales (place_of dev seats) reply tales'
 
--- a seat more, of which nothing was taken yet
-pub record Joins (front : Front) (device : List ℕ) (desk : DeskRecord) (tales : List (Option Tale)) (desk' : DeskRecord) (tales' : List (Option Tale)) : Type 0 where
+-- a seat more at a device where there was none, under the mask of the OPEN's text, of a capacity that is its samples times the
+-- buffers count of the device. Nothing was taken of it yet
+pub record Joins (front : Front) (device : List ℕ) (samples : ℕ) (text : List ℕ) (cyclic : Bool) (desk : DeskRecord) (tales : List (Option Tale)) (desk' : DeskRecord) (tales' : List (Option Tale)) : Type 0 where
   pub s : Bare
   pub t : Option Tale
   pub named : find_device front device ≡ Some s.dev
   pub free : place_of s.dev desk.seats ≡ None
+  pub wanted : IsWanted (shape_at front s.dev) (buffers_of s.dev desk.buffers) samples text cyclic (record { mask = s.mask; capacity = s.capacity })
   pub added : desk' ≡ with_seats (desk.seats ++ s ∷ []) desk
   pub told : tales' ≡ tales ++ t ∷ []
   pub fresh : t ≡ option_map (λ (x : Tale). first_tale) t
@@ -70,8 +74,9 @@ pub record Alters (front : Front) (device : List ℕ) (change : ℕ → DeskReco
   pub made : desk' ≡ change dev desk
   pub told : tales' ≡ tales
 
+-- what an item and its answer make of what the connection has: a refusal, and want of memory, change nothing but a seat's tale
 abbrev pub Moves : Front → DeskRecord → List (Option Tale) → Item → Reply → DeskRecord → List (Option Tale) → Type 0
-Moves front desk tales (Said (Ok (Open device samples text cyclic))) (Number n) desk' tales' = Joins front device desk tales desk' tales'
+Moves front desk tales (Said (Ok (Open device samples text cyclic))) (Number n) desk' tales' = Joins front device samples text cyclic desk tales desk' tales'
 Moves front desk tales (Said (Ok (Close device))) (Number n) desk' tales' = Leaves front device desk tales desk' tales'
 Moves front desk tales (Said (Ok (ReadBuf device asked))) NoMemory desk' tales' = (desk' ≡ desk) × (tales' ≡ tales)
 Moves front desk tales (Said (Ok (ReadBuf device asked))) reply desk' tales' =
@@ -82,24 +87,85 @@ Moves front desk tales (Said (Ok (EvClose device))) (Number z) desk' tales' = Al
 Moves front desk tales (End error) reply desk' tales' = (reply ≡ end_reply error) × (desk' ≡ left_desk desk) × (tales' ≡ [])
 Moves front desk tales item reply desk' tales' = (desk' ≡ desk) × (tales' ≡ tales)
 
--- an answer, or want of memory
+-- ---- answers
+
+-- the answer of a command at a device, where it is known without asking: -19 where there is none of that name
+abbrev pub at_known : (ℕ → Option Reply) → Option ℕ → Option Reply
+at_known on None = Some (Refusal ENODEV)
+at_known on (Some dev) = on dev
+
+-- ... and -9 where the connection has no seat at it
+abbrev pub at_seat : Option ℕ → Option Reply
+at_seat None = Some (Refusal EBADF)
+at_seat (Some i) = None
+
+-- of a command that any connection may give at a device
+abbrev pub of_device : Front → List ℕ → Option Reply
+of_device front device = at_known (λ dev. None) (find_device front device)
+
+-- of one that is for the connection's own seat there
+abbrev pub of_seat : Front → DeskRecord → List ℕ → Option Reply
+of_seat front desk device = at_known (λ dev. at_seat (place_of dev desk.seats)) (find_device front device)
+
+-- the answer of an item that needs no device; none where a device is asked
+abbrev pub answer_alone : Front → DeskRecord → Item → Option Reply
+answer_alone front desk (Said (Ok Help)) = Some help_reply
+answer_alone front desk (Said (Ok Exit)) = Some Nothing
+answer_alone front desk (Said (Ok Version)) = Some version_reply
+answer_alone front desk (Said (Ok Print)) = Some (Value front.context)
+answer_alone front desk (Said (Ok (Timeout milliseconds))) = Some zero_reply
+answer_alone front desk (Said (Ok (Open device samples text cyclic))) = of_device front device
+answer_alone front desk (Said (Ok (Close device))) = of_seat front desk device
+answer_alone front desk (Said (Ok (Read device place name))) = of_device front device
+answer_alone front desk (Said (Ok (Write device target count))) = Some Nothing
+answer_alone front desk (Said (Ok (ReadBuf device asked))) = of_seat front desk device
+answer_alone front desk (Said (Ok (WriteBuf device bytes))) = of_device front device
+answer_alone front desk (Said (Ok (GetTrig device))) = of_device front device
+answer_alone front desk (Said (Ok (SetTrig device name))) = of_device front device
+answer_alone front desk (Said (Ok (SetBuffers device n))) = of_device front device
+answer_alone front desk (Said (Ok (EvOpen device))) = of_device front device
+answer_alone front desk (Said (Ok (EvRead device))) = of_device front device
+answer_alone front desk (Said (Ok (EvClose device))) = of_device front device
+answer_alone front desk (Said (Err Empty)) = Some Nothing
+answer_alone front desk (Said (Err why)) = Some (Refusal EINVAL)
+answer_alone front desk (Written device None payload) = Some (Refusal EINVAL)
+answer_alone front desk (Written device (Some target) payload) = of_device front device
+answer_alone front desk (End error) = Some (end_reply error)
+
+-- an answer; want of memory, where it is one
 abbrev pub IsOrShort : (answer reply : Reply) → Type 0
+IsOrShort Nothing reply = reply ≡ Nothing
 IsOrShort answer reply = (reply ≡ answer) ⊎ (reply ≡ NoMemory)
 
 -- an item that needs no device has its answer over any `Iio`
-abbrev pub AnswersAlone : Front → Item → Reply → Type 0
-AnswersAlone front (Said (Ok Help)) reply = IsOrShort help_reply reply
-AnswersAlone front (Said (Ok Version)) reply = IsOrShort version_reply reply
-AnswersAlone front (Said (Ok Print)) reply = IsOrShort (Value front.context) reply
-AnswersAlone front (Said (Ok (Timeout milliseconds))) reply = IsOrShort zero_reply reply
-AnswersAlone front (Said (Err Empty)) reply = reply ≡ Nothing
-AnswersAlone front (Said (Err why)) reply = IsOrShort (Refusal EINVAL) reply
-AnswersAlone front (Written device None payload) reply = IsOrShort (Refusal EINVAL) reply
-AnswersAlone front item reply = Unit {0}
+abbrev pub AnswersAlone : Front → DeskRecord → Item → Reply → Type 0
+AnswersAlone front desk item reply = IfSome (answer_alone front desk item) (λ answer. IsOrShort answer reply)
+
+-- what a command at a device is answered that isn't refused. What a READBUF is stands in `Moves`, and the others need no device
+abbrev pub Accepts : Front → Item → Reply → Type 0
+Accepts front (Said (Ok (Open device samples text cyclic))) reply = reply ≡ zero_reply
+Accepts front (Said (Ok (Close device))) reply = reply ≡ zero_reply
+Accepts front (Said (Ok (Read device place name))) reply = (text : List ℕ) × (reply ≡ Value text)
+Accepts front (Said (Ok (WriteBuf device bytes))) reply = ⊥
+Accepts front (Said (Ok (GetTrig device))) reply = (trigger : Option ℕ) × (reply ≡ trigger_reply front trigger)
+Accepts front (Said (Ok (SetTrig device name))) reply = reply ≡ zero_reply
+Accepts front (Said (Ok (SetBuffers device n))) reply = reply ≡ zero_reply
+Accepts front (Said (Ok (EvOpen device))) reply = reply ≡ zero_reply
+Accepts front (Said (Ok (EvRead device))) reply = (event : EventData) × (reply ≡ Raw (event_bytes event))
+Accepts front (Said (Ok (EvClose device))) reply = reply ≡ zero_reply
+Accepts front (Written device (Some target) payload) reply = reply ≡ Number (pos (length payload))
+Accepts front item reply = Unit {0}
+
+-- ... or it is refused, or there was no memory for it
+abbrev pub AnswersAs : Front → Item → Reply → Type 0
+AnswersAs front item (Refusal e) = Unit {0}
+AnswersAs front item NoMemory = Unit {0}
+AnswersAs front item reply = Accepts front item reply
 
 -- one item and its answer: over any `Iio`, and over one that tells its state
 pub record Serves (front : Front) (told : Option Machine) (desk : DeskRecord) (tales : List (Option Tale)) (item : Item) (reply : Reply)
     (told' : Option Machine) (desk' : DeskRecord) (tales' : List (Option Tale)) : Type 0 where
-  pub alone : AnswersAlone front item reply
+  pub alone : AnswersAlone front desk item reply
+  pub formed : AnswersAs front item reply
   pub exact : IfSome told (λ m. Acts front m desk item reply told' desk')
   pub moves : Moves front desk tales item reply desk' tales'

@@ -1,5 +1,5 @@
 -- What the functions below a command promise. Cited by private functions alone.
-use Rattle.std.specs.Prelude.{◌≡◌, ℕ, List, [], ◌∷◌, ◌++◌, remove, Option, Some, None, option_map, IfSome, Result, Ok, Err, ⊤}
+use Rattle.std.specs.Prelude.{◌≡◌, ℕ, Bool, List, [], ◌∷◌, ◌++◌, remove, Option, Some, None, option_map, IfSome, Result, Ok, Err, ⊤}
 use Rattle.iio_base.specs.declared.Mem.{Mem}
 use Rattle.iio_text.specs.declared.errors.Errno.{Errno}
 use Rattle.iio_text.specs.declared.errors.Errno.TheVariants.{EAGAIN, ENODEV}
@@ -16,10 +16,10 @@ use Rattle.iiod_session.specs.declared.manner.Manner.{Manner}
 use Rattle.iiod_session.specs.declared.manner.Manner.TheVariants.{Script, Server}
 use Rattle.iiod_session.specs.declared.manner.Performed.{Performed}
 use Rattle.iiod_session.specs.declared.manner.Performed.TheVariants.{Done, Waits}
-use Rattle.iiod_session.specs.Front.{Front, find_device}
+use Rattle.iiod_session.specs.Front.{Front, find_device, shape_at}
 use Rattle.iiod_session.specs.Machine.{Machine}
 use Rattle.iiod_session.specs.Seat.{Tale, first_tale}
-use Rattle.iiod_session.specs.Desk.{Bare, DeskRecord, place_of, with_seats}
+use Rattle.iiod_session.specs.Desk.{Bare, DeskRecord, IsWanted, Wanted, buffers_of, place_of, with_seats}
 use Rattle.iiod_session.specs.Acts.{Acted, read_at, read_at_seat, trigger_reply, zero_reply}
 use Rattle.iiod_session.specs.Moves.{ReadMoves, ReadsBy, Serves}
 
@@ -44,13 +44,31 @@ abbrev pub IsFound : Reply → Type 0
 IsFound (Refusal EAGAIN) = ⊥
 IsFound reply = Unit {0}
 
+-- at a device that isn't there a command is answered by this
+abbrev pub IsNowhere : {A : Type 0} → Front → List ℕ → (refusal answer : A) → Type 0
+IsNowhere front device refusal answer = find_device front device ≡ None → answer ≡ refusal
+
 -- ---- seats
 
--- a seat more at a device where there was none, or nothing more
-abbrev pub JoinsBy : ℕ → DeskRecord → List (Option Tale) → Result ⊤ No → DeskRecord → List (Option Tale) → Type 0
-JoinsBy dev desk tales (Ok done) desk' tales' = (s : Bare) × (t : Option Tale) × (s.dev ≡ dev) × (place_of dev desk.seats ≡ None)
-    × (desk' ≡ with_seats (desk.seats ++ s ∷ []) desk) × (tales' ≡ tales ++ t ∷ []) × (t ≡ option_map (λ (x : Tale). first_tale) t)
-JoinsBy dev desk tales (Err e) desk' tales' = (desk' ≡ desk) × (tales' ≡ tales)
+-- a seat more at a device where there was none, by what its OPEN asks for
+pub record JoinsAt (dev : ℕ) (x : Wanted) (desk : DeskRecord) (tales : List (Option Tale)) (desk' : DeskRecord) (tales' : List (Option Tale)) : Type 0 where
+  pub number : ℕ
+  pub t : Option Tale
+  pub free : place_of dev desk.seats ≡ None
+  pub added : desk' ≡ with_seats (desk.seats ++ record { dev = dev; number = number; mask = x.mask; capacity = x.capacity } ∷ []) desk
+  pub told : tales' ≡ tales ++ t ∷ []
+  pub fresh : t ≡ option_map (λ (x : Tale). first_tale) t
+
+-- ... or nothing more
+abbrev pub JoinsBy : ℕ → Wanted → DeskRecord → List (Option Tale) → Result ⊤ No → DeskRecord → List (Option Tale) → Type 0
+JoinsBy dev x desk tales (Ok done) desk' tales' = JoinsAt dev x desk tales desk' tales'
+JoinsBy dev x desk tales (Err e) desk' tales' = (desk' ≡ desk) × (tales' ≡ tales)
+
+-- the same by an OPEN's words
+abbrev pub OpensBy : Front → (dev samples : ℕ) → (text : List ℕ) → (cyclic : Bool) → DeskRecord → List (Option Tale) → Result ⊤ No → DeskRecord → List (Option Tale) → Type 0
+OpensBy front dev samples text cyclic desk tales (Ok done) desk' tales' =
+    (x : Wanted) × IsWanted (shape_at front dev) (buffers_of dev desk.buffers) samples text cyclic x × JoinsAt dev x desk tales desk' tales'
+OpensBy front dev samples text cyclic desk tales (Err e) desk' tales' = (desk' ≡ desk) × (tales' ≡ tales)
 
 -- a seat less, or nothing less
 abbrev pub LeavesBy : ℕ → DeskRecord → List (Option Tale) → Result ⊤ No → DeskRecord → List (Option Tale) → Type 0

@@ -12,7 +12,7 @@ use Rattle.iiod_session.specs.declared.manner.Manner.TheVariants.{Script, Server
 use Rattle.iiod_session.specs.Acts.{act}
 use Rattle.iiod_session.specs.Desk.{DeskRecord, desk_of, tales_of}
 use Rattle.iiod_session.specs.Front.{Front}
-use Rattle.iiod_session.specs.Given.{AreSeated, GivenIs}
+use Rattle.iiod_session.specs.Given.{GivenIs}
 use Rattle.iiod_session.specs.Machine.{Machine}
 use Rattle.iiod_session.specs.Moves.{Serves}
 use Rattle.iiod_session.specs.Performs.{IsAllowed, IsAnswerOf, IsReadOf}
@@ -64,13 +64,16 @@ Stands manner front a left b On = (b ≡ a) × (left.next ≢ AtEnd)
 Stands manner front a left b (Waits dev) = IsWaiting manner front dev a left b
 Stands manner front a left b Ended = (b ≡ a) × (left ≡ record { items = []; next = AtEnd })
 
-pub record Feeds (manner : Manner) (front : Front) (a : State) (all : Scanned) (before after : List ℕ) (b : State) (left : Scanned) (going : Going) : Type 0 where
+-- the first of these items were carried out, and the connection stands so
+pub record Carries (manner : Manner) (front : Front) (a : State) (all : Scanned) (before after : List ℕ) (b : State) (left : Scanned) (going : Going) : Type 0 where
   pub mid : State
   pub fed : Fed manner front a all before after mid left
   pub stands : Stands manner front mid left b going
-  -- what the seats gave is what was answered
-  pub seated : AreSeated a.desk.seats a.tales → AreSeated b.desk.seats b.tales
-  pub given : AreSeated a.desk.seats a.tales → GivenIs front fed.items fed.replies a.desk.seats a.tales b.desk.seats b.tales
+
+-- and what the seats gave is what was answered
+pub record Feeds (manner : Manner) (front : Front) (a : State) (all : Scanned) (before after : List ℕ) (b : State) (left : Scanned) (going : Going) : Type 0 where
+  pub carried : Carries manner front a all before after b left going
+  pub given : GivenIs front carried.fed.items carried.fed.replies a.desk.seats a.tales b.desk.seats b.tales
 
 -- ---- in a script, over a told state: everything is determined
 

@@ -1,7 +1,8 @@
 //! The commands of attributes: READ and WRITE.
 
-ghost use Rattle.std.specs.Prelude.{◌≡◌, ◌<◌, ◌++◌, length, is_some, option_map, Ok, IfOk, IfSome, OnOk, Some, ℕ, List};
+ghost use Rattle.std.specs.Prelude.{◌≡◌, ◌<◌, ◌++◌, length, is_some, option_map, Ok, Err, IfOk, IfSome, OnOk, Some, ℕ, List};
 ghost use Rattle.std.specs.Option.{option_copied};
+ghost use Rattle.iio_text.specs.declared.errors.Errno.{Errno};
 ghost use Rattle.iiod_grammar.specs.Command.{Read};
 ghost use Rattle.iiod_grammar.specs.Stream.{Said, Written};
 ghost use Rattle.iiod_grammar.specs.View.{place_view, target_view};
@@ -11,10 +12,11 @@ ghost use Rattle.iiod_session.specs.Attributes.{buffer_number};
 ghost use Rattle.iiod_session.specs.Desk.{DeskRecord, IsDesk, IsHeld, bare_of, desk_of, place_of, tale_of, tales_of};
 ghost use Rattle.iiod_session.specs.Front.{find_device};
 ghost use Rattle.iiod_session.specs.Machine.{lost_of, queue_of};
-ghost use Rattle.iiod_session.specs.Performs.{Comes, IsAllowed, Performs};
+ghost use Rattle.iiod_session.specs.Performs.{Comes, IsAllowed, IsNowhere, Performs};
 ghost use Rattle.iiod_session.specs.Seat.{seat_id};
 ghost use Rattle.iiod_session.specs.Target.{MayRead};
 ghost use Rattle.iiod_session.specs.Targets.{named_of_code, text_by, written_by};
+ghost use Rattle.iiod_session.specs.declared.iio.No.{No};
 ghost use Rattle.iiod_session.specs.declared.manner.Performed.{Performed};
 
 use crate::answers::{finish, push_answer, push_count};
@@ -156,6 +158,7 @@ fn read_attribute<I: Iio>(
     ensures desk { IsDesk I.seen (I.front (I.kept iio.new)) desk.new }
     ensures same { desk_of I.seen desk.new ≡ desk_of I.seen desk.old }
     ensures tales { tales_of I.seen desk.new.held.items ≡ tales_of I.seen desk.old.held.items }
+    ensures nowhere { IsNowhere (I.front (I.kept iio.old)) device.now (Err (No.Errno Errno.ENODEV)) result }
     ensures told { IfSome (I.told iio.old) (λ m. Comes m (desk_of I.seen desk.old)
         (at_device m (desk_of I.seen desk.old)
         (read_attribute_at (I.front (I.kept iio.old)) m (desk_of I.seen desk.old) (place_view place.entry) (option_copied name.entry))
@@ -241,6 +244,7 @@ fn write_attribute<I: Iio>(
     payload: &[u8],
 ) -> Result<(), No>
     ensures kept { I.kept iio.new ≡ I.kept iio.old }
+    ensures nowhere { IsNowhere (I.front (I.kept iio.old)) device.now (Err (No.Errno Errno.ENODEV)) result }
     ensures told { IfSome (I.told iio.old) (λ m. Comes m (desk_of I.seen desk.now)
         (at_device m (desk_of I.seen desk.now)
         (write_attribute_at (I.front (I.kept iio.old)) m (desk_of I.seen desk.now) (place_view place.entry) (option_copied name.entry) payload.now)

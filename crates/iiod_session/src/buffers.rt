@@ -1,14 +1,16 @@
 //! The commands of buffers: OPEN, CLOSE, READBUF, WRITEBUF and SET.
 
-ghost use Rattle.std.specs.Prelude.{◌≡◌, ◌<◌, ◌≤◌, ◌++◌, ◌==◌, filter, not, length, vec_capacity, Ok, IfOk, IfSome, OnOk};
+ghost use Rattle.std.specs.Prelude.{◌≡◌, ◌<◌, ◌≤◌, ◌++◌, ◌==◌, filter, not, length, vec_capacity, Ok, Err, IfOk, IfSome, OnOk};
+ghost use Rattle.iio_text.specs.declared.errors.Errno.{Errno};
 ghost use Rattle.iiod_grammar.specs.Command.{Open, Close, ReadBuf, SetBuffers, WriteBuf};
 ghost use Rattle.iiod_grammar.specs.Stream.{Said};
 ghost use Rattle.iiod_reply.specs.Reply.{Refusal};
 ghost use Rattle.iiod_session.specs.Acts.{at_device, set_buffers_at, write_buffer_at};
 ghost use Rattle.iiod_session.specs.declared.desk.BuffersCount.{BuffersCount};
+ghost use Rattle.iiod_session.specs.declared.iio.No.{No};
 ghost use Rattle.iiod_session.specs.Desk.{DeskRecord, IsDesk, desk_of, tales_of, with_count};
 ghost use Rattle.iiod_session.specs.Front.{find_device};
-ghost use Rattle.iiod_session.specs.Performs.{AltersBy, AnswersRead, Comes, Performs, desk_by, reply_by};
+ghost use Rattle.iiod_session.specs.Performs.{AltersBy, AnswersRead, Comes, IsNowhere, Performs, desk_by, reply_by};
 
 use crate::answers::finish;
 use crate::desk::{BuffersCount, Desk, MAX_BUFFERS};
@@ -160,6 +162,7 @@ fn set_buffers_of<I: Iio>(
         (at_device m (desk_of I.seen desk.old) (set_buffers_at m (desk_of I.seen desk.old) count) (find_device (I.front (I.kept iio.now)) device.now))
         (reply_by result) (I.told iio.now) (desk_of I.seen desk.new)) }
     ensures alters { AltersBy (I.front (I.kept iio.now)) device.now (λ dev. with_count dev count) (desk_of I.seen desk.old) result (desk_of I.seen desk.new) }
+    ensures nowhere { IsNowhere (I.front (I.kept iio.now)) device.now (Err (No.Errno Errno.ENODEV)) result }
     ensures held { desk.new.held ≡ desk.old.held }
 {
     match iio.find(device) {
@@ -189,7 +192,8 @@ pub(crate) fn set_buffers<I: Iio>(
 
 // Why a WRITEBUF is refused: nothing is written to a device.
 fn write_buffer_refusal<I: Iio>(iio: &I, device: &[u8]) -> Errno
-    ensures { (desk : DeskRecord) → IfSome (I.told iio.now) (λ m. Comes m desk
+    ensures nowhere { IsNowhere (I.front (I.kept iio.now)) device.now Errno.ENODEV result }
+    ensures told { (desk : DeskRecord) → IfSome (I.told iio.now) (λ m. Comes m desk
         (at_device m desk (write_buffer_at m desk) (find_device (I.front (I.kept iio.now)) device.now)) (Refusal result) (I.told iio.now) desk) }
 {
     match iio.find(device) {

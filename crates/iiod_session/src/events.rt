@@ -1,13 +1,15 @@
 //! The commands of threshold events: EVOPEN, EVREAD and EVCLOSE.
 
-ghost use Rattle.std.specs.Prelude.{◌≡◌, ◌==◌, ◌<◌, ◌++◌, length, filter, not, Ok, IfOk, OnOk, IfSome, ℕ, List};
+ghost use Rattle.std.specs.Prelude.{◌≡◌, ◌==◌, ◌<◌, ◌++◌, length, filter, not, Ok, Err, IfOk, OnOk, IfSome, ℕ, List};
+ghost use Rattle.iio_text.specs.declared.errors.Errno.{Errno};
 ghost use Rattle.iiod_grammar.specs.Command.{EvOpen, EvRead, EvClose};
 ghost use Rattle.iiod_grammar.specs.Stream.{Said};
 ghost use Rattle.iiod_reply.specs.Reply.{text_of};
 ghost use Rattle.iiod_session.specs.Acts.{at_device, ev_close_at, ev_open_at, ev_read_at};
+ghost use Rattle.iiod_session.specs.declared.iio.No.{No};
 ghost use Rattle.iiod_session.specs.Desk.{IsDesk, desk_of, tales_of, with_holding, without_holding};
 ghost use Rattle.iiod_session.specs.Front.{find_device};
-ghost use Rattle.iiod_session.specs.Performs.{AltersBy, Comes, IsAllowed, Performs, desk_by, event_by, reply_by};
+ghost use Rattle.iiod_session.specs.Performs.{AltersBy, Comes, IsAllowed, IsNowhere, Performs, desk_by, event_by, reply_by};
 
 use crate::answers::{finish, push_answer, push_raw};
 use crate::desk::Desk;
@@ -52,6 +54,7 @@ fn ev_open_of<I: Iio>(desk: &mut Desk<I::Seat>, iio: &mut I, device: &[u8]) -> R
         (at_device m (desk_of I.seen desk.old) (ev_open_at m (desk_of I.seen desk.old)) (find_device (I.front (I.kept iio.old)) device.now))
         (reply_by result) (I.told iio.new) (desk_of I.seen desk.new)) }
     ensures alters { AltersBy (I.front (I.kept iio.old)) device.now with_holding (desk_of I.seen desk.old) result (desk_of I.seen desk.new) }
+    ensures nowhere { IsNowhere (I.front (I.kept iio.old)) device.now (Err (No.Errno Errno.ENODEV)) result }
     ensures held { desk.new.held ≡ desk.old.held }
 {
     match iio.find(device) {
@@ -118,6 +121,7 @@ fn ev_close_of<I: Iio>(desk: &mut Desk<I::Seat>, iio: &mut I, device: &[u8]) -> 
         (at_device m (desk_of I.seen desk.old) (ev_close_at m (desk_of I.seen desk.old)) (find_device (I.front (I.kept iio.old)) device.now))
         (reply_by result) (I.told iio.new) (desk_of I.seen desk.new)) }
     ensures alters { AltersBy (I.front (I.kept iio.old)) device.now without_holding (desk_of I.seen desk.old) result (desk_of I.seen desk.new) }
+    ensures nowhere { IsNowhere (I.front (I.kept iio.old)) device.now (Err (No.Errno Errno.ENODEV)) result }
     ensures held { desk.new.held ≡ desk.old.held }
 {
     match iio.find(device) {
@@ -152,6 +156,7 @@ fn ev_read_of<I: Iio>(
     device: &[u8],
 ) -> Result<Option<EventData>, No>
     ensures kept { I.kept iio.new ≡ I.kept iio.old }
+    ensures nowhere { IsNowhere (I.front (I.kept iio.old)) device.now (Err (No.Errno Errno.ENODEV)) result }
     ensures told { IfSome (I.told iio.old) (λ m. Comes m (desk_of I.seen desk.now)
         (at_device m (desk_of I.seen desk.now) (ev_read_at m (desk_of I.seen desk.now)) (find_device (I.front (I.kept iio.old)) device.now))
         (event_by result) (I.told iio.new) (desk_of I.seen desk.now)) }

@@ -11,7 +11,7 @@ ghost use Rattle.iiod_session.specs.Acts.{end_reply};
 ghost use Rattle.iiod_session.specs.Desk.{IsDesk, desk_of, tales_of};
 ghost use Rattle.iiod_session.specs.PendingWrite.{PendingRecord};
 ghost use Rattle.iiod_session.specs.Performs.{Performs};
-ghost use Rattle.iiod_session.specs.Run.{Feeds, state_of};
+ghost use Rattle.iiod_session.specs.Run.{Carries, state_of};
 ghost use Rattle.iiod_session.specs.Session.{IsKept, IsPlain, IsReady, IsWhole, piece_by, stream_by, unread_of};
 ghost use Rattle.iiod_session.specs.declared.manner.Going.{Going};
 ghost use Rattle.iiod_session.specs.declared.manner.Manner.{Manner};
@@ -50,7 +50,7 @@ fn end<I: Iio>(
     ensures kept { I.kept iio.new ≡ I.kept iio.old }
     ensures desk { IsDesk I.seen (I.front (I.kept iio.new)) desk.new }
     ensures ended { IfOk result (λ going. going ≡ Going.Ended) }
-    ensures feeds { (manner : Manner) → IfOk result (λ going. Feeds manner (I.front (I.kept iio.old)) (state_of I.seen (I.told iio.old) desk.old)
+    ensures carries { (manner : Manner) → IfOk result (λ going. Carries manner (I.front (I.kept iio.old)) (state_of I.seen (I.told iio.old) desk.old)
         (ended_by error) out.old.items out.new.items (state_of I.seen (I.told iio.new) desk.new) (no_item AtEnd) going) }
 {
     push_end(out, error)?;
@@ -68,9 +68,9 @@ fn hear_refused<I: Iio>(
 ) -> Result<Going, Mem>
     ensures ready { (lines : LinesRecord) → lines ≡ after_piece lines.piece
         → command_of lines.piece ≡ Err why → IfOk result (λ going. IsReady going lines) }
-    ensures feeds { (lines : LinesRecord) (pending : PendingRecord) → lines ≡ after_piece lines.piece
+    ensures carries { (lines : LinesRecord) (pending : PendingRecord) → lines ≡ after_piece lines.piece
         → command_of lines.piece ≡ Err why
-        → IfOk result (λ going. Feeds manner (I.front (I.kept iio.now)) (state_of I.seen (I.told iio.now) desk.now)
+        → IfOk result (λ going. Carries manner (I.front (I.kept iio.now)) (state_of I.seen (I.told iio.now) desk.now)
         (after_line lines.piece) out.old.items out.new.items (state_of I.seen (I.told iio.now) desk.now)
         (stream_by going lines pending) going) }
 {
@@ -94,9 +94,9 @@ fn hear_said<I: Iio>(
     ensures desk { IsDesk I.seen (I.front (I.kept iio.new)) desk.new }
     ensures ready { (lines : LinesRecord) → lines ≡ after_piece lines.piece
         → command_of lines.piece ≡ Ok (command_view command.now) → IsPlain (Ok (command_view command.now)) → IfOk result (λ going. IsReady going lines) }
-    ensures feeds { (lines : LinesRecord) (pending : PendingRecord) → lines ≡ after_piece lines.piece
+    ensures carries { (lines : LinesRecord) (pending : PendingRecord) → lines ≡ after_piece lines.piece
         → command_of lines.piece ≡ Ok (command_view command.now) → IsPlain (Ok (command_view command.now))
-        → IfOk result (λ going. Feeds manner (I.front (I.kept iio.old)) (state_of I.seen (I.told iio.old) desk.old)
+        → IfOk result (λ going. Carries manner (I.front (I.kept iio.old)) (state_of I.seen (I.told iio.old) desk.old)
         (after_line lines.piece) out.old.items out.new.items (state_of I.seen (I.told iio.new) desk.new)
         (stream_by going lines pending) going) }
 {
@@ -121,7 +121,7 @@ fn hear_line<I: Iio>(
     ensures kept { I.kept iio.new ≡ I.kept iio.old }
     ensures desk { IsDesk I.seen (I.front (I.kept iio.new)) desk.new }
     ensures ready { IfOk result (λ going. IsReady going lines.new) }
-    ensures feeds { IfOk result (λ going. Feeds manner (I.front (I.kept iio.old)) (state_of I.seen (I.told iio.old) desk.old)
+    ensures carries { IfOk result (λ going. Carries manner (I.front (I.kept iio.old)) (state_of I.seen (I.told iio.old) desk.old)
         (after_line lines.old.piece) out.old.items out.new.items (state_of I.seen (I.told iio.new) desk.new)
         (stream_by going lines.new pending.new) going) }
 {
@@ -190,7 +190,7 @@ fn hear_piece<I: Iio>(
     ensures desk { IsDesk I.seen (I.front (I.kept iio.new)) desk.new }
     ensures ready { IfOk result (λ going. IsReady going lines.new) }
     ensures payload { ready ≡ Ready.Payload → lines.new ≡ lines.old }
-    ensures feeds { IfOk result (λ going. Feeds manner (I.front (I.kept iio.old)) (state_of I.seen (I.told iio.old) desk.old)
+    ensures carries { IfOk result (λ going. Carries manner (I.front (I.kept iio.old)) (state_of I.seen (I.told iio.old) desk.old)
         (piece_by ready lines.old pending.old) out.old.items out.new.items (state_of I.seen (I.told iio.new) desk.new)
         (stream_by going lines.new pending.new) going) }
 {
@@ -222,7 +222,7 @@ fn carry_on<I: Iio>(
     ensures desk { IsDesk I.seen (I.front (I.kept iio.new)) desk.new }
     ensures within { IfOk result (λ r. r.0 ≤ length bytes.now) }
     ensures ready { IfOk result (λ r. IsReady r.1 lines.new) }
-    ensures feeds { IfOk result (λ r. Feeds manner (I.front (I.kept iio.old)) (state_of I.seen (I.told iio.old) desk.old)
+    ensures carries { IfOk result (λ r. Carries manner (I.front (I.kept iio.old)) (state_of I.seen (I.told iio.old) desk.old)
         (scan_on (stream_by Going.On lines.old pending.old) bytes.now) out.old.items out.new.items (state_of I.seen (I.told iio.new) desk.new)
         (scan_on (stream_by r.1 lines.new pending.new) (drop r.0 bytes.now)) r.1) }
     ensures all { IfOk result (λ r. r.1 ≡ Going.On → (r.0 ≡ length bytes.now) × ((stream_by Going.On lines.new pending.new).items ≡ [])) }
@@ -261,7 +261,7 @@ pub(crate) fn carry_out<I: Iio>(
     ensures desk { IsDesk I.seen (I.front (I.kept iio.new)) desk.new }
     ensures within { IfOk result (λ r. r.0 ≤ length bytes.now) }
     ensures ready { IfOk result (λ r. IsReady r.1 lines.new) }
-    ensures feeds { IfOk result (λ r. Feeds manner (I.front (I.kept iio.old)) (state_of I.seen (I.told iio.old) desk.old)
+    ensures carries { IfOk result (λ r. Carries manner (I.front (I.kept iio.old)) (state_of I.seen (I.told iio.old) desk.old)
         (scan_on (stream_by going lines.old pending.old) bytes.now) out.old.items out.new.items (state_of I.seen (I.told iio.new) desk.new)
         (scan_on (stream_by r.1 lines.new pending.new) (drop r.0 bytes.now)) r.1) }
     ensures all { IfOk result (λ r. r.1 ≡ Going.On → (r.0 ≡ length bytes.now) × ((stream_by Going.On lines.new pending.new).items ≡ [])) }
@@ -317,7 +317,7 @@ pub(crate) fn hear<I: Iio>(
     ensures kept { I.kept iio.new ≡ I.kept iio.old }
     ensures desk { IsDesk I.seen (I.front (I.kept iio.new)) desk.new }
     ensures ready { IfOk result (λ going. IsKept going lines.new left.new.items) }
-    ensures feeds { IfOk result (λ going. Feeds manner (I.front (I.kept iio.old)) (state_of I.seen (I.told iio.old) desk.old)
+    ensures carries { IfOk result (λ going. Carries manner (I.front (I.kept iio.old)) (state_of I.seen (I.told iio.old) desk.old)
         (scan_on (scan_on (stream_by was lines.old pending.old) left.old.items) bytes.now) out.old.items out.new.items (state_of I.seen (I.told iio.new) desk.new)
         (scan_on (stream_by going lines.new pending.new) left.new.items) going) }
     ensures all { IfOk result (λ going. going ≡ Going.On → (scan_on (stream_by going lines.new pending.new) left.new.items).items ≡ []) }

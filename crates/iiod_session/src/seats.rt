@@ -1,14 +1,16 @@
 //! A connection's seats: OPEN, CLOSE and READBUF, the device's number known.
 
-ghost use Rattle.std.specs.Prelude.{◌≡◌, ◌==◌, ◌<◌, ◌≤◌, ◌++◌, ℕ, length, IfSome, IfOk, Some, None, is_some, Bool, List};
+ghost use Rattle.std.specs.Prelude.{◌≡◌, ◌==◌, ◌<◌, ◌≤◌, ◌++◌, ℕ, length, IfSome, IfOk, Some, None, Err, is_some, Bool, List};
 ghost use Rattle.std.specs.List.{position};
 ghost use Rattle.iiod_session.specs.Acts.{close_at, joined_at, open_at};
 ghost use Rattle.iiod_session.specs.Front.{size_at};
 ghost use Rattle.iiod_session.specs.Desk.{IsDesk, IsHeld, bare_of, buffers_of, desk_of, place_of, seats_of, tale_of, tales_of};
-ghost use Rattle.iiod_session.specs.Performs.{Comes, JoinsBy, LeavesBy, ReadAt, ReadHeld, reply_by};
+ghost use Rattle.iiod_session.specs.Performs.{Comes, JoinsBy, LeavesBy, OpensBy, ReadAt, ReadHeld, reply_by};
 ghost use Rattle.iiod_session.specs.Seat.{MayOpen};
 ghost use Rattle.iiod_session.specs.Wanted.{wanted_of_code};
+ghost use Rattle.iio_text.specs.declared.errors.Errno.{Errno};
 ghost use Rattle.iiod_session.specs.declared.desk.Held.{Held};
+ghost use Rattle.iiod_session.specs.declared.iio.No.{No};
 
 use crate::answers::push_refusal;
 use crate::desk::{BuffersCount, Desk, FIRST_BUFFERS, Held};
@@ -59,7 +61,7 @@ fn join<I: Iio>(desk: &mut Desk<I::Seat>, iio: &mut I, dev: u32, wanted: Wanted)
     ensures told { IfSome (I.told iio.old) (λ m. Comes m (desk_of I.seen desk.old)
         (joined_at (I.front (I.kept iio.old)) m (desk_of I.seen desk.old) dev (wanted_of_code wanted))
         (reply_by result) (I.told iio.new) (desk_of I.seen desk.new)) }
-    ensures moves { JoinsBy dev (desk_of I.seen desk.old) (tales_of I.seen desk.old.held.items)
+    ensures moves { JoinsBy dev (wanted_of_code wanted) (desk_of I.seen desk.old) (tales_of I.seen desk.old.held.items)
         result (desk_of I.seen desk.new) (tales_of I.seen desk.new.held.items) }
 {
     if desk.held.reserve(1).is_err() {
@@ -101,7 +103,7 @@ pub(crate) fn open_at<I: Iio>(
     ensures told { IfSome (I.told iio.old) (λ m. Comes m (desk_of I.seen desk.old)
         (open_at (I.front (I.kept iio.old)) m (desk_of I.seen desk.old) dev samples text.now cyclic)
         (reply_by result) (I.told iio.new) (desk_of I.seen desk.new)) }
-    ensures moves { JoinsBy dev (desk_of I.seen desk.old) (tales_of I.seen desk.old.held.items)
+    ensures moves { OpensBy (I.front (I.kept iio.old)) dev samples text.now cyclic (desk_of I.seen desk.old) (tales_of I.seen desk.old.held.items)
         result (desk_of I.seen desk.new) (tales_of I.seen desk.new.held.items) }
 {
     let is_open = place(iio, &desk.held, dev).is_some();
@@ -129,6 +131,7 @@ pub(crate) fn close_at<I: Iio>(desk: &mut Desk<I::Seat>, iio: &mut I, dev: u32) 
     ensures told { IfSome (I.told iio.old) (λ m. Comes m (desk_of I.seen desk.old)
         (close_at m (desk_of I.seen desk.old) (place_of dev (seats_of I.seen desk.old.held.items)))
         (reply_by result) (I.told iio.new) (desk_of I.seen desk.new)) }
+    ensures none { place_of dev (seats_of I.seen desk.old.held.items) ≡ None → result ≡ Err (No.Errno Errno.EBADF) }
     ensures moves { LeavesBy dev (desk_of I.seen desk.old) (tales_of I.seen desk.old.held.items)
         result (desk_of I.seen desk.new) (tales_of I.seen desk.new.held.items) }
 {

@@ -1,15 +1,17 @@
 //! The commands of triggers: SETTRIG and GETTRIG.
 
-ghost use Rattle.std.specs.Prelude.{◌≡◌, ◌<◌, length, Ok, IfOk, IfSome, ℕ, List};
+ghost use Rattle.std.specs.Prelude.{◌≡◌, ◌<◌, length, Ok, Err, IfOk, IfSome, ℕ, List};
 ghost use Rattle.std.specs.Option.{option_copied};
+ghost use Rattle.iio_text.specs.declared.errors.Errno.{Errno};
 ghost use Rattle.iio_desc.specs.declared.limits.TheConstants.{MAX_TRIGGERS};
 ghost use Rattle.iiod_grammar.specs.Command.{GetTrig, SetTrig};
 ghost use Rattle.iiod_grammar.specs.Stream.{Said};
 ghost use Rattle.iiod_reply.specs.Reply.{Appends, text_of};
 ghost use Rattle.iiod_session.specs.Acts.{at_device, get_trigger_at, set_trigger_at, trigger_named};
+ghost use Rattle.iiod_session.specs.declared.iio.No.{No};
 ghost use Rattle.iiod_session.specs.Desk.{DeskRecord, desk_of, tales_of};
 ghost use Rattle.iiod_session.specs.Front.{find_device};
-ghost use Rattle.iiod_session.specs.Performs.{Comes, Performs, reply_by, trigger_by};
+ghost use Rattle.iiod_session.specs.Performs.{Comes, IsNowhere, Performs, reply_by, trigger_by};
 
 use crate::answers::{finish, finish_push, push_refusal};
 use crate::desk::Desk;
@@ -52,6 +54,7 @@ fn set_trigger_at<I: Iio>(iio: &mut I, dev: u32, name: Option<&[u8]>) -> Result<
 // SETTRIG's answer.
 fn set_trigger_of<I: Iio>(iio: &mut I, device: &[u8], name: Option<&[u8]>) -> Result<(), No>
     ensures kept { I.kept iio.new ≡ I.kept iio.old }
+    ensures nowhere { IsNowhere (I.front (I.kept iio.old)) device.now (Err (No.Errno Errno.ENODEV)) result }
     ensures told { (desk : DeskRecord) → IfSome (I.told iio.old) (λ m. Comes m desk
         (at_device m desk (set_trigger_at (I.front (I.kept iio.old)) m desk (option_copied name.entry)) (find_device (I.front (I.kept iio.old)) device.now))
         (reply_by result) (I.told iio.new) desk) }
@@ -82,7 +85,8 @@ pub(crate) fn set_trigger<I: Iio>(
 
 // The device's trigger, as GETTRIG asks for it.
 fn trigger_of<I: Iio>(iio: &I, device: &[u8]) -> Result<Option<u32>, Errno>
-    ensures { (desk : DeskRecord) → IfSome (I.told iio.now) (λ m. Comes m desk
+    ensures nowhere { IsNowhere (I.front (I.kept iio.now)) device.now (Err Errno.ENODEV) result }
+    ensures told { (desk : DeskRecord) → IfSome (I.told iio.now) (λ m. Comes m desk
         (at_device m desk (get_trigger_at (I.front (I.kept iio.now)) m desk) (find_device (I.front (I.kept iio.now)) device.now))
         (trigger_by (I.front (I.kept iio.now)) result) (I.told iio.now) desk) }
 {

@@ -4,8 +4,8 @@ ghost use Rattle.std.specs.Prelude.{◌≡◌, ◌<◌, ◌≤◌, ◌^◌, ℕ,
 ghost use Rattle.iio_base.specs.Refusals.{ensure};
 ghost use Rattle.iio_layout.specs.Active.{has_data};
 ghost use Rattle.iio_layout.specs.Layout.{scan_size};
-ghost use Rattle.iiod_session.specs.Wanted.{wanted_view};
-ghost use Rattle.iiod_session.specs.Desk.{wanted_of};
+ghost use Rattle.iiod_session.specs.Wanted.{wanted_of_code, wanted_view};
+ghost use Rattle.iiod_session.specs.Desk.{IsWanted, wanted_of};
 ghost use Rattle.iiod_session.specs.Front.{Front, shape_at};
 ghost use Rattle.iiod_session.specs.Opening.{is_excess};
 ghost use Rattle.iiod_session.specs.Seat.{MayOpen};
@@ -67,6 +67,7 @@ pub(crate) fn wanted_by(
     cyclic: bool,
 ) -> Result<Wanted, Errno>
     ensures value { wanted_view result ≡ wanted_of is_open plugged shape.now buffers samples text.now cyclic }
+    ensures wanted { IfOk result (λ x. IsWanted shape.now buffers samples text.now cyclic (wanted_of_code x)) }
     ensures free { IfOk result (λ x. is_open ≡ false) }
     ensures size { IfOk result (λ x. x.size ≡ scan_size shape.now x.mask.bits) }
     ensures some { IfOk result (λ x. 1 ≤ x.size) }

@@ -1,8 +1,17 @@
 use Rattle.std.proofs.Common.{ap, rules, List}
-use Rattle.iiod_session.specs.Desk.{Bare, bare_of, desk_of, tale_of, with_seats}
+use Rattle.std.proofs.lemmas.List.Elements.{All-set}
+use Rattle.iiod_session.specs.Desk.{Bare, IsHeld, bare_of, desk_of, tale_of, with_seats}
 use Rattle.iiod_session.proofs.AttributeLaws.{counted}
-use Rattle.iiod_session.proofs.SeatsLaws.{map_set_same}
+use Rattle.iiod_session.proofs.SeatsLaws.{apart_set, map_set_same}
 use Rattle.iiod_session.proofs.attributes.read_buffer.Goals as goal
+
+pub returns-in-Some-clause-desk : goal.returns-in-Some-clause-desk
+returns-in-Some-clause-desk g c = record {
+  seats = rw c.buffer_number.ensures.kept
+      (All-set (IsHeld g.I.Iio.seen (g.I.Iio.front (g.I.Iio.kept c.args.iio.now))) c.args.desk.now.held.items c.in-Some.i c.buffer_number.new.h (rw c.buffer_number.ensures.kept at c.buffer_number.ensures.held) c.requires.desk.seats);
+  apart = apart_set g.I.Iio.seen c.args.desk.now.held.items c.in-Some.i c.buffer_number.new.h c.index_mut.result.now (search rules) c.index_mut.ensures.value c.buffer_number.ensures.bare c.requires.desk.apart;
+  holdings = search rules;
+}
 
 pub returns-in-Some-clause-same : goal.returns-in-Some-clause-same
 returns-in-Some-clause-same g c =

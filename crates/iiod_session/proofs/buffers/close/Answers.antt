@@ -8,5 +8,5 @@ returns-in-None-clause-served g c =
 
 pub returns-in-Some-clause-served : goal.returns-in-Some-clause-served
 returns-in-Some-clause-served g c =
-    finished _ _ _ _ _ _ _ _ _ _ _ _ _ (serves_close _ _ _ _ _ _ _ _ _ c.close_at-answer.result (search rules) c.close_at-answer.ensures.told c.close_at-answer.ensures.moves)
+    finished _ _ _ _ _ _ _ _ _ _ _ _ _ (serves_close _ _ _ _ _ _ _ _ _ c.close_at-answer.result (search rules) c.close_at-answer.ensures.told c.close_at-answer.ensures.none c.close_at-answer.ensures.moves)
     c.finish-in-Some.ensures.done c.finish-in-Some.ensures.text c.finish-in-Some.ensures.allowed tt

@@ -5,6 +5,6 @@ use Rattle.iiod_session.proofs.buffers.write_buffer.Goals as goal
 pub returns : goal.returns
 returns g c = record {
   served = finished _ _ _ _ _ _ _ _ _ _ _ _ _
-      (serves_write_buffer _ _ _ _ _ _ _ (c.write_buffer_refusal-errno.ensures (desk_of g.I.Iio.seen c.args.desk.now)))
+      (serves_write_buffer _ _ _ _ _ _ _ (c.write_buffer_refusal-errno.ensures.told (desk_of g.I.Iio.seen c.args.desk.now)) c.write_buffer_refusal-errno.ensures.nowhere)
       c.finish.ensures.done c.finish.ensures.text c.finish.ensures.allowed tt;
 }

@@ -5,6 +5,7 @@ use Rattle.iiod_session.proofs.events.ev_close_at.Goals as goal
 pub returns-in-Ok-clause-desk : goal.returns-in-Ok-clause-desk
 returns-in-Ok-clause-desk g c = record {
   seats = rw c.ev_close.ensures.kept c.requires.desk.seats;
+  apart = c.requires.desk.apart;
   holdings = rw (c.ev_close.ensures.kept, c.forget_holding.ensures)
       (All-filter (λ d. not (d == c.args.dev)) (λ dev. dev < length (g.I.Iio.front (g.I.Iio.kept c.args.iio.now)).devices) c.args.desk.now.holdings.items c.requires.desk.holdings);
 }

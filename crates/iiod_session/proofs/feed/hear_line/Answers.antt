@@ -6,32 +6,32 @@ use Rattle.iiod_grammar.specs.View.{line_view, target_view}
 use Rattle.iiod_session.proofs.HearLaws.{ended_line, exit_line, overlong_line, plain_command, write_feeds}
 use Rattle.iiod_session.proofs.feed.hear_line.Goals as goal
 
-pub returns-in-Err-clause-feeds : goal.returns-in-Err-clause-feeds
-returns-in-Err-clause-feeds g c =
-    c.hear_refused.ensures.feeds c.args.lines.now c.args.pending.now c.requires.piece (ap command_of (sym c.piece.ensures) ∙ sym c.read_line.ensures ∙ ap line_view c.in-Err.is)
+pub returns-in-Err-clause-carries : goal.returns-in-Err-clause-carries
+returns-in-Err-clause-carries g c =
+    c.hear_refused.ensures.carries c.args.lines.now c.args.pending.now c.requires.piece (ap command_of (sym c.piece.ensures) ∙ sym c.read_line.ensures ∙ ap line_view c.in-Err.is)
 
-pub returns-in-Exit-clause-feeds : goal.returns-in-Exit-clause-feeds
-returns-in-Exit-clause-feeds g c =
+pub returns-in-Exit-clause-carries : goal.returns-in-Exit-clause-carries
+returns-in-Exit-clause-carries g c =
     ended_line _ _ _ _ None _ _ _ c.args.lines.now c.args.pending.now _ (exit_line c.args.lines.now.piece (ap command_of (sym c.piece.ensures) ∙ sym c.read_line.ensures ∙ ap line_view c.in-Ok.is ∙ ap (λ x. line_view (Ok x)) c.in-Exit.is))
-    c.end.ensures.ended (c.end.ensures.feeds c.args.manner)
+    c.end.ensures.ended (c.end.ensures.carries c.args.manner)
 
-pub returns-then-count-gt-MAX_PAYLOAD-clause-feeds :
-    goal.returns-then-count-gt-MAX_PAYLOAD-clause-feeds
-returns-then-count-gt-MAX_PAYLOAD-clause-feeds g c =
+pub returns-then-count-gt-MAX_PAYLOAD-clause-carries :
+    goal.returns-then-count-gt-MAX_PAYLOAD-clause-carries
+returns-then-count-gt-MAX_PAYLOAD-clause-carries g c =
     ended_line _ _ _ _ (Some EFBIG) _ _ _ c.args.lines.now c.args.pending.now _
     (overlong_line c.args.lines.now.piece c.in-Write.dev.now (option_map target_view c.in-Write.target) c.in-Write.count (ap command_of (sym c.piece.ensures) ∙ sym c.read_line.ensures ∙ ap line_view c.in-Ok.is ∙ ap (λ x. line_view (Ok x)) c.in-Write.is) c.if-count-gt-MAX_PAYLOAD.true)
-    c.end-then-count-gt-MAX_PAYLOAD.ensures.ended (c.end-then-count-gt-MAX_PAYLOAD.ensures.feeds c.args.manner)
+    c.end-then-count-gt-MAX_PAYLOAD.ensures.ended (c.end-then-count-gt-MAX_PAYLOAD.ensures.carries c.args.manner)
 
-pub returns-in_ok-keep-in-Write-clause-feeds : goal.returns-in_ok-keep-in-Write-clause-feeds
-returns-in_ok-keep-in-Write-clause-feeds g c =
+pub returns-in_ok-keep-in-Write-clause-carries : goal.returns-in_ok-keep-in-Write-clause-carries
+returns-in_ok-keep-in-Write-clause-carries g c =
     write_feeds _ _ _ c.args.lines.now.piece c.in-Write.dev.now (option_map target_view c.in-Write.target) c.in-Write.count _ c.want.new.self c.keep.new.self
     (ap command_of (sym c.piece.ensures) ∙ sym c.read_line.ensures ∙ ap line_view c.in-Ok.is ∙ ap (λ x. line_view (Ok x)) c.in-Write.is) c.if-count-gt-MAX_PAYLOAD.false
     (c.want.ensures ∙ ap (λ (x : LinesRecord). record x { wanted = Some c.in-Write.count }) c.requires.piece)
     c.in_ok-keep-in-Write.ensures
 
-pub returns-in_default-clause-feeds : goal.returns-in_default-clause-feeds
-returns-in_default-clause-feeds g c =
-    c.hear_said.ensures.feeds c.args.lines.now c.args.pending.now c.requires.piece
+pub returns-in_default-clause-carries : goal.returns-in_default-clause-carries
+returns-in_default-clause-carries g c =
+    c.hear_said.ensures.carries c.args.lines.now c.args.pending.now c.requires.piece
     (ap command_of (sym c.piece.ensures) ∙ sym c.read_line.ensures ∙ ap line_view c.in-Ok.is) (plain_command c.in-Ok.command c.in_default.not-Exit c.in_default.not-Write)
 
 pub returns-in-Err-clause-ready : goal.returns-in-Err-clause-ready

@@ -1,7 +1,7 @@
 use Rattle.std.proofs.Common.{rules, ◌+◌}
 use Rattle.std.proofs.lemmas.List.Elements.{All-append, All-drop, All-take}
 use Rattle.iiod_session.specs.Desk.{IsHeld, desk_of}
-use Rattle.iiod_session.proofs.SeatsLaws.{closes, leaves}
+use Rattle.iiod_session.proofs.SeatsLaws.{apart_removed, closes, leaves}
 use Rattle.iiod_session.proofs.seats.close_at.Goals as goal
 
 pub returns-in-Some-clause-desk : goal.returns-in-Some-clause-desk
@@ -11,6 +11,7 @@ returns-in-Some-clause-desk g c =
     record {
       seats = rw (c.remove-at.ensures.by_index.2, c.close.ensures.kept)
           (All-append is _ _ (All-take is c.in-Some.i held c.requires.desk.seats) (All-drop is (c.in-Some.i + 1) held c.requires.desk.seats));
+      apart = apart_removed g.I.Iio.seen held _ c.in-Some.i c.requires.desk.apart c.remove-at.ensures.items;
       holdings = rw c.close.ensures.kept c.requires.desk.holdings;
     }
 

@@ -1,6 +1,6 @@
 use Rattle.std.proofs.lemmas.List.Elements.{All-push}
 use Rattle.iiod_session.specs.Desk.{IsHeld, desk_of}
-use Rattle.iiod_session.proofs.SeatsLaws.{joins}
+use Rattle.iiod_session.proofs.SeatsLaws.{apart_joined, joins}
 use Rattle.iiod_session.proofs.seats.join.Goals as goal
 
 pub returns-in-Ok-clause-desk : goal.returns-in-Ok-clause-desk
@@ -13,6 +13,7 @@ returns-in-Ok-clause-desk g c = record {
         some = c.requires.some;
         owned = c.in-Ok.ensures.seat.owned;
       }));
+  apart = apart_joined g.I.Iio.seen c.args.desk.now.held.items _ _ _ c.requires.desk.apart c.requires.free c.reserve.ensures.items c.push_reserved.ensures.items;
   holdings = rw c.in-Ok.ensures.kept c.requires.desk.holdings;
 }
 

@@ -1,12 +1,21 @@
 use Rattle.std.proofs.Common.{ap, rules, List}
+use Rattle.std.proofs.lemmas.List.Elements.{All-set}
 use Rattle.iio_text.specs.declared.errors.Errno.TheVariants.{EBADF}
 use Rattle.iiod_reply.specs.Reply.{Refusal}
-use Rattle.iiod_session.specs.Desk.{Bare, bare_of, desk_of, with_seats}
-use Rattle.iiod_session.proofs.SeatsLaws.{read_nowhere, map_set_same, reads_at}
+use Rattle.iiod_session.specs.Desk.{Bare, IsHeld, bare_of, desk_of, with_seats}
+use Rattle.iiod_session.proofs.SeatsLaws.{apart_set, read_nowhere, map_set_same, reads_at}
 use Rattle.iiod_session.proofs.seats.read_at.Goals as goal
 
 pub returns-in_ok-push_refusal-in-None-clause-read : goal.returns-in_ok-push_refusal-in-None-clause-read
 returns-in_ok-push_refusal-in-None-clause-read g c = (Refusal EBADF, search rules, tt, read_nowhere _ _ _ _ _ _ (search rules))
+
+pub returns-in-Some-clause-desk : goal.returns-in-Some-clause-desk
+returns-in-Some-clause-desk g c = record {
+  seats = rw c.read_held.ensures.kept
+      (All-set (IsHeld g.I.Iio.seen (g.I.Iio.front (g.I.Iio.kept c.args.iio.now))) c.args.desk.now.held.items c.in-Some.i c.read_held.new.h (rw c.read_held.ensures.kept at c.read_held.ensures.held) c.requires.desk.seats);
+  apart = apart_set g.I.Iio.seen c.args.desk.now.held.items c.in-Some.i c.read_held.new.h c.index_mut.result.now (search rules) c.index_mut.ensures.value c.read_held.ensures.bare c.requires.desk.apart;
+  holdings = search rules;
+}
 
 pub returns-in-Some-clause-same : goal.returns-in-Some-clause-same
 returns-in-Some-clause-same g c =
