@@ -1,0 +1,8 @@
+//! Devices in memory whose seats tell what they gave, and tests of sessions over them.
+#![tactic(auto)]
+
+mod shelf;
+#[cfg(test)]
+mod tests;
+
+pub use shelf::{Shelf, ShelfSeat};

@@ -1,0 +1,111 @@
+//! A session over the shelf.
+
+ghost use Rattle.std.specs.Prelude.{◌≡◌, IfOk};
+ghost use Rattle.iio_desc.specs.WellFormed.{IsWellFormed};
+ghost use Rattle.iiod_bank.specs.FrontOf.{front_of};
+ghost use Rattle.iiod_session.specs.Desk.{IsDesk};
+ghost use Rattle.iiod_session_tests.specs.Shelf.{seen_of};
+
+use crate::shelf::{Shelf, ShelfSeat};
+use iio_desc::{Desc, DescReader};
+use iiod_session::{Going, Manner, Session};
+use std::alloc::Global;
+use std::process::Abort;
+use std::test::Fail;
+
+// A device of two channels of one byte each.
+fn described(alloc: Global) -> Result<Desc, Fail>
+    ensures { IfOk result (λ desc. IsWellFormed 0 desc) }
+{
+    let mut reader = DescReader::new(alloc, 0)?;
+    reader.line(b"trigger t0 1")?;
+    reader.line(b"device adc0 t0")?;
+    reader.line(b"channel voltage0 le:u8/8>>0")?;
+    reader.line(b"channel voltage1 le:u8/8>>0")?;
+    reader.line(b"row 0 1 2")?;
+    Ok(reader.finish()?)
+}
+
+// A shelf on which these scans wait.
+fn shelf_of(alloc: Global, scans: &[&[u8]]) -> Result<Shelf, Fail> {
+    let mut shelf = Shelf::new(alloc, described(alloc)?)?;
+    for scan in scans {
+        shelf.scans.push(scan.to_vec(alloc)?)?;
+    }
+    Ok(shelf)
+}
+
+// What comes, and what is answered.
+type Exchange<'a> = (&'a [u8], &'a [u8]);
+
+// Three seats one after another, in pieces that end within lines and hold many.
+const EXCHANGES: [Exchange<'static>; 5] = [
+    (b"OPEN adc0 2 000", b""),
+    (b"00003\nREADBUF adc0 4\nREADB", b"0\n4\n00000003\naAbB"),
+    (
+        b"UF adc0 7\nREADBUF adc0 1\nREAD adc0 BUFFER length\nCLOSE adc0\nSET adc0 BUFFERS_COUNT 1\n",
+        b"6\n00000003\ncCdDeE0\n0\n1\n8\n0\n0\n",
+    ),
+    (
+        b"OPEN adc0 3 00000002\nREADBUF adc0 9\nREAD adc0 BUFFER length\nCLOSE adc0\nCLOSE adc0\nCLOSE adc1\n",
+        b"0\n2\n00000002\nxy0\n1\n3\n0\n-9\n-19\n",
+    ),
+    (
+        b"OPEN adc0 1 00000003\nREADBUF adc0 99\nREADBUF adc0 2\nREADBUF adc0 2\n",
+        b"0\n2\n00000003\nfF0\n2\n00000003\ngG",
+    ),
+];
+
+// Feeds a piece, after which these answers are there, and the connection stands so.
+fn hear(
+    rt: &impl Abort,
+    alloc: Global,
+    session: &mut Session<ShelfSeat>,
+    shelf: &mut Shelf,
+    exchange: Exchange<'_>,
+    going: Going,
+) -> Result<(), Fail>
+    requires { IsDesk seen_of (front_of shelf.old.front) session.old.desk }
+    ensures desk { IsDesk seen_of (front_of shelf.new.front) session.new.desk }
+    ensures front { front_of shelf.new.front ≡ front_of shelf.old.front }
+{
+    let (piece, answers) = exchange;
+    let mut out = Vec::new(alloc);
+    let now = session.feed(alloc, shelf, piece, &mut out)?;
+    assert_eq!(rt; out.as_slice(), answers, "after {piece:?}");
+    assert_eq!(rt; now, going, "after {piece:?}");
+    Ok(())
+}
+
+// What each seat that was closed had given: a line for each seat, and a space after each scan.
+fn lists(alloc: Global, closed: &[Vec<Vec<u8>>]) -> Result<Vec<u8>, Fail> {
+    let mut text = Vec::new(alloc);
+    for seat in closed {
+        for scan in seat {
+            text.extend_from_slice(scan)?;
+            text.push(b' ')?;
+        }
+        text.push(b'\n')?;
+    }
+    Ok(text)
+}
+
+// The data of each seat's READBUFs are the scans that it gave, and its mask and capacity are those of its OPEN.
+#[test]
+fn data_are_what_the_seats_gave(rt: HostRuntime) -> Result<(), Fail> {
+    let alloc = rt.alloc();
+    let scans: [&[u8]; 9] = [b"aA", b"bB", b"cC", b"dD", b"eE", b"x", b"y", b"fF", b"gG"];
+    let mut shelf = shelf_of(alloc, &scans)?;
+    let mut a = Session::new(alloc, 3, Manner::Server)?;
+    hear(&rt, alloc, &mut a, &mut shelf, EXCHANGES[0], Going::On)?;
+    hear(&rt, alloc, &mut a, &mut shelf, EXCHANGES[1], Going::On)?;
+    hear(&rt, alloc, &mut a, &mut shelf, EXCHANGES[2], Going::On)?;
+    hear(&rt, alloc, &mut a, &mut shelf, EXCHANGES[3], Going::On)?;
+    let waits = Going::Waits(0);
+    hear(&rt, alloc, &mut a, &mut shelf, EXCHANGES[4], waits)?;
+    a.end(&mut shelf);
+    let lists = lists(alloc, &shelf.closed)?;
+    let given = b"aA bB cC dD eE \nx y \nfF gG \n";
+    assert_eq!(rt; lists.as_slice(), given.as_slice());
+    Ok(())
+}
