@@ -1,5 +1,5 @@
 -- What a seat of the shelf tells, and what the shelf gives it.
-use Rattle.std.specs.Prelude.{◌≡◌, ℕ, Bool, true, false, List, [], ◌∷◌, ◌++◌, length, map, Option, Some, option_map}
+use Rattle.std.specs.Prelude.{◌≡◌, ℕ, Bool, true, false, List, [], ◌∷◌, ◌++◌, length, map, Some, option_map}
 use Rattle.iiod_session.specs.Seat.{SeatRecord, after_scans}
 use Rattle.iiod_session_tests.specs.declared.shelf.ShelfSeat.{ShelfSeat}
 

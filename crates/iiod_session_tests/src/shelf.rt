@@ -1,6 +1,6 @@
 //! Devices in memory. They sample nothing: their scans stand on a shelf, and each goes to the seat that asks first.
 
-ghost use Rattle.std.specs.Prelude.{◌≡◌, ◌+◌, ◌*◌, ◌≤◌, ◌<◌, ◌^◌, ◌++◌, min, false, length, option_map, vec_capacity, IfOk};
+ghost use Rattle.std.specs.Prelude.{◌≡◌, ◌+◌, ◌≤◌, false, length, option_map, vec_capacity, IfOk};
 ghost use Rattle.iio_desc.specs.WellFormed.{IsWellFormed};
 ghost use Rattle.iiod_bank.specs.FrontOf.{front_of};
 ghost use Rattle.iiod_session.specs.Front.{first_front};
