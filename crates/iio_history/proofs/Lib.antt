@@ -27,4 +27,7 @@ pub mod BenchOthers
 pub mod BenchEnds
 pub mod BenchFeeds
 pub mod BenchMoves
+pub mod DeviceLaws
+pub mod DeviceHandlings
+pub mod DeviceMoves
 mod Rows

@@ -1,10 +1,11 @@
 -- The part of an input that is looked at, and its lines. (This project's own.)
 use Rattle.std.specs.Prelude.{ℕ, nat_lt, Bool, List, [], ◌∷◌, length, take, drop, reverse, if◌then◌else◌}
+use Rattle.iio_history.specs.declared.limits.TheConstants.{MAX_INPUT_BYTES}
 use Rattle.iio_text.specs.Lines.{fits_line, is_line_end, lines_of}
 
 -- the most bytes of an input that are looked at
 abbrev pub input_limit : ℕ
-input_limit = 67108864
+input_limit = MAX_INPUT_BYTES
 
 -- whether an input has more bytes than are looked at
 abbrev pub is_overlong : List ℕ → Bool

@@ -3,6 +3,8 @@ pub mod Attributes
 pub mod Bench
 pub mod BenchLaw
 pub mod BenchMoves
+pub mod Devices
+pub mod DeviceLaw
 pub mod Event
 pub mod Fold
 pub mod Input

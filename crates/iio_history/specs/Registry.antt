@@ -6,6 +6,7 @@ use Rattle.iio_layout.specs.Shape.{ShapeRecord}
 use Rattle.iio_sensor.specs.Driver.{Driver}
 use Rattle.iio_desc.specs.Description.{Description, find_device}
 use Rattle.iio_device.specs.Site.{Site, is_empty}
+use Rattle.iiod_session.specs.declared.desk.TheConstants.{FIRST_BUFFERS}
 use Rattle.iio_history.specs.Who.{Who, same, is_among}
 
 -- ---- plain data
@@ -115,9 +116,9 @@ has_ended name us = elim (user_named name us) [ None ↦ false | Some u ↦ u.en
 abbrev pub is_live : List ℕ → List User → Bool
 is_live name us = elim (user_named name us) [ None ↦ false | Some u ↦ not u.ended ]
 
--- before a SET the buffers count is 4
+-- the buffers count before a SET
 abbrev pub first_buffers : ℕ
-first_buffers = 4
+first_buffers = FIRST_BUFFERS
 
 -- a connection's buffers count of device k
 abbrev pub buffers_of : List User → List ℕ → ℕ → ℕ

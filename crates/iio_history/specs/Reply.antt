@@ -1,7 +1,7 @@
 -- The answer to an item of a connection, by what stands after a history: READBUF and the numbers of a buffer are by the
 -- member's queue, all else by the registry. (Commands and answers: libiio 0.25's iiod; docs/FORMATS.md says which part is
 -- this project's own.)
-use Rattle.std.specs.Prelude.{ℕ, ℤ, pos, ◌/◌, not, nat_lt, List, [], ◌∷◌, take, length, codes, Option, Some, None, is_none, slice_get, Result, Ok, Err, if◌then◌else◌}
+use Rattle.std.specs.Prelude.{ℕ, ℤ, pos, ◌/◌, not, nat_lt, List, [], ◌∷◌, take, length, Option, Some, None, is_none, slice_get, Result, Ok, Err, if◌then◌else◌}
 use Rattle.std.specs.Fmt.{decimal, signed_decimal}
 use Rattle.std.specs.Option.{ok_or}
 use Rattle.iio_base.specs.Refusals.{ensure, ◌>>=◌}
@@ -14,10 +14,10 @@ use Rattle.iio_layout.specs.Layout.{scan_size}
 use Rattle.iio_sensor.specs.Driver.{value_of, ask_fails}
 use Rattle.iiod_grammar.specs.declared.command.Refused.TheVariants.{Empty}
 use Rattle.iiod_grammar.specs.Command.{Place, Help, Version, Print, Timeout, Open, Close, Read, ReadBuf, WriteBuf, GetTrig, SetTrig, SetBuffers, EvOpen, EvRead, EvClose}
-use Rattle.iiod_reply.specs.Reply.{Reply, Nothing, Number, Refusal, Line, Value, Raw, Block}
+use Rattle.iiod_reply.specs.Reply.{Reply, Nothing, Number, Refusal, Value, Raw, Block}
 use Rattle.iio_desc.specs.Description.{find_device, device_name, trigger_name}
 use Rattle.iio_device.specs.Site.{is_empty}
-use Rattle.iiod_session.specs.Acts.{is_buffers_count, zero_reply}
+use Rattle.iiod_session.specs.Acts.{help_reply, is_buffers_count, version_reply, zero_reply}
 use Rattle.iiod_session.specs.Attributes.{is_of_buffer, buffer_number as queue_number}
 use Rattle.iio_history.specs.Who.{Who, Conn, same}
 use Rattle.iiod_grammar.specs.Stream.{Item, Said, Written, End}
@@ -107,8 +107,8 @@ trigger_value s (Some t) = Value (trigger_name s.desc t)
 abbrev pub reply : Setup → Told → List ℕ → Item → Reply
 reply s m name (Said (Err Empty)) = Nothing
 reply s m name (Said (Err refused)) = Refusal EINVAL
-reply s m name (Said (Ok Help)) = Line (codes "Commands of libiio 0.25 iiod, profile iiosim0")
-reply s m name (Said (Ok Version)) = Line (codes "0.25.iiosim0")
+reply s m name (Said (Ok Help)) = help_reply
+reply s m name (Said (Ok Version)) = version_reply
 reply s m name (Said (Ok Print)) = Value s.desc.context
 reply s m name (Said (Ok (Timeout milliseconds))) = zero_reply
 reply s m name (Said (Ok (Open device samples text cyclic))) = replied (do

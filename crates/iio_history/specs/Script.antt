@@ -15,6 +15,7 @@ use Rattle.iio_text.specs.Escape.{quoted_of}
 use Rattle.iio_attr.specs.Name.{is_name}
 use Rattle.iiod_grammar.specs.Command.{entry_of}
 use Rattle.iio_desc.specs.Description.{Description, find_trigger, find_device}
+use Rattle.iio_history.specs.declared.limits.TheConstants.{MAX_NAMES}
 use Rattle.iio_history.specs.Registry.{Setup}
 use Rattle.iio_history.specs.Transcript.{Step, Feed, Fire, Poll, Handle, Sense, SetClock, Drop, Unplug, printed, transcript}
 
@@ -130,7 +131,7 @@ step_of desc line = do
 
 -- the most names of connections that a script may feed
 abbrev pub max_names : ℕ
-max_names = 64
+max_names = MAX_NAMES
 
 abbrev pub is_known : List (List ℕ) → List ℕ → Bool
 is_known names name = list_any (λ known. bytes_eq known name) names

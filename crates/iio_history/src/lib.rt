@@ -4,6 +4,12 @@
 ghost use Rattle.iio_history.specs.Law.{StepIsTold, MachineIsTold, QueuesArePrivate, MembersAreApart, OthersAreAbsent, PlayedIsTranscript, OutstandingIs, ReadingIsOne};
 ghost use Rattle.iio_history.specs.BenchLaw.{FirstIsBench, BenchIsKept, ToldIsBench, SizesAreSome, NamesStay, ArrivedIsThere, LiveIsThere, RoomLasts, ItemsAreActs, ActsTell, DesksAreKept, NewIsDesk, ArrivalIsNothing, EndsAreLeft, FeedsAreActs, ScriptFeedsTell, FeedsKeepDesks};
 ghost use Rattle.iio_history.specs.BenchMoves.{UnpluggingIs, ClockIs, PollIs, LookIs, HandlingIs, TriggersAre, MovesPrint};
+ghost use Rattle.iio_history.specs.DeviceLaw.{JoinsAgree, LeavesAgree, HandlingsAgree, WritesAgree, TriggersAgree, SamplesAgree, ReadsAgree, LooksAgree, UnpluggingsAgree, PlacesAgree, HoldingsAgree, EventsAgree, ReleasesAgree, EndsAgree, ToldLooksAgree, ToldHandlingsAgree, QueuesAreMet, QueuesStand, RingsAreMet};
+
+mod limits;
+
+use iio_kfifo::Tail;
+pub use limits::{MAX_INPUT_BYTES, MAX_NAMES};
 
 /// The plain machine carries what the history tells.
 pub fn law()
@@ -48,4 +54,32 @@ pub fn move_law()
     ensures handling { HandlingIs }
     ensures triggers { TriggersAre }
     ensures printed { MovesPrint }
+{}
+
+/// What each call of a device makes of its own view is what the plain state makes of the device, whatever ends of queues its
+/// members have.
+pub fn device_law<Q: Tail>()
+    ensures joins { JoinsAgree Q.lost Q.capacity }
+    ensures leaves { LeavesAgree Q.lost Q.capacity }
+    ensures places { PlacesAgree Q.lost Q.capacity }
+    ensures handlings { HandlingsAgree Q.taken Q.lost Q.size Q.capacity Q.offer_gives }
+    ensures writes { WritesAgree Q.lost Q.capacity }
+    ensures triggers { TriggersAgree Q.lost Q.capacity }
+    ensures samples { SamplesAgree Q.lost Q.capacity }
+    ensures reads { ReadsAgree Q.lost Q.capacity }
+    ensures looks { LooksAgree Q.lost Q.capacity }
+    ensures unpluggings { UnpluggingsAgree Q.lost Q.capacity }
+    ensures holdings { HoldingsAgree Q.lost Q.capacity }
+    ensures events { EventsAgree Q.lost Q.capacity }
+    ensures releases { ReleasesAgree Q.lost Q.capacity }
+    ensures told_ends { EndsAgree Q.lost Q.capacity }
+    ensures told_looks { ToldLooksAgree Q.lost Q.capacity }
+    ensures told_handlings { ToldHandlingsAgree Q.taken Q.lost Q.size Q.capacity Q.offer_gives }
+{}
+
+/// The queues that are there meet an offer as a bounded queue does.
+pub fn queue_law()
+    ensures queues { QueuesAreMet }
+    ensures stand { QueuesStand }
+    ensures rings { RingsAreMet }
 {}

@@ -2,6 +2,8 @@
 #![tactic(auto)]
 
 mod devices;
+#[cfg(test)]
+mod tests;
 
 pub use devices::devices_of;
 pub use iio_base::Mem;

@@ -5,12 +5,13 @@ use Rattle.iio_text.specs.Lines.{is_line_end, lines_of}
 use Rattle.iio_text.specs.declared.lines.TheConstants.{MAX_LINE_BYTES}
 use Rattle.iio_desc.specs.Lines.{is_end}
 use Rattle.iio_history.specs.Input.{ended_part, input_limit, is_overlong, looked_lines}
+use Rattle.iio_script.specs.declared.line_reader.TheConstants.{MAX_PIECE_BYTES}
 use Rattle.iio_script.specs.declared.line_reader.Found.{Found}
 use Rattle.iio_script.specs.declared.line_reader.Found.TheVariants.{Cut, End, Line, Long}
 
 -- the most bytes that one read asks for
 abbrev pub piece_size : ℕ
-piece_size = 65536
+piece_size = MAX_PIECE_BYTES
 
 -- what a reader has in hand: the bytes that were taken and not given yet; how many of them were looked at, none of which
 -- is an LF; how many bytes were given before; whether the source has shown its end, and whether its last line was given

@@ -16,7 +16,7 @@ pub use digits::push_digits;
 pub use ends::{end_cut, end_refused, end_with, push_refused};
 pub use iio_base::Mem;
 pub use iio_text::LineFault as StepFault;
-pub use line_reader::LineReader;
+pub use line_reader::{LineReader, MAX_PIECE_BYTES};
 pub use opening::{Opening, open};
 pub use script::play;
 pub use status::Status;

@@ -6,6 +6,7 @@ ghost use Rattle.memchr.specs.Find.{IsFirstByte, is_byte};
 ghost use Rattle.iio_base.specs.Faults.{Rose};
 ghost use Rattle.iio_script.specs.LineReader.{Follows, HasLine, IsHand, NeedsMore, ReadsPiece, Shows, StandsAtEnd, empty_hand, line_of, taken_of, to_take};
 
+use iio_history::MAX_INPUT_BYTES;
 use iio_io::{ReadEnd, Source};
 use iio_text::MAX_LINE_BYTES;
 use memchr::memchr;
@@ -13,11 +14,8 @@ use std::alloc::{AllocError, Global};
 use std::marker::Model;
 use std::simd::prelude::*;
 
-/// The most bytes of an input that are looked at.
-const INPUT_LIMIT: usize = 67_108_864;
-
-// The most bytes that one read asks for: what a pipe holds.
-const PIECE: usize = 65_536;
+/// The most bytes that one read asks for: what a pipe holds.
+pub const MAX_PIECE_BYTES: usize = 65_536;
 
 /// What stands next in an input.
 #[derive(Clone, Copy, Debug, PartialEq, Eq)]
@@ -126,7 +124,7 @@ impl LineReader {
             given: 0,
             ended: false,
             over: false,
-            piece: vec![in alloc; 0u8; PIECE]?,
+            piece: vec![in alloc; 0u8; MAX_PIECE_BYTES]?,
         })
     }
 
@@ -168,13 +166,13 @@ impl LineReader {
         }
         self.look_on();
         let len = self.bytes.len() - self.begin;
-        if self.looked < len && self.given + self.looked < INPUT_LIMIT {
+        if self.looked < len && self.given + self.looked < MAX_INPUT_BYTES {
             return Some(Found::Line);
         }
-        if self.looked > MAX_LINE_BYTES && self.given + MAX_LINE_BYTES < INPUT_LIMIT {
+        if self.looked > MAX_LINE_BYTES && self.given + MAX_LINE_BYTES < MAX_INPUT_BYTES {
             return Some(Found::Long);
         }
-        if self.given + len > INPUT_LIMIT {
+        if self.given + len > MAX_INPUT_BYTES {
             return Some(Found::Cut);
         }
         if !self.ended {
@@ -237,7 +235,7 @@ impl LineReader {
     {
         self.close_up();
         let len = self.bytes.len() - self.begin;
-        let room = PIECE.min(INPUT_LIMIT + 1 - (self.given + len));
+        let room = MAX_PIECE_BYTES.min(MAX_INPUT_BYTES + 1 - (self.given + len));
         let count = read_piece(source, &mut self.piece, room, &mut self.bytes)?;
         self.ended = count == 0;
         Ok(())

@@ -1,11 +1,10 @@
 -- A member that joins a device of a bench, or is refused.
-use Rattle.std.proofs.Common.{◌≡◌, ℕ, zero, suc, ◌<◌, ◌^◌, Bool, true, false, List, [], ◌∷◌, map, length, slice_get, Option, Some, None, Err, refl, ap, ◌∙◌, arith}
+use Rattle.std.proofs.Common.{◌≡◌, ℕ, zero, suc, ◌<◌, ◌^◌, Bool, true, false, List, [], ◌∷◌, map, length, slice_get, Option, Some, None, Err, refl, sym, ap, ◌∙◌, arith}
 use Rattle.std.specs.Prelude.{not, nat_lt, is_none, option_and_then}
 use Rattle.std.specs.Option.{option_map_or}
 use Rattle.std.proofs.lemmas.Bool.Decides.{nat_tests}
 use Rattle.iio_base.specs.Refusals.{first_refusal, unless_refused}
 use Rattle.iio_text.specs.declared.errors.Errno.{Errno}
-use Rattle.iio_text.specs.declared.errors.Errno.TheVariants.{ENODEV}
 use Rattle.iio_mask.specs.declared.Mask.{Mask}
 use Rattle.iio_layout.specs.Active.{has_data}
 use Rattle.iio_layout.specs.Shape.{ShapeRecord, count_of}
@@ -22,30 +21,22 @@ use Rattle.iio_device.specs.Members.{masks_of as masks_of_memberships}
 use Rattle.iio_device.specs.Site.{is_empty}
 use Rattle.iiod_session.specs.Front.{Front, place_count, shape_at}
 use Rattle.iiod_session.specs.Machine.{Machine, Station, masks_of, station_at}
-use Rattle.iiod_session.specs.Opening.{errno_of, join_refusals}
+use Rattle.iiod_session.specs.Opening.{errno_of}
 use Rattle.iiod_session.specs.Calls.{attached_count, has_no_place, is_full, joined, open_of, open_refusals, unless}
 use Rattle.iiod_session.specs.Seat.{Answers}
+use Rattle.iio_history.specs.Devices.{queue_waits}
+use Rattle.iio_history.proofs.DeviceLaws.{agree, joined_is as plain_joined, masks_are as plain_masks}
 use Rattle.iio_system.specs.Faults.{faults_at, first_queue, is_full as is_full_at, lacks_place, no_of}
 use Rattle.iio_system.specs.Places.{IsBench}
 use Rattle.iio_system.specs.Station.{member_of, station_of}
-use Rattle.iio_system.proofs.ListLemmas.{is_empty-map, map_append}
+use Rattle.iio_system.proofs.ListLemmas.{is_empty-map}
 use Rattle.iio_system.proofs.PlaceLemmas.{holds_place-places_from, length-places_from}
 use Rattle.iio_system.proofs.BenchLemmas.{none_attached}
 
 -- ---- the same refusals
 
--- the errno of a fault of joining, where the mask is a good one
-agree : (gone a b c : Bool) (r : Option JoinFault) → first_refusal ((gone, fault.Gone) ∷ (false, fault.BadMask) ∷ member_faults a b c) ≡ r
-    → first_refusal ((gone, ENODEV) ∷ join_refusals a b c) ≡ option_and_then errno_of r
-agree true a b c r e = ap (λ (o : Option JoinFault). option_and_then errno_of o) e
-agree false true b c r e = ap (λ (o : Option JoinFault). option_and_then errno_of o) e
-agree false false true c r e = ap (λ (o : Option JoinFault). option_and_then errno_of o) e
-agree false false false true r e = ap (λ (o : Option JoinFault). option_and_then errno_of o) e
-agree false false false false r e = ap (λ (o : Option JoinFault). option_and_then errno_of o) e
-
-pub masks_are : (ms : List (Membership Queue)) → masks_of (map member_of ms) ≡ masks_of_memberships ms
-masks_are [] = refl
-masks_are (m ∷ ms) = ap (λ (xs : List ℕ). m.mask.bits ∷ xs) (masks_are ms)
+masks_are : (ms : List (Membership Queue)) → masks_of (map member_of ms) ≡ masks_of_memberships ms
+masks_are ms = plain_masks (λ (q : Queue). q.lost) (λ q. q.capacity) queue_waits ms
 
 -- a mask within the shape that has a data channel
 pub good_mask : (shape : ShapeRecord) (mask : ℕ) → mask < 2 ^ count_of shape → has_data shape mask ≡ true → is_bad_mask shape mask ≡ false
@@ -117,4 +108,5 @@ module _ (front : Front) (m : Machine) (k mask capacity : ℕ) (st : Station) (s
 
 -- the device with a member more
 pub joined_is : (mask : Mask) (capacity : ℕ) (d : DeviceView Queue) → station_of (device_joined mask (first_queue d.standing.shape mask capacity) d) ≡ joined mask.bits capacity (station_of d)
-joined_is mask capacity d = rw (map_append member_of d.standing.members, is_empty-map member_of d.standing.members) refl
+joined_is mask capacity d =
+    sym (plain_joined (λ (q : Queue). q.lost) (λ q. q.capacity) queue_waits mask (first_queue d.standing.shape mask capacity) d (record { none = refl; unlost = refl }))

@@ -30,7 +30,7 @@ use Rattle.iio_history.specs.Machine.{line_after, new_line, step}
 use Rattle.iio_history.specs.Transcript.{Sense, SetClock, Unplug, event_text, missed_at, printed}
 use Rattle.iio_history.specs.Bench.{Every, IsBench, IsDeskOf, IsStep, front_device, front_of, is_in, machine_of, names_of}
 use Rattle.iio_history.specs.BenchLaw.{IsOthers}
-use Rattle.iio_history.specs.BenchMoves.{IsMove, bench_entries, capture_made, entry_made, entry_word, look_words, moved_text, plug_word, polled_by, triggers_made}
+use Rattle.iio_history.specs.BenchMoves.{IsMove, bench_entries, entry_made, entry_word, look_words, moved_text, plug_word, polled_by, triggers_made}
 use Rattle.iio_history.proofs.BenchKept.{bench_kept}
 use Rattle.iio_history.proofs.BenchMoves.{clock_is, handling_is, look_is, moves_print, poll_is, triggers_are, unplugging_is}
 use Rattle.iio_history.proofs.BenchOthers.{desks_are_kept}
@@ -45,6 +45,7 @@ use Rattle.iio_system.specs.Seat.{seen_of}
 use Rattle.iio_system.specs.Standing.{CanCapture, Holds, Makes, RiseBy, handed_by, trigger_by}
 use Rattle.iio_system.specs.Station.{front_by, station_by}
 use Rattle.iio_system.specs.System.{AreLines}
+use Rattle.iio_system.proofs.HandleLemmas.{handled_made}
 use Rattle.iio_system.proofs.LineLaws.{SameLine, every_line_there, served_moves}
 use Rattle.iio_system.proofs.ListLemmas.{length_map_is}
 
@@ -238,13 +239,6 @@ pub handled_told : (dev : ℕ) (x : Trigger) → trigger_by (told_handled dev x)
 handled_told dev x = ap (λ (hs : List Handed). (let r : TriggerRecord = record { entries = hs; missed = x.missed } in r)) (without_told dev x.entries)
 
 -- ---- devices
-
-handled_made : (shape : ShapeRecord) (e : Entry) (st : Station) → handled_station shape (handed_by e) st ≡ entry_made shape (Some e) st
-handled_made shape e st = by (is_current e.attachment st.site.attachment st.members st.site.plugged) (capture_made shape e.moment st)
-  where
-    by : (a : Bool) (x : Station) → cond (not a) st x ≡ cond a x st
-    by true x = refl
-    by false x = refl
 
 entry_machine_told : (o : Option Entry) (shape : ShapeRecord) (dev : ℕ) (m : Machine) → entry_machine (option_map handed_by o) false shape dev m ≡ with_station (entry_made shape o) dev m
 unfolding with_station

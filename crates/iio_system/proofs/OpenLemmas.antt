@@ -1,6 +1,6 @@
 -- OPEN and CLOSE at a bench.
-use Rattle.std.proofs.Common.{◌≡◌, ℕ, suc, ◌+◌, ◌*◌, ◌<◌, ◌≤◌, ◌^◌, Bool, true, false, List, [], ◌∷◌, ◌++◌, map, filter, find, length, set, slice_get, Option, Some, None, IfOk, Result, Ok, Err, refl, sym, ap, subst, ◌∙◌, arith, cond, option_map}
-use Rattle.std.specs.Prelude.{◌==◌, ◌||◌, not, ℤ, option_and_then}
+use Rattle.std.proofs.Common.{◌≡◌, ℕ, suc, ◌+◌, ◌*◌, ◌<◌, ◌≤◌, ◌^◌, Bool, true, false, List, [], ◌∷◌, ◌++◌, map, filter, length, set, slice_get, Option, Some, None, IfOk, Result, Ok, Err, refl, sym, ap, subst, ◌∙◌, arith, cond, option_map}
+use Rattle.std.specs.Prelude.{◌||◌, ℤ, option_and_then}
 use Rattle.std.proofs.lemmas.Option.{slice_get-map}
 use Rattle.iio_base.specs.Refusals.{first_refusal}
 use Rattle.iio_mask.specs.declared.Mask.{Mask}
@@ -19,24 +19,25 @@ use Rattle.iio_device.specs.declared.membership.Membership.{Membership}
 use Rattle.iio_device.specs.declared.plug.Plug.{Plug}
 use Rattle.iio_device.specs.declared.roster.JoinFault.{JoinFault}
 use Rattle.iio_device.specs.Device.{DeviceView, LeavesDevice, device_joined}
-use Rattle.iio_device.specs.Members.{member_of as membership_of, without as without_of}
+use Rattle.iio_device.specs.Members.{without as without_of}
 use Rattle.iio_device.specs.Site.{Site, attached, is_empty, no_driver}
-use Rattle.iio_device.specs.Totals.{with_left, with_lost}
 use Rattle.std.proofs.lemmas.Bool.Decides.{nat_tests}
 use Rattle.iiod_session.specs.declared.limits.TheConstants.{MAX_BYTES}
 use Rattle.iiod_session.specs.declared.iio.No.{No}
 use Rattle.iiod_session.specs.Front.{shape_at}
-use Rattle.iiod_session.specs.Machine.{Machine, Member, Station, lost_by, with_station, without}
+use Rattle.iiod_session.specs.Machine.{Machine, Station, with_station}
 use Rattle.iiod_session.specs.Calls.{closed, is_attached, joined, left, open_of, open_refusals}
 use Rattle.iiod_session.specs.Opening.{errno_of}
 use Rattle.iiod_session.specs.Seat.{Answers, IsNew, MayOpen, number_by as number_of}
+use Rattle.iio_history.specs.Devices.{queue_waits}
+use Rattle.iio_history.proofs.DeviceLaws.{left_is as plain_left}
 use Rattle.iio_system.specs.declared.seat.Seat.{Seat}
 use Rattle.iio_system.specs.Acting.{KeepsCaptures}
 use Rattle.iio_system.specs.Faults.{Hosts, JoinsBy, faults_at, no_of}
 use Rattle.iio_system.specs.Places.{IsBench, IsNumbered, has_trigger, is_hosted, places_from, trigger_of}
 use Rattle.iio_system.specs.Seat.{seen_of}
 use Rattle.iio_system.specs.Station.{front_by, member_of, number_by, station_by, station_of, stations_by, view_by}
-use Rattle.iio_system.proofs.ListLemmas.{at_place_same, empty_list, filter_map_is, filter_none, is_empty-map, length_map_is, map_at, same_element}
+use Rattle.iio_system.proofs.ListLemmas.{at_place_same, empty_list, is_empty-map, length_map_is, map_at, same_element}
 use Rattle.iio_system.proofs.BenchLemmas.{KeepsPlace, bench_attached, bench_by, bench_detached, bench_stays, kept_same}
 use Rattle.iio_system.proofs.IioLemmas.{keeps_along}
 use Rattle.iio_system.proofs.JoinLemmas.{good_mask, joined_is, open_is, refusals_are, told_refused}
@@ -85,34 +86,8 @@ members_kept st st' some some' trigger attachment = record {
   hosted = λ n h. rw (some', trigger) (rw some at h);
 }
 
-without_is : (n : ℕ) (ms : List (Membership Queue)) → without n (map member_of ms) ≡ map member_of (without_of n ms)
-without_is n ms = filter_map_is member_of (λ (m : Membership Queue). not (m.number == n)) (λ (x : Member). not (x.number == n)) (λ m. refl) ms
-
--- what was lost of the member of that number
-lost_told : (n : ℕ) (ms : List (Membership Queue)) → lost_by n (map member_of ms) ≡ option_map (λ (m : Membership Queue). m.tail.lost) (membership_of n ms)
-lost_told n [] = refl
-lost_told n (m ∷ ms) = by (m.number == n) (lost_told n ms)
-  where
-    by : (b : Bool) → lost_by n (map member_of ms) ≡ option_map (λ (m : Membership Queue). m.tail.lost) (membership_of n ms)
-        → option_map (λ (x : Member). x.lost) (cond b (Some (member_of m)) (find (λ (x : Member). x.number == n) (map member_of ms))) ≡ option_map (λ (m : Membership Queue). m.tail.lost) (cond b (Some m) (membership_of n ms))
-    by true h = refl
-    by false h = h
-
-lost_of_tail : (o : Option (Membership Queue)) → option_map (λ (m : Membership Queue). m.tail.lost) o ≡ option_map (λ (q : Queue). q.lost) (option_map (λ (m : Membership Queue). m.tail) o)
-lost_of_tail None = refl
-lost_of_tail (Some m) = refl
-
 left_is : (n : ℕ) (r : Option Queue) (v v' : DeviceView Queue) (s s' : State) → LeavesDevice (λ (q : Queue). q.lost) n r v v' s s' → station_of v' ≡ left n (station_of v)
-left_is n None v v' s s' j =
-    let none : without n (map member_of v.standing.members) ≡ map member_of v.standing.members
-    = without_is n v.standing.members ∙ ap (λ (ms : List (Membership Queue)). map member_of ms) (filter_none (λ (m : Membership Queue). m.number == n) v.standing.members j.0) in
-    ap station_of j.1 ∙ ap (λ (ms : List Member). (let st : Station = record (station_of v) { members = ms } in st)) (sym none)
-    ∙ ap (λ (o : Option ℕ). (let st : Station = record (station_of v) { totals = with_left o v.totals; members = without n (map member_of v.standing.members) } in st))
-    (sym (lost_told n v.standing.members ∙ ap (λ (o : Option (Membership Queue)). option_map (λ (m : Membership Queue). m.tail.lost) o) j.0))
-left_is n (Some q) v v' s s' j =
-    ap station_of j.1 ∙ ap (λ (ms : List Member). (let st : Station = record (station_of v) { totals = with_lost q.lost v.totals; members = ms } in st)) (sym (without_is n v.standing.members))
-    ∙ ap (λ (o : Option ℕ). (let st : Station = record (station_of v) { totals = with_left o v.totals; members = without n (map member_of v.standing.members) } in st))
-    (sym (lost_told n v.standing.members ∙ lost_of_tail (membership_of n v.standing.members) ∙ ap (λ (o : Option Queue). option_map (λ (x : Queue). x.lost) o) j.0))
+left_is n r v v' s s' j = sym (plain_left (λ (q : Queue). q.lost) (λ q. q.capacity) queue_waits n r v v' s s' j).1
 
 -- a device on no trigger that is there has no member
 pub hosted_none : (n : ℕ) (st : Station) (trigger : Option ℕ) → st.site.trigger ≡ trigger → has_trigger n trigger ≡ false → is_hosted n st ≡ true → is_empty st.members ≡ true

@@ -22,9 +22,6 @@ use iio_sensor::Sensor;
 use iiod_session::{Manner, Session};
 use std::alloc::Global;
 
-/// The most names of connections that a script may feed.
-pub const MAX_NAMES: usize = 64;
-
 /// The place of the connection of that name.
 pub(crate) fn place(connections: &[Connection<Seat>], name: &Name) -> Option<usize>
     ensures { result ≡ position (λ c. bytes_eq c.name name.now) connections.now }

@@ -20,8 +20,8 @@ mod tally;
 
 pub use bench::Bench;
 pub use connection::Connection;
-pub use connections::MAX_NAMES;
 pub use iio_base::Mem;
+pub use iio_history::MAX_NAMES;
 pub use quoted::Quoted;
 pub use seat::Seat;
 pub use step::Step;

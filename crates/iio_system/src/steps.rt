@@ -18,7 +18,7 @@ ghost use Rattle.iio_system.specs.Step.{IsValid, cost_of, step_view};
 
 use crate::bench::Bench;
 use crate::connection::Connection;
-use crate::connections::{MAX_NAMES, drop_named, feed, place};
+use crate::connections::{drop_named, feed, place};
 use crate::moves;
 use crate::seat::Seat;
 use crate::step::Step;
@@ -27,6 +27,7 @@ use iio_attr::Name;
 use iio_base::Mem;
 use iio_desc::{Desc, DeviceDesc};
 use iio_device::Plug;
+use iio_history::MAX_NAMES;
 use iio_layout::Shape;
 use iio_sensor::Sensor;
 use std::alloc::Global;

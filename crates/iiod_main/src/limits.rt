@@ -9,11 +9,14 @@ ghost use Rattle.iio_event.specs.declared.monitor.TheConstants.{MAX_EVENTS};
 ghost use Rattle.iiod_grammar.specs.declared.lines.TheConstants.{MAX_LINE, MAX_PAYLOAD};
 ghost use Rattle.iiod_session.specs.declared.desk.TheConstants.{FIRST_BUFFERS, MAX_BUFFERS};
 ghost use Rattle.iiod_session.specs.declared.limits.TheConstants.{MAX_BYTES, MAX_SCANS};
-ghost use Rattle.iio_system.specs.declared.connections.TheConstants.{MAX_NAMES};
+ghost use Rattle.iio_history.specs.declared.limits.TheConstants.{MAX_INPUT_BYTES, MAX_NAMES};
+ghost use Rattle.iio_script.specs.declared.line_reader.TheConstants.{MAX_PIECE_BYTES};
 ghost use Rattle.iiod_server.specs.declared.living.TheConstants.{MAX_CONNECTIONS};
 
 /// The law that these limits are the numbers of docs/FORMATS.md, section 16. The call does nothing.
 pub(crate) fn limits_are_these()
+    ensures input { MAX_INPUT_BYTES ≡ 67108864 }
+    ensures piece { MAX_PIECE_BYTES ≡ 65536 }
     ensures line { MAX_LINE_BYTES ≡ 1048576 }
     ensures triggers { MAX_TRIGGERS ≡ 16 }
     ensures devices { MAX_DEVICES ≡ 16 }

@@ -1,0 +1,242 @@
+-- The handling of an entry in both views of a device, and the ends of queues that are there.
+use Rattle.std.proofs.Common.{◌≡◌, ℕ, zero, suc, ◌+◌, ◌-◌, ◌^◌, ◌≤◌, Bool, true, false, List, [], ◌∷◌, ◌++◌, map, drop, length, Option, Some, slice_get, refl, sym, ap, ◌∙◌, arith, cond}
+use Rattle.std.specs.Prelude.{◌==◌, ◌&&◌, not, nat_lt, ℤ}
+use Rattle.std.specs.List.{AllZip}
+use Rattle.std.proofs.lemmas.Bool.Decides.{nat_tests}
+use Rattle.std.proofs.lemmas.List.{drop-append-le, length-drop}
+use Rattle.iio_layout.specs.Scan.{scan_of}
+use Rattle.iio_layout.specs.Shape.{ShapeRecord}
+use Rattle.iio_kfifo.specs.declared.tail.Offered.{Offered}
+use Rattle.iio_kfifo.specs.declared.tail.Offered.TheVariants.{Taken, Lost}
+use Rattle.iio_kfifo.specs.declared.view.Offer.{Offer}
+use Rattle.iio_kfifo.specs.declared.view.Offer.TheVariants.{Accepted, Refused}
+use Rattle.iio_kfifo.specs.declared.view.Sent.{Sent}
+use Rattle.iio_kfifo.specs.declared.view.Writing.{Writing}
+use Rattle.iio_kfifo.specs.Ends.{Offers as WriterOffers, WriterEnd}
+use Rattle.iio_kfifo.specs.Offers.{accepted, accepted_after, lost_in}
+use Rattle.iio_kfifo.specs.Queue.{Offers as QueueOffers, Queue}
+use Rattle.iio_sensor.specs.Driver.{ask_fails, values_of}
+use Rattle.iio_trigger.specs.Trigger.{Handed}
+use Rattle.iio_device.specs.declared.handling.Handled.{Handled}
+use Rattle.iio_device.specs.declared.handling.Handled.TheVariants.{Captured, Fault, Idle}
+use Rattle.iio_device.specs.declared.membership.Membership.{Membership}
+use Rattle.iio_device.specs.Active.{active_for}
+use Rattle.iio_device.specs.Device.{DeviceView, Handles, is_due}
+use Rattle.iio_device.specs.Members.{WasOffered, masks_of}
+use Rattle.iio_device.specs.Roster.{Standing}
+use Rattle.iio_device.specs.Site.{Site, captured, is_current, is_empty}
+use Rattle.iiod_session.specs.Machine.{Machine, Member, Station, masks_of as plain_masks, with_station}
+use Rattle.iio_history.specs.Registry.{Capture}
+use Rattle.iio_history.specs.BenchMoves.{asked_once, entry_made, offered_to}
+use Rattle.iio_history.specs.Devices.{AreMet, IsAt, IsMet, entry_by, handled_answer, left_after, member_with, members_met, queue_waited, queue_waits, station_met, station_of, station_with, writer_waited, writer_waits}
+use Rattle.iio_history.proofs.DeviceLaws.{at_changed, empty_map, masks_are}
+
+-- ---- handlings
+
+on_true : {A : Type 0} (b : Bool) (x y : A) → b ≡ true → cond b x y ≡ x
+on_true true x y e = refl
+on_true false x y e = absurd (cc)
+
+on_false : {A : Type 0} (b : Bool) (x y : A) → b ≡ false → cond b x y ≡ y
+on_false true x y e = absurd (cc)
+on_false false x y e = refl
+
+module _ {Q : Type 0} (taken lost size capacity : Q → ℕ) (offer_gives : Q → List ℕ → Offered → Q → Type 0) (waits : Q → List (List ℕ)) (waited : Q → Q → List (List ℕ)) where
+  abbrev met : List (Membership Q) → List (Membership Q) → List Member
+  met xs ys = members_met lost capacity waits waited xs ys
+
+  abbrev pub after : DeviceView Q → Station
+  after d = station_of lost capacity waits d
+
+  abbrev OffersAreMet : List (Membership Q) → List (Membership Q) → Type 0
+  OffersAreMet xs ys =
+      AllZip (λ (a b : Membership Q). (scan : List ℕ) (answer : Offered) → offer_gives a.tail scan answer b.tail → IsMet lost capacity waits waited scan answer a.tail b.tail) xs ys
+
+  abbrev WereOffered : ShapeRecord → Capture → List (Membership Q) → List (Membership Q) → Type 0
+  WereOffered shape c xs ys = AllZip (λ (a b : Membership Q). WasOffered taken lost size capacity offer_gives (scan_of shape a.mask.bits c.values c.moment) a b) xs ys
+
+  offered_by : (shape : ShapeRecord) (c : Capture) (a b : Membership Q) (answer : Offered) → b ≡ record a { tail = b.tail } → capacity b.tail ≡ capacity a.tail
+      → IsMet lost capacity waits waited (scan_of shape a.mask.bits c.values c.moment) answer a.tail b.tail
+      → offered_to shape c (member_with lost capacity (waited a.tail b.tail) a) ≡ member_with lost capacity (waits b.tail) b
+  offered_by shape c a b Taken same bounded is =
+      let room : nat_lt (length (waited a.tail b.tail)) (capacity a.tail) ≡ true = let h = is.0 in grind (arith, nat_tests) in
+      rw room (ap (λ (scans : List (List ℕ)). (let x : Member = record { number = a.number; mask = a.mask.bits; capacity = capacity a.tail; scans = scans; lost = lost a.tail } in x)) (sym is.2)
+      ∙ ap (λ (n : ℕ). (let x : Member = record { number = a.number; mask = a.mask.bits; capacity = n; scans = waits b.tail; lost = lost a.tail } in x)) (sym bounded)
+      ∙ ap (λ (n : ℕ). (let x : Member = record { number = a.number; mask = a.mask.bits; capacity = capacity b.tail; scans = waits b.tail; lost = n } in x)) (sym is.1)
+      ∙ ap (λ (m : Membership Q). member_with lost capacity (waits b.tail) m) (sym same))
+  offered_by shape c a b Lost same bounded is =
+      let full : nat_lt (length (waited a.tail b.tail)) (capacity a.tail) ≡ false = let h = is.0 in grind (arith, nat_tests) in
+      rw full (ap (λ (scans : List (List ℕ)). (let x : Member = record { number = a.number; mask = a.mask.bits; capacity = capacity a.tail; scans = scans; lost = lost a.tail + 1 } in x)) (sym is.2)
+      ∙ ap (λ (n : ℕ). (let x : Member = record { number = a.number; mask = a.mask.bits; capacity = n; scans = waits b.tail; lost = lost a.tail + 1 } in x)) (sym bounded)
+      ∙ ap (λ (n : ℕ). (let x : Member = record { number = a.number; mask = a.mask.bits; capacity = capacity b.tail; scans = waits b.tail; lost = n } in x)) (sym is.1)
+      ∙ ap (λ (m : Membership Q). member_with lost capacity (waits b.tail) m) (sym same))
+
+  all_offered : (shape : ShapeRecord) (c : Capture) (xs ys : List (Membership Q)) → WereOffered shape c xs ys → OffersAreMet xs ys
+      → map (offered_to shape c) (met xs ys) ≡ map (λ (m : Membership Q). member_with lost capacity (waits m.tail) m) ys
+  all_offered shape c [] [] z h = refl
+  all_offered shape c [] (y ∷ ys) z h = absurd z
+  all_offered shape c (x ∷ xs) [] z h = absurd z
+  all_offered shape c (x ∷ xs) (y ∷ ys) z h =
+      ap (λ (m : Member). m ∷ map (offered_to shape c) (met xs ys)) (offered_by shape c x y z.0.answer z.0.same z.0.bounded (h.0 (scan_of shape x.mask.bits c.values c.moment) z.0.answer z.0.offered))
+      ∙ ap (λ (ms : List Member). member_with lost capacity (waits y.tail) y ∷ ms) (all_offered shape c xs ys z.1 h.1)
+
+  met_masks : (shape : ShapeRecord) (c : Capture) (xs ys : List (Membership Q)) → WereOffered shape c xs ys → plain_masks (met xs ys) ≡ masks_of xs
+  met_masks shape c [] [] z = refl
+  met_masks shape c [] (y ∷ ys) z = absurd z
+  met_masks shape c (x ∷ xs) [] z = absurd z
+  met_masks shape c (x ∷ xs) (y ∷ ys) z = ap (λ (ms : List ℕ). x.mask.bits ∷ ms) (met_masks shape c xs ys z.1)
+
+  met_length : (shape : ShapeRecord) (c : Capture) (xs ys : List (Membership Q)) → WereOffered shape c xs ys → length (met xs ys) ≡ length xs
+  met_length shape c [] [] z = refl
+  met_length shape c [] (y ∷ ys) z = absurd z
+  met_length shape c (x ∷ xs) [] z = absurd z
+  met_length shape c (x ∷ xs) (y ∷ ys) z = ap (λ (n : ℕ). suc n) (met_length shape c xs ys z.1)
+
+  met_empty : (shape : ShapeRecord) (c : Capture) (xs ys : List (Membership Q)) → WereOffered shape c xs ys → is_empty (met xs ys) ≡ is_empty xs
+  met_empty shape c [] [] z = refl
+  met_empty shape c [] (y ∷ ys) z = absurd z
+  met_empty shape c (x ∷ xs) [] z = absurd z
+  met_empty shape c (x ∷ xs) (y ∷ ys) z = refl
+
+  -- an entry of the device is due where it is current
+  current_is : (e : Handed) (d : DeviceView Q) (members : List Member) → e.dev ≡ d.number → (d.standing.captures == 2 ^ 64 - 1) ≡ false → is_empty members ≡ is_empty d.standing.members
+      → is_current e.attachment d.site.attachment members d.site.plugged ≡ is_due e d
+  current_is e d members own fewer empty =
+      let same : (e.dev == d.number) ≡ true = grind (arith, nat_tests) in
+      rw (same, fewer, empty) (sym (both (e.attachment == d.site.attachment && not (is_empty d.standing.members) && d.site.plugged)))
+    where
+      both : (b : Bool) → (b && true) ≡ b
+      both true = refl
+      both false = refl
+
+  asked_is : (t : ℤ) (d : DeviceView Q) (members : List Member) → d.standing.active ≡ active_for d.standing.shape (masks_of d.standing.members) → plain_masks members ≡ masks_of d.standing.members
+      → captured t (active_for d.standing.shape (plain_masks members)) d.site ≡ captured t d.standing.active d.site
+  asked_is t d members ruled masks = ap (λ (active : Option ℕ). captured t active d.site) (ap (λ (ms : List ℕ). active_for d.standing.shape ms) masks ∙ sym ruled)
+
+  pub handled_is : (e : Handed) (r : Handled) (d d' : DeviceView Q) → Handles taken lost size capacity offer_gives e r d d' → e.dev ≡ d.number → (d.standing.captures == 2 ^ 64 - 1) ≡ false
+      → d.standing.active ≡ active_for d.standing.shape (masks_of d.standing.members) → AreMet lost capacity waits waited offer_gives r d d'
+      → (r ≡ handled_answer e (station_met lost capacity waits waited r d d')) × (entry_made d.standing.shape (Some (entry_by e)) (station_met lost capacity waits waited r d d') ≡ after d')
+  handled_is e Idle d d' h own fewer ruled met_is =
+      let idle : is_current e.attachment d.site.attachment (after d).members d.site.plugged ≡ false
+      = current_is e d (after d).members own fewer (empty_map (λ (m : Membership Q). member_with lost capacity (waits m.tail) m) d.standing.members) ∙ h.0 in
+      rw idle (refl, ap after (sym h.1))
+  handled_is e Fault d d' h own fewer ruled met_is =
+      let due : is_current e.attachment d.site.attachment (after d).members d.site.plugged ≡ true
+      = current_is e d (after d).members own fewer (empty_map (λ (m : Membership Q). member_with lost capacity (waits m.tail) m) d.standing.members) ∙ h.0 in
+      rw due (
+        sym (on_true (ask_fails d.site.driver) Fault (Captured (length (after d).members)) h.1),
+        on_true (ask_fails d.site.driver) (asked_once d.standing.shape e.t (after d)) _ h.1
+            ∙ ap (λ (site : Site ℕ). (let st : Station = record (after d) { site = site } in st)) (asked_is e.t d (after d).members ruled (masks_are lost capacity waits d.standing.members))
+            ∙ ap after (sym h.2),
+      )
+  handled_is e (Captured n) d d' h own fewer ruled met_is =
+      let c : Capture = record { moment = e.t; values = values_of d.site.driver d.standing.shape e.t } in
+      let zip : WereOffered d.standing.shape c d.standing.members d'.standing.members = h.2.2 in
+      let ms : List Member = met d.standing.members d'.standing.members in
+      let due : is_current e.attachment d.site.attachment ms d.site.plugged ≡ true
+      = current_is e d ms own fewer (met_empty d.standing.shape c d.standing.members d'.standing.members zip) ∙ h.0 in
+      let many : n ≡ length ms = h.2.0 ∙ sym (met_length d.standing.shape c d.standing.members d'.standing.members zip) in
+      rw due (
+        ap (λ (k : ℕ). Captured k) many ∙ sym (on_false (ask_fails d.site.driver) Fault (Captured (length ms)) h.1),
+        on_false (ask_fails d.site.driver) (asked_once d.standing.shape e.t (station_with lost capacity ms d)) _ h.1
+            ∙ ap (λ (site : Site ℕ). (let st : Station = record { next = d.standing.next; captures = d.standing.captures + 1; totals = d.totals; members = map (offered_to d.standing.shape c) ms; site = site } in st))
+            (asked_is e.t d ms ruled (met_masks d.standing.shape c d.standing.members d'.standing.members zip))
+            ∙ ap (λ (xs : List Member). (let st : Station = record { next = d.standing.next; captures = d.standing.captures + 1; totals = d.totals; members = xs; site = captured e.t d.standing.active d.site } in st))
+            (all_offered d.standing.shape c d.standing.members d'.standing.members zip met_is)
+            ∙ ap (λ (s : Standing Q). (let st : Station = record { next = s.next; captures = s.captures; totals = d.totals; members = (after d').members; site = captured e.t d.standing.active d.site } in st)) (sym h.2.1)
+            ∙ ap after (sym h.3),
+      )
+
+  pub handlings_agree : (m : Machine) (dev : ℕ) (e : Handed) (r : Handled) (d d' : DeviceView Q)
+      → Handles taken lost size capacity offer_gives e r d d' → e.dev ≡ d.number → (d.standing.captures == 2 ^ 64 - 1) ≡ false
+      → d.standing.active ≡ active_for d.standing.shape (masks_of d.standing.members) → AreMet lost capacity waits waited offer_gives r d d'
+      → slice_get m.stations dev ≡ Some (station_met lost capacity waits waited r d d')
+      → (r ≡ handled_answer e (station_met lost capacity waits waited r d d'))
+      × IsAt lost capacity waits (with_station (entry_made d.standing.shape (Some (entry_by e))) dev m) dev d'
+  handlings_agree m dev e r d d' h own fewer ruled met_is here =
+      let is = handled_is e r d d' h own fewer ruled met_is in
+      (is.0, at_changed m dev (station_met lost capacity waits waited r d d') (entry_made d.standing.shape (Some (entry_by e))) here ∙ ap (λ (st : Station). Some st) is.1)
+
+-- ---- queues in one hand
+
+pub queues_are_met : (old new : Queue) (scan : List ℕ) (answer : Offered) → QueueOffers old scan answer new → IsMet (λ (q : Queue). q.lost) (λ q. q.capacity) queue_waits queue_waited scan answer old new
+queues_are_met old new scan Taken o = (o.0, ap (λ (q : Queue). q.lost) o.1, ap (λ (q : Queue). q.scans) o.1)
+queues_are_met old new scan Lost o = ((let h = o.0 in omega arith), ap (λ (q : Queue). q.lost) o.1, ap (λ (q : Queue). q.scans) o.1)
+
+module _ (scan_for : Membership Queue → List ℕ) where
+  abbrev Were : List (Membership Queue) → List (Membership Queue) → Type 0
+  Were xs ys = AllZip (λ (a b : Membership Queue). WasOffered (λ (q : Queue). q.taken) (λ q. q.lost) (λ q. q.size) (λ q. q.capacity) QueueOffers (scan_for a) a b) xs ys
+
+  queues_stood : (xs ys : List (Membership Queue)) → Were xs ys
+      → (members_met (λ (q : Queue). q.lost) (λ q. q.capacity) queue_waits queue_waited xs ys ≡ map (λ (m : Membership Queue). member_with (λ (q : Queue). q.lost) (λ q. q.capacity) (queue_waits m.tail) m) xs)
+      × AllZip (λ (a b : Membership Queue). (scan : List ℕ) (answer : Offered) → QueueOffers a.tail scan answer b.tail → IsMet (λ (q : Queue). q.lost) (λ q. q.capacity) queue_waits queue_waited scan answer a.tail b.tail) xs ys
+  queues_stood [] [] z = (refl, tt)
+  queues_stood [] (y ∷ ys) z = absurd z
+  queues_stood (x ∷ xs) [] z = absurd z
+  queues_stood (x ∷ xs) (y ∷ ys) z =
+      let rest = queues_stood xs ys z.1 in
+      (ap (λ (ms : List Member). member_with (λ (q : Queue). q.lost) (λ q. q.capacity) x.tail.scans x ∷ ms) rest.0, ((λ scan answer o. queues_are_met x.tail y.tail scan answer o), rest.1))
+
+pub queues_stand : (e : Handed) (r : Handled) (d d' : DeviceView Queue) → Handles (λ (q : Queue). q.taken) (λ q. q.lost) (λ q. q.size) (λ q. q.capacity) QueueOffers e r d d'
+    → (station_met (λ (q : Queue). q.lost) (λ q. q.capacity) queue_waits queue_waited r d d' ≡ station_of (λ (q : Queue). q.lost) (λ q. q.capacity) queue_waits d)
+    × AreMet (λ (q : Queue). q.lost) (λ q. q.capacity) queue_waits queue_waited QueueOffers r d d'
+queues_stand e Idle d d' h = (refl, tt)
+queues_stand e Fault d d' h = (refl, tt)
+queues_stand e (Captured n) d d' h =
+    let is = queues_stood (λ m. scan_of d.standing.shape m.mask.bits (values_of d.site.driver d.standing.shape e.t) e.t) d.standing.members d'.standing.members h.2.2 in
+    (ap (λ (ms : List Member). station_with (λ (q : Queue). q.lost) (λ q. q.capacity) ms d) is.0, is.1)
+
+-- ---- rings
+
+accepted_more : (n : ℕ) (offers : List Offer) (scan : List ℕ) → map (λ (s : Sent). s.scan) (accepted_after n (offers ++ Accepted scan ∷ [])) ≡ map (λ (s : Sent). s.scan) (accepted_after n offers) ++ scan ∷ []
+accepted_more n [] scan = refl
+accepted_more n (Accepted x ∷ offers) scan = ap (λ (xs : List (List ℕ)). x ∷ xs) (accepted_more n offers scan)
+accepted_more n (Refused ∷ offers) scan = accepted_more (n + 1) offers scan
+
+accepted_same : (n : ℕ) (offers : List Offer) → accepted_after n (offers ++ Refused ∷ []) ≡ accepted_after n offers
+accepted_same n [] = refl
+accepted_same n (Accepted x ∷ offers) = ap (λ (xs : List Sent). (let s : Sent = record { scan = x; lost = n } in s) ∷ xs) (accepted_same n offers)
+accepted_same n (Refused ∷ offers) = accepted_same (n + 1) offers
+
+lost_same : (offers : List Offer) (scan : List ℕ) → lost_in (offers ++ Accepted scan ∷ []) ≡ lost_in offers
+lost_same [] scan = refl
+lost_same (Accepted x ∷ offers) scan = lost_same offers scan
+lost_same (Refused ∷ offers) scan = ap (λ (n : ℕ). n + 1) (lost_same offers scan)
+
+lost_more : (offers : List Offer) → lost_in (offers ++ Refused ∷ []) ≡ lost_in offers + 1
+lost_more [] = refl
+lost_more (Accepted x ∷ offers) = lost_more offers
+lost_more (Refused ∷ offers) = ap (λ (n : ℕ). n + 1) (lost_more offers)
+
+drop_map : {A B : Type 0} (f : A → B) (n : ℕ) (xs : List A) → map f (drop n xs) ≡ drop n (map f xs)
+drop_map f zero xs = refl
+drop_map f (suc n) [] = refl
+drop_map f (suc n) (x ∷ xs) = drop_map f n xs
+
+length_of_map : {A B : Type 0} (f : A → B) (xs : List A) → length (map f xs) ≡ length xs
+length_of_map f [] = refl
+length_of_map f (x ∷ xs) = ap (λ (n : ℕ). suc n) (length_of_map f xs)
+
+left_length : (n : ℕ) (w : WriterEnd) → length (left_after n w) ≡ length (accepted w.knows.offers) - n
+left_length n w = length_of_map (λ (s : Sent). s.scan) (drop n (accepted w.knows.offers)) ∙ length-drop n (accepted w.knows.offers)
+
+pub rings_are_met : (old new : WriterEnd) (scan : List ℕ) (answer : Offered) → WriterOffers old scan answer new → new.knows.seen ≤ length (accepted old.knows.offers)
+    → IsMet (λ (w : WriterEnd). lost_in w.knows.offers) (λ w. w.capacity) writer_waits writer_waited scan answer old new
+rings_are_met old new scan Taken o few =
+    let few' : new.knows.seen ≤ length (map (λ (s : Sent). s.scan) (accepted old.knows.offers)) = rw (length_of_map (λ (s : Sent). s.scan) (accepted old.knows.offers)) few in
+    let offers : new.knows.offers ≡ old.knows.offers ++ Accepted scan ∷ [] = ap (λ (w : Writing). w.offers) o.1.1 in (
+      (let h = o.1.0 in let n = left_length new.knows.seen old in omega arith),
+      ap (λ (xs : List Offer). lost_in xs) offers ∙ lost_same old.knows.offers scan,
+      ap (λ (xs : List Offer). map (λ (s : Sent). s.scan) (drop new.knows.seen (accepted xs))) offers
+          ∙ drop_map (λ (s : Sent). s.scan) new.knows.seen (accepted (old.knows.offers ++ Accepted scan ∷ []))
+          ∙ ap (λ (xs : List (List ℕ)). drop new.knows.seen xs) (accepted_more 0 old.knows.offers scan)
+          ∙ drop-append-le new.knows.seen (map (λ (s : Sent). s.scan) (accepted old.knows.offers)) (scan ∷ []) few'
+          ∙ ap (λ (xs : List (List ℕ)). xs ++ scan ∷ []) (sym (drop_map (λ (s : Sent). s.scan) new.knows.seen (accepted old.knows.offers))),
+    )
+rings_are_met old new scan Lost o few =
+    let offers : new.knows.offers ≡ old.knows.offers ++ Refused ∷ [] = ap (λ (w : Writing). w.offers) o.1.1 in (
+      (let h = o.1.0 in let n = left_length new.knows.seen old in omega arith),
+      ap (λ (xs : List Offer). lost_in xs) offers ∙ lost_more old.knows.offers,
+      ap (λ (xs : List Offer). map (λ (s : Sent). s.scan) (drop new.knows.seen (accepted xs))) offers
+          ∙ ap (λ (xs : List Sent). map (λ (s : Sent). s.scan) (drop new.knows.seen xs)) (accepted_same 0 old.knows.offers),
+    )

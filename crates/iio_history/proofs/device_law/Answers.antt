@@ -1,0 +1,52 @@
+use Rattle.iio_history.proofs.DeviceHandlings.{handlings_agree}
+use Rattle.iio_history.proofs.DeviceLaws.{events_agree, holdings_agree, joins_agree, leaves_agree, looks_agree, places_agree, reads_agree, releases_agree, samples_agree, triggers_agree, unpluggings_agree, writes_agree}
+use Rattle.iio_history.proofs.DeviceMoves.{ends_agree, told_handlings_agree, told_looks_agree}
+use Rattle.iio_history.proofs.device_law.Goals as goal
+
+pub returns-clause-joins : goal.returns-clause-joins
+returns-clause-joins g c = joins_agree _ _
+
+pub returns-clause-leaves : goal.returns-clause-leaves
+returns-clause-leaves g c = leaves_agree _ _
+
+pub returns-clause-handlings : goal.returns-clause-handlings
+returns-clause-handlings g c = handlings_agree _ _ _ _ _
+
+pub returns-clause-writes : goal.returns-clause-writes
+returns-clause-writes g c = writes_agree _ _
+
+pub returns-clause-triggers : goal.returns-clause-triggers
+returns-clause-triggers g c = triggers_agree _ _
+
+pub returns-clause-samples : goal.returns-clause-samples
+returns-clause-samples g c = samples_agree _ _
+
+pub returns-clause-reads : goal.returns-clause-reads
+returns-clause-reads g c = reads_agree _ _
+
+pub returns-clause-looks : goal.returns-clause-looks
+returns-clause-looks g c = looks_agree _ _
+
+pub returns-clause-unpluggings : goal.returns-clause-unpluggings
+returns-clause-unpluggings g c = unpluggings_agree _ _
+
+pub returns-clause-places : goal.returns-clause-places
+returns-clause-places g c = places_agree _ _
+
+pub returns-clause-holdings : goal.returns-clause-holdings
+returns-clause-holdings g c = holdings_agree _ _
+
+pub returns-clause-events : goal.returns-clause-events
+returns-clause-events g c = events_agree _ _
+
+pub returns-clause-releases : goal.returns-clause-releases
+returns-clause-releases g c = releases_agree _ _
+
+pub returns-clause-told_ends : goal.returns-clause-told_ends
+returns-clause-told_ends g c = ends_agree _ _
+
+pub returns-clause-told_looks : goal.returns-clause-told_looks
+returns-clause-told_looks g c = told_looks_agree _ _
+
+pub returns-clause-told_handlings : goal.returns-clause-told_handlings
+returns-clause-told_handlings g c = told_handlings_agree _ _ _ _ _

@@ -1,0 +1,175 @@
+-- The law that joins each call of a device, over any queue's end, to the device that the plain state gives.
+use Rattle.std.specs.Prelude.{◌≡◌, ℕ, ℤ, ◌-◌, ◌^◌, ◌≤◌, ◌==◌, true, false, List, [], length, slice_get, Option, Some, option_map, Result, Ok}
+use Rattle.iio_text.specs.declared.values.Fixed.{Fixed}
+use Rattle.iio_attr.specs.declared.attributes.Attr.{Attr}
+use Rattle.iio_attr.specs.declared.attributes.Attr.TheVariants.{Raw}
+use Rattle.iio_kfifo.specs.declared.tail.Offered.{Offered}
+use Rattle.iio_mask.specs.declared.Mask.{Mask}
+use Rattle.iio_trigger.specs.Trigger.{Handed, State, holds_place}
+use Rattle.iio_event.specs.Monitor.{after_close, after_open, after_read, close_answer, open_answer, read_answer}
+use Rattle.iio_device.specs.declared.handling.Handled.{Handled}
+use Rattle.iio_device.specs.declared.membership.Member.{Member as MemberNumber}
+use Rattle.iio_device.specs.declared.roster.JoinRefused.{JoinRefused}
+use Rattle.iio_device.specs.Active.{active_for}
+use Rattle.iio_device.specs.Device.{DeviceView, Handles, JoinsDevice, LeavesDevice, after_raw, after_sense, after_trigger, after_write, at_site, has_no_place as lacks_place, is_bad_mask, raw_answer, trigger_answer, write_answer}
+use Rattle.iio_device.specs.Members.{masks_of}
+use Rattle.iio_device.specs.Site.{is_empty, unplugged, with_monitor}
+use Rattle.iio_device.specs.Stored.{attr_value}
+use Rattle.iio_kfifo.specs.Ends.{Offers as WriterOffers, WriterEnd}
+use Rattle.iio_kfifo.specs.Offers.{accepted, lost_in}
+use Rattle.iio_kfifo.specs.Queue.{Offers as QueueOffers, Queue}
+use Rattle.iiod_session.specs.Calls.{closed, ev_close_of, ev_open_of, ev_read_of, has_no_place, is_attached, is_raw, open_of, read_attr_of, set_trigger_of, write_attr_of}
+use Rattle.iiod_session.specs.Front.{Front, device_name, shape_at}
+use Rattle.iiod_session.specs.Machine.{Machine, lost_by, with_site, with_station}
+use Rattle.iio_history.specs.Event.{Handled as HandledAt, Sensed as SensedAt, Unplugged}
+use Rattle.iio_history.specs.Registry.{Setup, entries_at, entry_of}
+use Rattle.iio_history.specs.Told.{Told}
+use Rattle.iio_history.specs.Machine.{step}
+use Rattle.iio_history.specs.Bench.{IsBench, front_of, machine_of}
+use Rattle.iio_history.specs.BenchMoves.{entry_made, look_made}
+use Rattle.iio_history.specs.Devices.{AreMet, Does, IsAt, IsJoined, IsMet, entry_by, handled_answer, held_errno, holder_errno, queue_waited, queue_waits, raw_value, station_met, station_of, writer_waited, writer_waits}
+
+module _ {Q : Type 0} where
+  -- ---- members
+
+  -- a new end has nothing
+  pub record IsNewEnd (lost : Q → ℕ) (waits : Q → List (List ℕ)) (tail : Q) : Type 0 where
+    pub none : waits tail ≡ []
+    pub unlost : lost tail ≡ 0
+
+  -- a device without a member finds a place at its trigger exactly where the plain state has one
+  abbrev pub SamePlaces : Front → Machine → DeviceView Q → State → Type 0
+  SamePlaces front m d trigger = is_empty d.standing.members ≡ true → lacks_place d.number trigger ≡ has_no_place front m.stations d.site.trigger
+
+  -- a join is an OPEN's: the same number or the same errno, and the same device
+  abbrev pub JoinsAgree : (lost capacity : Q → ℕ) → Type 0
+  JoinsAgree lost capacity =
+      (waits : Q → List (List ℕ)) (front : Front) (m : Machine) (dev : ℕ) (mask : Mask) (tail : Q) (r : Result MemberNumber (JoinRefused Q)) (old new : DeviceView Q) (trigger trigger' : State)
+      → JoinsDevice mask tail r old new trigger trigger' → IsAt lost capacity waits m dev old → shape_at front dev ≡ old.standing.shape
+      → is_bad_mask old.standing.shape mask.bits ≡ false → SamePlaces front m old trigger → IsNewEnd lost waits tail
+      → IsJoined lost capacity waits (open_of front m dev mask.bits (capacity tail)) m r dev new
+
+  -- a leave is a CLOSE's
+  abbrev pub LeavesAgree : (lost capacity : Q → ℕ) → Type 0
+  LeavesAgree lost capacity =
+      (waits : Q → List (List ℕ)) (m : Machine) (dev number : ℕ) (r : Option Q) (old new : DeviceView Q) (trigger trigger' : State)
+      → LeavesDevice lost number r old new trigger trigger' → IsAt lost capacity waits m dev old
+      → (option_map lost r ≡ lost_by number (station_of lost capacity waits old).members) × IsAt lost capacity waits (closed m dev number) dev new
+
+  -- a device holds a place at its trigger exactly while the plain state has it attached there
+  abbrev pub IsPlaced : (lost capacity : Q → ℕ) → (Q → List (List ℕ)) → (trigger : ℕ) → DeviceView Q → State → Type 0
+  IsPlaced lost capacity waits t d trigger = holds_place d.number trigger.attached ≡ is_attached t (station_of lost capacity waits d)
+
+  -- and so it stays
+  abbrev pub PlacesAgree : (lost capacity : Q → ℕ) → Type 0
+  PlacesAgree lost capacity =
+      (waits : Q → List (List ℕ)) (t number : ℕ) (mask : Mask) (tail : Q) (r : Result MemberNumber (JoinRefused Q)) (left : Option Q) (old new : DeviceView Q) (trigger trigger' : State)
+      → old.site.trigger ≡ Some t → IsPlaced lost capacity waits t old trigger
+      → (JoinsDevice mask tail r old new trigger trigger' → IsPlaced lost capacity waits t new trigger')
+      × (LeavesDevice lost number left old new trigger trigger' → IsPlaced lost capacity waits t new trigger')
+
+  -- ---- captures
+
+  -- the handling of an entry of the device, where captures go on, over the device as it met it
+  abbrev pub HandlingsAgree : (taken lost size capacity : Q → ℕ) → (Q → List ℕ → Offered → Q → Type 0) → Type 0
+  HandlingsAgree taken lost size capacity offer_gives =
+      (waits : Q → List (List ℕ)) (waited : Q → Q → List (List ℕ)) (m : Machine) (dev : ℕ) (due : Handed) (r : Handled) (old new : DeviceView Q)
+      → Handles taken lost size capacity offer_gives due r old new → due.dev ≡ old.number → (old.standing.captures == 2 ^ 64 - 1) ≡ false
+      → old.standing.active ≡ active_for old.standing.shape (masks_of old.standing.members) → AreMet lost capacity waits waited offer_gives r old new
+      → slice_get m.stations dev ≡ Some (station_met lost capacity waits waited r old new)
+      → (r ≡ handled_answer due (station_met lost capacity waits waited r old new))
+      × IsAt lost capacity waits (with_station (entry_made old.standing.shape (Some (entry_by due))) dev m) dev new
+
+  -- ---- attributes, the trigger, thresholds, the end
+
+  abbrev pub WritesAgree : (lost capacity : Q → ℕ) → Type 0
+  WritesAgree lost capacity =
+      (waits : Q → List (List ℕ)) (m : Machine) (dev : ℕ) (channel : Option ℕ) (a : Attr) (v : Fixed) (d : DeviceView Q) → IsAt lost capacity waits m dev d
+      → Does lost capacity waits (write_attr_of m dev channel a v) (write_answer d) dev (after_write channel a v d)
+
+  abbrev pub TriggersAgree : (lost capacity : Q → ℕ) → Type 0
+  TriggersAgree lost capacity =
+      (waits : Q → List (List ℕ)) (m : Machine) (dev : ℕ) (trigger : Option ℕ) (d : DeviceView Q) → IsAt lost capacity waits m dev d
+      → Does lost capacity waits (set_trigger_of m dev trigger) (trigger_answer d) dev (after_trigger trigger d)
+
+  -- `raw` is read at the moment that the clock shows
+  abbrev pub SamplesAgree : (lost capacity : Q → ℕ) → Type 0
+  SamplesAgree lost capacity =
+      (waits : Q → List (List ℕ)) (front : Front) (m : Machine) (dev c : ℕ) (d : DeviceView Q) → IsAt lost capacity waits m dev d → shape_at front dev ≡ d.standing.shape
+      → Does lost capacity waits (read_attr_of front m dev (Some c) Raw) (raw_value (raw_answer c m.clock d)) dev (after_raw d)
+
+  -- any other attribute, of a plugged device
+  abbrev pub ReadsAgree : (lost capacity : Q → ℕ) → Type 0
+  ReadsAgree lost capacity =
+      (waits : Q → List (List ℕ)) (front : Front) (m : Machine) (dev : ℕ) (channel : Option ℕ) (a : Attr) (d : DeviceView Q) → IsAt lost capacity waits m dev d → device_name front dev ≡ d.name
+      → is_raw channel a ≡ false → d.site.plugged ≡ true → Does lost capacity waits (read_attr_of front m dev channel a) (Ok (attr_value d.name channel a d.site)) dev d
+
+  abbrev pub LooksAgree : (lost capacity : Q → ℕ) → Type 0
+  LooksAgree lost capacity =
+      (waits : Q → List (List ℕ)) (m : Machine) (dev : ℕ) (t : ℤ) (d : DeviceView Q) → IsAt lost capacity waits m dev d
+      → IsAt lost capacity waits (with_station (look_made d.standing.shape t) dev m) dev (after_sense t d)
+
+  abbrev pub UnpluggingsAgree : (lost capacity : Q → ℕ) → Type 0
+  UnpluggingsAgree lost capacity =
+      (waits : Q → List (List ℕ)) (m : Machine) (dev : ℕ) (d : DeviceView Q) → IsAt lost capacity waits m dev d
+      → IsAt lost capacity waits (with_station (with_site unplugged) dev m) dev (at_site (unplugged d.site) d)
+
+  -- ---- events
+
+  -- of a plugged device
+  abbrev pub HoldingsAgree : (lost capacity : Q → ℕ) → Type 0
+  HoldingsAgree lost capacity =
+      (waits : Q → List (List ℕ)) (m : Machine) (dev who : ℕ) (d : DeviceView Q) → IsAt lost capacity waits m dev d → d.site.plugged ≡ true
+      → Does lost capacity waits (ev_open_of m dev who) (held_errno (open_answer d.site.monitor)) dev (at_site (with_monitor (after_open who) d.site) d)
+
+  abbrev pub EventsAgree : (lost capacity : Q → ℕ) → Type 0
+  EventsAgree lost capacity =
+      (waits : Q → List (List ℕ)) (m : Machine) (dev who : ℕ) (d : DeviceView Q) → IsAt lost capacity waits m dev d → d.site.plugged ≡ true
+      → Does lost capacity waits (ev_read_of m dev who) (holder_errno (read_answer (λ a b. a == b) who d.site.monitor)) dev (at_site (with_monitor (after_read (λ a b. a == b) who) d.site) d)
+
+  -- of any device
+  abbrev pub ReleasesAgree : (lost capacity : Q → ℕ) → Type 0
+  ReleasesAgree lost capacity =
+      (waits : Q → List (List ℕ)) (m : Machine) (dev who : ℕ) (d : DeviceView Q) → IsAt lost capacity waits m dev d
+      → Does lost capacity waits (ev_close_of m dev who) (holder_errno (close_answer (λ a b. a == b) who d.site.monitor)) dev (at_site (with_monitor (after_close (λ a b. a == b) who) d.site) d)
+
+  -- ---- the history's device, after what isn't a connection's
+
+  abbrev pub EndsAgree : (lost capacity : Q → ℕ) → Type 0
+  EndsAgree lost capacity =
+      (waits : Q → List (List ℕ)) (s : Setup) (m : Told) (k : ℕ) (d : DeviceView Q) → IsAt lost capacity waits (machine_of m) k d
+      → IsAt lost capacity waits (machine_of (step s m (Unplugged k))) k (at_site (unplugged d.site) d)
+
+  abbrev pub ToldLooksAgree : (lost capacity : Q → ℕ) → Type 0
+  ToldLooksAgree lost capacity =
+      (waits : Q → List (List ℕ)) (s : Setup) (m : Told) (k : ℕ) (t : ℤ) (d : DeviceView Q) → IsBench s m → shape_at (front_of s) k ≡ d.standing.shape
+      → IsAt lost capacity waits (machine_of m) k d → IsAt lost capacity waits (machine_of (step s m (SensedAt k t))) k (after_sense t d)
+
+  abbrev pub ToldHandlingsAgree : (taken lost size capacity : Q → ℕ) → (Q → List ℕ → Offered → Q → Type 0) → Type 0
+  ToldHandlingsAgree taken lost size capacity offer_gives =
+      (waits : Q → List (List ℕ)) (waited : Q → Q → List (List ℕ)) (s : Setup) (m : Told) (trigger k : ℕ) (due : Handed) (r : Handled) (old new : DeviceView Q)
+      → IsBench s m → shape_at (front_of s) k ≡ old.standing.shape → entry_of k (entries_at m.triggers trigger) ≡ Some (entry_by due)
+      → Handles taken lost size capacity offer_gives due r old new → due.dev ≡ old.number → (old.standing.captures == 2 ^ 64 - 1) ≡ false
+      → old.standing.active ≡ active_for old.standing.shape (masks_of old.standing.members) → AreMet lost capacity waits waited offer_gives r old new
+      → slice_get (machine_of m).stations k ≡ Some (station_met lost capacity waits waited r old new)
+      → IsAt lost capacity waits (machine_of (step s m (HandledAt trigger k))) k new
+
+-- ---- the ends that are there
+
+-- a queue in one hand meets each offer as it stood
+abbrev pub QueuesAreMet : Type 0
+QueuesAreMet = (old new : Queue) (scan : List ℕ) (answer : Offered) → QueueOffers old scan answer new → IsMet (λ q. q.lost) (λ q. q.capacity) queue_waits queue_waited scan answer old new
+
+-- and so the device that a handling met is the one that stood
+abbrev pub QueuesStand : Type 0
+QueuesStand =
+    (due : Handed) (r : Handled) (old new : DeviceView Queue)
+    → Handles (λ (q : Queue). q.taken) (λ q. q.lost) (λ q. q.size) (λ q. q.capacity) QueueOffers due r old new
+    → (station_met (λ (q : Queue). q.lost) (λ q. q.capacity) queue_waits queue_waited r old new ≡ station_of (λ (q : Queue). q.lost) (λ q. q.capacity) queue_waits old)
+    × AreMet (λ (q : Queue). q.lost) (λ q. q.capacity) queue_waits queue_waited QueueOffers r old new
+
+-- a ring meets it as the offer's own look found it, which shows no more received than was accepted
+abbrev pub RingsAreMet : Type 0
+RingsAreMet =
+    (old new : WriterEnd) (scan : List ℕ) (answer : Offered) → WriterOffers old scan answer new → new.knows.seen ≤ length (accepted old.knows.offers)
+    → IsMet (λ w. lost_in w.knows.offers) (λ w. w.capacity) writer_waits writer_waited scan answer old new

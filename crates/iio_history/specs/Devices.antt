@@ -1,0 +1,146 @@
+-- What a device is to the plain state, by its own view, whatever queues its members have; and how the laws of its calls say what
+-- becomes of it there. (Kernel, driver-api/iio: one device serves several buffers. What a queue's end tells is this project's own.)
+use Rattle.std.specs.Prelude.{◌≡◌, ℕ, ℤ, ⊤, ◌+◌, ◌≤◌, ◌<◌, not, List, [], ◌∷◌, ◌++◌, map, length, drop, slice_get, Option, Some, None, Result, Ok, Err, if◌then◌else◌}
+use Rattle.std.specs.List.{AllZip}
+use Rattle.iio_text.specs.declared.errors.Errno.{Errno}
+use Rattle.iio_text.specs.declared.errors.Errno.TheVariants.{EBADF, EBUSY, EIO, ENODEV}
+use Rattle.iio_attr.specs.declared.values.Value.{Value}
+use Rattle.iio_attr.specs.declared.values.Value.TheVariants.{Int}
+use Rattle.iio_kfifo.specs.declared.tail.Offered.{Offered}
+use Rattle.iio_kfifo.specs.declared.tail.Offered.TheVariants.{Taken, Lost}
+use Rattle.iio_kfifo.specs.declared.view.Sent.{Sent}
+use Rattle.iio_kfifo.specs.Ends.{WriterEnd}
+use Rattle.iio_kfifo.specs.Offers.{accepted}
+use Rattle.iio_kfifo.specs.Queue.{Queue}
+use Rattle.iio_sensor.specs.Driver.{ask_fails}
+use Rattle.iio_trigger.specs.Trigger.{Handed}
+use Rattle.iio_event.specs.declared.monitor.Held.{Held}
+use Rattle.iio_event.specs.declared.monitor.NotHolder.{NotHolder}
+use Rattle.iio_device.specs.declared.handling.Handled.{Handled}
+use Rattle.iio_device.specs.declared.handling.Handled.TheVariants as handled
+use Rattle.iio_device.specs.declared.handling.RawFault.{RawFault}
+use Rattle.iio_device.specs.declared.handling.RawFault.TheVariants as raw
+use Rattle.iio_device.specs.declared.membership.Member.{Member as MemberNumber}
+use Rattle.iio_device.specs.declared.membership.Membership.{Membership}
+use Rattle.iio_device.specs.declared.roster.JoinRefused.{JoinRefused}
+use Rattle.iio_device.specs.Device.{DeviceView}
+use Rattle.iio_device.specs.Site.{is_current}
+use Rattle.iiod_session.specs.Calls.{Outcome}
+use Rattle.iiod_session.specs.Machine.{Machine, Member, Station}
+use Rattle.iiod_session.specs.Opening.{errno_of}
+use Rattle.iio_history.specs.Registry.{Entry}
+
+-- ---- a device
+
+module _ {Q : Type 0} (lost capacity : Q → ℕ) where
+  -- a member for which these scans wait
+  abbrev pub member_with : List (List ℕ) → Membership Q → Member
+  member_with scans m = record { number = m.number; mask = m.mask.bits; capacity = capacity m.tail; scans = scans; lost = lost m.tail }
+
+  -- a device that has these members
+  abbrev pub station_with : List Member → DeviceView Q → Station
+  station_with members d = record { next = d.standing.next; captures = d.standing.captures; totals = d.totals; members = members; site = d.site }
+
+  module _ (waits : Q → List (List ℕ)) where
+    abbrev pub member_of : Membership Q → Member
+    member_of m = member_with (waits m.tail) m
+
+    -- the device of the plain state, by the scans that wait in each queue
+    abbrev pub station_of : DeviceView Q → Station
+    station_of d = station_with (map member_of d.standing.members) d
+
+    -- it is the device of that number there
+    abbrev pub IsAt : Machine → ℕ → DeviceView Q → Type 0
+    IsAt m dev d = slice_get m.stations dev ≡ Some (station_of d)
+
+    -- ---- what a call makes of it
+
+    -- the call is answered so in the plain state too, and leaves it there
+    pub record Does {A : Type 0} (o : Outcome A) (answer : Result A Errno) (dev : ℕ) (d : DeviceView Q) : Type 0 where
+      pub answered : o.answer ≡ answer
+      pub device : IsAt o.machine dev d
+
+    -- a refusal by an errno is the one of the plain state; want of memory, which has none, leaves all as it was
+    abbrev pub IsRefused : {A : Type 0} → Outcome A → Machine → Option Errno → ℕ → DeviceView Q → Type 0
+    IsRefused o m (Some e) dev d = Does o (Err e) dev d
+    IsRefused o m None dev d = IsAt m dev d
+
+    -- a join
+    abbrev pub IsJoined : Outcome ℕ → Machine → Result MemberNumber (JoinRefused Q) → ℕ → DeviceView Q → Type 0
+    IsJoined o m (Ok member) dev d = Does o (Ok member.number) dev d
+    IsJoined o m (Err refused) dev d = IsRefused o m (errno_of refused.fault) dev d
+
+    -- ---- what a capture meets
+
+    module _ (waited : Q → Q → List (List ℕ)) where
+      -- an offer after which the first end was the second: where the queue that it met has room the scan stands behind what
+      -- waited, and else it is lost and counted
+      abbrev pub IsMet : List ℕ → Offered → (old new : Q) → Type 0
+      IsMet scan Taken old new = (length (waited old new) < capacity old) × (lost new ≡ lost old) × (waits new ≡ waited old new ++ scan ∷ [])
+      IsMet scan Lost old new = (capacity old ≤ length (waited old new)) × (lost new ≡ lost old + 1) × (waits new ≡ waited old new)
+
+      -- the members with what waited for each as it was offered its scan
+      abbrev pub members_met : List (Membership Q) → List (Membership Q) → List Member
+      members_met [] ys = []
+      members_met (x ∷ xs) [] = []
+      members_met (x ∷ xs) (y ∷ ys) = member_with (waited x.tail y.tail) x ∷ members_met xs ys
+
+      -- the device as a handling met it; without a capture no queue was offered anything
+      abbrev pub station_met : Handled → (old new : DeviceView Q) → Station
+      station_met (handled.Captured members) old new = station_with (members_met old.standing.members new.standing.members) old
+      station_met answer old new = station_of old
+
+      -- each queue keeps to what an offer makes
+      abbrev pub AreMet : (Q → List ℕ → Offered → Q → Type 0) → Handled → (old new : DeviceView Q) → Type 0
+      AreMet offer_gives (handled.Captured members) old new =
+          AllZip (λ (a b : Membership Q). (scan : List ℕ) (answer : Offered) → offer_gives a.tail scan answer b.tail → IsMet scan answer a.tail b.tail) old.standing.members new.standing.members
+      AreMet offer_gives answer old new = Unit {0}
+
+-- ---- what the ends of the queues that are there tell
+
+-- a queue in one hand: what waits changes by its own calls alone
+abbrev pub queue_waits : Queue → List (List ℕ)
+queue_waits q = q.scans
+
+abbrev pub queue_waited : Queue → Queue → List (List ℕ)
+queue_waited old new = old.scans
+
+-- the scans that the first end accepted, without so many that were received
+abbrev pub left_after : ℕ → WriterEnd → List (List ℕ)
+left_after received w = map (λ (s : Sent). s.scan) (drop received (accepted w.knows.offers))
+
+-- the writer's end of a ring: what waits is what its last look at the reader's count left, and an offer looks at that first
+abbrev pub writer_waits : WriterEnd → List (List ℕ)
+writer_waits w = left_after w.knows.seen w
+
+abbrev pub writer_waited : WriterEnd → WriterEnd → List (List ℕ)
+writer_waited old new = left_after new.knows.seen old
+
+-- ---- answers
+
+-- an entry that was handed out, as the history has it
+abbrev pub entry_by : Handed → Entry
+entry_by e = record { device = e.dev; attachment = e.attachment; moment = e.t }
+
+-- the answer to a handling
+abbrev pub handled_answer : Handed → Station → Handled
+handled_answer e st =
+    if not (is_current e.attachment st.site.attachment st.members st.site.plugged) then handled.Idle
+    else if ask_fails st.site.driver then handled.Fault
+    else handled.Captured (length st.members)
+
+-- a sample as the value of `raw`, or the errno of its fault
+abbrev pub raw_value : Result ℤ RawFault → Result Value Errno
+raw_value (Ok v) = Ok (Int v)
+raw_value (Err raw.Gone) = Err ENODEV
+raw_value (Err raw.Busy) = Err EBUSY
+raw_value (Err raw.Fault) = Err EIO
+
+-- an answer of a device's events, or the errno of its refusal
+abbrev pub held_errno : Result ⊤ Held → Result ⊤ Errno
+held_errno (Ok done) = Ok done
+held_errno (Err held) = Err EBUSY
+
+abbrev pub holder_errno : {A : Type 0} → Result A NotHolder → Result A Errno
+holder_errno (Ok x) = Ok x
+holder_errno (Err none) = Err EBADF
