@@ -1,0 +1,4 @@
+pub mod Scans
+pub mod WriterLemmas
+pub mod LastLemmas
+pub mod PlaybackLemmas
