@@ -1,0 +1,6 @@
+pub mod Stands
+pub mod Heard
+pub mod HearingLaws
+pub mod PrintedLaws
+pub mod ClientLaws
+pub mod Machine

@@ -1,0 +1,121 @@
+-- Printed lines with one part more.
+use Rattle.std.proofs.Common.{◌≡◌, ℕ, zero, suc, ◌+◌, ◌-◌, ◌<◌, ◌≤◌, ◌*◌, take, drop, length, get_or, Bool, true, false, cond, List, [], ◌∷◌, ◌++◌, refl, sym, ap, ◌∙◌, arith, append_assoc, append-nil, add-one}
+use Rattle.std.proofs.lemmas.List.Elements.{filter-append}
+use Rattle.std.proofs.lemmas.Grind.{flat_map-append}
+use Rattle.std.specs.List.{filter, flat_map, range_with_len}
+use Rattle.std.specs.Prelude.{slice_index, ◌/◌, ◌%◌}
+use Rattle.std.specs.Fmt.{signed_decimal}
+use Rattle.std.proofs.lemmas.List.{take_more}
+use Rattle.hex.specs.Hex.{encode_with, encode_lower, lower_digits}
+use Rattle.iio_scan_type.specs.Format.{Format, size_of}
+use Rattle.iio_layout.specs.Layout.{format_at, place_of, scan_size}
+use Rattle.iio_layout.specs.Shape.{ShapeRecord, formats_of}
+use Rattle.iio_scan_type.specs.Bytes.{value_at}
+use Rattle.iiod_client.specs.Printed.{channel_name, elements_text, field_text, lines_below, scan_line}
+
+range_more : (a n : ℕ) → range_with_len a (suc n) ≡ range_with_len a n ++ (a + n) ∷ []
+range_more a zero = ap (λ k. k ∷ []) (omega arith)
+range_more a (suc n) =
+    let next : (a + 1) + n ≡ a + suc n = omega arith in
+    ap (λ ks. a ∷ ks) (range_more (a + 1) n ∙ ap (λ k. range_with_len (a + 1) n ++ k ∷ []) next)
+
+with_step : {A : Type 0} (t : Bool) (f : ℕ → List A) (n : ℕ) → flat_map f (cond t (n ∷ []) []) ≡ cond t (f n) []
+with_step true f n = append-nil (f n)
+with_step false f n = refl
+
+-- what is said of the selected ones, with that of one more where it is selected
+pub flat_map-selected_more : {A : Type 0} (f : ℕ → List A) (has : ℕ → Bool) (n : ℕ)
+    → flat_map f (filter has (range_with_len 0 (n + 1))) ≡ flat_map f (filter has (range_with_len 0 n)) ++ cond (has n) (f n) []
+flat_map-selected_more f has n =
+    let more : range_with_len 0 (n + 1) ≡ range_with_len 0 n ++ n ∷ [] = rw add-one (range_more 0 n ∙ ap (λ k. range_with_len 0 n ++ k ∷ []) (omega arith)) in
+    ap (λ ks. flat_map f (filter has ks)) more ∙ ap (flat_map f) (filter-append has (range_with_len 0 n) (n ∷ []))
+    ∙ flat_map-append f (filter has (range_with_len 0 n)) (filter has (n ∷ []))
+    ∙ ap (λ said. flat_map f (filter has (range_with_len 0 n)) ++ said) (with_step (has n) f n)
+
+pub said_selected : (f : ℕ → List ℕ) (has : ℕ → Bool) (n : ℕ) (before out after : List ℕ) → has n ≡ true
+    → out ≡ before ++ flat_map f (filter has (range_with_len 0 n)) → after ≡ out ++ f n → after ≡ before ++ flat_map f (filter has (range_with_len 0 (n + 1)))
+said_selected f has n before out after is so_far one =
+    one ∙ ap (λ bytes. bytes ++ f n) so_far ∙ append_assoc before (flat_map f (filter has (range_with_len 0 n))) (f n)
+    ∙ ap (λ said. before ++ said) (sym (flat_map-selected_more f has n ∙ ap (λ t. flat_map f (filter has (range_with_len 0 n)) ++ cond t (f n) []) is))
+
+pub said_other : (f : ℕ → List ℕ) (has : ℕ → Bool) (n : ℕ) (before out : List ℕ) → has n ≡ false
+    → out ≡ before ++ flat_map f (filter has (range_with_len 0 n)) → out ≡ before ++ flat_map f (filter has (range_with_len 0 (n + 1)))
+said_other f has n before out other so_far =
+    so_far
+    ∙ ap (λ said. before ++ said) (sym (flat_map-selected_more f has n ∙ ap (λ t. flat_map f (filter has (range_with_len 0 n)) ++ cond t (f n) []) other
+    ∙ append-nil (flat_map f (filter has (range_with_len 0 n)))))
+
+-- ---- elements
+
+elements_next : (f : Format) (bytes : List ℕ) (k : ℕ) → 1 ≤ k → elements_text f bytes (suc k) ≡ elements_text f bytes k ++ 44 ∷ signed_decimal (value_at f bytes k)
+elements_next f bytes zero some = absurd (omega (arith, some))
+elements_next f bytes (suc k) some = refl
+
+pub elements_more : (f : Format) (bytes : List ℕ) (k : ℕ) → 1 ≤ k → (before out comma after : List ℕ) → out ≡ before ++ elements_text f bytes k → comma ≡ out ++ 44 ∷ []
+    → after ≡ comma ++ signed_decimal (value_at f bytes k) → after ≡ before ++ elements_text f bytes (k + 1)
+elements_more f bytes k some before out comma after e g h =
+    let text = elements_text f bytes k in
+    let last = signed_decimal (value_at f bytes k) in
+    let next : suc k ≡ k + 1 = omega arith in
+    h ∙ ap (λ xs. xs ++ last) g ∙ append_assoc out (44 ∷ []) last ∙ ap (λ xs. xs ++ 44 ∷ last) e ∙ append_assoc before text (44 ∷ last)
+    ∙ ap (λ xs. before ++ xs) (sym (elements_next f bytes k some)) ∙ ap (λ n. before ++ elements_text f bytes n) next
+
+-- ---- hexadecimal
+
+encode_append : (t xs ys : List ℕ) → encode_with t (xs ++ ys) ≡ encode_with t xs ++ encode_with t ys
+unfolding encode_with
+encode_append t [] ys = refl
+encode_append t (x ∷ xs) ys = ap (λ zs. slice_index t (x / 16) ∷ slice_index t (x % 16) ∷ zs) (encode_append t xs ys)
+
+pub hex_none : (out : List ℕ) → out ≡ out ++ encode_lower []
+unfolding encode_with
+hex_none out = sym (append-nil out)
+
+pub hex_more : (bytes : List ℕ) (i : ℕ) (before out after pair : List ℕ) → i < length bytes → out ≡ before ++ encode_lower (take i bytes) → pair ≡ encode_lower (get_or bytes i 0 ∷ []) → after ≡ out ++ pair
+    → after ≡ before ++ encode_lower (take (i + 1) bytes)
+hex_more bytes i before out after pair within e p h =
+    h ∙ ap (λ xs. out ++ xs) p ∙ ap (λ xs. xs ++ encode_lower (get_or bytes i 0 ∷ [])) e ∙ append_assoc before (encode_lower (take i bytes)) (encode_lower (get_or bytes i 0 ∷ []))
+    ∙ ap (λ xs. before ++ xs) (sym (ap (λ xs. encode_lower xs) (take_more bytes i 0 within) ∙ encode_append lower_digits (take i bytes) (get_or bytes i 0 ∷ [])))
+
+-- ---- fields
+
+parts : (before a b c name text : List ℕ) → a ≡ before ++ 32 ∷ [] → b ≡ a ++ name → c ≡ b ++ 61 ∷ [] → c ++ text ≡ before ++ 32 ∷ (name ++ 61 ∷ text)
+parts before a b c name text ea eb ec = rw (ec, eb, ea) (simp append_assoc)
+
+pub field_more : (shape : ShapeRecord) (mask : ℕ) (scan : List ℕ) (c : ℕ) (f : Format) (from n : ℕ) (before a b d e : List ℕ) → f ≡ format_at (formats_of shape) c → from ≡ place_of shape mask c → n ≡ size_of f
+    → a ≡ before ++ 32 ∷ [] → b ≡ a ++ channel_name shape c → d ≡ b ++ 61 ∷ [] → e ≡ d ++ elements_text f (take n (drop from scan)) f.repeat → e ≡ before ++ field_text shape mask scan c
+field_more shape mask scan c f from n before a b d e ef ep en ea eb ed ee =
+    let g = format_at (formats_of shape) c in
+    ee ∙ ap (λ (x : Format). d ++ elements_text x (take n (drop from scan)) x.repeat) ef
+    ∙ ap (λ k. d ++ elements_text g (take k (drop from scan)) g.repeat) (en ∙ ap size_of ef)
+    ∙ ap (λ k. d ++ elements_text g (take (size_of g) (drop k scan)) g.repeat) ep
+    ∙ parts before a b d (channel_name shape c) (elements_text g (take (size_of g) (drop (place_of shape mask c) scan)) g.repeat) ea eb ed
+
+-- ---- lines
+
+pub lines_more : (shape : ShapeRecord) (mask : ℕ) (body : List ℕ) (k size from n : ℕ) → size ≡ scan_size shape mask → from ≡ k * size → n ≡ size
+    → lines_below shape mask body k ++ scan_line shape mask (take n (drop from body)) ≡ lines_below shape mask body (k + 1)
+lines_more shape mask body k size from n es ef en =
+    let before = lines_below shape mask body k in
+    let next : suc k ≡ k + 1 = omega arith in
+    ap (λ i. before ++ scan_line shape mask (take i (drop from body))) (en ∙ es)
+    ∙ ap (λ i. before ++ scan_line shape mask (take (scan_size shape mask) (drop i body))) (ef ∙ ap (λ i. k * i) es)
+    ∙ ap (λ i. lines_below shape mask body i) next
+
+lines_on : (shape : ShapeRecord) (mask : ℕ) (body : List ℕ) (j d : ℕ) → (rest : List ℕ) × (lines_below shape mask body (d + j) ≡ lines_below shape mask body j ++ rest)
+lines_on shape mask body j zero =
+    let same : 0 + j ≡ j = omega arith in
+    ([], ap (λ i. lines_below shape mask body i) same ∙ sym (append-nil (lines_below shape mask body j)))
+lines_on shape mask body j (suc d) =
+    let (rest, e) = lines_on shape mask body j d in
+    let next : suc d + j ≡ suc (d + j) = omega arith in
+    let size = scan_size shape mask in
+    let last = scan_line shape mask (take size (drop ((d + j) * size) body)) in
+    (rest ++ last, ap (λ i. lines_below shape mask body i) next ∙ ap (λ xs. xs ++ last) e ∙ append_assoc (lines_below shape mask body j) rest last)
+
+-- the first lines of all of them
+pub lines_front : (shape : ShapeRecord) (mask : ℕ) (body : List ℕ) (j n : ℕ) → j ≤ n → (rest : List ℕ) × (lines_below shape mask body n ≡ lines_below shape mask body j ++ rest)
+lines_front shape mask body j n few =
+    let (rest, e) = lines_on shape mask body j (n - j) in
+    let all : n - j + j ≡ n = omega (arith, few) in
+    (rest, ap (λ i. lines_below shape mask body i) (sym all) ∙ e)

@@ -1,0 +1,18 @@
+use Rattle.std.proofs.Common.{sym, ◌∙◌}
+use Rattle.iio_mask.specs.Mask.{has}
+use Rattle.iiod_client.specs.Printed.{field_text}
+use Rattle.iiod_client.proofs.PrintedLaws.{said_selected, said_other}
+use Rattle.iiod_client.proofs.printing.push_fields.Goals as goal
+use Rattle.iiod_client.proofs.printing.push_fields.Goals.{then-contains+in_ok-push_field, else-contains}
+
+pub loop-c-preserved : goal.loop-c-preserved
+loop-c-preserved c =
+    let line = field_text c.args.shape.now c.args.mask.bits c.args.scan.now in
+    let before = c.args.out.now.items in
+    elim c.if-contains.branch [
+      | then-contains+in_ok-push_field w ↦
+          rw w.out-is (said_selected line (has c.args.mask.bits) c.loop-c.c before c.loop-c.out.items w.push_field.new.out.items (sym c.contains.ensures ∙ w.if-contains.true)
+          c.loop-c.invariant w.in_ok-push_field.ensures)
+      | else-contains w ↦
+          rw w.out-is (said_other line (has c.args.mask.bits) c.loop-c.c before c.loop-c.out.items (sym c.contains.ensures ∙ w.if-contains.false) c.loop-c.invariant)
+    ]

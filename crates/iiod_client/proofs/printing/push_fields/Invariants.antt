@@ -1,0 +1,7 @@
+use Rattle.std.proofs.Common.{◌≡◌, ◌++◌}
+use Rattle.std.specs.List.{flat_map}
+use Rattle.iiod_client.specs.Printed.{field_text, selected}
+use Rattle.iiod_client.proofs.printing.push_fields.Given as goal
+
+abbrev pub invariant-loop-c : goal.invariant-loop-c
+invariant-loop-c l = l.out.items ≡ l.fn.out.items ++ flat_map (field_text l.shape l.mask.bits l.scan) (selected l.mask.bits l.c)

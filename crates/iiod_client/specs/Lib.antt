@@ -1,0 +1,12 @@
+pub mod Line
+pub mod Answer
+pub mod Standing
+pub mod Steps
+pub mod View
+pub mod Printed
+pub mod Ask
+pub mod Awaited
+pub mod Talk
+pub mod Point
+pub mod ClientEnd
+pub mod Exchange

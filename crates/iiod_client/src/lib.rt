@@ -1,0 +1,21 @@
+//! A client of iiod: it reads the scans of a device over a link, and prints their values.
+#![tactic(auto)]
+
+mod answer;
+mod ask;
+mod client;
+mod client_end;
+mod hearing;
+mod incoming;
+mod line;
+mod printing;
+mod requests;
+
+pub use answer::{Answer, MAX_ASKED, State, one_reading};
+pub use ask::Ask;
+pub use client::{MOST_SCANS, read_device};
+pub use client_end::ClientEnd;
+pub use iio_base::Mem;
+
+#[cfg(test)]
+mod tests;
