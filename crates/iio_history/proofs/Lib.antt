@@ -8,6 +8,7 @@ pub mod TranscriptLaws
 pub mod OutstandingLaws
 pub mod MoreLaws
 pub mod ReadingLaws
+pub mod NumberedLaws
 pub mod BenchSizes
 pub mod BenchLists
 pub mod BenchSeats

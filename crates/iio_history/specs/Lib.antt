@@ -13,6 +13,7 @@ pub mod Log
 pub mod Machine
 pub mod Membership
 pub mod Monitor
+pub mod Numbered
 pub mod Opening
 pub mod Outcome
 pub mod Places

@@ -2,6 +2,7 @@
 #![tactic(auto)]
 
 ghost use Rattle.iio_history.specs.Law.{StepIsTold, MachineIsTold, QueuesArePrivate, MembersAreApart, OthersAreAbsent, PlayedIsTranscript, OutstandingIs, ReadingIsOne};
+ghost use Rattle.iio_history.specs.Numbered.{NumberedAreSteps};
 ghost use Rattle.iio_history.specs.BenchLaw.{FirstIsBench, BenchIsKept, ToldIsBench, SizesAreSome, NamesStay, ArrivedIsThere, LiveIsThere, RoomLasts, ItemsAreActs, ActsTell, DesksAreKept, NewIsDesk, ArrivalIsNothing, EndsAreLeft, FeedsAreActs, ScriptFeedsTell, FeedsKeepDesks};
 ghost use Rattle.iio_history.specs.BenchMoves.{UnpluggingIs, ClockIs, PollIs, LookIs, HandlingIs, TriggersAre, MovesPrint};
 ghost use Rattle.iio_history.specs.DeviceLaw.{JoinsAgree, LeavesAgree, HandlingsAgree, WritesAgree, TriggersAgree, SamplesAgree, ReadsAgree, LooksAgree, UnpluggingsAgree, PlacesAgree, HoldingsAgree, EventsAgree, ReleasesAgree, EndsAgree, ToldLooksAgree, ToldHandlingsAgree, QueuesAreMet, QueuesStand, RingsAreMet};
@@ -21,6 +22,7 @@ pub fn law()
     ensures outstanding { OutstandingIs }
     ensures transcript { PlayedIsTranscript }
     ensures reading { ReadingIsOne }
+    ensures numbered { NumberedAreSteps }
 {}
 
 /// What a session sees of the told state, and what its connection has there, go with the history: item by item, and over

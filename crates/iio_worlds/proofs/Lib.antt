@@ -8,4 +8,10 @@ pub mod QuietLaws
 pub mod TextLaws
 pub mod TwoWorldsLaws
 pub mod StartLaws
+pub mod StanceLaws
+pub mod DeskLaws
+pub mod SoloLaws
+pub mod KeptLaws
+pub mod OwnLinesLaws
 mod Rows
+mod SoloRows

@@ -49,7 +49,7 @@ foreign_by a (Dropped name) is = is
 foreign_by a (Remasked name device text) is = is
 foreign_by a e is = absurd (true≢false is)
 
-quiet_all : (s : Setup) (a : List ℕ) (h : List Event) → OnlyBystanders s a h → IsQuiet a (registry_after s h)
+pub quiet_all : (s : Setup) (a : List ℕ) (h : List Event) → OnlyBystanders s a h → IsQuiet a (registry_after s h)
 quiet_all s a [] only = quiet_first s a
 quiet_all s a (e ∷ h) only = by_who (speaks a e) refl (quiet_all s a h only.1)
   where
@@ -59,7 +59,7 @@ quiet_all s a (e ∷ h) only = by_who (speaks a e) refl (quiet_all s a h only.1)
 
 -- ---- then the second rule asks for another member alone
 
-abbrev is_met : Setup → List ℕ → Event → ℕ → Device → Bool
+abbrev pub is_met : Setup → List ℕ → Event → ℕ → Device → Bool
 is_met s a e k d = not (is_parting s a e k && has_other (Conn a) d.members)
 
 met_by : (w : Who) (p m : Bool) (ms : List Member) → Even w ms → is_member w ms ≡ m → not (p && m && has_other w ms) ≡ not (p && has_other w ms)
@@ -67,7 +67,7 @@ met_by w false m ms even is = refl
 met_by w true true ms even is = refl
 met_by w true false ms even is = ap (λ (xs : List Member). not (has_other w xs)) (sym (none_there w ms even is))
 
-all_met : (s : Setup) (a : List ℕ) (e : Event) (k : ℕ) (ds : List Device) → AllEven (Conn a) ds → all_from (is_unparted s a e) k ds ≡ all_from (is_met s a e) k ds
+pub all_met : (s : Setup) (a : List ℕ) (e : Event) (k : ℕ) (ds : List Device) → AllEven (Conn a) ds → all_from (is_unparted s a e) k ds ≡ all_from (is_met s a e) k ds
 all_met s a e k [] even = refl
 all_met s a e k (d ∷ ds) even =
     ap (λ b. b && all_from (is_unparted s a e) (suc k) ds) (met_by (Conn a) (is_parting s a e k) (is_member (Conn a) d.members) d.members (even 0 d refl) refl)
@@ -177,29 +177,29 @@ others_kept v (Leaving gone) ms by = ap (λ g. has_other v (without_members g ms
 others_kept v (Ending gone) ms by = ap (λ g. has_other v (without_members g ms)) by ∙ left_other v ms
 others_kept v act ms by = refl
 
-each_kept : (v : Device → Bool) (f : ℕ → Device → Device) (k : ℕ) (ds : List Device) → ((j : ℕ) (d : Device) → v (f j d) ≡ v d) → map v (map_from f k ds) ≡ map v ds
+pub each_kept : (v : Device → Bool) (f : ℕ → Device → Device) (k : ℕ) (ds : List Device) → ((j : ℕ) (d : Device) → v (f j d) ≡ v d) → map v (map_from f k ds) ≡ map v ds
 each_kept v f k [] all = refl
 each_kept v f k (d ∷ ds) all = ap (λ b. b ∷ map v (map_from f (suc k) ds)) (all k d) ∙ ap (λ bs. v d ∷ bs) (each_kept v f (suc k) ds all)
 
 -- ---- the rules by what they ask of the devices
 
-abbrev asked_of : List ℕ → Device → Bool
+abbrev pub asked_of : List ℕ → Device → Bool
 asked_of a d = is_member (Conn a) d.members
 
-abbrev others_of : List ℕ → Device → Bool
+abbrev pub others_of : List ℕ → Device → Bool
 others_of a d = has_other (Conn a) d.members
 
-abbrev held_in : Option Bool → Bool
+abbrev pub held_in : Option Bool → Bool
 held_in x = elim x [ None ↦ false | Some b ↦ b ]
 
 opened_in : (a : List ℕ) (x : Option Device) → elim x [ None ↦ false | Some d ↦ is_member (Conn a) d.members ] ≡ held_in (option_map (asked_of a) x)
 opened_in a None = refl
 opened_in a (Some d) = refl
 
-open_at_is : (r : Registry) (a : List ℕ) (k : ℕ) → has_open_at r a k ≡ held_in (slice_get (map (asked_of a) r.devices) k)
+pub open_at_is : (r : Registry) (a : List ℕ) (k : ℕ) → has_open_at r a k ≡ held_in (slice_get (map (asked_of a) r.devices) k)
 open_at_is r a k = opened_in a (slice_get r.devices k) ∙ ap held_in (sym (get_map (asked_of a) r.devices k))
 
-abbrev open_by : Registry → List ℕ → Option ℕ → Bool
+abbrev pub open_by : Registry → List ℕ → Option ℕ → Bool
 open_by r a o = elim o [ None ↦ false | Some k ↦ has_open_at r a k ]
 
 open_by_same : (r q : Registry) (a : List ℕ) (o : Option ℕ) → map (asked_of a) r.devices ≡ map (asked_of a) q.devices → open_by r a o ≡ open_by q a o
@@ -231,7 +231,7 @@ never_parts s a name (Said (Ok (Close device))) k apart = ap (λ b. b && is_name
 never_parts s a name (End refusal) k apart = apart
 never_parts s a name item k apart = refl
 
-all_unparted : (s : Setup) (a name : List ℕ) (item : Item) (k : ℕ) (ds : List Device) → bytes_eq name a ≡ false → all_from (is_met s a (Heard name item)) k ds ≡ true
+pub all_unparted : (s : Setup) (a name : List ℕ) (item : Item) (k : ℕ) (ds : List Device) → bytes_eq name a ≡ false → all_from (is_met s a (Heard name item)) k ds ≡ true
 all_unparted s a name item k [] apart = refl
 all_unparted s a name item k (d ∷ ds) apart =
     ap (λ b. not (b && has_other (Conn a) d.members) && all_from (is_met s a (Heard name item)) (suc k) ds) (never_parts s a name item k apart) ∙ all_unparted s a name item (suc k) ds apart
@@ -261,7 +261,7 @@ still_same s a name item r q alike = (
       (subst (λ w. IsBy (Conn w) (act_of s r (Heard name item) j d)) ((bytes_eq-Decides name a).0 is) (by_item s r name item j d))) ∙ alike.1 is,
 )
 
-abbrev heard : List ℕ → List Item → List Event
+abbrev pub heard : List ℕ → List Item → List Event
 heard name items = map (λ item. Heard name item) items
 
 decided : (s : Setup) (a name : List ℕ) (items : List Item) (h : List Event) (q : Registry) → OnlyBystanders s a h → AreSame a name (registry_after s h) q

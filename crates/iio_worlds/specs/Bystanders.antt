@@ -19,25 +19,28 @@ has_open_at r a k = elim (slice_get r.devices k) [ None ↦ false | Some d ↦ i
 abbrev pub has_open : Setup → Registry → List ℕ → List ℕ → Bool
 has_open s r a device = elim (find_device s.desc device) [ None ↦ false | Some k ↦ has_open_at r a k ]
 
--- what another connection may say beside `a`: a line that asks for nothing, EXIT, or an item that names a device of which `a`
--- is a member
+-- what another connection may say: a line that asks for nothing, EXIT, or an item that names a device of which it `is_so`
+abbrev pub may_say : (is_so : List ℕ → Bool) → Item → Bool
+may_say is_so (Said (Err refused)) = true
+may_say is_so (Said (Ok Help)) = true
+may_say is_so (Said (Ok Exit)) = true
+may_say is_so (Said (Ok Version)) = true
+may_say is_so (Said (Ok Print)) = true
+may_say is_so (Said (Ok (Timeout milliseconds))) = true
+may_say is_so (End None) = true
+may_say is_so (End (Some EFBIG)) = false
+may_say is_so (End (Some e)) = true
+may_say is_so (Said (Ok (Open device samples text cyclic))) = is_so device
+may_say is_so (Said (Ok (Close device))) = is_so device
+may_say is_so (Said (Ok (ReadBuf device bytes))) = is_so device
+may_say is_so (Said (Ok (Read device place attribute))) = is_so device
+may_say is_so (Said (Ok (GetTrig device))) = is_so device
+may_say is_so (Said (Ok (SetBuffers device n))) = is_so device
+may_say is_so item = false
+
+-- beside `a` it may name the devices of which `a` is a member
 abbrev pub is_modest : Setup → Registry → List ℕ → Item → Bool
-is_modest s r a (Said (Err refused)) = true
-is_modest s r a (Said (Ok Help)) = true
-is_modest s r a (Said (Ok Exit)) = true
-is_modest s r a (Said (Ok Version)) = true
-is_modest s r a (Said (Ok Print)) = true
-is_modest s r a (Said (Ok (Timeout milliseconds))) = true
-is_modest s r a (End None) = true
-is_modest s r a (End (Some EFBIG)) = false
-is_modest s r a (End (Some e)) = true
-is_modest s r a (Said (Ok (Open device samples text cyclic))) = has_open s r a device
-is_modest s r a (Said (Ok (Close device))) = has_open s r a device
-is_modest s r a (Said (Ok (ReadBuf device bytes))) = has_open s r a device
-is_modest s r a (Said (Ok (Read device place attribute))) = has_open s r a device
-is_modest s r a (Said (Ok (GetTrig device))) = has_open s r a device
-is_modest s r a (Said (Ok (SetBuffers device n))) = has_open s r a device
-is_modest s r a item = false
+is_modest s r a item = may_say (has_open s r a) item
 
 -- the first rule
 abbrev pub others_are_modest : Setup → Registry → List ℕ → Event → Bool

@@ -4,6 +4,7 @@ use Rattle.iio_history.proofs.MoreLaws.{queues_are_private, others_are_absent}
 use Rattle.iio_history.proofs.OutstandingLaws.{outstanding_is}
 use Rattle.iio_history.proofs.TranscriptLaws.{transcript_is}
 use Rattle.iio_history.proofs.ReadingLaws.{reading_is_one}
+use Rattle.iio_history.proofs.NumberedLaws.{numbered_are_steps}
 use Rattle.iio_history.proofs.law.Goals as goal
 
 pub returns-clause-step : goal.returns-clause-step
@@ -29,3 +30,6 @@ returns-clause-transcript c = transcript_is
 
 pub returns-clause-reading : goal.returns-clause-reading
 returns-clause-reading c = reading_is_one
+
+pub returns-clause-numbered : goal.returns-clause-numbered
+returns-clause-numbered c = numbered_are_steps

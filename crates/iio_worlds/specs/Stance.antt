@@ -1,0 +1,149 @@
+-- What the two rules ask of the devices, as plain data, and what they say of a step by it. No history is in it.
+use Rattle.std.specs.Prelude.{◌≡◌, ℕ, ◌&&◌, ◌||◌, not, Bool, true, false, List, [], ◌∷◌, map, Option, Some, None, is_some, slice_get, Ok, if◌then◌else◌}
+use Rattle.std.specs.Str.{bytes_eq}
+use Rattle.iiod_grammar.specs.Command.{Close}
+use Rattle.iiod_grammar.specs.Stream.{Item, Said, End, items_from}
+use Rattle.iio_desc.specs.Description.{Description, find_device}
+use Rattle.iiod_session.specs.Desk.{DeskRecord}
+use Rattle.iiod_session.specs.Front.{Front}
+use Rattle.iiod_session.specs.Front as front_spec
+use Rattle.iio_device.specs.Site.{is_empty}
+use Rattle.iio_history.specs.Who.{Conn}
+use Rattle.iio_history.specs.Event.{Event}
+use Rattle.iio_history.specs.Registry.{Setup, Device, Registry, is_member, has_ended}
+use Rattle.iio_history.specs.Told.{Station, Told, device_of, registry_of, told}
+use Rattle.iio_history.specs.Transcript.{Step, Feed, Drop, begun_by, with_step}
+use Rattle.iio_history.specs.Bench.{Every, IsBench, IsDeskOf, front_of, is_in, names_of, seat_at}
+use Rattle.iio_worlds.specs.Bystanders.{has_other, may_say, meets_by, only_bystanders}
+
+-- device by device: whether the connection has it open; and whether
+-- another connection has it open
+pub record Stance : Type 0 where
+  pub own : List Bool
+  pub others : List Bool
+
+abbrev pub has_input : List ℕ → Device → Bool
+has_input a d = is_member (Conn a) d.members
+
+abbrev pub has_others : List ℕ → Device → Bool
+has_others a d = has_other (Conn a) d.members
+
+abbrev pub stance_of : List ℕ → Registry → Stance
+stance_of a r = record { own = map (has_input a) r.devices; others = map (has_others a) r.devices }
+
+-- ---- an item
+
+-- what the rules ask: of the device of a name, whether the connection has it open as above, and whether another has it open;
+-- and whether no other has any open
+pub record Opens : Type 0 where
+  pub own : List ℕ → Bool
+  pub others : List ℕ → Bool
+  pub none : Bool
+
+-- what the connection itself may say
+abbrev pub may_part : Opens → Item → Bool
+may_part x (Said (Ok (Close device))) = not (x.others device)
+may_part x (End refusal) = x.none
+may_part x item = true
+
+-- an item of the connection's own, or of another
+abbrev pub item_meets : Opens → (mine : Bool) → Item → Bool
+item_meets x true item = may_part x item
+item_meets x false item = may_say x.own item
+
+abbrev pub items_meet : Opens → (mine : Bool) → List Item → Bool
+items_meet x mine [] = true
+items_meet x mine (item ∷ items) = item_meets x mine item && items_meet x mine items
+
+-- ---- by the stance
+
+abbrev pub is_so_at : List Bool → ℕ → Bool
+is_so_at bs k = elim (slice_get bs k) [ None ↦ false | Some b ↦ b ]
+
+abbrev pub is_so : Description → List Bool → List ℕ → Bool
+is_so desc bs device = elim (find_device desc device) [ None ↦ false | Some k ↦ is_so_at bs k ]
+
+abbrev pub none_so : List Bool → Bool
+none_so [] = true
+none_so (b ∷ bs) = not b && none_so bs
+
+abbrev pub opens_of : Description → Stance → Opens
+opens_of desc x = record { own = is_so desc x.own; others = is_so desc x.others; none = none_so x.others }
+
+-- ---- a step, over what stands before it
+
+abbrev pub step_meets_by : Opens → List ℕ → Told → Step → Bool
+step_meets_by x a m (Feed name bytes) = has_ended name (registry_of m).users || items_meet x (bytes_eq name a) (items_from (begun_by name m.lines) bytes)
+step_meets_by x a m (Drop name) = not (bytes_eq name a) || x.none
+step_meets_by x a m step = true
+
+abbrev pub step_meets : Setup → List ℕ → Told → Step → Bool
+step_meets s a m t = step_meets_by (opens_of s.desc (stance_of a (registry_of m))) a m t
+
+-- ---- its law
+
+-- the stance decides of an item what the registry does
+abbrev pub StanceDecides : Type 0
+StanceDecides = (s : Setup) (r : Registry) (a name : List ℕ) (item : Item) → meets_by s r a name item ≡ item_meets (opens_of s.desc (stance_of a r)) (bytes_eq name a) item
+
+-- and of a step, where all events before it meet the rules, whether all of its own do
+abbrev pub StepDecides : Type 0
+StepDecides = (s : Setup) (a : List ℕ) (h : List Event) (t : Step) → only_bystanders s a h ≡ true → only_bystanders s a (with_step s h t) ≡ step_meets s a (told s h) t
+
+-- ---- the stance by the desks
+
+abbrev pub has_seat : ℕ → DeskRecord → Bool
+has_seat k desk = is_some (seat_at k desk.seats)
+
+-- who has a seat at a device has it open
+abbrev pub SeatsTell : Type 0
+SeatsTell =
+    (m : Told) (name : List ℕ) (desk : DeskRecord) (k : ℕ) (st : Station) → IsDeskOf m name desk → slice_get m.stations k ≡ Some st
+    → is_member (Conn name) (device_of st).members ≡ has_seat k desk
+
+-- whether one of these names but `a` has the device open
+abbrev pub one_has : List ℕ → List (List ℕ) → Device → Bool
+one_has a [] d = false
+one_has a (name ∷ names) d = (not (bytes_eq name a) && is_member (Conn name) d.members) || one_has a names d
+
+-- another has it open exactly where one of the other connections that are there does
+abbrev pub OthersAreThere : Type 0
+OthersAreThere =
+    (s : Setup) (m : Told) (a : List ℕ) (k : ℕ) (st : Station) → IsBench s m → slice_get m.stations k ≡ Some st → has_others a (device_of st) ≡ one_has a (names_of m) (device_of st)
+
+-- by the seats of the connection, where it is there, and of the others that are there: what a session sees is enough
+abbrev pub own_has : Option DeskRecord → ℕ → Bool
+own_has None k = false
+own_has (Some desk) k = has_seat k desk
+
+abbrev pub one_seated : List DeskRecord → ℕ → Bool
+one_seated [] k = false
+one_seated (desk ∷ desks) k = has_seat k desk || one_seated desks k
+
+abbrev pub none_seated : List DeskRecord → Bool
+none_seated [] = true
+none_seated (desk ∷ desks) = is_empty desk.seats && none_seated desks
+
+abbrev pub by_number : Option ℕ → (ℕ → Bool) → Bool
+by_number o f = elim o [ None ↦ false | Some k ↦ f k ]
+
+abbrev pub opens_by : Front → Option DeskRecord → List DeskRecord → Opens
+opens_by front own others = record {
+  own = λ device. by_number (front_spec.find_device front device) (own_has own);
+  others = λ device. by_number (front_spec.find_device front device) (one_seated others);
+  none = none_seated others;
+}
+
+-- the desks of the connections of these names but `a`
+abbrev pub desks_but : (desks : List ℕ → DeskRecord) → List ℕ → List (List ℕ) → List DeskRecord
+desks_but desks a [] = []
+desks_but desks a (name ∷ names) = if bytes_eq name a then desks_but desks a names else desks name ∷ desks_but desks a names
+
+abbrev pub desk_there : (desks : List ℕ → DeskRecord) → List ℕ → List (List ℕ) → Option DeskRecord
+desk_there desks a names = if is_in names a then Some (desks a) else None
+
+-- what a step is by the desks is what it is by the told state
+abbrev pub DesksDecide : Type 0
+DesksDecide =
+    (s : Setup) (m : Told) (a : List ℕ) (desks : List ℕ → DeskRecord) (t : Step) → IsBench s m → Every (λ name. IsDeskOf m name (desks name)) (names_of m)
+    → step_meets s a m t ≡ step_meets_by (opens_by (front_of s) (desk_there desks a (names_of m)) (desks_but desks a (names_of m))) a m t
