@@ -49,34 +49,73 @@ fn feed_and_send<L: Link, B: Bells>(
     Ok(going)
 }
 
-// Waits for the device's bell to ring again, where a READBUF still waits for that device.
-fn wait_again<B: Bells>(iio: &B, dev: u32, seen: u64, next: Going)
+// What is kept from one part to the next: room for answers, and the bell that was waited for last, as it was before the last try.
+#[derive(Drop)]
+struct Carried {
+    out: Vec<u8>,
+    look: Option<Look>,
+}
+
+// How often a device's bell had rung when it was looked at.
+#[derive(Clone, Copy)]
+struct Look {
+    dev: u32,
+    count: u64,
+}
+
+// Looks at a device's bell.
+fn look_at<B: Bells>(iio: &B, dev: u32) -> Look
+    requires { dev < length (B.front (B.kept iio.now)).devices }
+    ensures { result.dev ≡ dev }
+{
+    Look {
+        dev,
+        count: iio.bell(dev),
+    }
+}
+
+// Looks once more at the bell that was looked at last.
+fn look_again<B: Bells>(iio: &B, look: Option<Look>) -> Option<Look>
+    requires { IfSome look (λ l. l.dev < length (B.front (B.kept iio.now)).devices) }
+    ensures { IfSome result (λ l. l.dev < length (B.front (B.kept iio.now)).devices) }
+{
+    match look {
+        Some(l) => Some(look_at(iio, l.dev)),
+        None => None,
+    }
+}
+
+// Waits for the device's bell to ring again, where it was looked at before the try that found nothing.
+fn wait_for<B: Bells>(iio: &B, dev: u32, look: Option<Look>)
     requires { dev < length (B.front (B.kept iio.now)).devices }
 {
-    if let Going::Waits(again) = next {
-        if again == dev {
-            iio.wait(dev, seen);
+    if let Some(l) = look {
+        if l.dev == dev {
+            iio.wait(dev, l.count);
         }
     }
 }
 
-// Tries a READBUF that waits again, each time that its device's bell has rung, until nothing waits. The bell is asked for before
-// each try, so that no scan that comes between the try and the wait is slept through.
+// Tries a READBUF that waits again, each time that its device's bell has rung, until nothing waits. The bell is looked at before
+// each try, so that no scan that comes between the try and the wait is slept through. Where it wasn't looked at before the
+// first try, since another device was waited for last, the READBUF is tried once more before the wait.
 fn settle<L: Link, B: Bells, R: Wait>(
     rt: &R,
     alloc: Global,
     session: &mut Session<B::Seat>,
     iio: &mut B,
     link: &mut L,
-    out: &mut Vec<u8>,
+    carried: &mut Carried,
     going: Going,
 ) -> Result<(), SessionEnd>
     requires manner { session.old.manner ≡ Server }
     requires desk { IsDesk B.seen (B.front (B.kept iio.old)) session.old.desk }
+    requires look { IfSome carried.old.look (λ l. l.dev < length (B.front (B.kept iio.old)).devices) }
     requires stands { StandsBy (B.front (B.kept iio.old)) going (place_of B.seen (B.told iio.old) session.old) }
     ensures manner { session.new.manner ≡ Server }
     ensures kept { B.kept iio.new ≡ B.kept iio.old }
     ensures desk { IsDesk B.seen (B.front (B.kept iio.new)) session.new.desk }
+    ensures look { IfSome carried.new.look (λ l. l.dev < length (B.front (B.kept iio.new)).devices) }
     ensures left { L.left link.new ≡ L.left link.old }
     ensures faults { Faults result (L.faults link.old) (L.faults link.new) }
     ensures turns { Turns (B.front (B.kept iio.old)) (place_of B.seen (B.told iio.old) session.old) [] (L.written link.old)
@@ -89,10 +128,9 @@ fn settle<L: Link, B: Bells, R: Wait>(
             Going::Ended => return Err(SessionEnd::Ended),
             Going::Waits(dev) => dev,
         };
-        let seen = iio.bell(dev);
-        let next = feed_and_send(alloc, session, iio, link, &[], out)?;
-        wait_again(iio, dev, seen, next);
-        going = next;
+        wait_for(iio, dev, carried.look);
+        carried.look = Some(look_at(iio, dev));
+        going = feed_and_send(alloc, session, iio, link, &[], &mut carried.out)?;
     }
     unreachable!()
 }
@@ -105,20 +143,23 @@ fn hear<L: Link, B: Bells, R: Wait>(
     iio: &mut B,
     link: &mut L,
     part: &[u8],
-    out: &mut Vec<u8>,
+    carried: &mut Carried,
 ) -> Result<(), SessionEnd>
     requires manner { session.old.manner ≡ Server }
     requires desk { IsDesk B.seen (B.front (B.kept iio.old)) session.old.desk }
+    requires look { IfSome carried.old.look (λ l. l.dev < length (B.front (B.kept iio.old)).devices) }
     ensures manner { session.new.manner ≡ Server }
     ensures kept { B.kept iio.new ≡ B.kept iio.old }
     ensures desk { IsDesk B.seen (B.front (B.kept iio.new)) session.new.desk }
+    ensures look { IfSome carried.new.look (λ l. l.dev < length (B.front (B.kept iio.new)).devices) }
     ensures left { L.left link.new ≡ L.left link.old }
     ensures faults { Faults result (L.faults link.old) (L.faults link.new) }
     ensures turns { Turns (B.front (B.kept iio.old)) (place_of B.seen (B.told iio.old) session.old) part.now (L.written link.old)
         (place_of B.seen (B.told iio.new) session.new) (L.written link.new) result }
 {
-    let going = feed_and_send(alloc, session, iio, link, part, out)?;
-    settle(rt, alloc, session, iio, link, out, going)
+    carried.look = look_again(iio, carried.look);
+    let going = feed_and_send(alloc, session, iio, link, part, &mut carried.out)?;
+    settle(rt, alloc, session, iio, link, carried, going)
 }
 
 /// The law that a part makes at most two items whole, a payload and a line, wherever the stream stands; so its answers are at
@@ -153,14 +194,16 @@ fn turn<L: Link, B: Bells, R: Wait>(
     iio: &mut B,
     link: &mut L,
     bytes: &[u8],
-    out: &mut Vec<u8>,
+    carried: &mut Carried,
 ) -> Result<(), SessionEnd>
     requires manner { session.old.manner ≡ Server }
     requires desk { IsDesk B.seen (B.front (B.kept iio.old)) session.old.desk }
+    requires look { IfSome carried.old.look (λ l. l.dev < length (B.front (B.kept iio.old)).devices) }
     requires settled { session.old.stream.items ≡ [] }
     ensures manner { session.new.manner ≡ Server }
     ensures kept { B.kept iio.new ≡ B.kept iio.old }
     ensures desk { IsDesk B.seen (B.front (B.kept iio.new)) session.new.desk }
+    ensures look { IfSome carried.new.look (λ l. l.dev < length (B.front (B.kept iio.new)).devices) }
     ensures left { L.left link.new ≡ L.left link.old }
     ensures faults { Faults result (L.faults link.old) (L.faults link.new) }
     ensures turns { Turns (B.front (B.kept iio.old)) (place_of B.seen (B.told iio.old) session.old) bytes.now (L.written link.old)
@@ -169,7 +212,7 @@ fn turn<L: Link, B: Bells, R: Wait>(
     let mut done = 0;
     while done < bytes.len() {
         let until = part_end(bytes, done);
-        hear(rt, alloc, session, iio, link, &bytes[done..until], out)?;
+        hear(rt, alloc, session, iio, link, &bytes[done..until], carried)?;
         done = until;
     }
     Ok(())
@@ -196,7 +239,10 @@ fn talk<L: Link, B: Bells, G: Gate, R: Wait>(
         (L.left link.old) (L.written link.old) (L.left link.new) (L.written link.new) b
         × IsLast result b (place_of B.seen (B.told iio.new) session.new) }
 {
-    let mut out = Vec::new(alloc);
+    let mut carried = Carried {
+        out: Vec::new(alloc),
+        look: None,
+    };
     let mut piece = [0; PIECE];
     for _ in rt.forever() {
         let Ok(count) = link.recv(&mut piece) else {
@@ -206,7 +252,7 @@ fn talk<L: Link, B: Bells, G: Gate, R: Wait>(
             return SessionEnd::Eof;
         }
         gate.pass(Point::Heard(who));
-        if let Err(end) = turn(rt, alloc, session, iio, link, &piece[..count], &mut out) {
+        if let Err(end) = turn(rt, alloc, session, iio, link, &piece[..count], &mut carried) {
             if end == SessionEnd::Ended {
                 gate.pass(Point::Answered(who));
             }

@@ -1,4 +1,4 @@
-use Rattle.std.proofs.Common.{rules, ◌≡◌, ◌∙◌, [], subst, refl, Ok, Err}
+use Rattle.std.proofs.Common.{rules, ◌≡◌, ◌<◌, ◌∙◌, [], length, subst, refl, Ok, Err}
 use Rattle.iiod_session.specs.declared.manner.Going.{Going}
 use Rattle.iiod_connection.specs.Place.{place_of}
 use Rattle.iiod_connection.specs.Talks.{SendsOnce, StandsBy}
@@ -15,8 +15,8 @@ returns-in-Ended-clause-turns g c =
     let inv = c.loop.invariant in
     ([], [], refl, inv.sends, subst (λ (w : Going). StandsBy (g.B.Iio.front (g.B.Iio.kept c.args.iio.now)) w (place_of g.B.Iio.seen (g.B.Iio.told c.loop.iio) c.loop.session)) c.in-Ended.is inv.stands)
 
-pub returns-in_err-next-clause-turns : goal.returns-in_err-next-clause-turns
-returns-in_err-next-clause-turns g c =
+pub returns-in_err-going-clause-turns : goal.returns-in_err-going-clause-turns
+returns-in_err-going-clause-turns g c =
     let inv = c.loop.invariant in
     let front = g.B.Iio.front (g.B.Iio.kept c.args.iio.now) in
     let a = place_of g.B.Iio.seen (g.B.Iio.told c.args.iio.now) c.args.session.now in
@@ -24,9 +24,9 @@ returns-in_err-next-clause-turns g c =
     let b = place_of g.B.Iio.seen (g.B.Iio.told c.feed_and_send.new.iio) c.feed_and_send.new.session in
     let mid = g.L.Link.written c.loop.link in
     let new = g.L.Link.written c.feed_and_send.new.link in
-    let e = c.in_err-next.field-0.0 in
+    let e = c.in_err-going.field-0.0 in
     let is : c.from_residual.result ≡ Err e = search rules in
-    let s = subst (λ k. SendsOnce (g.B.Iio.front k) m [] mid b new (Err e)) inv.kept c.in_err-next.ensures.sends in
+    let s = subst (λ k. SendsOnce (g.B.Iio.front k) m [] mid b new (Err e)) inv.kept c.in_err-going.ensures.sends in
     rw is (turns_cut front a m b [] [] [] [] (g.L.Link.written c.args.link.now) mid new e refl inv.sends (once_err front m b [] mid new e s))
 
 pub loop-preserved : goal.loop-preserved
@@ -38,13 +38,15 @@ loop-preserved g c =
     let b = place_of g.B.Iio.seen (g.B.Iio.told c.feed_and_send.new.iio) c.feed_and_send.new.session in
     let mid = g.L.Link.written c.loop.link in
     let new = g.L.Link.written c.feed_and_send.new.link in
-    let s = subst (λ k. SendsOnce (g.B.Iio.front k) m [] mid b new (Ok c.in_ok-next.next)) inv.kept c.in_ok-next.ensures.sends in
+    let s = subst (λ k. SendsOnce (g.B.Iio.front k) m [] mid b new (Ok c.in_ok-going.going)) inv.kept c.in_ok-going.ensures.sends in
+    let there : c.in-Waits.dev < length front.devices = subst (λ (w : Going). StandsBy front w m) c.in-Waits.is inv.stands in
     record {
       manner = c.feed_and_send.ensures.manner;
       kept = c.feed_and_send.ensures.kept ∙ inv.kept;
       desk = c.feed_and_send.ensures.desk;
+      look = rw (c.feed_and_send.ensures.kept ∙ inv.kept) (rw c.look_at.ensures there);
       left = c.feed_and_send.ensures.left ∙ inv.left;
-      faults = c.in_ok-next.ensures.faults ∙ inv.faults;
-      sends = sends_on front a m b [] [] (g.L.Link.written c.args.link.now) mid new inv.sends (sends_once front m b [] mid new c.in_ok-next.next s);
+      faults = c.in_ok-going.ensures.faults ∙ inv.faults;
+      sends = sends_on front a m b [] [] (g.L.Link.written c.args.link.now) mid new inv.sends (sends_once front m b [] mid new c.in_ok-going.going s);
       stands = s.3;
     }

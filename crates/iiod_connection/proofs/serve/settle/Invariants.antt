@@ -1,4 +1,4 @@
-use Rattle.std.proofs.Common.{◌≡◌, []}
+use Rattle.std.proofs.Common.{◌≡◌, ◌<◌, [], length, IfSome}
 use Rattle.iiod_session.specs.Desk.{IsDesk}
 use Rattle.iiod_session.specs.declared.manner.Manner.TheVariants.{Server}
 use Rattle.iiod_connection.specs.Place.{place_of}
@@ -10,6 +10,7 @@ invariant-loop g l = record {
   manner : l.session.manner ≡ Server;
   kept : g.B.Iio.kept l.iio ≡ g.B.Iio.kept l.fn.iio;
   desk : IsDesk g.B.Iio.seen (g.B.Iio.front (g.B.Iio.kept l.iio)) l.session.desk;
+  look : IfSome l.carried.look (λ k. k.dev < length (g.B.Iio.front (g.B.Iio.kept l.iio)).devices);
   left : g.L.Link.left l.link ≡ g.L.Link.left l.fn.link;
   faults : g.L.Link.faults l.link ≡ g.L.Link.faults l.fn.link;
   sends : SendsAll (g.B.Iio.front (g.B.Iio.kept l.fn.iio)) (place_of g.B.Iio.seen (g.B.Iio.told l.fn.iio) l.fn.session) [] (g.L.Link.written l.fn.link)

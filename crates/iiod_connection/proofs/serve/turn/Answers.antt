@@ -19,6 +19,7 @@ loop-done-preserved g c =
       manner = c.hear.ensures.manner;
       kept = c.hear.ensures.kept ∙ inv.kept;
       desk = c.hear.ensures.desk;
+      look = c.hear.ensures.look;
       settled = c.in_ok-hear.ensures.turns.1;
       left = c.hear.ensures.left ∙ inv.left;
       faults = c.in_ok-hear.ensures.faults ∙ inv.faults;

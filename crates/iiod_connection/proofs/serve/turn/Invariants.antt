@@ -1,4 +1,4 @@
-use Rattle.std.proofs.Common.{◌≡◌, ◌≤◌, ◌-◌, [], length, take}
+use Rattle.std.proofs.Common.{◌≡◌, ◌≤◌, ◌<◌, ◌-◌, [], length, take, IfSome}
 use Rattle.iiod_session.specs.Desk.{IsDesk}
 use Rattle.iiod_session.specs.declared.manner.Manner.TheVariants.{Server}
 use Rattle.iiod_connection.specs.Place.{place_of}
@@ -10,6 +10,7 @@ invariant-loop-done g l = record {
   manner : l.session.manner ≡ Server;
   kept : g.B.Iio.kept l.iio ≡ g.B.Iio.kept l.fn.iio;
   desk : IsDesk g.B.Iio.seen (g.B.Iio.front (g.B.Iio.kept l.iio)) l.session.desk;
+  look : IfSome l.carried.look (λ k. k.dev < length (g.B.Iio.front (g.B.Iio.kept l.iio)).devices);
   settled : l.session.stream.items ≡ [];
   left : g.L.Link.left l.link ≡ g.L.Link.left l.fn.link;
   faults : g.L.Link.faults l.link ≡ g.L.Link.faults l.fn.link;
