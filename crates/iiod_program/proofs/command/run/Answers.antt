@@ -1,0 +1,51 @@
+use Rattle.std.proofs.Common.{◌≡◌, ℕ, length, refl, subst, sym, ◌∙◌}
+use Rattle.std.proofs.lemmas.List.{length-map}
+use Rattle.iio_history.specs.Outcome.{outcome_of}
+use Rattle.iio_gen.specs.Summary.{EndsGen, summarized}
+use Rattle.iiod_program.specs.Does.{PrintsLayout}
+use Rattle.iiod_program.specs.Layout.{layout_of}
+use Rattle.iiod_program.specs.Request.{Play, Layout, Gen, Asks}
+use Rattle.iiod_program.specs.View.{request_view}
+use Rattle.iiod_program.proofs.EndLaws.{completes_told, does_asked, gen_completes}
+use Rattle.iiod_program.proofs.command.run.Goals as goal
+
+pub returns-in-Play-clause-does : goal.returns-in-Play-clause-does
+returns-in-Play-clause-does g c =
+    does_asked g.S.Source.left g.S.Source.faults g.K.Sink.written g.K.Sink.faults c.args.words.now Play _ c.play.result c.args.input.now c.play.new.input c.args.output.now c.play.new.output
+    (subst (λ r. Asks c.args.words.now (request_view r)) c.in-Play.is c.request_of.ensures) (record {
+      transcript = c.play.ensures.transcript;
+      complete = λ reads writes. completes_told (outcome_of _) _ _ _ _ _ _ _ _ c.play.ensures.transcript c.play.ensures.faults.read_fault c.play.ensures.faults.write_fault reads writes;
+      status = c.play.ensures.status;
+      words = c.play.ensures.words;
+      taken = c.play.ensures.taken;
+      near = c.play.ensures.near;
+      whole_lines = c.play.ensures.whole_lines;
+      answered = c.play.ensures.answered;
+    })
+
+pub returns-in-Gen-clause-does : goal.returns-in-Gen-clause-does
+returns-in-Gen-clause-does g c =
+    does_asked g.S.Source.left g.S.Source.faults g.K.Sink.written g.K.Sink.faults c.args.words.now (Gen c.in-Gen.n) _ c.gen_.result c.args.input.now c.args.input.now c.args.output.now c.gen_.new.output
+    (subst (λ r. Asks c.args.words.now (request_view r)) c.in-Gen.is c.request_of.ensures) (record {
+      lines = c.gen_.ensures.lines;
+      complete = λ writes. gen_completes (summarized c.in-Gen.n) (g.K.Sink.written c.args.output.now) c.gen_.result (g.K.Sink.written c.gen_.new.output) _ _ c.gen_.ensures.status c.gen_.ensures.lines c.gen_.ensures.write_fault writes;
+      status = c.gen_.ensures.status;
+      words = λ is. subst EndsGen is c.gen_.ensures.status;
+      unread = refl;
+    })
+
+pub returns-in-Ok-clause-does : goal.returns-in-Ok-clause-does
+returns-in-Ok-clause-does g c =
+    let many : c.in-Ok.count ≡ length c.args.drivers.items = c.in-Ok.ensures.1 ∙ c.len.ensures ∙ c.args.drivers.ok.0 in
+    does_asked g.S.Source.left g.S.Source.faults g.K.Sink.written g.K.Sink.faults c.args.words.now (Layout c.in-Layout.device.now c.in-Layout.mask.now) _ c.layout.result c.args.input.now c.layout.new.input c.args.output.now c.layout.new.output
+    (subst (λ r. Asks c.args.words.now (request_view r)) c.in-Layout.is c.request_of.ensures)
+    (subst (λ (n : ℕ). PrintsLayout g.S.Source.left g.S.Source.faults g.K.Sink.written g.K.Sink.faults n c.in-Layout.device.now c.in-Layout.mask.now c.layout.result c.args.input.now c.layout.new.input c.args.output.now c.layout.new.output)
+    (many ∙ sym (length-map c.args.drivers.items _)) (record {
+      lines = c.layout.ensures.lines;
+      complete = λ reads writes. completes_told (λ left. layout_of c.in-Ok.count left c.in-Layout.device.now c.in-Layout.mask.now) _ _ _ _ _ _ _ _ c.layout.ensures.lines c.layout.ensures.faults.read_fault c.layout.ensures.faults.write_fault reads writes;
+      status = c.layout.ensures.status;
+      words = c.layout.ensures.words;
+      taken = c.layout.ensures.taken;
+      near = c.layout.ensures.near;
+      nothing = c.layout.ensures.nothing;
+    }))

@@ -1,0 +1,68 @@
+-- What the program does for what it is asked, over an input that tells the bytes that are left and an output that tells those
+-- that were written; each has a count of faults. (This project's own.)
+use Rattle.std.specs.Prelude.{◌≡◌, ℕ, ◌+◌, List, length, Option, IfSome}
+use Rattle.iio_io.specs.Bytes.{TakesAtMost}
+use Rattle.iio_sensor.specs.Driver.{Driver}
+use Rattle.iio_history.specs.Input.{input_limit}
+use Rattle.iio_history.specs.Outcome.{outcome_of}
+use Rattle.iio_script.specs.Ends.{HasStatus, Writes}
+use Rattle.iio_script.specs.LineReader.{TakesBlocks}
+use Rattle.iio_script.specs.Plays.{TakesFor}
+use Rattle.iio_script.specs.Taken.{WritesFirst, WritesLines}
+use Rattle.iio_script.specs.declared.status.Status.{Status}
+use Rattle.iio_script.specs.declared.status.Status.TheVariants.{ReadFault, Usage}
+use Rattle.iio_gen.specs.Summary.{EndsGen, summarized}
+use Rattle.iiod_serve.specs.Usage.{IsUsage, PrintsUsage}
+use Rattle.iiod_program.specs.Complete.{Completes}
+use Rattle.iiod_program.specs.Layout.{TakesForLine, layout_of}
+use Rattle.iiod_program.specs.Request.{Request, Play, Layout, Gen, Other}
+
+module _ {S K : Type 0} (left : S → Option (List ℕ)) (reads : S → ℕ) (written : K → Option (List ℕ)) (writes : K → ℕ) where
+  -- the transcript of the input, with these drivers
+  pub record PlaysInput (drivers : List Driver) (end : Status) (source source' : S) (sink sink' : K) : Type 0 where
+    pub transcript : IfSome (left source) (λ xs. IfSome (written sink) (λ ys. Writes (outcome_of drivers xs) ys end (written sink')))
+    -- where neither count of faults rose, the whole was written, unless memory ran out
+    pub complete : reads source ≡ reads source' → writes sink ≡ writes sink'
+        → IfSome (left source) (λ xs. IfSome (written sink) (λ ys. Completes (outcome_of drivers xs) ys end (written sink')))
+    pub status : IfSome (left source) (λ xs. HasStatus (outcome_of drivers xs) end)
+    pub words : end ≡ Usage → ⊥
+    pub taken : IfSome (left source) (λ xs. TakesAtMost xs (input_limit + 1) (left source'))
+    -- where a line is refused, at most 65,536 bytes were taken behind the byte at which it failed
+    pub near : IfSome (left source) (λ xs. TakesFor end xs (left source'))
+    -- where a read failed, exactly what the whole lines before it print was written
+    pub whole_lines : end ≡ ReadFault → IfSome (left source) (λ xs. IfSome (written sink) (λ ys. WritesLines drivers xs ys (left source') (written sink')))
+    -- however it ends, at most 65,536 bytes were taken since all was written that the whole lines before them print
+    pub answered : IfSome (left source) (λ xs. IfSome (written sink) (λ ys. WritesFirst drivers xs ys (left source') (written sink')))
+
+  -- the layout of a device of the input's description, which may use so many drivers, under a mask
+  pub record PrintsLayout (drivers : ℕ) (device mask : List ℕ) (end : Status) (source source' : S) (sink sink' : K) : Type 0 where
+    pub lines : IfSome (left source) (λ xs. IfSome (written sink) (λ ys. Writes (layout_of drivers xs device mask) ys end (written sink')))
+    pub complete : reads source ≡ reads source' → writes sink ≡ writes sink'
+        → IfSome (left source) (λ xs. IfSome (written sink) (λ ys. Completes (layout_of drivers xs device mask) ys end (written sink')))
+    pub status : IfSome (left source) (λ xs. HasStatus (layout_of drivers xs device mask) end)
+    pub words : end ≡ Usage → ⊥
+    pub taken : IfSome (left source) (λ xs. TakesBlocks xs (left source'))
+    -- where a line of the description is refused, at most 65,536 bytes were taken behind the byte at which it failed
+    pub near : IfSome (left source) (λ xs. TakesForLine end xs (left source'))
+    pub nothing : end ≡ ReadFault → sink' ≡ sink
+
+  -- what is counted in the input that the number makes
+  pub record Counts (n : ℕ) (end : Status) (source source' : S) (sink sink' : K) : Type 0 where
+    pub lines : IfSome (written sink) (λ ys. Writes (summarized n) ys end (written sink'))
+    pub complete : writes sink ≡ writes sink' → IfSome (written sink) (λ ys. Completes (summarized n) ys end (written sink'))
+    pub status : EndsGen end
+    pub words : end ≡ Usage → ⊥
+    pub unread : source' ≡ source
+
+  -- the line that names the commands
+  pub record NamesCommands (end : Status) (source source' : S) (sink sink' : K) : Type 0 where
+    pub status : IsUsage end
+    pub line : IfSome (written sink) (λ ys. PrintsUsage ys end (written sink'))
+    pub unread : source' ≡ source
+
+  -- what was asked for
+  abbrev pub Does : List Driver → Request → Status → S → S → K → K → Type 0
+  Does drivers Play end source source' sink sink' = PlaysInput drivers end source source' sink sink'
+  Does drivers (Layout device mask) end source source' sink sink' = PrintsLayout (length drivers) device mask end source source' sink sink'
+  Does drivers (Gen n) end source source' sink sink' = Counts n end source source' sink sink'
+  Does drivers Other end source source' sink sink' = NamesCommands end source source' sink sink'

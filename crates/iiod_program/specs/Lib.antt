@@ -1,0 +1,9 @@
+pub mod Complete
+pub mod Does
+pub mod Exit
+pub mod Layout
+pub mod Placing
+pub mod Played
+pub mod Request
+pub mod View
+pub mod Words
