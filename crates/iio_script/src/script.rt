@@ -278,8 +278,7 @@ pub fn play<S: Source, K: Sink>(
     // Where a read failed, what the whole lines before it print was written.
     ensures whole_lines { result ≡ Status.ReadFault → IfSome (S.left input.old) (λ left. IfSome (K.written output.old) (λ written.
         WritesLines (map (λ d. ⟦<Plug as Sensor>⟧.driver (Given d)) drivers.items) left written (S.left input.new) (K.written output.new))) }
-    // However it ends, at most a piece was taken since all was written that the whole lines before it print. So no answer
-    // waits for more of the input.
+    // However it ends, at most a piece was taken since all was written that the whole lines before it print.
     ensures answered { IfSome (S.left input.old) (λ left. IfSome (K.written output.old) (λ written.
         WritesFirst (map (λ d. ⟦<Plug as Sensor>⟧.driver (Given d)) drivers.items) left written (S.left input.new) (K.written output.new))) }
     ensures faults { ShowsFaults S.left S.faults K.written K.faults result input.old input.new output.old output.new }
