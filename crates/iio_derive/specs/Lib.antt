@@ -1,0 +1,8 @@
+pub mod Window
+pub mod Means
+pub mod Values
+pub mod Members
+pub mod Sized
+pub mod Average
+pub mod View
+pub mod Tested

@@ -1,0 +1,112 @@
+//! The members of an averaging device.
+
+ghost use Rattle.std.specs.Prelude.{◌≡◌, ◌≢◌, ℕ, ◌+◌, ◌*◌, ◌-◌, ◌^◌, ◌<◌, ◌≤◌, length, is_some, IfSome, IsSome, Some, None, MatchBool, slice_set, slice_index_or};
+ghost use Rattle.iio_kfifo.specs.Queue.{GivesFirst};
+ghost use Rattle.iio_layout.specs.Layout.{scan_size};
+ghost use Rattle.iio_layout.specs.Scan.{scan_of};
+ghost use Rattle.iio_layout.specs.Shape.{count_of, width_of};
+ghost use Rattle.iio_derive.specs.declared.members.Membership.{Membership};
+ghost use Rattle.iio_scan_type.specs.declared.TheConstants.{MAX_CHANNEL_SIZE};
+ghost use Rattle.iio_derive.specs.Average.{has_member};
+ghost use Rattle.iio_derive.specs.Members.{SeatOffered, Takes, WasOffered, member_at, member_count};
+ghost use Rattle.iio_derive.specs.View.{AreSized};
+ghost use Rattle.iio_derive.specs.Sized.{IsSized};
+
+use iio_kfifo::{Kfifo, Tail};
+use iio_layout::{Shape, fill};
+use iio_mask::Mask;
+use iio_scan_type::MAX_CHANNEL_SIZE;
+
+/// A member: the mask that it joined with, and its queue.
+#[derive(Drop)]
+pub struct Membership {
+    pub mask: Mask,
+    pub queue: Kfifo,
+}
+
+/// Whether there is a member of that number.
+pub(crate) fn is_live(seats: &[Option<Membership>], number: usize) -> bool
+    ensures { result ≡ is_some (member_at number seats.now) }
+{
+    match seats.get(number) {
+        None => false,
+        Some(seat) => seat.is_some(),
+    }
+}
+
+// Offers a member its scan of these values at this moment. The room has at least the bytes of that scan.
+fn offer_one(member: &mut Membership, shape: &Shape, values: &[i64], t: i64, room: &mut [u8])
+    requires sized { IsSized shape.now member.old }
+    requires width { length values.now ≡ width_of shape.now }
+    requires room { scan_size shape.now member.old.mask.bits ≤ length room.old }
+    requires fewer { member.old.queue.taken + member.old.queue.lost < 2 ^ 64 - 1 }
+    ensures { WasOffered (scan_of shape.now member.old.mask.bits values.now t) member.old member.new }
+{
+    let scan = &mut room[..member.queue.size() as usize];
+    fill(shape, member.mask, values, t, scan);
+    member.queue.offer(scan);
+}
+
+/// Offers each member its scan of these values at this moment. The room has at least the bytes of any scan of the shape.
+pub(crate) fn offer_all(
+    seats: &mut Vec<Option<Membership>>,
+    shape: &Shape,
+    values: &[i64],
+    t: i64,
+    room: &mut [u8],
+)
+    requires sized { AreSized shape.now seats.old.items }
+    requires width { length values.now ≡ width_of shape.now }
+    requires room { MAX_CHANNEL_SIZE * count_of shape.now ≤ length room.old }
+    requires fewer { (number : ℕ) → IfSome (member_at number seats.old.items) (λ m. m.queue.taken + m.queue.lost < 2 ^ 64 - 1) }
+    ensures offered { (number : ℕ) → SeatOffered shape.now values.now t (member_at number seats.old.items) (member_at number seats.new.items) }
+    ensures sized { AreSized shape.now seats.new.items }
+    ensures same { length seats.new.items ≡ length seats.old.items }
+{
+    for i in 0..seats.len() {
+        if let Some(member) = &mut seats[i] {
+            offer_one(member, shape, values, t, room);
+        }
+    }
+}
+
+/// The first place without a member; the one behind all where there is none.
+pub(crate) fn free_place(seats: &[Option<Membership>]) -> usize
+    ensures free { member_at result seats.now ≡ None }
+    ensures within { result ≤ length seats.now }
+{
+    for i in 0..seats.len() {
+        if seats[i].is_none() {
+            return i;
+        }
+    }
+    seats.len()
+}
+
+/// Whether there is a member.
+pub(crate) fn has_member(seats: &[Option<Membership>]) -> bool
+    ensures { result ≡ has_member seats.now }
+{
+    seats.iter().any(|seat| seat.is_some())
+}
+
+/// How many members there are.
+pub(crate) fn member_count(seats: &[Option<Membership>]) -> usize
+    ensures value { result ≡ member_count seats.now }
+    ensures within { result ≤ length seats.now }
+{
+    seats.iter().filter(|seat| seat.is_some()).count()
+}
+
+/// Moves the oldest scan of the member at that place into `out`, and says whether there was one.
+pub(crate) fn take_at(seats: &mut Vec<Option<Membership>>, at: usize, out: &mut [u8]) -> bool
+    requires live { IsSome (member_at at seats.old.items) }
+    requires size { IfSome (member_at at seats.old.items) (λ m. length out.old ≡ m.queue.size) }
+    ensures taken { Takes at result out.old out.new seats.old.items seats.new.items }
+    ensures same { length seats.new.items ≡ length seats.old.items }
+{
+    match &mut seats[at] {
+        Some(member) => member.queue.take(out),
+        None => unreachable!(),
+    }
+}
