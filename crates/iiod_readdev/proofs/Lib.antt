@@ -1,0 +1,4 @@
+pub mod WordLaws
+pub mod WantedLaws
+pub mod ReadLaws
+pub mod RunLaws

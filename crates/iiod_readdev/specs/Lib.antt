@@ -1,0 +1,5 @@
+pub mod Words
+pub mod ReadStatus
+pub mod Wanted
+pub mod Reading
+pub mod Counts

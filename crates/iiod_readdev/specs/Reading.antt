@@ -1,0 +1,90 @@
+-- What `readdev` makes of an input, and what it then prints and sends. (This project's own; the reading over the link is
+-- that of `iiod_client`.)
+use Rattle.std.specs.Prelude.{◌≡◌, ◌⊎◌, ℕ, suc, List, [], ◌∷◌, ◌++◌, codes, Option, IfSome, Result, Ok, Err}
+use Rattle.iio_text.specs.declared.refusals.Why.{Why}
+use Rattle.iio_desc.specs.Description.{Description}
+use Rattle.iio_history.specs.Outcome.{Head, Outcome, head_of, only_ending}
+use Rattle.iio_history.specs.Script.{Refused}
+use Rattle.iio_script.specs.Ends.{HasStatus, Writes}
+use Rattle.iio_script.specs.LineReader.{TakesNear}
+use Rattle.iio_script.specs.declared.status.Status.{Status}
+use Rattle.iio_script.specs.declared.status.Status.TheVariants as run_status
+use Rattle.iiod_serve.specs.Reading.{IsStop, Says, served_of}
+use Rattle.iiod_serve.specs.Usage.{IsUsage, PrintsUsage}
+use Rattle.iiod_client.specs.declared.client_end.ClientEnd.{ClientEnd}
+use Rattle.iiod_client.specs.Ask.{Wanted}
+use Rattle.iiod_client.specs.ClientEnd.{Ends}
+use Rattle.iiod_client.specs.Point.{Point, Wrote, WroteFront}
+use Rattle.iiod_readdev.specs.declared.read_status.ReadStatus.{ReadStatus}
+use Rattle.iiod_readdev.specs.declared.read_status.ReadStatus.TheVariants as status
+use Rattle.iiod_readdev.specs.ReadStatus.{of_client, of_run}
+use Rattle.iiod_readdev.specs.Wanted.{wanted_of}
+use Rattle.iiod_readdev.specs.Words.{ReaddevWords}
+
+-- the line where the connection couldn't be begun
+abbrev pub no_address_line : List ℕ
+no_address_line = codes "no address" ++ 10 ∷ []
+
+-- nothing came or went over the link
+pub record IsUntouched (a b : Point) : Type 0 where
+  pub left : b.left ≡ a.left
+  pub pending : b.pending ≡ a.pending
+  pub sent : b.sent ≡ a.sent
+
+-- it ended as a run does whose outcome is this one, and nothing came or went over the link; where a read failed, nothing
+-- was printed
+pub record EndsAsRun (outcome : Outcome) (end : ReadStatus) (a b : Point) : Type 0 where
+  pub run : Status
+  pub ends : end ≡ of_run run
+  pub stops : IsStop run
+  pub status : HasStatus outcome run
+  pub lines : IfSome a.printed (λ ys. Writes outcome ys run b.printed)
+  pub nothing : run ≡ run_status.ReadFault → b.printed ≡ a.printed
+  pub untouched : IsUntouched a b
+
+-- the connection couldn't be begun: that is printed, or a front part of it where a write failed
+abbrev pub EndsUndialled : ReadStatus → (a b : Point) → Type 0
+EndsUndialled status.NoAddress a b = Wrote a.printed no_address_line b.printed × IsUntouched a b
+EndsUndialled status.WriteFault a b = WroteFront a.printed no_address_line b.printed × IsUntouched a b
+EndsUndialled end a b = ⊥
+
+-- the device was read over the link
+pub record EndsRead (w : Wanted) (end : ReadStatus) (a b : Point) : Type 0 where
+  pub client : ClientEnd
+  pub ends : end ≡ of_client client
+  pub read : Ends w client a b
+
+-- what is made of the words at a description: they are refused at line 0, or what they want is read
+abbrev pub ReadsFrom : Result Wanted Why → ReadStatus → (a b : Point) → Type 0
+ReadsFrom (Err why) end a b = EndsAsRun (only_ending (Refused 0 why)) end a b
+ReadsFrom (Ok w) end a b = EndsUndialled end a b ⊎ EndsRead w end a b
+
+-- the head of an input was read as a description
+pub record ReadsDescribed (head : Head) (said : ReaddevWords) (end : ReadStatus) (a b : Point) : Type 0 where
+  pub desc : Description
+  pub says : Says desc head
+  pub reads : ReadsFrom (wanted_of desc said) end a b
+
+-- what is made of the words at an input, whose description may use so many drivers
+abbrev pub ReadsInput : (drivers : ℕ) → ReaddevWords → (input : List ℕ) → ReadStatus → (a b : Point) → Type 0
+ReadsInput drivers said input end a b = EndsAsRun (served_of drivers input) end a b ⊎ ReadsDescribed (head_of drivers input) said end a b
+
+-- where a line of the description is refused, not much more was taken than up to its end; line 0 has the program's words
+abbrev pub TakesForLine : ReadStatus → List ℕ → Option (List ℕ) → Type 0
+TakesForLine (status.Refused (suc n) why) left remaining = TakesNear (suc n) left remaining
+TakesForLine end left remaining = Unit {0}
+
+-- the line that names the commands was printed
+pub record NamesCommands (end : ReadStatus) (before after : Option (List ℕ)) : Type 0 where
+  pub run : Status
+  pub ends : end ≡ of_run run
+  pub usage : IsUsage run
+  pub line : IfSome before (λ ys. PrintsUsage ys run after)
+
+-- the ends once a description was read. Cited by private functions alone.
+abbrev pub IsDescribed : ReadStatus → Type 0
+IsDescribed status.Usage = ⊥
+IsDescribed status.ReadFault = ⊥
+IsDescribed status.TooLong = ⊥
+IsDescribed (status.Refused (suc n) why) = ⊥
+IsDescribed end = Unit {0}

@@ -1,0 +1,13 @@
+//! `readdev`: the device of a description is read over a link, and its scans are printed.
+#![tactic(auto)]
+
+mod dialled;
+mod read_status;
+mod reading;
+#[cfg(test)]
+mod tests;
+mod wanted;
+mod words;
+
+pub use read_status::ReadStatus;
+pub use reading::readdev;
