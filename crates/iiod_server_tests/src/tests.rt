@@ -4,6 +4,7 @@ mod connections;
 mod doubles;
 mod hubs;
 mod playback;
+mod reading;
 mod serving;
 
 ghost use Rattle.std.specs.Prelude.{IfOk};

@@ -74,6 +74,40 @@ impl<'a, R: Wait> Link for Texts<'a, R> {
     }
 }
 
+/// A link before each receive of which the trigger is fired twice.
+#[derive(Drop)]
+pub struct Firing<'a, R, L> {
+    pub rt: &'a R,
+    pub alloc: Global,
+    pub hub: &'a Hub,
+    pub moment: i64,
+    pub link: L,
+}
+
+impl<'a, R: Wait, L: Link> Link for Firing<'a, R, L> {
+    ghost use Rattle.std.specs.Prelude.{None};
+
+    ghost left = { λ l. None };
+
+    ghost written = { λ l. None };
+
+    ghost faults = { λ l. L.faults l.link };
+
+    fn recv(&mut self, out: &mut [u8]) -> Result<usize, Failed> {
+        let first = self.moment;
+        self.moment = first.saturating_add(2000);
+        for t in [first, first.saturating_add(1000)] {
+            self.hub.poll(self.rt, self.alloc, 0, t);
+            self.hub.sweep(self.rt, self.alloc, 0);
+        }
+        self.link.recv(out)
+    }
+
+    fn send(&mut self, bytes: &[u8]) -> Result<usize, Failed> {
+        self.link.send(bytes)
+    }
+}
+
 // Whether an answer is a number other than 0, of at most three digits.
 fn tells_of_scans(answer: &[u8]) -> bool {
     (answer.starts_with(b"1\n") && answer != b"1\n0\n".as_slice())

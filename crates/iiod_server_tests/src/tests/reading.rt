@@ -1,0 +1,122 @@
+//! A client of a hub, over the loopback.
+
+ghost use Rattle.std.specs.Prelude.{⊤};
+
+use super::doubles::Firing;
+use super::hub_of;
+use iio_io::{Dial, Door, Listen, MemSink, MemSource, OpenGate, TcpDoor, TcpLink};
+use iiod_hub::{Hub, SessionEnd, serve_connection};
+use iiod_readdev::{ReadStatus, readdev};
+use std::alloc::Global;
+use std::sync::Wait;
+use std::sync::atomic::AtomicBool;
+use std::test::Fail;
+use std::thread;
+
+// The hub's device, as a client is told of it.
+const TOLD: &[u8] = b"trigger t0 2
+device adc0 t0
+channel voltage0 le:u12/16>>4
+channel voltage1 le:u12/16>>4
+channel accel_x be:s16/16>>0
+timestamp
+";
+
+const PRINTED: &[u8] = b"1000fffd voltage0=1 accel_x=-3\n1000fffd voltage0=1 accel_x=-3\n";
+
+/// What a client is told, the link that it begins, and where it prints.
+#[derive(Drop)]
+struct Client {
+    alloc: Global,
+    words: Vec<String>,
+    input: MemSource,
+    output: MemSink,
+    link: TcpLink<HostRuntime>,
+}
+
+// Reads the device. Another connection lets a door end that still waits for one.
+fn read_at(client: &mut Client) -> ReadStatus {
+    let words = client.words.as_slice();
+    let status = readdev(
+        client.alloc,
+        words,
+        0,
+        &mut client.input,
+        &mut client.output,
+        &mut client.link,
+    );
+    if let Some(address) = words.get(1) {
+        let _ = client.link.dial(address.as_str());
+    }
+    status
+}
+
+/// A hub, and the door that its one connection comes from.
+#[derive(Drop)]
+struct Server<'a, R, D> {
+    rt: &'a R,
+    alloc: Global,
+    hub: &'a Hub,
+    door: D,
+}
+
+// Serves the door's next connection, before each receive of which the trigger is fired twice. (The toolchain wants a condition
+// of a function that is lent a hub in a struct.)
+fn serve_next<'a, 'b, R: Wait>(
+    server: &mut Server<'a, R, TcpDoor<'b, HostRuntime>>,
+) -> Option<SessionEnd>
+    requires { ⊤ }
+{
+    let Ok(Some(link)) = server.door.next() else {
+        return None;
+    };
+    let mut link = Firing {
+        rt: server.rt,
+        alloc: server.alloc,
+        hub: server.hub,
+        moment: 0,
+        link,
+    };
+    Some(serve_connection(server.rt, server.alloc, server.hub, 1, &mut link, &OpenGate))
+}
+
+// The device of a usual session is read over the loopback by the command that reads devices.
+#[test]
+fn a_client_reads_over_the_loopback(rt: HostRuntime) -> Result<(), Fail> {
+    let alloc = rt.alloc();
+    let hub = hub_of(alloc)?;
+    let stop = AtomicBool::new(false);
+    let mut door = TcpDoor::new(rt, &stop);
+    door.listen("127.0.0.1:0")?;
+    let Some(address) = door.address() else {
+        return Err(Fail::from("no address"));
+    };
+    let mut words = Vec::new(alloc);
+    words.push(String::from_str(alloc, "readdev")?)?;
+    words.push(format!(in alloc; "{address}")?)?;
+    for word in ["adc0", "1", "00000005", "2"] {
+        words.push(String::from_str(alloc, word)?)?;
+    }
+    let mut client = Client {
+        alloc,
+        words,
+        input: MemSource::new(TOLD.to_vec(alloc)?, 100, Vec::new(alloc)),
+        output: MemSink::new(alloc, 1_000, Vec::new(alloc))?,
+        link: TcpLink::new(rt),
+    };
+    let mut server = Server {
+        rt: &rt,
+        alloc,
+        hub: &hub,
+        door,
+    };
+    let (status, end) = thread::join_mut(
+        &rt,
+        &mut || read_at(&mut client),
+        &mut || serve_next(&mut server),
+    );
+    assert_eq!(rt; status, ReadStatus::Done);
+    assert_eq!(rt; end, Some(SessionEnd::Ended));
+    assert_eq!(rt; client.output.written(), PRINTED);
+    Ok(())
+}
