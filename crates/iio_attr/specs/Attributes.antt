@@ -39,10 +39,11 @@ row_of attr.ThreshFallingEn = row Channel (codes "thresh_falling_en") Switch
 row_of attr.Overruns = row Buffer (codes "overruns") ReadOnly
 row_of attr.DataAvailable = row Buffer (codes "data_available") ReadOnly
 row_of attr.Length = row Buffer (codes "length") ReadOnly
+row_of attr.Discarded = row Buffer (codes "discarded") ReadOnly
 
 -- all attributes
 abbrev pub attributes : List Attr
-attributes = attr.Name ∷ attr.SamplingFrequency ∷ attr.Raw ∷ attr.Calibbias ∷ attr.Scale ∷ attr.Offset ∷ attr.Calibscale ∷ attr.ThreshRisingValue ∷ attr.ThreshFallingValue ∷ attr.ThreshRisingEn ∷ attr.ThreshFallingEn ∷ attr.Overruns ∷ attr.DataAvailable ∷ attr.Length ∷ []
+attributes = attr.Name ∷ attr.SamplingFrequency ∷ attr.Raw ∷ attr.Calibbias ∷ attr.Scale ∷ attr.Offset ∷ attr.Calibscale ∷ attr.ThreshRisingValue ∷ attr.ThreshFallingValue ∷ attr.ThreshRisingEn ∷ attr.ThreshFallingEn ∷ attr.Overruns ∷ attr.DataAvailable ∷ attr.Length ∷ attr.Discarded ∷ []
 
 -- whether two scopes are one
 abbrev pub same_scope : Scope → Scope → Bool

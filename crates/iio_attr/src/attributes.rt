@@ -51,6 +51,8 @@ pub enum Attr {
     DataAvailable,
     /// How many scans the buffer has room for.
     Length,
+    /// How many scans were discarded by exchanges of the mask.
+    Discarded,
 }
 
 /// What may be written to an attribute.
@@ -69,7 +71,7 @@ enum Access {
 struct Row(Attr, Scope, &'static [u8], Access);
 
 // The attributes, in the order of `Attr`.
-static TABLE: [Row; 14] = [
+static TABLE: [Row; 15] = [
     Row(Attr::Name, Device, b"name", ReadOnly),
     Row(
         Attr::SamplingFrequency,
@@ -104,6 +106,7 @@ static TABLE: [Row; 14] = [
     Row(Attr::Overruns, Buffer, b"overruns", ReadOnly),
     Row(Attr::DataAvailable, Buffer, b"data_available", ReadOnly),
     Row(Attr::Length, Buffer, b"length", ReadOnly),
+    Row(Attr::Discarded, Buffer, b"discarded", ReadOnly),
 ];
 
 // Whether a row is the one of that name in that scope.

@@ -90,7 +90,7 @@ impl Name {
         &self.buffer[..self.len]
     }
 
-    /// The bytes of the name, and behind them others, of which nothing is said: always 32 bytes, so that they are cheap to copy.
+    /// The bytes of the name, and after them others, of which nothing is said: always 32 bytes, so that they are cheap to copy.
     #[inline(always)]
     pub fn padded(&self) -> &[u8]
         ensures bytes { take (length self.now) result.now ≡ self.now }

@@ -76,6 +76,7 @@ const ROWS: &[(Scope, &str, Option<Attr>, bool)] = &[
         false,
     ),
     (Scope::Buffer, "length", Some(Attr::Length), false),
+    (Scope::Buffer, "discarded", Some(Attr::Discarded), false),
     (Scope::Device, "raw", None, false),
     (Scope::Channel, "name", None, false),
     (Scope::Buffer, "scale", None, false),

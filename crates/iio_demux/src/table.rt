@@ -33,7 +33,7 @@ impl Entry {
             && next.to.checked_sub(self.to) == Some(self.length)
     }
 
-    // Copies the entry's bytes, and answers where they end. From byte `start` on, which is no byte behind them, all bytes
+    // Copies the entry's bytes, and answers where they end. From byte `start` on, which is no byte after them, all bytes
     // are zero.
     fn copy(self, start: usize, scan: &[u8], out: &mut [u8]) -> usize
         requires start { start ≤ self.to }

@@ -17,7 +17,7 @@ use Rattle.iio_text.specs.Numbers.{int_of}
 use Rattle.iio_layout.specs.Rows.{Rises}
 use Rattle.iio_desc.specs.DeviceLines.{before, counted_row, ints_of, rises, row_of}
 
--- numbers that were read behind others are a list of them
+-- numbers that were read after others are a list of them
 appended : (old new : List ℤ) (o : Option (List ℤ)) → option_map (λ (vs : List ℤ). old ++ vs) o ≡ Some new → (vs : List ℤ) × (o ≡ Some vs) × (new ≡ old ++ vs)
 appended old new None h = cc
 appended old new (Some vs) h = let same : old ++ vs ≡ new = cc in (vs, refl, sym same)
@@ -64,7 +64,7 @@ length_read (w ∷ ws) vs h =
     let more = more_ints (int_of w) (ints_of ws) vs h in
     ap length more.3 ∙ ap suc (length_read ws more.1 more.2)
 
--- as many numbers behind the others as words
+-- as many numbers after the others as words
 pub length-ints_of : (words : List (List ℕ)) (old new : List ℤ) → option_map (λ (vs : List ℤ). old ++ vs) (ints_of words) ≡ Some new
     → (vs : List ℤ) × (length vs ≡ length words) × (new ≡ old ++ vs)
 length-ints_of words old new h =

@@ -17,7 +17,7 @@ pub record Reading : Type 0 where
 abbrev pub Reader : Type 0
 Reader = Result Reading DescFault
 
--- before the first line, of a description that may use so many drivers
+-- before the first line, of a description that may use that many drivers
 abbrev pub new_reader : ℕ → Reader
 new_reader drivers = Ok (record { lines = 0; desc = new_desc drivers })
 

@@ -129,7 +129,7 @@ counted_row width moments words = do
   ensure (length words == width + 1) Count
   row_of moments words
 
--- `row T v ..`; so many rows have the devices before
+-- `row T v ..`; that many rows have the devices before
 abbrev pub row_line : ℕ → PartialDevice → List (List ℕ) → Result PartialDevice Why
 row_line earlier device words = do
   ensure (has_channels device && is_none device.driver) Order
@@ -143,7 +143,7 @@ row_line earlier device words = do
 abbrev pub drives : ℕ → DeviceRecord → Bool
 drives k device = option_map_or (λ driver. driver == k) device.driver false
 
--- whether a driver is handed in, of so many, and no device above has it
+-- whether a driver is handed in, of that many, and no device above has it
 abbrev pub is_free : ℕ → List DeviceRecord → ℕ → Bool
 is_free drivers devices k = nat_lt k drivers && not (list_any (drives k) devices)
 
@@ -155,7 +155,7 @@ free_driver drivers devices (negsuc k) = None
 abbrev pub driver_of : ℕ → List DeviceRecord → List ℕ → Option ℕ
 driver_of drivers devices word = option_and_then (λ k. free_driver drivers devices k) (int_of word)
 
--- `driver K`, of so many handed-in drivers, after these devices
+-- `driver K`, of that many handed-in drivers, after these devices
 abbrev pub driver_line : ℕ → List DeviceRecord → PartialDevice → List (List ℕ) → Result PartialDevice Why
 driver_line drivers devices device words = do
   ensure (has_channels device && may_drive device) Order

@@ -13,7 +13,8 @@ use Rattle.iio_text.specs.Escape.{quoted_of}
 use Rattle.iio_attr.specs.Name.{is_name}
 use Rattle.iio_desc.specs.declared.keywords.Keyword.{Keyword}
 use Rattle.iio_desc.specs.declared.keywords.Keyword.TheVariants.{Context, Trigger, Device, Channel, Timestamp, Masks, Row, Driver, Attr}
-use Rattle.iio_desc.specs.declared.limits.TheConstants.{MAX_TRIGGERS, MAX_DEVICES, MAX_PLACES}
+use Rattle.iio_trigger.specs.declared.limits.TheConstants.{MAX_PLACES}
+use Rattle.iio_desc.specs.declared.limits.TheConstants.{MAX_TRIGGERS, MAX_DEVICES}
 use Rattle.iio_desc.specs.Description.{Description, trigger_number}
 use Rattle.iio_desc.specs.DeviceLines.{unless_dash, channel_line, stamp_line, masks_line, row_line, driver_line, attr_line}
 use Rattle.iio_desc.specs.PartialDevice.{PartialDevice, new_device}

@@ -6,7 +6,8 @@ use Rattle.iio_layout.specs.Rows.{IsRecording}
 use Rattle.iio_attr.specs.Attributes.{is_writable}
 use Rattle.iio_desc.specs.declared.description.TriggerDesc.{TriggerDesc}
 use Rattle.iio_desc.specs.declared.description.AttrDesc.{AttrDesc}
-use Rattle.iio_desc.specs.declared.limits.TheConstants.{MAX_TRIGGERS, MAX_DEVICES, MAX_PLACES}
+use Rattle.iio_trigger.specs.declared.limits.TheConstants.{MAX_PLACES}
+use Rattle.iio_desc.specs.declared.limits.TheConstants.{MAX_TRIGGERS, MAX_DEVICES}
 use Rattle.iio_desc.specs.Description.{DeviceRecord, Description}
 use Rattle.iio_desc.specs.DeviceLines.{drives}
 
@@ -14,12 +15,12 @@ use Rattle.iio_desc.specs.DeviceLines.{drives}
 abbrev pub HasPlaces : TriggerDesc → Type 0
 HasPlaces t = (0 < t.places) × (t.places ≤ MAX_PLACES)
 
--- a write of an attribute of the device or of one of so many channels
+-- a write of an attribute of the device or of one of that many channels
 pub record IsWrite (channels : ℕ) (a : AttrDesc) : Type 0 where
   pub channel : IfSome a.channel (λ c. c < channels)
   pub writable : is_writable a.attr ≡ true
 
--- a device among so many triggers and handed-in drivers: it is on one of the triggers or on none, it has one of the
+-- a device among that many triggers and handed-in drivers: it is on one of the triggers or on none, it has one of the
 -- drivers or none, its rows can be played back and are as wide as its channels, and its attributes can be written
 pub record IsWellFormedDevice (triggers drivers : ℕ) (device : DeviceRecord) : Type 0 where
   pub attached : IfSome device.trigger (λ t. t < triggers)

@@ -7,6 +7,7 @@ ghost use Rattle.std.specs.Str.{bytes_eq};
 ghost use Rattle.iio_text.specs.Escape.{quoted_of};
 ghost use Rattle.iio_text.specs.LineFault.{Tells, Gives, Becomes};
 ghost use Rattle.iio_text.specs.Words.{words_of, is_space, from_word};
+ghost use Rattle.iio_trigger.specs.declared.limits.TheConstants.{MAX_PLACES};
 ghost use Rattle.iio_desc.specs.declared.limits.TheConstants.{MAX_ROWS};
 ghost use Rattle.iio_desc.specs.Description.{trigger_number};
 ghost use Rattle.iio_desc.specs.DeviceLines.{unless_dash, channel_line, stamp_line, masks_line, row_line, driver_line, attr_line};
@@ -18,12 +19,13 @@ ghost use Rattle.iio_desc.specs.WellFormed.{IsWellFormed};
 use crate::description::{Desc, DeviceDesc, TriggerDesc, trigger_number};
 use crate::device_builder::DeviceBuilder;
 use crate::keywords::Keyword;
-use crate::limits::{MAX_DEVICES, MAX_PLACES, MAX_TRIGGERS};
+use crate::limits::{MAX_DEVICES, MAX_TRIGGERS};
 use iio_attr::Name;
 use iio_text::{
     LineFault, Unescape, Why, between_quotes, count_words, ensure, first_word, from_word, read_int,
     two_words, unescape,
 };
+use iio_trigger::MAX_PLACES;
 use std::alloc::{AllocError, Global};
 use std::marker::Model;
 use std::mem;
@@ -103,7 +105,7 @@ fn read_places(word: &[u8]) -> Option<u8>
     ensures within { IfSome result (λ places. (0 < places) × (places ≤ MAX_PLACES)) }
 {
     match read_int(word) {
-        Some(places @ 1..=0xff) if places as u8 <= MAX_PLACES => Some(places as u8),
+        Some(places @ 1..=0xff) if places as usize <= MAX_PLACES => Some(places as u8),
         _ => None,
     }
 }
@@ -137,7 +139,7 @@ fn read_quoted(alloc: Global, text: &[u8]) -> Result<Vec<u8>, LineFault>
 }
 
 impl DescBuilder {
-    /// Before the first line, with so many handed-in drivers.
+    /// Before the first line, with that many handed-in drivers.
     pub(crate) fn new(alloc: Global, drivers: u32) -> DescBuilder
         ensures { result ≡ new_desc drivers }
     {

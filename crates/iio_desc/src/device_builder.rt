@@ -234,7 +234,7 @@ fn is_used(k: u32, devices: &[DeviceDesc]) -> bool
     devices.iter().any(|d| drives(k, d))
 }
 
-// Whether a driver is handed in, of so many, and no device has it.
+// Whether a driver is handed in, of that many, and no device has it.
 fn is_free(drivers: u32, devices: &[DeviceDesc], k: u32) -> bool
     ensures { result ≡ is_free drivers devices.now k }
 {
@@ -430,7 +430,7 @@ impl DeviceBuilder {
         Ok(())
     }
 
-    /// `row T v ..`; so many rows have the devices before.
+    /// `row T v ..`; that many rows have the devices before.
     pub(crate) fn row_line(&mut self, earlier: usize, words: &[u8]) -> Result<(), LineFault>
         requires { earlier + length self.old.moments ≤ MAX_ROWS }
         ensures line { Becomes result self.old self.new (row_line earlier self.old (words_of is_space words.now)) }
@@ -451,7 +451,7 @@ impl DeviceBuilder {
         Ok(())
     }
 
-    /// `driver K`, of so many handed-in drivers, after these devices.
+    /// `driver K`, of that many handed-in drivers, after these devices.
     pub(crate) fn driver_line(
         &mut self,
         drivers: u32,

@@ -10,7 +10,7 @@ mod limits;
 mod reader;
 
 pub use crate::description::{AttrDesc, Desc, DeviceDesc, TriggerDesc};
-pub use crate::limits::{MAX_DEVICES, MAX_MASKS, MAX_PLACES, MAX_ROWS, MAX_TRIGGERS};
+pub use crate::limits::{MAX_DEVICES, MAX_MASKS, MAX_ROWS, MAX_TRIGGERS};
 pub use crate::reader::{DescFault, DescReader, is_end, read_desc};
 pub use iio_attr::Name;
 pub use iio_base::Mem;

@@ -6,9 +6,6 @@ pub const MAX_TRIGGERS: usize = 16;
 /// The most devices.
 pub const MAX_DEVICES: usize = 16;
 
-/// The most devices that a trigger serves at once.
-pub const MAX_PLACES: u8 = 8;
-
 /// The most masks that a device lists.
 pub const MAX_MASKS: usize = 16;
 

@@ -13,7 +13,7 @@ const MILLI: u64 = 1_000_000;
 
 /// A ticker that waits for each moment on a clock that doesn't go back. Its ticks come each period from the
 /// start on, the first one period after it, and a tick's moment is its number times the period. One that is
-/// taken late is given at once and shifts none behind it; of those that were missed meanwhile only the last is
+/// taken late is given at once and shifts none after it; of those that were missed meanwhile only the last is
 /// given. It ends at the first moment after `stop` was set, where the clock can't be read, and where the moment
 /// is past 2^63 - 1.
 #[derive(Drop)]
@@ -85,7 +85,7 @@ impl<'a, R: Clock> Ticker for ClockTicker<'a, R> {
     }
 }
 
-// The number of the tick that comes behind `ticks` others: the next one, or the last that has come by `now`
+// The number of the tick that comes after `ticks` others: the next one, or the last that has come by `now`
 // where that is later. `None` is a period of 0, or no number that is left.
 fn next_tick(ticks: u64, now: u64, period: u64) -> Option<u64>
     ensures { IfSome result (λ tick. tick ≡ max (ticks + 1) (now / period)) }

@@ -34,7 +34,7 @@ pub use standard::{StdSink, StdSource};
 pub use tcp_door::TcpDoor;
 pub use tcp_link::TcpLink;
 pub use traits::{Failed, Sink, Source};
-pub use whole::{ReadEnd, read_whole, write_whole};
+pub use whole::{ReadEnd, read_whole, send_whole, write_whole};
 
 #[cfg(test)]
 mod tests;

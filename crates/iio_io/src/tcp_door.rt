@@ -125,7 +125,7 @@ impl<'a, R: Net<Stream = TcpStream, Listener = TcpListener> + Clock + Copy + Sen
     }
 }
 
-// The next connection of a listener. `None` where `stop` is set, before or behind it.
+// The next connection of a listener. `None` where `stop` is set, before or after it.
 fn accept_unless<L: OpenListener>(
     listener: &L,
     stop: &AtomicBool,

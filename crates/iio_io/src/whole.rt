@@ -1,9 +1,10 @@
-//! Whole texts over sources and sinks that take and give pieces.
+//! Whole texts over sources, sinks and links that take and give pieces.
 
 ghost use Rattle.std.specs.Prelude.{◌≡◌, ◌+◌, ◌<◌, ◌≤◌, ◌^◌, ◌++◌, Some, None, IfSome, IfNone, IfOk, OnOk, OnErr, vec_len};
 ghost use Rattle.iio_base.specs.Faults.{Rose};
 ghost use Rattle.iio_io.specs.Bytes.{TakesAtMost, TakesUpTo, WritesPart};
 
+use crate::link::Link;
 use crate::traits::{Failed, Sink, Source};
 use std::alloc::{AllocError, Global};
 use std::error::Error;
@@ -68,6 +69,25 @@ pub fn write_whole<K: Sink>(sink: &mut K, bytes: &[u8]) -> Result<(), Failed>
     while done < bytes.len() {
         let end = bytes.len().min(done.saturating_add(PIECE));
         done += sink.write(&bytes[done..end])?;
+    }
+    Ok(())
+}
+
+/// Sends all of `bytes`, in as many sends as it takes. Where a send fails, a front part was sent. What is left to be received
+/// stays as it is.
+pub fn send_whole<L: Link>(link: &mut L, bytes: &[u8]) -> Result<(), Failed>
+    ensures whole { OnOk result (IfSome (L.written link.old)
+        (λ xs. L.written link.new ≡ Some (xs ++ bytes.now))) }
+    ensures part { OnErr result (IfSome (L.written link.old)
+        (λ xs. WritesPart xs bytes.now (L.written link.new))) }
+    ensures silent { IfNone (L.written link.old) (L.written link.new ≡ None) }
+    ensures left { L.left link.new ≡ L.left link.old }
+    ensures steady { OnOk result (L.faults link.new ≡ L.faults link.old) }
+    ensures failed { OnErr result (Rose (L.faults link.old) (L.faults link.new)) }
+{
+    let mut done = 0;
+    while done < bytes.len() {
+        done += link.send(&bytes[done..])?;
     }
     Ok(())
 }

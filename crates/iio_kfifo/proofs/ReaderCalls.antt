@@ -21,7 +21,7 @@ same_size k slots size size' i t ss held e d h = rw (← e, ← d) h
 
 -- ---- after a load
 
--- all that is left is in hand, none of it behind
+-- all that is left is in hand, none of it after
 pub record InHand (slots n : ℕ) (a : View) (b : Me Cell View) : Type 0 where
   pub hand : List Sent
   pub view : b.0 ≡ with_reading a (record a.reading { hand = hand; seen = n; left = length hand; looks = a.reading.looks + 1 })
@@ -123,7 +123,7 @@ same_cell xs ys zs s t c d e f = ap (λ (l : List (ℕ × Cell)). cell_at l c) (
 
 -- ---- scans were received
 
--- the slots in hand are those of the view after a load, and so many of them are received
+-- the slots in hand are those of the view after a load, and that many of them are received
 pub may_receive : (k : Key) (slots n m t : ℕ) (a : View) (b : Me Cell View) (v : View) (held : List (ℕ × Cell)) (count : ℕ) → (g : InHand slots n a b) → a.part ≡ Reads → slots ≡ k.slots → a.size ≡ k.size
     → v ≡ b.0 → Turned slots a.size (length a.reading.received) t g.hand held → count ≡ length a.reading.received → m ≤ length g.hand → MayReceive k v held (count + m)
 may_receive k slots n m t a b v held count g reads same size is are counted few = rw (is, g.view) (record {

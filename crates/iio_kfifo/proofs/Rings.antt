@@ -28,7 +28,7 @@ slot_within slot count slots less most =
 -- ---- scans less
 
 module _ (first waiting size slots len room : ℕ) (ring : IsRing first waiting size slots len room) where
-  -- so many slots from the ring's start on were written
+  -- that many slots from the ring's start on were written
   pub slots_written : (count : ℕ) → count ≤ min (first + waiting) slots → count * size ≤ len
   slots_written count few = omega (arith, mul-le-mul_right size few, ring.written)
 
@@ -141,7 +141,7 @@ module _ (first waiting count size slots room : ℕ) (bytes : List ℕ) (ring : 
       let h = ring.begins in
       omega (arith, slots_written first waiting size slots (length bytes) room ring (first + min count (slots - first)) (omega (arith, there, h)))
 
--- the scans that a take of at most so many gives, their bytes, and those that are left
+-- the scans that a take of at most that many gives, their bytes, and those that are left
 module _ (first waiting most count size slots room : ℕ) (bytes : List ℕ) (ring : IsRing first waiting size slots (length bytes) room) (is : count ≡ min waiting most) where
   less : scans_in size waiting (bytes_from (first * size) bytes)
       ≡ scans_in size count (bytes_from (first * size) bytes) ++ scans_in size (waiting - count) (bytes_from (first_after first count (waiting - count) slots * size) bytes)
@@ -172,7 +172,7 @@ first_fits first waiting size slots len room ring some =
 
 -- ---- a scan more
 
--- one scan more behind those that stand in some bytes, whatever follows
+-- one scan more after those that stand in some bytes, whatever follows
 one_more : (size count : ℕ) (bytes scan rest rest' : List ℕ) → length bytes ≡ count * size → length scan ≡ size
     → scans_in size (suc count) (bytes ++ scan ++ rest') ≡ scans_in size count (bytes ++ rest) ++ scan ∷ []
 one_more size count bytes scan rest rest' all one =
@@ -184,7 +184,7 @@ one_more size count bytes scan rest rest' all one =
 abbrev pub overwritten : ℕ → (scan bytes : List ℕ) → List ℕ
 overwritten start scan bytes = take start bytes ++ scan ++ drop (start + length scan) bytes
 
--- behind the last scan
+-- after the last scan
 offer_on : (size waiting from start : ℕ) (bytes scan : List ℕ) → start ≡ from + waiting * size → start ≤ length bytes → length scan ≡ size
     → scans_in size (suc waiting) (bytes_from from (overwritten start scan bytes)) ≡ scans_in size waiting (bytes_from from bytes) ++ scan ∷ []
 offer_on size waiting from start bytes scan is within one =

@@ -1,4 +1,4 @@
--- Scans that stand one behind the other in bytes: how many there are, one more at the end, bytes behind them, the first of
+-- Scans that stand one after the other in bytes: how many there are, one more at the end, bytes after them, the first of
 -- them and the others, and their bytes.
 use Rattle.std.proofs.Common.{◌≡◌, ℕ, zero, suc, ◌+◌, ◌*◌, ◌≤◌, min, List, [], ◌∷◌, ◌++◌, length, take, drop, refl, sym, ap, ◌∙◌, arith}
 use Rattle.std.proofs.lemmas.List.{length-drop, nil_from_length, take_all, take-append-le, drop-append-le, drop-drop, drop_min, take_min}
@@ -10,7 +10,7 @@ pub length-scans_in : (size count : ℕ) (bytes : List ℕ) → length (scans_in
 length-scans_in size zero bytes = refl
 length-scans_in size (suc count) bytes = ap suc (length-scans_in size count (drop size bytes))
 
--- one scan more, behind the others
+-- one scan more, after the others
 pub scans_in-append : (size count : ℕ) (bytes scan : List ℕ) → length bytes ≡ count * size → length scan ≡ size
     → scans_in size (suc count) (bytes ++ scan) ≡ scans_in size count bytes ++ scan ∷ []
 scans_in-append size zero bytes scan all one =
@@ -25,7 +25,7 @@ scans_in-append size (suc count) bytes scan all one =
     ∙ ap (λ xs. take size bytes ∷ scans_in size (suc count) xs) rest
     ∙ ap (λ xs. take size bytes ∷ xs) (scans_in-append size count (drop size bytes) scan fewer one)
 
--- bytes behind them don't count
+-- bytes after them don't count
 pub scans_in-front : (size count : ℕ) (bytes rest : List ℕ) → count * size ≤ length bytes → scans_in size count (bytes ++ rest) ≡ scans_in size count bytes
 scans_in-front size zero bytes rest long = refl
 scans_in-front size (suc count) bytes rest long =
@@ -55,7 +55,7 @@ scans_in-bytes size (suc count) bytes =
     let times : suc count * size ≡ size + count * size = omega arith in
     rw times (ap (λ xs. take size bytes ++ xs) (scans_in-bytes size count (drop size bytes)) ∙ sym (take-add size (count * size) bytes))
 
--- the first elements of a list, at most so many, and the others
+-- the first elements of a list, at most that many, and the others
 module _ {A : Type 0} (most : ℕ) (xs front rest : List A) (is : xs ≡ front ++ rest) (long : length front ≡ min most (length xs)) where
   pub take_most : take most xs ≡ front
   take_most = sym (take_min most xs) ∙ ap (λ n. take n xs) (sym long) ∙ ap (λ ys. take (length front) ys) is ∙ take-append_seam front rest

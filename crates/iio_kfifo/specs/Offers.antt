@@ -5,7 +5,7 @@ use Rattle.iio_kfifo.specs.declared.view.Offer.{Offer}
 use Rattle.iio_kfifo.specs.declared.view.Offer.TheVariants.{Accepted, Refused}
 use Rattle.iio_kfifo.specs.declared.view.Sent.{Sent}
 
--- the accepted scans in order, each with the number lost before it, where so many were lost before the first offer
+-- the accepted scans in order, each with the number lost before it, where that many were lost before the first offer
 abbrev pub accepted_after : ℕ → List Offer → List Sent
 accepted_after lost [] = []
 accepted_after lost (Accepted scan ∷ offers) = record { scan = scan; lost = lost } ∷ accepted_after lost offers

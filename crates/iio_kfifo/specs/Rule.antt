@@ -31,7 +31,7 @@ abbrev pub closed_word : Bool → ℕ → ℕ
 closed_word false lost = 0
 closed_word true lost = lost + 1
 
--- the place behind the scans that the reader received and has in hand
+-- the place after the scans that the reader received and has in hand
 abbrev pub far : Reading → ℕ
 far r = length r.received + length r.hand
 
@@ -84,7 +84,7 @@ new_writing = record { offers = []; turn = false; seen = 0; looks = 0; closed = 
 abbrev pub new_reading : Reading
 new_reading = record { received = []; hand = []; seen = 0; left = 0; looks = 0; word = 0; asks = 0; looked = 0; offers = [] }
 
--- a view of a new ring, of that part, whose scans have so many bytes
+-- a view of a new ring, of that part, whose scans have that many bytes
 abbrev pub new_view : Part → ℕ → View
 new_view p size = record { part = p; size = size; writing = new_writing; reading = new_reading }
 

@@ -3,6 +3,7 @@
 ghost use Rattle.std.specs.Prelude.{◌≡◌, ◌≢◌, ℕ, ◌+◌, ◌*◌, ◌<◌, ◌≤◌, ◌++◌, List, [], length, IfOk, All};
 ghost use Rattle.std.specs.Arc.{arc_value};
 ghost use Rattle.iio_kfifo.specs.declared.cell.Cell.{Cell};
+ghost use Rattle.iio_kfifo.specs.declared.limits.TheConstants.{MAX_BYTES};
 ghost use Rattle.iio_kfifo.specs.declared.view.Part.TheVariants.{Fresh, Writes, Reads};
 ghost use Rattle.iio_kfifo.specs.declared.view.Sent.{Sent};
 ghost use Rattle.iio_kfifo.specs.Offers.{accepted, lost_in};
@@ -31,11 +32,11 @@ pub struct Receipt {
 }
 
 /// Makes an empty ring of at most `capacity` scans of `size` bytes each, and gives its two ends. All memory that it ever takes
-/// is taken here: `capacity` times `size` bytes, up to 4,194,304, and some for each slot. `Mem` comes where there isn't enough.
+/// is taken here: `capacity` times `size` bytes, up to `MAX_BYTES`, and some for each slot. `Mem` comes where there isn't enough.
 pub fn ring(alloc: Global, capacity: u32, size: u32) -> Result<(Writer, Reader), Mem>
     requires some { 1 ≤ capacity }
     requires bytes { 1 ≤ size }
-    requires fits { capacity * size ≤ 4194304 }
+    requires fits { capacity * size ≤ MAX_BYTES }
     ensures writer { IfOk result (λ r. r.0 ≡ record {
       ring = r.0.ring;
       size = size;
@@ -60,7 +61,7 @@ pub fn ring(alloc: Global, capacity: u32, size: u32) -> Result<(Writer, Reader),
     ends_of(alloc, table, seat, capacity, size)
 }
 
-// Cells for so many scans of so many bytes.
+// Cells for that many scans of that many bytes.
 fn cells_of(alloc: Global, capacity: u32, size: u32) -> Result<Vec<Cell>, Mem>
     ensures count { IfOk result (λ v. length v.items ≡ capacity) }
     ensures size { IfOk result (λ v. All (λ (c : Cell). length c.bytes.items ≡ size) v.items) }

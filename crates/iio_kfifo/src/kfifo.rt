@@ -1,6 +1,7 @@
 //! A queue of scans in one block of memory.
 
 ghost use Rattle.std.specs.Prelude.{◌≡◌, ℕ, ◌+◌, ◌*◌, ◌≤◌, ◌<◌, ◌-◌, ◌^◌, ◌++◌, [], length, take, drop, vec_capacity, IfOk, MatchBool};
+ghost use Rattle.iio_kfifo.specs.declared.limits.TheConstants.{MAX_BYTES};
 ghost use Rattle.iio_kfifo.specs.Ring.{first_after, slot_after};
 
 use crate::tail::{Offered, Tail};
@@ -33,7 +34,7 @@ impl Model for Kfifo {
     ghost invariant = { λ q. IsRing q.first q.waiting q.size q.capacity (length q.bytes.items) (vec_capacity q.bytes) };
 }
 
-// The slot that comes so many after another, of so many slots in a ring.
+// The slot that comes that many after another, of that many slots in a ring.
 fn slot_after(slot: u32, count: u32, slots: u32) -> u32
     requires slot { slot < slots }
     requires count { count ≤ slots }
@@ -48,7 +49,7 @@ fn slot_after(slot: u32, count: u32, slots: u32) -> u32
     }
 }
 
-// The first scan's slot once so many were taken, by how many scans are left. With none the ring begins anew, so that a queue
+// The first scan's slot once that many were taken, by how many scans are left. With none the ring begins anew, so that a queue
 // that is read often uses few bytes.
 fn first_after(first: u32, count: u32, left: u32, slots: u32) -> u32
     requires slot { first < slots }
@@ -95,7 +96,7 @@ impl Kfifo {
     pub fn new(alloc: Global, capacity: u32, size: u32) -> Result<Kfifo, Mem>
         requires some { 1 ≤ capacity }
         requires bytes { 1 ≤ size }
-        requires fits { capacity * size ≤ 4194304 }
+        requires fits { capacity * size ≤ MAX_BYTES }
         ensures { IfOk result (λ q. q ≡ record {
           scans = [];
           taken = 0;
@@ -134,7 +135,7 @@ impl Kfifo {
         true
     }
 
-    /// Moves up to `most` of the oldest scans behind the bytes that stand in `out`, one behind the other, and says how many
+    /// Moves up to `most` of the oldest scans after the bytes that stand in `out`, one after the other, and says how many
     /// scans there were. There is room in `out` for the bytes of `most` scans.
     pub fn take_scans(&mut self, most: u32, out: &mut Vec<u8>) -> u32
         requires { length out.old.items + most * self.old.size ≤ vec_capacity out.old }

@@ -11,6 +11,7 @@
 mod cell;
 mod ends;
 mod kfifo;
+mod limits;
 mod reader;
 mod rule;
 mod tail;
@@ -21,6 +22,7 @@ mod writer;
 pub use ends::{Receipt, give_back, ring};
 pub use iio_base::Mem;
 pub use kfifo::Kfifo;
+pub use limits::MAX_BYTES;
 pub use reader::{Ended, Ending, Mark, Reader};
 pub use tail::{Offered, Tail};
 pub use view::{Offer, Reading, Sent, Writing};

@@ -101,7 +101,7 @@ fn take_one(
     Some(lost)
 }
 
-// Appends the scan in the slot in hand, which goes behind the others in hand.
+// Appends the scan in the slot in hand, which goes after the others in hand.
 fn append_next(
     shared: &Shared<Cell, View, Key, RingRule>,
     seat: &mut Seat<Cell, View>,
@@ -266,7 +266,7 @@ impl Reader {
         taken
     }
 
-    /// Takes the oldest scans that are left, up to `most`, appends their bytes to `out`, one scan behind the other, and says how
+    /// Takes the oldest scans that are left, up to `most`, appends their bytes to `out`, one scan after the other, and says how
     /// many there were. There is room in `out` for the bytes of `most` scans. Fewer come only where this call found nothing
     /// left in the end.
     pub fn take_scans(&mut self, most: u32, out: &mut Vec<u8>) -> u32

@@ -1,4 +1,4 @@
-//! The largest queues. All else is played in `iiod_main`, through `run`.
+//! The largest queues. All else is played in `iiod_program_tests`, through `run`.
 
 use crate::{Kfifo, Offered, Tail};
 use std::test::Fail;

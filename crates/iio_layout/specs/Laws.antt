@@ -1,6 +1,7 @@
--- Laws of layouts and scans, for proofs alone: no public clause cites this file. How many values a capture has, how long
--- a scan is, and each of its bytes.
+-- Laws of masks, layouts and scans, for proofs alone: no public clause cites this file. Which channels a mask has, how many
+-- values a capture has, how long a scan is, and each of its bytes.
 use Rattle.std.proofs.Common.{◌≡◌, ℕ, zero, suc, ◌+◌, ◌-◌, ◌*◌, ◌^◌, ◌<◌, ◌≤◌, Bool, true, false, List, [], ◌∷◌, ◌++◌, length, get_or, map, take, drop, replicate, sum_by, fold, Option, Some, None, ℤ, refl, sym, ap, ◌∙◌, inl, inr, arith, add-one}
+use Rattle.std.specs.Prelude.{◌||◌}
 use Rattle.std.specs.Int.{bytes_high_first, bytes_low_first, next_multiple_of}
 use Rattle.std.proofs.lemmas.Bool.{cases_Bool, cases_lt}
 use Rattle.std.proofs.lemmas.List.{get_or_append_left, get_or-append_right, get_or_past, get_or-replicate, length-append, length-drop, length-map, length-replicate, length-take, take_all}
@@ -11,6 +12,7 @@ use Rattle.iio_scan_type.specs.Format.{Format, element_size, size_of, stamp_form
 use Rattle.iio_scan_type.specs.declared.Endian.{Endian}
 use Rattle.iio_scan_type.specs.declared.Endian.TheVariants.{Big, Little}
 use Rattle.iio_layout.specs.declared.channel.Channel.{Channel}
+use Rattle.iio_layout.specs.Active.{has_below, has_data}
 use Rattle.iio_layout.specs.Layout.{Covers, end_after, end_below, format_at, largest_below, place_of, scan_size, size_at}
 use Rattle.iio_layout.specs.Scan.{capture_values, elements_below, field_at, field_of, first_value, front_below, padded, scan_of, values_at, values_below, values_by, with_field}
 use Rattle.iio_layout.specs.Shape.{ShapeRecord, count_of, formats_of, stamp_formats, width_of}
@@ -59,6 +61,40 @@ pub count_is : (shape : ShapeRecord) → count_of shape ≡ length shape.channel
 count_is shape =
     length-append (map (λ channel. channel.ty) shape.channels) (stamp_formats shape.stamp)
     ∙ ap (λ n. n + length (stamp_formats shape.stamp)) (length-map shape.channels (λ channel. channel.ty))
+
+-- ---- the channels of a mask
+
+-- a mask that has a channel below a number names one
+pub some_below : (mask n : ℕ) → has_below mask n ≡ true → (c : ℕ) × (c < n) × (has mask c ≡ true)
+some_below mask zero h = absurd (cc)
+some_below mask (suc n) h = by (has mask n) refl h (some_below mask n)
+  where
+    by : (b : Bool) → has mask n ≡ b → (b || has_below mask n) ≡ true
+        → (has_below mask n ≡ true → (c : ℕ) × (c < n) × (has mask c ≡ true)) → (c : ℕ) × (c < suc n) × (has mask c ≡ true)
+    by true e h below = (n, omega arith, e)
+    by false e h below = let s = below h in (s.0, omega (arith, s.1), s.2)
+
+-- and one that names a channel below a number has it
+pub has_below_at : (mask c n : ℕ) → c < n → has mask c ≡ true → has_below mask n ≡ true
+has_below_at mask c zero below here = absurd (omega arith)
+has_below_at mask c (suc n) below here = by (has mask n) refl (has_below_at mask c n)
+  where
+    by : (b : Bool) → has mask n ≡ b → (c < n → has mask c ≡ true → has_below mask n ≡ true) → (b || has_below mask n) ≡ true
+    by true e earlier = refl
+    by false e earlier = elim (cases_lt c n) [
+      | inl under ↦ earlier under here
+      | inr over ↦ let same : c ≡ n = omega arith in absurd (cc (sym e ∙ ap (λ (k : ℕ). has mask k) (sym same) ∙ here))
+    ]
+
+-- a data channel is a channel
+pub data_channel : (shape : ShapeRecord) (c : ℕ) → c < length shape.channels → c < count_of shape
+data_channel shape c less = omega (arith, less, count_is shape)
+
+-- a mask with a data channel has a channel
+pub data_below : (shape : ShapeRecord) (mask : ℕ) → has_data shape mask ≡ true → has_below mask (count_of shape) ≡ true
+data_below shape mask h =
+    let s = some_below mask (length shape.channels) h in
+    has_below_at mask s.0 (count_of shape) (data_channel shape s.0 s.1) s.2
 
 -- as many elements as were asked for
 pub length-elements_below : (value : ℕ → ℤ) (n : ℕ) → length (elements_below value n) ≡ n

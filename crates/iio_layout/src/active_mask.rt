@@ -2,7 +2,7 @@
 
 ghost use Rattle.std.specs.Prelude.{◌≡◌, ◌≢◌, ℕ, ◌^◌, ◌<◌, ◌≤◌, true, length, option_map, IfSome, IsSome};
 ghost use Rattle.iio_mask.specs.Mask.{has, is_within};
-ghost use Rattle.iio_layout.specs.Active.{active_of, data_part, with_stamp};
+ghost use Rattle.iio_layout.specs.Active.{active_of, data_part, has_data, with_stamp};
 ghost use Rattle.iio_layout.specs.Shape.{count_of};
 
 use crate::Shape;
@@ -21,6 +21,19 @@ pub fn active(shape: &Shape, wanted: Mask) -> Option<Mask>
 {
     let asked = pick(shape.listed(), data_part(shape, wanted))?;
     Some(with_stamp(shape, wanted, asked))
+}
+
+/// Whether a mask has a data channel.
+#[tactic(auto, using(crate::specs::Laws::has_below_at))]
+pub fn has_data(shape: &Shape, mask: Mask) -> bool
+    ensures { result ≡ has_data shape.now mask.bits }
+{
+    for c in 0..shape.inputs() {
+        if mask.contains(c) {
+            return true;
+        }
+    }
+    false
 }
 
 // The mask without the timestamp's bit.

@@ -3,6 +3,7 @@
 ghost use Rattle.std.specs.Prelude.{◌≡◌, ◌≢◌, ℕ, ◌+◌, ◌*◌, ◌^◌, ◌<◌, ◌≤◌, true};
 ghost use Rattle.std.specs.Int.{IsPowerOfTwo, next_multiple_of};
 ghost use Rattle.iio_mask.specs.Mask.{has};
+ghost use Rattle.iio_layout.specs.Active.{has_below, has_data};
 ghost use Rattle.iio_layout.specs.Layout.{end_below, largest_below, place_of, scan_size, size_at};
 ghost use Rattle.iio_layout.specs.Shape.{count_of, formats_of};
 
@@ -29,6 +30,8 @@ pub fn scan_size(shape: &Shape, mask: Mask) -> u32
     ensures value { result ≡ scan_size shape.now mask.bits }
     ensures few { result ≤ MAX_CHANNEL_SIZE * count_of shape.now }
     ensures some { (c : ℕ) → c < count_of shape.now → has mask.bits c ≡ true → 1 ≤ result }
+    ensures any { has_below mask.bits (count_of shape.now) ≡ true → 1 ≤ result }
+    ensures data { has_data shape.now mask.bits ≡ true → 1 ≤ result }
 {
     let Extent { end, largest } = extent_of(shape, mask);
     if largest == 0 {

@@ -9,7 +9,7 @@ mod scan;
 mod shape;
 mod values;
 
-pub use active_mask::active;
+pub use active_mask::{active, has_data};
 pub use channel::{Channel, Direction, Kind, Suffix, read_id, write_id};
 pub use iio_base::Mem;
 pub use layout::{aligned, place, scan_size};

@@ -65,7 +65,7 @@ fn put_channels<V: Values>(shape: &Shape, mask: Mask, values: &V, t: i64, out: &
 }
 
 // Writes channel `c` after those that end at `end`, with zero bytes up to its place, and answers where it ends. Nothing
-// is said of the bytes behind that.
+// is said of the bytes after that.
 #[inline]
 fn put_channel<V: Values>(
     shape: &Shape,
@@ -139,7 +139,7 @@ fn padded_place(size: usize, end: usize, out: &mut [u8]) -> usize
 }
 
 // Writes zero bytes over the gap before a channel of that size, which is larger than the gap. Nothing is said of the bytes
-// behind it: a fixed number of them is written faster than a small one.
+// after it: a fixed number of them is written faster than a small one.
 #[inline]
 fn put_gap(size: usize, gap: usize, out: &mut [u8])
     requires gap { gap < size }
@@ -168,7 +168,7 @@ fn aligned(end: usize, size: usize) -> usize
 }
 
 // Writes the elements of data channel `c`, at the front of bytes of which there may be more. Nothing is said of those
-// behind them.
+// after them.
 #[inline]
 fn put_values<V: Values>(ty: &ScanType, c: u32, values: &V, out: &mut [u8])
     requires channel { c < V.inputs values.now }

@@ -1,30 +1,15 @@
 -- Channels of a scan, and what is kept of them.
-use Rattle.std.proofs.Common.{◌≡◌, ◌≢◌, ◌⊎◌, inl, inr, slice_index, ℕ, zero, suc, ◌+◌, ◌<◌, ◌||◌, Bool, true, false, if◌then◌else◌, List, [], ◌∷◌, ◌++◌, length, slice_index_or, take, drop, map, ℤ, length-append, add-one, append_assoc, refl, sym, ap, ◌∙◌, arith}
+use Rattle.std.proofs.Common.{◌≡◌, ◌≢◌, ◌⊎◌, inl, inr, slice_index, ℕ, ◌+◌, ◌<◌, true, false, if◌then◌else◌, List, [], ◌∷◌, ◌++◌, length, slice_index_or, take, drop, ℤ, add-one, append_assoc, refl, sym, ap, ◌∙◌, arith}
 use Rattle.std.proofs.lemmas.Bool.{cases_eq}
-use Rattle.std.proofs.lemmas.List.{get_or-set_same, get_or-set_other, length-map}
+use Rattle.std.proofs.lemmas.List.{get_or-set_same, get_or-set_other}
 use Rattle.std.proofs.Math.ListN.{set}
 use Rattle.std.proofs.Math.Seq.{drop-cons}
 use Rattle.iio_mask.specs.Mask.{has}
-use Rattle.iio_layout.specs.Active.{has_below}
-use Rattle.iio_layout.specs.Shape.{ShapeRecord, count_of, stamp_formats}
+use Rattle.iio_layout.specs.Shape.{ShapeRecord}
 use Rattle.iio_output.specs.View.{IsPlace}
 use Rattle.iio_output.specs.Last.{GivenScan, element_in, last_from}
 
--- a data channel is a channel
-pub data_channel : (shape : ShapeRecord) (c : ℕ) → c < length shape.channels → c < count_of shape
-data_channel shape c less = omega (arith, less, length-append (map (λ channel. channel.ty) shape.channels) (stamp_formats shape.stamp), length-map shape.channels (λ channel. channel.ty))
-
--- a mask with a channel has one
-pub some_below : (mask n : ℕ) → has_below mask n ≡ true → (c : ℕ) × (c < n) × (has mask c ≡ true)
-some_below mask zero h = absurd (cc)
-some_below mask (suc n) h = by (has mask n) refl h (some_below mask n)
-  where
-    by : (b : Bool) → has mask n ≡ b → (b || has_below mask n) ≡ true
-        → (has_below mask n ≡ true → (c : ℕ) × (c < n) × (has mask c ≡ true)) → (c : ℕ) × (c < suc n) × (has mask c ≡ true)
-    by true e h below = (n, omega arith, e)
-    by false e h below = let s = below h in (s.0, omega (arith, s.1), s.2)
-
--- one value more is kept, at channel c: what stands before it and at it is kept, and what stands behind it stays
+-- one value more is kept, at channel c: what stands before it and at it is kept, and what stands after it stays
 pub kept_more : (shape : ShapeRecord) (x : GivenScan) (c : ℕ) (values values' kept : List ℤ) (d : ℤ) → c < length values
     → take (c + 1) values' ≡ take c values ++ (if has x.mask c then element_in shape x c else slice_index_or values c d) ∷ []
     → drop (c + 1) values' ≡ drop (c + 1) values → take c values ++ last_from shape x c (drop c values) ≡ kept

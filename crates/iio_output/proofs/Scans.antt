@@ -1,4 +1,4 @@
--- Scans that stand one behind the other in bytes: how many there are, those in two runs of bytes, the first of them and the
+-- Scans that stand one after the other in bytes: how many there are, those in two runs of bytes, the first of them and the
 -- others, and the first few.
 use Rattle.std.proofs.Common.{◌≡◌, ℕ, zero, suc, ◌+◌, ◌-◌, ◌*◌, ◌/◌, ◌%◌, ◌≤◌, ◌<◌, ◌==◌, min, nat_lt, Bool, true, false, ◌⊎◌, inl, inr, List, [], ◌∷◌, ◌++◌, length, take, drop, length-append, length-drop, mul-le-mul_right, refl, sym, ap, ◌∙◌, arith}
 use Rattle.std.proofs.lemmas.List.{length-take-le, nil_from_length, take_all, take-append-drop, take-append-le, drop-append-le}
@@ -13,7 +13,7 @@ pub length-scans_in : (n size : ℕ) (bytes : List ℕ) → length (scans_in n s
 length-scans_in zero size bytes = refl
 length-scans_in (suc n) size bytes = ap suc (length-scans_in n size (drop size bytes))
 
--- bytes behind them don't count
+-- bytes after them don't count
 scans_in-front : (n size : ℕ) (bytes rest : List ℕ) → n * size ≤ length bytes → scans_in n size (bytes ++ rest) ≡ scans_in n size bytes
 scans_in-front zero size bytes rest long = refl
 scans_in-front (suc n) size bytes rest long =

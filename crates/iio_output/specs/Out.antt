@@ -79,7 +79,7 @@ write_answer w bytes = unwrap_or (first_refusal (write_faults w bytes)) (Bytes (
 abbrev pub accepted_of : WriterRecord → List ℕ → List (List ℕ)
 accepted_of w bytes = if is_some (first_refusal (write_faults w bytes)) then [] else taken_by w bytes
 
--- what is taken waits behind what waited
+-- what is taken waits after what waited
 abbrev pub after_write : WriterRecord → List ℕ → WriterRecord
 after_write w bytes = record w { scans = w.scans ++ accepted_of w bytes }
 

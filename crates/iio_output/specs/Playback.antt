@@ -38,7 +38,7 @@ abbrev pub taken_at : (cyclic : Bool) → (capacity : ℕ) → Outgoing → List
 taken_at true capacity x scans = if is_none_left x.written then scans else []
 taken_at false capacity x scans = take (capacity - (length x.written - x.given)) scans
 
--- ... and they stand behind those written
+-- ... and they stand after those written
 abbrev pub with_written : List (List ℕ) → Outgoing → Outgoing
 with_written scans x = record x { written = x.written ++ scans }
 

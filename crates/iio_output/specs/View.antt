@@ -1,16 +1,17 @@
 -- What contracts see of an output device's fields, and what always holds of them. Cited by the models alone.
 use Rattle.std.specs.Prelude.{◌≡◌, ℕ, ◌*◌, ◌+◌, ◌%◌, ◌^◌, ◌<◌, ◌≤◌, true, List, length, slice_index}
 use Rattle.iio_mask.specs.Mask.{has}
+use Rattle.iio_kfifo.specs.declared.limits.TheConstants.{MAX_BYTES}
 use Rattle.iio_scan_type.specs.Format.{size_of}
 use Rattle.iio_layout.specs.Layout.{format_at, place_of, scan_size}
 use Rattle.iio_layout.specs.Shape.{ShapeRecord, count_of, formats_of}
 use Rattle.iio_output.specs.Out.{WriterRecord}
 
--- a writer's bytes are whole scans, in room for so many
+-- a writer's bytes are whole scans, in room for that many
 pub record AreWhole (size capacity room : ℕ) (bytes : List ℕ) : Type 0 where
   pub sized : 1 ≤ size
   pub some : 1 ≤ capacity
-  pub fits : capacity * size ≤ 4194304
+  pub fits : capacity * size ≤ MAX_BYTES
   pub roomy : room ≡ capacity * size
   pub whole : length bytes % size ≡ 0
   pub within : length bytes ≤ room

@@ -3,6 +3,7 @@
 ghost use Rattle.std.specs.Prelude.{◌≡◌, ℕ, ◌*◌, ◌^◌, ◌<◌, ◌≤◌, ◌↔◌, true, length, map, option_map, pos, slice_index_or, is_some, IfOk, IfSome, IsSome};
 ghost use Rattle.std.specs.Option.{option_map_or};
 ghost use Rattle.iio_layout.specs.Active.{has_below};
+ghost use Rattle.iio_kfifo.specs.declared.limits.TheConstants.{MAX_BYTES};
 ghost use Rattle.iio_layout.specs.Layout.{scan_size};
 ghost use Rattle.iio_layout.specs.Shape.{count_of};
 ghost use Rattle.iio_output.specs.Out.{Starts, WriterRecord, after_giving, after_write, new_output, next_answer, room_after, underruns_with, with_given, without_writer, write_answer};
@@ -49,16 +50,6 @@ impl Model for Out {
     ghost view = { λ o. record { shape = o.shape; last = o.last.items; underruns = o.underruns; writer = o.writer } };
 
     ghost invariant = { λ o. (length o.last.items ≡ length o.shape.channels) × IfSome o.writer (IsWriterOf o.shape o.places) };
-}
-
-// The bytes of a scan under a mask with a channel.
-fn writer_size(shape: &Shape, mask: Mask) -> u32
-    requires below { mask.bits < 2 ^ count_of shape.now }
-    requires channel { has_below mask.bits (count_of shape.now) ≡ true }
-    ensures value { result ≡ scan_size shape.now mask.bits }
-    ensures some { 1 ≤ result }
-{
-    scan_size(shape, mask)
 }
 
 impl Out {
@@ -130,14 +121,14 @@ impl Out {
         requires below { mask.bits < 2 ^ count_of self.old.shape }
         requires channel { has_below mask.bits (count_of self.old.shape) ≡ true }
         requires some { 1 ≤ capacity }
-        requires fits { capacity * scan_size self.old.shape mask.bits ≤ 4194304 }
+        requires fits { capacity * scan_size self.old.shape mask.bits ≤ MAX_BYTES }
         ensures starts { Starts mask.bits capacity cyclic result self.old self.new }
         ensures playback { IfOk result (λ _. Plays nothing_written self.new) }
     {
         if self.writer.is_some() {
             return Err(OutFault::Busy);
         }
-        let size = writer_size(&self.shape, mask);
+        let size = scan_size(&self.shape, mask);
         let Ok(writer) = Writer::new(self.alloc, mask, size, capacity, cyclic) else {
             return Err(OutFault::Mem);
         };
@@ -147,7 +138,7 @@ impl Out {
         Ok(())
     }
 
-    /// Writes a payload: the first of its scans that fit are taken, and wait behind those that wait, in their order. It is
+    /// Writes a payload: the first of its scans that fit are taken, and wait after those that wait, in their order. It is
     /// refused, in this order, as `BadSize` exactly where its length isn't a multiple of a scan's bytes, or, for a cyclic
     /// writer, is 0 or has more scans than the capacity; as `Standing` exactly where a cyclic writer has written its cycle;
     /// as `Full` exactly where its length isn't 0 and a writer that isn't cyclic has `capacity` scans waiting. Where it is
@@ -165,7 +156,7 @@ impl Out {
     }
 
     /// Gives the device its next scan: the first that waits is moved into `out`, which has the bytes of a scan; a cyclic
-    /// writer's waits again, behind the others. `Underrun` comes exactly where none waits, for a cyclic writer where it has
+    /// writer's waits again, after the others. `Underrun` comes exactly where none waits, for a cyclic writer where it has
     /// no cycle; it is counted.
     pub fn next(&mut self, out: &mut [u8]) -> Next
         requires writer { IsSome self.old.writer }

@@ -2,6 +2,7 @@
 
 ghost use Rattle.std.specs.Prelude.{◌≡◌, ◌≢◌, ◌*◌, ◌≤◌, ◌==◌, length, is_none, IfOk};
 ghost use Rattle.iio_base.specs.Refusals.{first_refusal};
+ghost use Rattle.iio_kfifo.specs.declared.limits.TheConstants.{MAX_BYTES};
 ghost use Rattle.iio_output.specs.Out.{after_next, after_write, new_writer, next_answer, room_after, write_answer, write_faults};
 ghost use Rattle.iio_output.specs.Written.{is_bad_size, is_full, is_standing, scans_of};
 
@@ -68,7 +69,7 @@ impl Writer {
     ) -> Result<Writer, Mem>
         requires sized { 1 ≤ size }
         requires some { 1 ≤ capacity }
-        requires fits { capacity * size ≤ 4194304 }
+        requires fits { capacity * size ≤ MAX_BYTES }
         ensures { IfOk result (λ w. w ≡ new_writer mask.bits size capacity cyclic) }
     {
         let bytes = HeapCircularBuffer::with_capacity(alloc, capacity as usize * size as usize)?;
@@ -135,7 +136,7 @@ impl Writer {
         }
     }
 
-    /// Takes the first scans of a payload that fit, behind those that wait.
+    /// Takes the first scans of a payload that fit, after those that wait.
     pub(crate) fn write(&mut self, payload: &[u8]) -> Wrote
         ensures answer { result ≡ write_answer self.old payload.now }
         ensures written { self.new ≡ after_write self.old payload.now }
@@ -147,7 +148,7 @@ impl Writer {
         Wrote::Bytes(taken as u32)
     }
 
-    /// Moves the first scan that waits into `out`. A cyclic writer's waits again, behind the others.
+    /// Moves the first scan that waits into `out`. A cyclic writer's waits again, after the others.
     pub(crate) fn next(&mut self, out: &mut [u8]) -> Next
         requires { length out.old ≡ self.old.size }
         ensures answer { result ≡ next_answer self.old.scans }

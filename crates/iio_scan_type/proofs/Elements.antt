@@ -17,7 +17,7 @@ use Rattle.iio_scan_type.specs.declared.Endian.{Endian}
 use Rattle.iio_scan_type.specs.declared.Endian.TheVariants.{Big, Little}
 use Rattle.iio_scan_type.proofs.Numbers.{bounds_of, high_below, neg_is, storage_cases}
 
--- ---- a value of so many bits
+-- ---- a value of that many bits
 
 two_halves : (r : ℕ) → 1 ≤ r → 2 ^ r ≡ 2 ^ (r - 1) + 2 ^ (r - 1)
 two_halves zero h = absurd (omega arith)

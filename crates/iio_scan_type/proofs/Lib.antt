@@ -1,4 +1,4 @@
 mod Numbers
 mod NumberBytes
-mod Elements
+pub mod Elements
 mod Texts

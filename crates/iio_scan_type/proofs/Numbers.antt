@@ -1,4 +1,4 @@
--- Numbers of so many bits, their shifts, and values in two's complement.
+-- Numbers of that many bits, their shifts, and values in two's complement.
 use Rattle.std.proofs.Common.{add-zero, lt-ltb, le-ltb, ◌≡◌, ℕ, zero, suc, ◌+◌, ◌-◌, ◌*◌, ◌/◌, ◌%◌, ◌^◌, ◌<◌, ◌≤◌, refl, ap, sym, ◌∙◌, arith, ℤ, pos, negsuc, neg_ℤ, FitsSigned, ◌+ℤ◌, ◌≤ℤ◌, Bool, true, false, ltb, IsTrue, ◌⊎◌, inl, inr}
 use Rattle.std.proofs.Math.Nat.{mul_assoc, pow-le-pow_right}
 use Rattle.std.proofs.lemmas.Nat.{pow_pos, pow-add, shr_high, mod_low, shr_split, shl-shr, mod-pow-add, shr-shr, field_of, shr_below, le-div, mod_below}

@@ -48,12 +48,12 @@ in_profile f =
 abbrev pub IsInProfile : Format → Type 0
 IsInProfile f = IsTrue (in_profile f)
 
--- the least value of so many bits
+-- the least value of that many bits
 abbrev pub least_by : Sign → ℕ → ℤ
 least_by Signed bits = neg_ℤ (pos (2 ^ (bits - 1)))
 least_by Unsigned bits = pos 0
 
--- the greatest value of so many bits
+-- the greatest value of that many bits
 abbrev pub greatest_by : Sign → ℕ → ℤ
 greatest_by Signed bits = pos (2 ^ (bits - 1) - 1)
 greatest_by Unsigned bits = pos (2 ^ bits - 1)

@@ -299,7 +299,7 @@ impl ScanType {
     }
 
     /// Writes one element as `put_element` does, at the front of bytes of which there may be more. Nothing is said of
-    /// those behind the element.
+    /// those after the element.
     #[inline(always)]
     pub fn put_front(&self, value: i64, out: &mut [u8])
         requires { element_size self.now ≤ length out.old }

@@ -38,7 +38,7 @@ moments_parted moments t h i j d le last e = by_cases (cases_eq i j)
     by_cases (inl same) = ap (λ k. int_le (get_or moments k d) t) same ∙ e
     by_cases (inr other) = let up = h i j d (omega arith) last in grind (arith, ints)
 
--- the last of so many rows, as a part of the values
+-- the last of that many rows, as a part of the values
 pub row_part : (rows : RowsRecord) (n : ℕ) → 0 < n → take (n * rows.width - (n - 1) * rows.width) (drop ((n - 1) * rows.width) rows.values) ≡ row_before rows n
 row_part rows zero h = absurd (omega arith)
 row_part rows (suc k) h =
@@ -46,7 +46,7 @@ row_part rows (suc k) h =
     let size : suc k * rows.width - k * rows.width ≡ rows.width = omega (arith, suc-mul k rows.width) in
     rw (front, size) refl
 
--- so many moments have come where the last of them has and the next hasn't
+-- that many moments have come where the last of them has and the next hasn't
 pub come_at : (moments : List ℤ) (t : ℤ) (n : ℕ) → Rises moments → n ≤ length moments → (0 < n → int_lt t (get_or moments (n - 1) (pos 0)) ≡ false)
     → (n < length moments → int_lt t (get_or moments n (pos 0)) ≡ true) → n ≡ come_by moments t
 come_at moments t n rises within last next = sym (count_to_point (λ m. int_le m t) moments n within (come, later))

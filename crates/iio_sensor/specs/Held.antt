@@ -24,6 +24,6 @@ pub record IsScanOf (h : Held) (shape : ShapeRecord) (value : ℕ → ℕ → �
   pub bytes : take (scan_size shape h.mask.bits) h.scan ≡ scan_of shape h.mask.bits (values_by shape value) moment
   pub place : MomentStands shape h.mask.bits → h.place ≡ place_of shape h.mask.bits (length shape.channels)
 
--- for each shape that a scan is held for, it is that of the last of so many rows as moments had come
+-- for each shape that a scan is held for, it is that of the last of as many rows as moments had come
 abbrev pub IsHeld : RowsRecord → List ℤ → Held → Type 0
 IsHeld rows biases h = (shape : ShapeRecord) → IsFor h shape → IsScanOf h shape (value_in (row_before rows h.come) biases (formats_of shape))

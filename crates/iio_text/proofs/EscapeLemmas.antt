@@ -21,7 +21,7 @@ pub before-before : (xs ys : List ℕ) (r : Result (List ℕ) ℕ) → before xs
 before-before xs ys (Ok more) = rw append_assoc refl
 before-before xs ys (Err place) = refl
 
--- a piece, and then the text behind it
+-- a piece, and then the text after it
 pub piece_step : (place byte more : ℕ) (s : List ℕ) → piece_of s ≡ Some (byte, more) → more < length s → unescaped_from place 0 s ≡ before (byte ∷ []) (unescaped_from (place + (more + 1)) 0 (drop (more + 1) s))
 piece_step place byte more [] e h = absurd (omega arith)
 piece_step place byte more (b ∷ rest) e h =

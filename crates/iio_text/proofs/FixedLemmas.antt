@@ -33,7 +33,7 @@ padded_digit ds places i d h here past =
       | inr ge ↦ ap digit_value (get_or-append_right ds (replicate places 48) i 0 ge ∙ get_or-replicate places (i - length ds) 48 0 (omega arith)) ∙ sym (past ge)
     ]
 
--- one more digit behind the point
+-- one more digit after the point
 pub part_more : (ds : List ℕ) (places i d : ℕ) → i < places → (i < length ds → d ≡ digit_value (get_or ds i 0)) → (length ds ≤ i → d ≡ 0) → digits_value 10 (take (i + 1) (ds ++ replicate places 48)) ≡ digits_value 10 (take i (ds ++ replicate places 48)) * 10 + d
 part_more ds places i d h here past =
     let room : i < length (ds ++ replicate places 48) = grind (arith, common_steps) in
@@ -165,7 +165,7 @@ sign_kept form true whole part h =
 abbrev sign_text : Bool → List ℕ
 sign_text negative = if negative then 45 ∷ [] else []
 
--- a sign, digits, and the digits behind the point
+-- a sign, digits, and the digits after the point
 read_text : (form : Form) (negative : Bool) (ds : List ℕ) (whole part : ℕ) → list_all is_ascii_digit ds ≡ true → 0 < length ds → digits_value 10 ds ≡ whole → (negative ≡ true → 0 < whole + part) → whole ≤ 2147483647 → part < 10 ^ places_of form → fixed_of form (sign_text negative ++ ds ++ part_text form part) ≡ Ok (record { negative = negative; whole = whole; part = part; form = form })
 read_text form true ds whole part digits some value s w p =
     by_parts form (45 ∷ (ds ++ part_text form part)) (ds ++ part_text form part) ds (last_digits (places_of form) part) true _
@@ -185,7 +185,7 @@ fixed_of-printed_fixed v h =
     let numeral = decimal_is_IsNumeral v.whole (omega (arith, h.whole)) in
     read_text v.form v.negative (decimal v.whole) v.whole v.part (are_digits (decimal v.whole) numeral.0.1) numeral.0.0 numeral.1 h.sign h.whole h.part
 
--- ---- the digits behind a leading 1
+-- ---- the digits after a leading 1
 led_step : (x q : ℕ) → ((x * 10 + q) / 10 ≡ x + q / 10) × ((x * 10 + q) % 10 ≡ q % 10)
 led_step x q = (omega arith, omega arith)
 

@@ -76,7 +76,7 @@ take_into a k n xs ys h m =
     ∙ take-append-add (take a xs) (ys ++ post_of a k xs) n
     ∙ ap (λ t. take a xs ++ t) (take-append-le n ys (post_of a k xs) m)
 
--- the same, of a vector that grew for the part, and is cut behind it
+-- the same, of a vector that grew for the part, and is cut after it
 pub take_grown : (a k n m : ℕ) (xs ys after : List ℕ) → a ≤ length xs → n ≤ length ys → a + n ≤ m → take (a + n) (take m (put_mid a k xs ys ++ after)) ≡ take a xs ++ take n ys
 take_grown a k n m xs ys after h l within =
     let long : a + n ≤ length (put_mid a k xs ys) = omega (arith, length-append (take a xs) (ys ++ post_of a k xs), length-append ys (post_of a k xs), length-take-le a xs h) in

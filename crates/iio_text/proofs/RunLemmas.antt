@@ -92,7 +92,7 @@ front_step : (t : Bool) (n m : ℕ) → n ≤ m → cond (not t) (1 + n) 0 ≤ c
 front_step true n m h = omega arith
 front_step false n m h = omega arith
 
--- the first place of a front is never behind that of the whole
+-- the first place of a front is never after that of the whole
 pub place_front : (q : ℕ → Bool) (a b : List ℕ) → position_or_len q a ≤ position_or_len q (a ++ b)
 place_front q [] b = omega arith
 place_front q (x ∷ xs) b = front_step (q x) (position_or_len q xs) (position_or_len q (xs ++ b)) (place_front q xs b)
@@ -106,7 +106,7 @@ place_in_front : (q : ℕ → Bool) (a b : List ℕ) → position_or_len q a < l
 place_in_front q [] b h = absurd (omega arith)
 place_in_front q (x ∷ xs) b h = in_front_step (q x) (position_or_len q xs) (position_or_len q (xs ++ b)) (length xs) h (place_in_front q xs b)
 
--- a run of n bytes behind bytes none of which passes: one of the run passes,
+-- a run of n bytes after bytes none of which passes: one of the run passes,
 pub place_in_run : (q : ℕ → Bool) (d : List ℕ) (n i r : ℕ) → i + n ≤ length d → i ≤ position_or_len q d → r ≡ position_or_len q (chunk i n d) → r < n → position_or_len q d ≡ i + r
 place_in_run q d n i r room before is short =
     let front = place_in_front q (chunk i n d) (drop (i + n) d) (omega (arith, is, length-chunk i n d room)) in

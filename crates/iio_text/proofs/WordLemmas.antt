@@ -15,7 +15,7 @@ pub words_of-skip : (blank : ℕ → Bool) (s : List ℕ) → words_of blank (dr
 words_of-skip blank [] = refl
 words_of-skip blank (b ∷ bs) = skip_byte blank b bs (blank b) refl (words_of-skip blank bs)
 
--- behind the blanks a word begins, where anything stands there
+-- after the blanks a word begins, where anything stands there
 begins_byte : (blank : ℕ → Bool) (b : ℕ) (bs : List ℕ) (v : Bool) → blank b ≡ v → (0 < length (drop (prefix_len blank bs) bs) → begins_word blank (drop (prefix_len blank bs) bs) ≡ true) → 0 < length (drop (prefix_len blank (b ∷ bs)) (b ∷ bs)) → begins_word blank (drop (prefix_len blank (b ∷ bs)) (b ∷ bs)) ≡ true
 begins_byte blank b bs true e ih h = rw (e, one-add) (ih (rw (e, one-add) at h))
 begins_byte blank b bs false e ih h = rw e (ap not e)
@@ -56,7 +56,7 @@ splits_word blank (b ∷ bs) h = split_byte blank b bs (not-true (blank b) h) (b
 some_taken : (n : ℕ) (s : List ℕ) → 0 < n → 0 < length s → 0 < length (take n s)
 some_taken n s h k = grind (arith, common_steps)
 
--- what stands behind the blanks, cut at the next blank, is the first word and the text after it
+-- what stands after the blanks, cut at the next blank, is the first word and the text after it
 pub first_word_is : (blank : ℕ → Bool) (text begun word rest : List ℕ) → begun ≡ drop (prefix_len blank text) text → 0 < length begun → word ≡ take (position_or_len blank begun) begun → rest ≡ drop (position_or_len blank begun) begun → IsFirstWord blank text word rest
 first_word_is blank text begun word rest a b c d =
     let begins : begins_word blank begun ≡ true = rw a (begins_word-drop blank text (rw a at b)) in
@@ -69,6 +69,6 @@ first_word_is blank text begun word rest a b c d =
       ended = rw d h.ended;
     }
 
--- where nothing stands behind the blanks, there is no word
+-- where nothing stands after the blanks, there is no word
 pub no_word : (blank : ℕ → Bool) (text : List ℕ) → length (drop (prefix_len blank text) text) ≡ 0 → words_of blank text ≡ []
 no_word blank text h = sym (words_of-skip blank text) ∙ ap (words_of blank) (nil_from_length _ h)

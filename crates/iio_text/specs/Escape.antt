@@ -30,13 +30,13 @@ hex_byte None low = None
 hex_byte (Some high) None = None
 hex_byte (Some high) (Some low) = Some (16 * high + low, 3)
 
--- behind `\x`: two hexadecimal digits of either case
+-- after `\x`: two hexadecimal digits of either case
 abbrev pub pair_of : List ℕ → Option (ℕ × ℕ)
 pair_of [] = None
 pair_of (high ∷ []) = None
 pair_of (high ∷ low ∷ rest) = hex_byte (hex_value high) (hex_value low)
 
--- behind a `\`: the byte that is meant, and how many bytes that takes
+-- after a `\`: the byte that is meant, and how many bytes that takes
 abbrev pub escape_of : List ℕ → Option (ℕ × ℕ)
 escape_of [] = None
 escape_of (c ∷ rest) = if c == 110 then Some (10, 1)
@@ -59,7 +59,7 @@ abbrev pub piece_then : ℕ → Option (ℕ × ℕ) → (ℕ → Result (List �
 piece_then place None next = Err place
 piece_then place (Some piece) next = before (piece.0 ∷ []) (next piece.1)
 
--- what a text from a place on means, behind so many bytes that belong to the piece before
+-- what a text from a place on means, after that many bytes that belong to the piece before
 abbrev pub unescaped_from : ℕ → ℕ → List ℕ → Result (List ℕ) ℕ
 unescaped_from place passed [] = Ok []
 unescaped_from place (suc passed) (b ∷ rest) = unescaped_from (place + 1) passed rest

@@ -10,7 +10,7 @@ use Rattle.iio_text.specs.declared.values.Form.{Form}
 use Rattle.iio_text.specs.declared.values.Form.TheVariants.{Int, Micro, Nano}
 use Rattle.iio_text.specs.declared.values.Fixed.{Fixed}
 
--- how many digits stand behind the point
+-- how many digits stand after the point
 abbrev pub places_of : Form → ℕ
 places_of Int = 0
 places_of Micro = 6
@@ -47,7 +47,7 @@ whole_digits Int text = text
 whole_digits Micro text = before_first is_point text
 whole_digits Nano text = before_first is_point text
 
--- what stands behind the first point
+-- what stands after the first point
 abbrev pub part_digits : Form → List ℕ → List ℕ
 part_digits Int text = []
 part_digits Micro text = after_first is_point text
@@ -57,7 +57,7 @@ part_digits Nano text = after_first is_point text
 abbrev pub are_right : List ℕ → List ℕ → Bool
 are_right whole part = nat_le 1 (length whole + length part) && list_all is_ascii_digit whole && list_all is_ascii_digit part
 
--- the digits behind the point as a number of so many digits: further ones are dropped, missing ones are 0
+-- the digits after the point as a number of that many digits: further ones are dropped, missing ones are 0
 abbrev pub part_value : ℕ → List ℕ → ℕ
 part_value places digits = digits_value 10 (take places (digits ++ replicate places 48))
 
@@ -75,12 +75,12 @@ fixed_by form minus whole part = if are_right whole part
 abbrev pub fixed_of : Form → List ℕ → Result Fixed Errno
 fixed_of form text = let body = body_of text in fixed_by form (is_minus body) (whole_digits form (unsigned_of body)) (part_digits form (unsigned_of body))
 
--- the last so many decimal digits of a number
+-- the last that many decimal digits of a number
 abbrev pub last_digits : ℕ → ℕ → List ℕ
 last_digits zero n = []
 last_digits (suc k) n = last_digits k (n / 10) ++ (48 + n % 10) ∷ []
 
--- the point and the digits behind it
+-- the point and the digits after it
 abbrev pub part_text : Form → ℕ → List ℕ
 part_text Int part = []
 part_text Micro part = 46 ∷ last_digits 6 part

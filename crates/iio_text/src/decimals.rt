@@ -13,7 +13,7 @@ use iio_base::Mem;
 use itoa::Buffer;
 use std::alloc::Global;
 
-// How many digits stand behind the point.
+// How many digits stand after the point.
 fn places(form: Form) -> usize
     ensures { result ≡ places_of form }
 {
@@ -59,7 +59,7 @@ fn point_place(text: &[u8]) -> usize
     text.len()
 }
 
-// What stands before the point, and what behind it.
+// What stands before the point, and what after it.
 fn split_point(text: &[u8], form: Form) -> (&[u8], &[u8])
     ensures whole { result.0.now ≡ whole_digits form text.now }
     ensures part { result.1.now ≡ part_digits form text.now }
@@ -117,7 +117,7 @@ fn digit_at(digits: &[u8], place: usize) -> u32
     }
 }
 
-// The digits behind the point as a number of so many digits.
+// The digits after the point as a number of that many digits.
 fn part_value(digits: &[u8], places: usize) -> u32
     requires digits { list_all is_ascii_digit digits.now ≡ true }
     requires places { places ≤ 9 }
@@ -132,7 +132,7 @@ fn part_value(digits: &[u8], places: usize) -> u32
 }
 
 /// The value that a text says: an optional `+` or `-`, digits, for `Micro` and `Nano` at most one `.`
-/// with digits behind it, then at most one closing LF and at most one closing zero byte. At least one
+/// with digits after it, then at most one closing LF and at most one closing zero byte. At least one
 /// digit is there. Digits beyond the form's resolution are dropped; zero has no sign.
 ///
 /// `EINVAL` comes for every other text, `ERANGE` for a right one whose whole part is above
@@ -159,7 +159,7 @@ pub fn read_fixed(text: &[u8], form: Form) -> Result<Fixed, Errno>
     })
 }
 
-// Puts a point and the digits of a number behind its first one at the end of a text.
+// Puts a point and the digits of a number after its first one at the end of a text.
 fn push_behind_first(text: &mut String, number: u32) -> Result<(), Mem>
     ensures { OnOk result (string_bytes text.new ≡ string_bytes text.old ++ 46 ∷ drop 1 (decimal number)) }
 {
@@ -168,7 +168,7 @@ fn push_behind_first(text: &mut String, number: u32) -> Result<(), Mem>
     Ok(())
 }
 
-// Puts the point and the digits behind it at the end of a text. A leading 1 keeps the zeros that they begin with.
+// Puts the point and the digits after it at the end of a text. A leading 1 keeps the zeros that they begin with.
 #[tactic(auto, using(crate::proofs::FixedLemmas::micro_digits, crate::proofs::FixedLemmas::nano_digits))]
 fn push_part(text: &mut String, form: Form, part: u32) -> Result<(), Mem>
     ensures { OnOk result (string_bytes text.new ≡ string_bytes text.old ++ part_text form part) }

@@ -186,7 +186,7 @@ pub fn escape_to(out: &mut Vec<u8>, bytes: &[u8]) -> Result<(), Mem>
     Ok(())
 }
 
-/// Bytes in printable form: 0x0a as `\n`, `"` and `\` behind a `\`, other bytes from 0x20 to 0x7e as
+/// Bytes in printable form: 0x0a as `\n`, `"` and `\` after a `\`, other bytes from 0x20 to 0x7e as
 /// they are, each other byte as `\x` and two hexadecimal digits in lower case.
 pub fn escape(alloc: Global, bytes: &[u8]) -> Result<Vec<u8>, Mem>
     ensures text { IfOk result (λ v. v.items ≡ escaped bytes.now) }

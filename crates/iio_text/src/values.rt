@@ -5,13 +5,13 @@
 pub enum Form {
     /// An integer.
     Int,
-    /// With six digits behind the point.
+    /// With six digits after the point.
     Micro,
-    /// With nine digits behind the point.
+    /// With nine digits after the point.
     Nano,
 }
 
-/// A value with its sign, its whole part, and what stands behind the point in units of the form: of
+/// A value with its sign, its whole part, and what stands after the point in units of the form: of
 /// 1,000,000 for `Micro`, of 1,000,000,000 for `Nano`, and 0 for `Int`.
 ///
 /// `negative` is false where both parts are 0; the whole part is at most 2,147,483,647.

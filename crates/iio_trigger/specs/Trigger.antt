@@ -3,6 +3,7 @@
 use Rattle.std.specs.Prelude.{◌≡◌, ℕ, ◌+◌, ◌-◌, ◌^◌, ◌<◌, ◌≤◌, ℤ, Bool, true, false, not, ◌&&◌, ◌==◌, nat_lt, if◌then◌else◌, List, [], ◌∷◌, map, filter, length, min, Option, Some, None}
 use Rattle.std.specs.List.{list_any, find}
 use Rattle.std.specs.Option.{option_map}
+use Rattle.iio_trigger.specs.declared.limits.TheConstants.{MAX_PLACES}
 use Rattle.iio_trigger.specs.declared.rows.Place.{Place}
 use Rattle.iio_trigger.specs.declared.rows.Entry.{Entry}
 use Rattle.iio_trigger.specs.declared.Polled.{Polled}
@@ -28,11 +29,11 @@ abbrev pub InOrder : {X : Type 0} → (X → ℕ) → ℕ → List X → Type 0
 InOrder dev_of low [] = Unit {0}
 InOrder dev_of low (x ∷ xs) = (low ≤ dev_of x) × InOrder dev_of (dev_of x + 1) xs
 
--- what holds of every trigger: at most eight places, no more devices than places, and each device once among the places
+-- what holds of every trigger: at most `MAX_PLACES` places, no more devices than places, and each device once among the places
 -- and once among the entries
 pub record IsSound (s : State) : Type 0 where
   pub within : length s.attached ≤ s.places
-  pub most : s.places ≤ 8
+  pub most : s.places ≤ MAX_PLACES
   pub attached_once : InOrder place_dev 0 s.attached
   pub outstanding_once : InOrder entry_dev 0 s.outstanding
 

@@ -7,10 +7,13 @@
 
 ghost use Rattle.std.specs.Prelude.{◌≡◌, ◌≤◌, ◌<◌, ◌↔◌, [], false, true, length, IsTrue, IsErr, OnOk, OnErr, Contains};
 ghost use Rattle.std.specs.Bool.{OnTrue, OnFalse};
+ghost use Rattle.iio_trigger.specs.declared.limits.TheConstants.{MAX_PLACES};
 
+mod limits;
 mod places;
 mod rows;
 
+pub use crate::limits::MAX_PLACES;
 use crate::places::{add_entries, find_entry, find_place};
 use crate::rows::{Entry, Place};
 use arrayvec::ArrayVec;
@@ -76,24 +79,25 @@ impl Due {
     }
 }
 
-/// A trigger of at most eight places. None of its calls takes memory.
+/// A trigger of at most `MAX_PLACES` places. None of its calls takes memory.
 #[derive(Drop)]
 pub struct Trigger {
     places: u8,
-    attached: ArrayVec<Place, 8>,
-    entries: ArrayVec<Entry, 8>,
+    attached: ArrayVec<Place, MAX_PLACES>,
+    entries: ArrayVec<Entry, MAX_PLACES>,
     missed: u64,
 }
 
 impl Model for Trigger {
     ghost use Rattle.std.specs.Prelude.{◌≤◌, length};
     ghost use Rattle.iio_trigger.specs.Trigger.{State, InOrder, place_dev, entry_dev};
+    ghost use Rattle.iio_trigger.specs.declared.limits.TheConstants.{MAX_PLACES};
 
     ghost Value = { State };
 
     ghost view = { λ s. record { places = s.places; attached = s.attached.items; outstanding = s.entries.items; missed = s.missed } };
 
-    ghost invariant = { λ s. (length s.attached.items ≤ s.places) × (s.places ≤ 8) × InOrder place_dev 0 s.attached.items × InOrder entry_dev 0 s.entries.items };
+    ghost invariant = { λ s. (length s.attached.items ≤ s.places) × (s.places ≤ MAX_PLACES) × InOrder place_dev 0 s.attached.items × InOrder entry_dev 0 s.entries.items };
 }
 
 impl Trigger {
@@ -101,7 +105,7 @@ impl Trigger {
     /// A trigger with this number of places. None is taken, no entry is outstanding, no poll was missed.
     pub fn new(places: u8) -> Trigger
         requires some { 1 ≤ places }
-        requires most { places ≤ 8 }
+        requires most { places ≤ MAX_PLACES }
         ensures { result ≡ record {
           places = places;
           attached = [];

@@ -1,9 +1,11 @@
 //! Where a device stands among rows that are in the order of devices.
 
 ghost use Rattle.std.specs.Prelude.{◌≡◌, ◌≤◌, [], length, MatchOption, MatchResult};
+ghost use Rattle.iio_trigger.specs.declared.limits.TheConstants.{MAX_PLACES};
 ghost use Rattle.iio_trigger.specs.Trigger.{entries_at, InOrder, entry_dev, place_dev};
 ghost use Rattle.iio_trigger.specs.Rank.{AllOther, StandsAt, WouldStandAt, rank};
 
+use crate::limits::MAX_PLACES;
 use crate::rows::{Entry, Place};
 use arrayvec::ArrayVec;
 
@@ -52,9 +54,9 @@ fn entry_index(entries: &[Entry], dev: u32) -> usize
 }
 
 // Makes an entry for each place, where none is outstanding.
-pub fn add_entries(entries: &mut ArrayVec<Entry, 8>, places: &[Place], t: i64)
+pub fn add_entries(entries: &mut ArrayVec<Entry, MAX_PLACES>, places: &[Place], t: i64)
     requires none { entries.old.items ≡ [] }
-    requires room { length places.now ≤ 8 }
+    requires room { length places.now ≤ MAX_PLACES }
     ensures { entries.new.items ≡ entries_at t places.now }
 {
     for place in places {

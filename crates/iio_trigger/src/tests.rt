@@ -1,4 +1,4 @@
-//! Entries in hand, which no script shows. Places, polls and entries are played in `iiod_main`, through `run`.
+//! Entries in hand, which no script shows. Places, polls and entries are played in `iiod_program_tests`, through `run`.
 
 use crate::{Polled, Trigger};
 

@@ -2,7 +2,7 @@
 
 use crate::{
     Dial, Door, Failed, Gate, Link, ListDoor, ListTicker, Listen, MemLink, MemSink, MemSource,
-    OpenGate, Point, Ticker,
+    OpenGate, Point, Ticker, send_whole,
 };
 use std::alloc::Global;
 use std::process::Abort;
@@ -68,6 +68,16 @@ fn a_link_in_memory_is_its_two_ends(rt: HostRuntime) -> Result<(), Fail> {
         &[Ok(2), Ok(1), no],
         &[Ok(2), Ok(2), no],
     )
+}
+
+// A whole send takes as many sends as it needs; where one fails, a front part was sent.
+#[test]
+fn a_whole_send_is_cut_where_a_send_fails(rt: HostRuntime) -> Result<(), Fail> {
+    let mut link = link(rt.alloc(), b"", &[], &[])?;
+    assert_eq!(rt; send_whole(&mut link, b"abc"), Ok(()));
+    assert_eq!(rt; send_whole(&mut link, b"defg"), Err(Failed));
+    assert_eq!(rt; link.sent(), b"abcde".as_slice());
+    Ok(())
 }
 
 // What a door gives: the first byte of the link, none, or a failure.

@@ -1,6 +1,7 @@
 use Rattle.std.proofs.Common.{◌≡◌, length, sym, ◌∙◌, arith}
 use Rattle.std.proofs.lemmas.List.{length-set}
-use Rattle.iio_output.proofs.LastLemmas.{data_channel, places_more, places_same}
+use Rattle.iio_layout.specs.Laws.{data_channel}
+use Rattle.iio_output.proofs.LastLemmas.{places_more, places_same}
 use Rattle.iio_output.proofs.last.places_of.Goals.{then-contains, else-contains}
 use Rattle.iio_output.proofs.last.places_of.Goals as goal
 
