@@ -23,7 +23,7 @@ written_more P i v xs less here below k within = by (cases_eq k i)
         rw own (rw same here)
     by (inr other) = rw (get_or-set_other xs i k v (pos 0) other) (below k (omega (arith, within, other)))
 
--- ... and those behind it are left
+-- ... and those after it are left
 pub left_more : (i : ℕ) (v : ℤ) (old xs : List ℤ) → IsLeftFrom i old xs → IsLeftFrom (i + 1) old (set xs i v)
 left_more i v old xs left k more =
     let other : k ≢ i = λ same. absurd (omega (arith, same, more)) in

@@ -1,13 +1,11 @@
 -- What stands in a scan of all channels.
-use Rattle.std.proofs.Common.{◌≡◌, ◌≢◌, ◌⊎◌, inl, inr, ℕ, zero, suc, ◌+◌, ◌-◌, ◌||◌, Bool, true, false, Option, Some, None, drop, add-one, ◌<◌, ◌≤◌, List, [], ◌∷◌, ◌++◌, ℤ, length, map, take, slice_index, slice_index_or, sum_by, length-append, refl, sym, ap, ◌∙◌, arith}
+use Rattle.std.proofs.Common.{◌≡◌, ◌≢◌, ◌⊎◌, inl, inr, ℕ, zero, suc, ◌+◌, ◌-◌, Option, Some, None, drop, add-one, ◌<◌, ◌≤◌, List, [], ◌∷◌, ◌++◌, ℤ, length, map, take, slice_index, slice_index_or, sum_by, length-append, refl, sym, ap, ◌∙◌, arith}
 use Rattle.std.proofs.lemmas.Bool.{cases_eq}
 use Rattle.std.proofs.lemmas.List.{get_or-set_same, get_or-set_other, get_or_append_left, length-map, take_all, take_more}
 use Rattle.std.proofs.lemmas.List.Sums.{sum_by-append}
 use Rattle.iio_scan_type.specs.declared.Endian.TheVariants.{Little}
 use Rattle.iio_layout.specs.declared.channel.Channel.{Channel}
 use Rattle.std.proofs.Math.ListN.{set}
-use Rattle.iio_mask.specs.Mask.{has}
-use Rattle.iio_layout.specs.Active.{has_below}
 use Rattle.iio_scan_type.specs.declared.Endian.{Endian}
 use Rattle.iio_scan_type.specs.Bytes.{value_at}
 use Rattle.iio_scan_type.specs.Format.{Format, size_of, stamp_format}
@@ -31,11 +29,7 @@ places_more shape c place places less own below k within = by (cases_eq k c)
         let there : slice_index (set places c place) k ≡ slice_index places k = get_or-set_other places c k place 0 other in
         rw there (below k (omega (arith, within, other)))
 
--- a data channel is a channel
-pub channel_there : (shape : ShapeRecord) (c : ℕ) → c < length shape.channels → c < count_of shape
-channel_there shape c less = omega (arith, less, length-append (map (λ channel. channel.ty) shape.channels) (stamp_formats shape.stamp), length-map shape.channels (λ channel. channel.ty))
-
--- the timestamp is the channel behind the data channels
+-- the timestamp is the channel after the data channels
 pub stamp_there : (shape : ShapeRecord) (endian : Endian) → shape.stamp ≡ Some endian → length shape.channels < count_of shape
 stamp_there shape endian is =
     let one : length (stamp_formats shape.stamp) ≡ 1 = ap (λ (o : Option Endian). length (stamp_formats o)) is in
@@ -77,16 +71,6 @@ values_more shape scan c start size ty before after type_is size_is start_is rea
 pub moment_of : (o : Option Endian) (endian : Endian) (t : ℤ) → o ≡ Some endian → t ≡ moment_by o t
 moment_of None endian t is = cc
 moment_of (Some e) endian t is = refl
-
--- a mask with a channel has one
-pub some_below : (mask n : ℕ) → has_below mask n ≡ true → (c : ℕ) × (c < n) × (has mask c ≡ true)
-some_below mask zero h = absurd (cc)
-some_below mask (suc n) h = by (has mask n) refl h (some_below mask n)
-  where
-    by : (b : Bool) → has mask n ≡ b → (b || has_below mask n) ≡ true
-        → (has_below mask n ≡ true → (c : ℕ) × (c < n) × (has mask c ≡ true)) → (c : ℕ) × (c < suc n) × (has mask c ≡ true)
-    by true e h below = (n, omega arith, e)
-    by false e h below = let s = below h in (s.0, omega (arith, s.1), s.2)
 
 -- ---- how many values a scan has
 

@@ -1,6 +1,7 @@
 pub mod Window
 pub mod Means
 pub mod Values
+pub mod ReadBack
 pub mod Members
 pub mod Sized
 pub mod Average

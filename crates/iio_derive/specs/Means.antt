@@ -8,7 +8,7 @@ sums_of [] = []
 sums_of (c ∷ []) = c
 sums_of (c ∷ x ∷ cs) = added c (sums_of (x ∷ cs))
 
--- the mean of so many captures: each sum divided by their number and rounded towards zero
+-- the mean of that many captures: each sum divided by their number and rounded towards zero
 abbrev pub mean_of : (size : ℕ) → List (List ℤ) → List ℤ
 mean_of size captures = means_of size (sums_of captures)
 

@@ -2,6 +2,7 @@
 
 ghost use Rattle.std.specs.Prelude.{◌≡◌, ◌≢◌, ℕ, ℤ, ◌+◌, ◌*◌, ◌-◌, ◌^◌, ◌<◌, ◌≤◌, List, [], true, is_some, length, map, option_map, IfOk, IfSome, Some, None};
 ghost use Rattle.iio_scan_type.specs.declared.TheConstants.{MAX_CHANNEL_SIZE};
+ghost use Rattle.iio_kfifo.specs.declared.limits.TheConstants.{MAX_BYTES};
 ghost use Rattle.iio_layout.specs.Active.{has_data};
 ghost use Rattle.iio_layout.specs.Layout.{scan_size};
 ghost use Rattle.iio_layout.specs.Shape.{count_of};
@@ -54,17 +55,6 @@ impl Model for Average {
     ghost invariant = { λ a. IsSound a.shape a.size a.count a.places a.sums.items (vec_capacity a.values) (length a.room.items) a.seats.items };
 }
 
-// The bytes of a scan under a mask with a data channel.
-fn data_scan_size(shape: &Shape, mask: Mask) -> u32
-    requires below { mask.bits < 2 ^ count_of shape.now }
-    requires channel { has_data shape.now mask.bits ≡ true }
-    ensures value { result ≡ scan_size shape.now mask.bits }
-    ensures some { 1 ≤ result }
-    ensures few { result ≤ MAX_CHANNEL_SIZE * count_of shape.now }
-{
-    scan_size(shape, mask)
-}
-
 impl Average {
     /// A device of that shape, its base's, whose means are those of `window` captures each. It has no member.
     pub fn new(alloc: Global, shape: Shape, window: u32) -> Result<Average, Mem>
@@ -110,10 +100,10 @@ impl Average {
         requires below { mask.bits < 2 ^ count_of self.old.shape }
         requires channel { has_data self.old.shape mask.bits ≡ true }
         requires some { 1 ≤ capacity }
-        requires fits { capacity * scan_size self.old.shape mask.bits ≤ 4194304 }
+        requires fits { capacity * scan_size self.old.shape mask.bits ≤ MAX_BYTES }
         ensures { Joins mask capacity result self.old self.new }
     {
-        let size = data_scan_size(&self.shape, mask);
+        let size = scan_size(&self.shape, mask);
         let queue = Kfifo::new(self.alloc, capacity, size)?;
         let number = free_place(&self.seats);
         if number >= u32::MAX as usize {

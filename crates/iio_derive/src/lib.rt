@@ -12,6 +12,7 @@ mod sums;
 
 pub use average::Average;
 pub use iio_base::Mem;
+pub use reading::reading_law;
 
 #[cfg(test)]
 mod tests;

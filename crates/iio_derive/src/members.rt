@@ -70,7 +70,7 @@ pub(crate) fn offer_all(
     }
 }
 
-/// The first place without a member; the one behind all where there is none.
+/// The first place without a member; the one after all where there is none.
 pub(crate) fn free_place(seats: &[Option<Membership>]) -> usize
     ensures free { member_at result seats.now ≡ None }
     ensures within { result ≤ length seats.now }

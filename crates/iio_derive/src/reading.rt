@@ -7,6 +7,7 @@ ghost use Rattle.iio_layout.specs.Layout.{scan_size};
 ghost use Rattle.iio_layout.specs.Scan.{elements_below};
 ghost use Rattle.iio_layout.specs.Shape.{count_of};
 ghost use Rattle.iio_derive.specs.Window.{full_mask};
+ghost use Rattle.iio_derive.specs.ReadBack.{ReadingLaw};
 ghost use Rattle.iio_derive.specs.Values.{moment_in, value_in, values_in};
 ghost use Rattle.iio_derive.specs.View.{ArePlaces};
 
@@ -40,7 +41,7 @@ pub(crate) fn places_of(shape: &Shape) -> [u32; MAX_CHANNELS]
     places
 }
 
-// Reads the elements in a channel's bytes, behind the values that were read.
+// Reads the elements in a channel's bytes, after the values that were read.
 fn read_channel(ty: &ScanType, field: &[u8], values: &mut Vec<i64>)
     requires size { length field.now ≡ size_of ty.now }
     requires room { length values.old.items + MAX_REPEAT ≤ vec_capacity values.old }
@@ -74,7 +75,7 @@ pub(crate) fn read_values(
     }
 }
 
-// Element 0 of the channel behind the data channels, in a scan of all channels.
+// Element 0 of the channel after the data channels, in a scan of all channels.
 fn read_last(shape: &Shape, places: &[u32; MAX_CHANNELS], scan: &[u8]) -> i64
     requires stamp { length shape.now.channels < count_of shape.now }
     requires places { ArePlaces shape.now places.now }
@@ -98,3 +99,9 @@ pub(crate) fn read_moment(shape: &Shape, places: &[u32; MAX_CHANNELS], scan: &[u
         Some(_) => read_last(shape, places, scan),
     }
 }
+
+/// The law that a scan of all channels gives back the values that it was laid out of, each of which is in the range of its
+/// channel's type, and its moment where there is a timestamp. The call does nothing.
+pub fn reading_law()
+    ensures { ReadingLaw }
+{}
