@@ -1,5 +1,5 @@
 -- Lists no two of whose elements have one key: groups by their masks, members by their numbers.
-use Rattle.std.proofs.Common.{◌≡◌, ◌==◌, ◌||◌, ◌&&◌, ℕ, zero, suc, ◌+◌, ◌<◌, Bool, true, false, not, List, [], ◌∷◌, ◌++◌, length, find, Some, take, drop, get_or, map, filter, if◌then◌else◌, subst, refl, sym, ap, ◌∙◌, arith}
+use Rattle.std.proofs.Common.{◌≡◌, ◌==◌, ◌||◌, ◌&&◌, ℕ, zero, suc, ◌+◌, ◌<◌, Bool, true, false, not, List, [], ◌∷◌, ◌++◌, length, find, Some, take, drop, get_or, slice_set, map, filter, if◌then◌else◌, subst, refl, sym, ap, ◌∙◌, arith}
 use Rattle.std.specs.Bool.{⊤}
 use Rattle.std.proofs.lemmas.Bool.{false≢true}
 use Rattle.std.specs.List.{AllByRecursion, IsDistinct, list_any}
@@ -155,6 +155,34 @@ module _ {A : Type 0} (key : A → ℕ) where
   -- what stays are those of other keys
   pub removed_is : (xs : List A) (k : ℕ) (x : A) → AreDistinct xs → k < length xs → x ≡ get_or xs k x → take k xs ++ drop (k + 1) xs ≡ filter (λ y. not (key y == key x)) xs
   removed_is xs k x distinct within at = removed_apart xs k x (to_apart xs distinct) within at
+
+  -- ---- one element changed
+
+  -- where no element has the key, none is
+  none_changed : (f : A → A) (xs : List A) (k : ℕ) → has_key xs k ≡ false → map (λ y. if key y == k then f y else y) xs ≡ xs
+  none_changed f [] k none = refl
+  none_changed f (x ∷ xs) k none =
+      let first = or_left (key x == k) (has_key xs k) none in
+      let rest = none_changed f xs k (or_right (key x == k) (has_key xs k) none) in
+      rw (first, rest) refl
+
+  changed_apart : (f : A → A) (xs : List A) (k : ℕ) (x : A) → AreApart xs → k < length xs → x ≡ get_or xs k x → slice_set xs k (f x) ≡ map (λ y. if key y == key x then f y else y) xs
+  changed_apart f [] k x apart within at = absurd (omega arith)
+  changed_apart f (z ∷ zs) zero x apart within at =
+      let same : (key z == key x) ≡ true = eq_same (key z) (key x) (ap key (sym at)) in
+      let rest = none_changed f zs (key x) (subst (λ q. has_key zs q ≡ false) (ap key (sym at)) apart.0) in
+      rw (same, rest) (ap (λ y. f y ∷ zs) at)
+  changed_apart f (z ∷ zs) (suc k) x apart within at =
+      let other : (key z == key x) ≡ false = eq_flips (key z) (key x) ∙ absent_at zs k (key z) x apart.0 (omega arith) at in
+      rw other (ap (λ ys. z ∷ ys) (changed_apart f zs k x apart.1 (omega arith) at))
+
+  -- the one of that key is, and the others stay
+  pub changed_is : (f : A → A) (xs : List A) (k : ℕ) (x : A) → AreDistinct xs → k < length xs → x ≡ get_or xs k x → slice_set xs k (f x) ≡ map (λ y. if key y == key x then f y else y) xs
+  changed_is f xs k x distinct within at = changed_apart f xs k x (to_apart xs distinct) within at
+
+  -- a key that is in none of the elements is in none of fewer
+  pub none_fewer : (test : A → Bool) (xs : List A) (k : ℕ) → has_key xs k ≡ false → has_key (filter test xs) k ≡ false
+  none_fewer test xs k none = less_key test xs k none
 
   -- ---- what stands at a place
 

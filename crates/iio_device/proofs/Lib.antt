@@ -1,12 +1,12 @@
 mod ApartLemmas
 mod CountLemmas
 mod DeviceLemmas
-mod HasLemmas
 mod JoiningLemmas
 mod LaneLemmas
 mod MaskLemmas
 mod MoveLemmas
 mod OfferLemmas
+mod RemaskLemmas
 mod SensingLemmas
 mod SoundLemmas
 mod StoredLemmas

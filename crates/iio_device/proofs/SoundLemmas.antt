@@ -28,7 +28,7 @@ or_true false = refl
 
 -- ---- groups
 
-remade_group : (shape : ShapeRecord) (a a' : ℕ) (g : GroupRecord) → IsGroup shape a g → IsGroup shape a' (remade shape a' g)
+pub remade_group : (shape : ShapeRecord) (a a' : ℕ) (g : GroupRecord) → IsGroup shape a g → IsGroup shape a' (remade shape a' g)
 remade_group shape a a' g is = record { table = refl; room = is.room }
 
 -- tables that are made for a mask are those that would be made for it
@@ -173,7 +173,7 @@ module _ {Q : Type 0} (taken lost size : Q → ℕ) where
 
   -- ---- a member less
 
-  nil_other : {A : Type 0} (before after : List A) (x : A) → is_nil (before ++ x ∷ after) ≡ false
+  pub nil_other : {A : Type 0} (before after : List A) (x : A) → is_nil (before ++ x ∷ after) ≡ false
   nil_other [] after x = refl
   nil_other (y ∷ ys) after x = refl
 
@@ -182,7 +182,7 @@ module _ {Q : Type 0} (taken lost size : Q → ℕ) where
   all_without P (y ∷ ys) after x all = All-cons P y (ys ++ after) (All-head P y (ys ++ x ∷ after) all) (all_without P ys after x (All-tail P y (ys ++ x ∷ after) all))
 
   -- a group that is wanted stays
-  kept_wanted : (test : ℕ → Bool) (groups : List GroupRecord) (mask : ℕ) → test mask ≡ true → has_group groups mask ≡ true → has_group (filter (λ g. test g.mask) groups) mask ≡ true
+  pub kept_wanted : (test : ℕ → Bool) (groups : List GroupRecord) (mask : ℕ) → test mask ≡ true → has_group groups mask ≡ true → has_group (filter (λ g. test g.mask) groups) mask ≡ true
   kept_wanted test [] mask is there = there
   kept_wanted test (g ∷ gs) mask is there = by (λ h. kept_wanted test gs mask is h) (test g.mask) refl (g.mask == mask) refl there
     where
@@ -260,11 +260,11 @@ module _ {Q : Type 0} (taken lost size : Q → ℕ) where
   empty_bits None e = refl
   empty_bits (Some m) e = absurd (cc)
 
-  asked_of : (shape : ShapeRecord) (masks : List ℕ) → is_nil masks ≡ false → active_for shape masks ≡ active_of shape (union_of_all masks)
+  pub asked_of : (shape : ShapeRecord) (masks : List ℕ) → is_nil masks ≡ false → active_for shape masks ≡ active_of shape (union_of_all masks)
   asked_of shape [] e = absurd (cc)
   asked_of shape (m ∷ ms) e = refl
 
-  nil_map : (members : List (Membership Q)) → is_nil (masks_of members) ≡ is_nil members
+  pub nil_map : (members : List (Membership Q)) → is_nil (masks_of members) ≡ is_nil members
   nil_map [] = refl
   nil_map (m ∷ ms) = refl
 

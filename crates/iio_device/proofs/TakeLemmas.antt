@@ -26,7 +26,7 @@ module _ {A : Type 0} where
   set_zip R same (z ∷ zs) (suc k) x y within at r = (same z, set_zip R same zs k x y (omega arith) at r)
 
   -- what stands before and after it
-  set_split : (xs : List A) (k : ℕ) (y : A) → k < length xs → slice_set xs k y ≡ take k xs ++ y ∷ drop (k + 1) xs
+  pub set_split : (xs : List A) (k : ℕ) (y : A) → k < length xs → slice_set xs k y ≡ take k xs ++ y ∷ drop (k + 1) xs
   set_split [] k y within = absurd (omega arith)
   set_split (z ∷ zs) zero y within = refl
   set_split (z ∷ zs) (suc k) y within =

@@ -1,7 +1,7 @@
 -- A device as contracts see it, and what each call makes of it. (Kernel, driver-api/iio: the core keeps a device's buffer,
 -- trigger, attributes and events; its driver is asked. That a device can be unplugged while members stay, and the order of
 -- the refusals, is this project's own.)
-use Rattle.std.specs.Prelude.{◌≡◌, ℕ, ◌+◌, ◌-◌, ◌^◌, ◌==◌, ◌&&◌, ◌||◌, not, nat_lt, Bool, true, false, ⊤, List, ◌∷◌, length, Option, Some, None, is_none, is_some, option_map, Result, Ok, Err, if◌then◌else◌, ℤ}
+use Rattle.std.specs.Prelude.{◌≡◌, ℕ, ◌+◌, ◌-◌, ◌^◌, ◌==◌, ◌&&◌, ◌||◌, not, nat_lt, Bool, true, false, ⊤, List, [], ◌∷◌, length, Option, Some, None, is_none, is_some, option_map, Result, Ok, Err, if◌then◌else◌, ℤ}
 use Rattle.std.specs.Option.{option_map_or}
 use Rattle.iio_base.specs.Refusals.{ensure, ◌>>=◌, first_refusal}
 use Rattle.iio_text.specs.declared.errors.Errno.{Errno}
@@ -28,10 +28,14 @@ use Rattle.iio_device.specs.declared.membership.Membership.{Membership}
 use Rattle.iio_device.specs.declared.roster.JoinFault.{JoinFault}
 use Rattle.iio_device.specs.declared.roster.JoinFault.TheVariants as fault
 use Rattle.iio_device.specs.declared.roster.JoinRefused.{JoinRefused}
+use Rattle.iio_device.specs.declared.roster.RemaskFault.{RemaskFault}
+use Rattle.iio_device.specs.declared.roster.RemaskFault.TheVariants as remask
+use Rattle.iio_device.specs.declared.roster.RemaskRefused.{RemaskRefused}
 use Rattle.iio_device.specs.Active.{is_without_union}
 use Rattle.iio_device.specs.Joining.{member_faults}
-use Rattle.iio_device.specs.Members.{masks_of, member_of}
+use Rattle.iio_device.specs.Members.{is_live, masks_of, member_of, without}
 use Rattle.iio_device.specs.Plug.{driver_in}
+use Rattle.iio_device.specs.Remasking.{IsRemaskRefusal, after_remask}
 use Rattle.iio_device.specs.Roster.{Standing, Captures, IsRefusal, after_join, after_leave, nobody}
 use Rattle.iio_device.specs.Sensing.{sensed, with_sensed}
 use Rattle.iio_device.specs.Site.{Site, is_current, is_empty, first_site, attached, captured, sampled, site_written}
@@ -124,6 +128,27 @@ module _ {Q : Type 0} where
       (option_map (λ (m : Membership Q). m.tail) (member_of number old.standing.members) ≡ Some tail)
       × (new ≡ record old { standing = after_leave number old.standing; totals = with_lost (lost tail) old.totals })
       × (trigger' ≡ trigger_left new trigger)
+
+  -- ---- another mask
+
+  -- why a member can't have another mask, in this order; the others' masks stay
+  abbrev pub remask_faults : DeviceView Q → (number mask : ℕ) → List (Bool × RemaskFault)
+  remask_faults d number mask =
+      (not d.site.plugged, remask.Gone)
+      ∷ (not (is_live number d.standing.members), remask.NotLive)
+      ∷ (is_bad_mask d.standing.shape mask, remask.BadMask)
+      ∷ (is_without_union d.standing.shape (masks_of (without number d.standing.members)) mask, remask.NoUnion)
+      ∷ []
+
+  -- the member of that number begins anew under another mask, with another queue's end. Its end of before comes back, and what
+  -- that lost is counted. A refusal gives the new end back and changes nothing
+  abbrev pub RemasksDevice : (lost : Q → ℕ) → ℕ → Mask → Q → Result Q (RemaskRefused Q) → (old new : DeviceView Q) → Type 0
+  RemasksDevice lost number mask tail (Ok before) old new =
+      (first_refusal (remask_faults old number mask.bits) ≡ None)
+      × (option_map (λ (m : Membership Q). m.tail) (member_of number old.standing.members) ≡ Some before)
+      × (new ≡ record old { standing = after_remask number mask tail old.standing; totals = with_lost (lost before) old.totals })
+  RemasksDevice lost number mask tail (Err refused) old new =
+      IsRemaskRefusal refused.fault (first_refusal (remask_faults old number mask.bits)) × (refused.tail ≡ tail) × (new ≡ old)
 
   -- ---- asking the sensor
 

@@ -5,6 +5,7 @@ pub mod Groups
 pub mod Sound
 pub mod Joining
 pub mod Roster
+pub mod Remasking
 pub mod Standing
 pub mod Site
 pub mod Plug

@@ -104,7 +104,7 @@ Takes number (Some given) out out' old new =
     × (new ≡ record old { members = new.members })
     × ChangesOne number (Drains given out out') old.members new.members
 
--- the oldest scans are moved out of the queue of the member of that number and that mask, at most so many; where there is
+-- the oldest scans are moved out of the queue of the member of that number and that mask, at most that many; where there is
 -- none, nothing is
 abbrev pub TakesScans : (number mask most : ℕ) → Option ℕ → (before after : List ℕ) → Standing Queue → Standing Queue → Type 0
 TakesScans number mask most None before after old new = (is_live_under number mask old.members ≡ false) × (new ≡ old) × (after ≡ before)

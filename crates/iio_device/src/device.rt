@@ -114,7 +114,7 @@ impl<Q: Tail> Fitted<IioDev<Q>> {
         self.core.roster.len()
     }
 
-    /// How many masks its members have, where those that are equal count once. So many scans are laid out at a capture.
+    /// How many masks its members have, where those that are equal count once. That many scans are laid out at a capture.
     pub fn groups(&self) -> u32
         ensures { result ≡ mask_count self.now.core.roster.members.items }
     {
@@ -129,7 +129,7 @@ impl<Q: Tail> Fitted<IioDev<Q>> {
         Some(Member { number })
     }
 
-    /// Whether the member is live, and joined with that mask.
+    /// Whether the member is live, and of that mask.
     pub fn is_live_under(&self, member: &Member, mask: Mask) -> bool
         ensures { result ≡ is_live_under member.now.number mask.bits self.now.core.roster.members.items }
     {
@@ -148,7 +148,7 @@ impl<Q: Tail> Fitted<IioDev<Q>> {
         total
     }
 
-    /// How many scans the member has lost since its joining. None exactly where it isn't live.
+    /// How many scans the member has lost since it joined or last got another mask. None exactly where it isn't live.
     pub fn lost(&self, member: &Member) -> Option<u64>
         ensures { result ≡ option_map (λ (m : Membership Q). Q.lost m.tail) (member_of member.now.number self.now.core.roster.members.items) }
     {
@@ -169,7 +169,7 @@ impl Fitted<IioDev<Kfifo>> {
         taken
     }
 
-    /// Moves up to `most` of the oldest scans of the member behind the bytes that stand in `out`, one behind the other, and says
+    /// Moves up to `most` of the oldest scans of the member after the bytes that stand in `out`, one after the other, and says
     /// how many scans there were; they count in the device's totals. None exactly where the member isn't live under that mask,
     /// and then nothing changes. There is room in `out` for the bytes of `most` scans.
     pub fn take_scans(

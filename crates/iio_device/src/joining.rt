@@ -14,7 +14,7 @@ use crate::membership::Member;
 use crate::plug::Plug;
 use crate::roster::{JoinFault, JoinRefused};
 use iio_kfifo::Tail;
-use iio_layout::Shape;
+use iio_layout::{Shape, has_data};
 use iio_mask::Mask;
 use iio_sensor::Sensor;
 use iio_trigger::Trigger;
@@ -27,21 +27,8 @@ fn is_below(mask: Mask, channels: u32) -> bool
     channels == 64 || mask.bits < 1 << channels
 }
 
-// Whether a mask has a data channel.
-#[tactic(auto, using(crate::proofs::HasLemmas::has_below_at))]
-fn has_data(shape: &Shape, mask: Mask) -> bool
-    ensures { result ≡ has_data shape.now mask.bits }
-{
-    for c in 0..shape.inputs() {
-        if mask.contains(c) {
-            return true;
-        }
-    }
-    false
-}
-
-// Whether a mask has a bit at or above the number of channels, or no data channel.
-fn is_bad_mask(shape: &Shape, mask: Mask) -> bool
+/// Whether a mask has a bit at or above the number of channels, or no data channel.
+pub(crate) fn is_bad_mask(shape: &Shape, mask: Mask) -> bool
     ensures { result ≡ is_bad_mask shape.now mask.bits }
 {
     !is_below(mask, shape.count()) || !has_data(shape, mask)
@@ -106,7 +93,7 @@ impl<Q: Tail> Fitted<IioDev<Q>> {
 
     /// A member joins under that mask, with its queue's end: the next capture is its first. Refused as by `may_join`,
     /// and then `Mem`; a refusal gives the queue's end back and changes nothing. All memory that the member needs
-    /// until it leaves is taken here.
+    /// until it leaves or has another mask is taken here.
     pub fn join(
         &mut self,
         mask: Mask,

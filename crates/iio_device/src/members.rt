@@ -6,12 +6,14 @@ ghost use Rattle.iio_mask.specs.Mask.{union_of_all};
 ghost use Rattle.iio_kfifo.specs.Queue.{Queue};
 ghost use Rattle.iio_device.specs.declared.membership.Membership.{Membership};
 ghost use Rattle.iio_device.specs.Groups.{GroupRecord, scan_for};
-ghost use Rattle.iio_device.specs.Members.{Drains, DrainsScans, WasOffered, is_live, is_wanted, masks_of, member_of};
+ghost use Rattle.iio_device.specs.Members.{Drains, DrainsScans, WasOffered, is_live, is_wanted, masks_of, member_of, without};
+ghost use Rattle.iio_device.specs.Remasking.{begun_anew};
 
 use crate::group::{Group, scan_for};
 use crate::membership::Membership;
 use iio_kfifo::{Kfifo, Tail};
 use iio_mask::Mask;
+use std::mem::replace;
 
 /// The union of the members' masks.
 pub(crate) fn union_mask<Q>(members: &[Membership<Q>]) -> Mask
@@ -20,6 +22,19 @@ pub(crate) fn union_mask<Q>(members: &[Membership<Q>]) -> Mask
     let mut union = Mask { bits: 0 };
     for member in members {
         union = member.mask.union(union);
+    }
+    union
+}
+
+/// The union of the masks of the members of other numbers.
+pub(crate) fn union_of_others<Q>(members: &[Membership<Q>], number: u64) -> Mask
+    ensures { result.bits ≡ union_of_all (masks_of (without number members.now)) }
+{
+    let mut union = Mask { bits: 0 };
+    for member in members {
+        if member.number != number {
+            union = member.mask.union(union);
+        }
     }
     union
 }
@@ -80,6 +95,24 @@ pub(crate) fn position_of<Q>(members: &[Membership<Q>], number: u64) -> Option<u
     walk_to(members, number)
 }
 
+/// The member at that place begins anew, under another mask and with another queue's end. Its end of before comes back.
+pub(crate) fn begin_anew_at<Q: Tail>(
+    members: &mut Vec<Membership<Q>>,
+    at: usize,
+    mask: Mask,
+    captures: u64,
+    tail: Q,
+) -> Q
+    requires within { at < length members.old.items }
+    ensures before { (d : Membership Q) → result ≡ (slice_index_or members.old.items at d).tail }
+    ensures members { (d : Membership Q) → members.new.items ≡ slice_set members.old.items at (begun_anew mask captures tail (slice_index_or members.old.items at d)) }
+{
+    let member = &mut members[at];
+    member.mask = mask;
+    member.joined = captures;
+    replace(&mut member.tail, tail)
+}
+
 // Offers a member its scan of the active one.
 fn offer_one<Q: Tail>(
     member: &mut Membership<Q>,
@@ -129,7 +162,7 @@ pub(crate) fn take_at(members: &mut Vec<Membership<Kfifo>>, at: usize, out: &mut
     members[at].tail.take(out)
 }
 
-// Moves up to `most` of the oldest scans of the member at that place behind what stands in `out`, and says how many there were.
+// Moves up to `most` of the oldest scans of the member at that place after what stands in `out`, and says how many there were.
 pub(crate) fn take_scans_at(
     members: &mut Vec<Membership<Kfifo>>,
     at: usize,

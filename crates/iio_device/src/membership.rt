@@ -8,7 +8,7 @@ pub struct Member {
     pub number: u64,
 }
 
-/// A member: its number, the mask that it joined with, the device's captures at its joining, and its queue's end.
+/// A member: its number, its mask, the device's captures when it joined or last got another mask, and its queue's end.
 #[derive(Drop)]
 pub struct Membership<Q> {
     pub number: u64,

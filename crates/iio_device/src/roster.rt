@@ -13,12 +13,16 @@ ghost use Rattle.iio_sensor.specs.Driver.{after_capture, ask_fails, values_of};
 ghost use Rattle.iio_device.specs.declared.membership.Membership.{Membership};
 ghost use Rattle.iio_device.specs.Groups.{GroupRecord, IsGroup, has_group};
 ghost use Rattle.iio_device.specs.Active.{active_for};
-ghost use Rattle.iio_device.specs.Members.{WasOffered, first_number, is_live_under, is_wanted, mask_count, masks_of, member_of};
+ghost use Rattle.iio_device.specs.Members.{WasOffered, first_number, is_live, is_live_under, is_wanted, mask_count, masks_of, member_of, without};
+ghost use Rattle.iio_device.specs.Remasking.{IsRemaskRefusal, Remasks, active_under, remask_fault};
 ghost use Rattle.iio_device.specs.Roster.{Captures, IsRefusal, Joins, Leaves, Takes, TakesScans, active_with, join_fault, nobody, remade_for, with_capture, with_group};
 ghost use Rattle.iio_device.specs.Sound.{HasRoom, IsSize, IsSound, bits_of};
 
 use crate::group::{Group, has_group, lay_out_all, remake_all};
-use crate::members::{is_wanted, offer_all, position_of, take_at, take_scans_at, union_mask};
+use crate::members::{
+    begin_anew_at, is_wanted, offer_all, position_of, take_at, take_scans_at, union_mask,
+    union_of_others,
+};
 use crate::membership::Membership;
 use iio_base::Mem;
 use iio_kfifo::{Kfifo, Tail};
@@ -74,6 +78,27 @@ pub struct JoinRefused<Q> {
     pub tail: Q,
 }
 
+/// Why a member can't have another mask.
+#[derive(Clone, Copy, Debug, PartialEq, Eq, Hash)]
+pub enum RemaskFault {
+    /// The device is unplugged.
+    Gone,
+    /// The member isn't live.
+    NotLive,
+    /// The mask has a channel that the device hasn't, or no data channel.
+    BadMask,
+    /// The sensor can be asked under no mask that serves the other members and this one.
+    NoUnion,
+    /// Want of memory.
+    Mem,
+}
+
+/// Another mask that was refused. It gives the new queue's end back.
+pub struct RemaskRefused<Q> {
+    pub fault: RemaskFault,
+    pub tail: Q,
+}
+
 /// The mask that the sensor is asked under for these members.
 fn active_for<Q>(shape: &Shape, members: &[Membership<Q>]) -> Option<Mask>
     requires { All (λ (m : Membership Q). m.mask.bits < 2 ^ count_of shape.now) members.now }
@@ -99,7 +124,9 @@ fn add_group(groups: &mut Vec<Group>, group: Option<Group>)
 
 // Keeps the groups that a member wants.
 fn keep_wanted<Q>(groups: &mut Vec<Group>, members: &[Membership<Q>])
-    ensures { groups.new.items ≡ filter (λ (g : GroupRecord). is_wanted members.now g.mask) groups.old.items }
+    ensures kept { groups.new.items ≡ filter (λ (g : GroupRecord). is_wanted members.now g.mask) groups.old.items }
+    ensures bound { vec_len groups.new ≤ vec_len groups.old }
+    ensures capacity { vec_capacity groups.new ≡ vec_capacity groups.old }
 {
     groups.retain(|group| is_wanted(members, group.mask()));
 }
@@ -193,6 +220,25 @@ impl<Q: Tail> Roster<Q> {
         active(&self.shape, mask.union(union_mask(&self.members)))
     }
 
+    // Makes room for one group more, and the group of that mask where there is none.
+    fn grow_groups(&mut self, active: Mask, mask: Mask) -> Result<Option<Group>, Mem>
+        requires below { active.bits < 2 ^ count_of self.old.shape }
+        requires own { mask.bits < 2 ^ count_of self.old.shape }
+        requires within { is_within mask.bits active.bits ≡ true }
+        ensures same { standing_of self.new ≡ standing_of self.old }
+        ensures members { self.new.members ≡ self.old.members }
+        ensures places { self.new.places ≡ self.old.places }
+        ensures room { IfOk result (λ _. vec_len self.new.groups < vec_capacity self.new.groups) }
+        ensures group { IfOk result (λ group. IfSome group (λ g. IsGroup self.new.shape active.bits g × (g.mask ≡ mask.bits) × (has_group self.new.groups.items mask.bits ≡ false))) }
+        ensures none { IfOk result (λ group. IfNone group (has_group self.new.groups.items mask.bits ≡ true)) }
+    {
+        self.groups.reserve(1)?;
+        if has_group(&self.groups, mask) {
+            return Ok(None);
+        }
+        Ok(Some(Group::new(self.alloc, &self.shape, active, mask)?))
+    }
+
     // Makes room for one member more, and the group of its mask where there is none.
     fn grow(&mut self, active: Mask, mask: Mask) -> Result<Option<Group>, Mem>
         requires below { active.bits < 2 ^ count_of self.old.shape }
@@ -208,12 +254,8 @@ impl<Q: Tail> Roster<Q> {
             return Err(Mem);
         }
         self.members.reserve(1)?;
-        self.groups.reserve(1)?;
         self.places.reserve(1)?;
-        if has_group(&self.groups, mask) {
-            return Ok(None);
-        }
-        Ok(Some(Group::new(self.alloc, &self.shape, active, mask)?))
+        self.grow_groups(active, mask)
     }
 
     // The active mask with one member more, and what `grow` makes for it; or why there is to be none.
@@ -290,6 +332,71 @@ impl<Q: Tail> Roster<Q> {
         Some(tail)
     }
 
+    /// The mask that the sensor would be asked under, with the member of that number under that mask.
+    pub(crate) fn active_under(&self, number: u64, mask: Mask) -> Option<Mask>
+        requires { mask.bits < 2 ^ count_of self.now.shape }
+        ensures value { bits_of result ≡ active_under number mask.bits (standing_of self.now) }
+        ensures own { IfSome result (λ m. is_within mask.bits m.bits ≡ true) }
+        ensures contains { IfSome result (λ m. is_within (union_of mask.bits (union_of_all (masks_of (without number self.now.members.items)))) m.bits ≡ true) }
+        ensures below { IfSome result (λ m. m.bits < 2 ^ count_of self.now.shape) }
+    {
+        active(
+            &self.shape,
+            mask.union(union_of_others(&self.members, number)),
+        )
+    }
+
+    // The active mask with that member under that mask, and what `grow_groups` makes for it; or why there is to be none.
+    fn prepare_remask(
+        &mut self,
+        number: u64,
+        mask: Mask,
+    ) -> Result<(Mask, Option<Group>), RemaskFault>
+        requires own { mask.bits < 2 ^ count_of self.old.shape }
+        requires live { is_live number self.old.members.items ≡ true }
+        ensures same { standing_of self.new ≡ standing_of self.old }
+        ensures fault { IfErr result (λ fault. IsRemaskRefusal fault (remask_fault number mask.bits (standing_of self.old))) }
+        ensures accepted { IfOk result (λ made. remask_fault number mask.bits (standing_of self.old) ≡ None) }
+        ensures active { IfOk result (λ made. Some made.0.bits ≡ active_under number mask.bits (standing_of self.old)) }
+        ensures below { IfOk result (λ made. made.0.bits < 2 ^ count_of self.old.shape) }
+        ensures within { IfOk result (λ made. is_within (union_of mask.bits (union_of_all (masks_of (without number self.old.members.items)))) made.0.bits ≡ true) }
+        ensures room { IfOk result (λ _. vec_len self.new.groups < vec_capacity self.new.groups) }
+        ensures group { IfOk result (λ made. IfSome made.1 (λ g. IsGroup self.new.shape made.0.bits g × (g.mask ≡ mask.bits) × (has_group self.new.groups.items mask.bits ≡ false))) }
+        ensures none { IfOk result (λ made. IfNone made.1 (has_group self.new.groups.items mask.bits ≡ true)) }
+    {
+        let active = self.active_under(number, mask).ok_or(RemaskFault::NoUnion)?;
+        match self.grow_groups(active, mask) {
+            Err(_) => Err(RemaskFault::Mem),
+            Ok(group) => Ok((active, group)),
+        }
+    }
+
+    /// The member of that number begins anew under another mask, with another queue's end, and its end of before comes back. Where
+    /// that is refused, the new end comes back, and nothing changes.
+    pub(crate) fn remask(&mut self, number: u64, mask: Mask, tail: Q) -> Result<Q, RemaskRefused<Q>>
+        requires own { mask.bits < 2 ^ count_of self.old.shape }
+        requires channel { has_data self.old.shape mask.bits ≡ true }
+        requires size { Q.size tail ≡ scan_size self.old.shape mask.bits }
+        requires fresh { Q.taken tail + Q.lost tail ≡ 0 }
+        ensures { Remasks number mask tail result (standing_of self.old) (standing_of self.new) }
+    {
+        let Some(at) = position_of(&self.members, number) else {
+            let fault = RemaskFault::NotLive;
+            return Err(RemaskRefused { fault, tail });
+        };
+        let (active, group) = match self.prepare_remask(number, mask) {
+            Err(fault) => return Err(RemaskRefused { fault, tail }),
+            Ok(made) => made,
+        };
+        let before = begin_anew_at(&mut self.members, at, mask, self.captures, tail);
+        keep_wanted(&mut self.groups, &self.members);
+        remake_for(&mut self.groups, &self.shape, self.active, Some(active));
+        add_group(&mut self.groups, group);
+        self.size = asked_size_after(&self.shape, self.active, self.size, Some(active));
+        self.active = Some(active);
+        Ok(before)
+    }
+
     /// The mask that the sensor is asked under; the empty one without a member.
     pub(crate) fn asked(&self) -> Mask
         ensures value { result.bits ≡ unwrap_or (bits_of self.now.active) 0 }
@@ -361,6 +468,13 @@ impl<Q: Tail> Roster<Q> {
         self.groups.len() as u32
     }
 
+    /// Whether the member of that number is there.
+    pub(crate) fn is_live(&self, number: u64) -> bool
+        ensures { result ≡ is_live number self.now.members.items }
+    {
+        position_of(&self.members, number).is_some()
+    }
+
     /// Whether the member of that number is there, and of that mask.
     pub(crate) fn is_live_under(&self, number: u64, mask: Mask) -> bool
         ensures { result ≡ is_live_under number mask.bits self.now.members.items }
@@ -395,8 +509,8 @@ impl Roster<Kfifo> {
         Some(take_at(&mut self.members, at, out))
     }
 
-    /// Moves up to `most` of the oldest scans of the member of that number and that mask behind what stands in `out`, one
-    /// behind the other, and says how many there were. `None` comes exactly where there is no such member, and then nothing
+    /// Moves up to `most` of the oldest scans of the member of that number and that mask after what stands in `out`, one
+    /// after the other, and says how many there were. `None` comes exactly where there is no such member, and then nothing
     /// changes.
     pub(crate) fn take_scans(
         &mut self,

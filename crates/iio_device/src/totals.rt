@@ -18,10 +18,10 @@ pub struct Totals {
     pub lost: Sum,
 }
 
-// So many bytes are added at once, in 16 bits.
+// That many bytes are added at once, in 16 bits.
 const LANES: usize = 64;
 
-// The sum of so many bytes.
+// The sum of that many bytes.
 #[inline]
 fn lane_sum(bytes: &[u8]) -> u16
     requires { length bytes.now ≡ LANES }
@@ -69,7 +69,7 @@ impl Totals {
         }
     }
 
-    /// So many scans were taken, which have these bytes.
+    /// That many scans were taken, which have these bytes.
     pub(crate) fn give(&mut self, count: u32, bytes: &[u8])
         ensures { self.new ≡ with_bytes count bytes.now self.old }
     {
@@ -87,7 +87,7 @@ impl Totals {
         }
     }
 
-    /// A member left whose queue had lost so many.
+    /// A member left whose queue had lost that many.
     pub(crate) fn lose(&mut self, lost: u64)
         ensures { self.new ≡ with_lost lost self.old }
     {

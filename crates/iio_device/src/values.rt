@@ -71,7 +71,8 @@ fn write_channel<P: Sensor>(stored: &mut Stored, plug: &mut P, c: u32, attr: Att
         | Attr::Raw
         | Attr::Overruns
         | Attr::DataAvailable
-        | Attr::Length => {}
+        | Attr::Length
+        | Attr::Discarded => {}
     }
 }
 
@@ -153,7 +154,8 @@ fn read_channel<P: Sensor>(stored: &Stored, plug: &P, c: u32, attr: Attr) -> Val
         | Attr::Raw
         | Attr::Overruns
         | Attr::DataAvailable
-        | Attr::Length => Value::Number(values.calibscale),
+        | Attr::Length
+        | Attr::Discarded => Value::Number(values.calibscale),
     }
 }
 

@@ -82,7 +82,7 @@ devices_append drivers n m [] x e = let same : n ≡ m = omega (arith, e) in rw 
 devices_append {Q} drivers n m (y ∷ ys) x e = ap (λ (vs : List (DeviceView Q)). new_view y n (first_driver drivers y) ∷ vs) (devices_append drivers (suc n) m ys x (omega (arith, e)))
 
 module _ {B D Q : Type 0} (given : B → Driver) (view : D → DeviceView Q) (descs : List DeviceRecord) (drivers : List B) where
-  -- so many devices are made, and the drivers of the others lie in their slots
+  -- that many devices are made, and the drivers of the others lie in their slots
   pub record Making (done left : List DeviceRecord) (devices : List D) (slots : List (Option B)) : Type 0 where
     pub whole : done ++ left ≡ descs
     pub views : map view devices ≡ first_devices (map given drivers) 0 done

@@ -3,6 +3,8 @@
 
 mod devices;
 #[cfg(test)]
+mod remask_tests;
+#[cfg(test)]
 mod tests;
 
 pub use devices::devices_of;

@@ -1,6 +1,7 @@
 //! A device of a description, by hand.
 
 ghost use Rattle.std.specs.Prelude.{IfOk};
+ghost use Rattle.iio_layout.specs.Rows.{IsRecording};
 ghost use Rattle.iio_probe.specs.Devices.{IsFit};
 
 use super::*;
@@ -16,8 +17,28 @@ use std::alloc::Global;
 use std::process::Abort;
 use std::test::Fail;
 
-// A device with the channels voltage0, voltage1 and voltage2, on the first trigger.
-fn described(alloc: Global) -> Result<DeviceDesc, Fail>
+// Masks for three channels.
+fn masks_of(alloc: Global, texts: &[&str]) -> Result<Vec<Mask>, Fail> {
+    let mut masks = Vec::new(alloc);
+    for text in texts {
+        masks.push(Mask::read(text.as_bytes(), 3).ok_or("no mask")?)?;
+    }
+    Ok(masks)
+}
+
+// One row, in which the channels have the values 1, 2 and 3.
+fn one_row(alloc: Global) -> Result<Rows, Mem>
+    ensures { IfOk result IsRecording }
+{
+    Ok(Rows {
+        moments: Vec::from_slice(alloc, &[0])?,
+        values: Vec::from_slice(alloc, &[1, 2, 3])?,
+        width: 3,
+    })
+}
+
+// A device with the channels voltage0, voltage1 and voltage2 of two bytes, on the first trigger, and these listed masks.
+fn described(alloc: Global, listed: &[&str]) -> Result<DeviceDesc, Fail>
     ensures { IfOk result (λ d. IsFit 0 d) }
 {
     let mut channels = Vec::new(alloc);
@@ -32,19 +53,23 @@ fn described(alloc: Global) -> Result<DeviceDesc, Fail>
     Ok(DeviceDesc {
         name: Name::new(b"adc0").ok_or("no name")?,
         trigger: Some(0),
-        shape: Shape::new(channels, None, Vec::new(alloc)).ok_or("no shape")?,
-        rows: Rows {
-            moments: Vec::new(alloc),
-            values: Vec::new(alloc),
-            width: 3,
-        },
+        shape: Shape::new(channels, None, masks_of(alloc, listed)?).ok_or("no shape")?,
+        rows: one_row(alloc)?,
         driver: None,
         attrs: Vec::new(alloc),
     })
 }
 
+// That device, made.
+pub(crate) fn device_of(alloc: Global, listed: &[&str]) -> Result<Device<Kfifo>, Fail> {
+    let mut descs = Vec::new(alloc);
+    descs.push(described(alloc, listed)?)?;
+    let mut devices: Vec<Device<Kfifo>> = devices_of(alloc, descs, Vec::new(alloc))?;
+    Ok(devices.pop().ok_or("no device")?)
+}
+
 // A member joins under that mask, with a queue of one scan.
-fn join(
+pub(crate) fn join(
     rt: &impl Abort,
     alloc: Global,
     device: &mut Device<Kfifo>,
@@ -68,10 +93,7 @@ fn join(
 #[test]
 fn groups_are_the_masks_of_members(rt: HostRuntime) -> Result<(), Fail> {
     let alloc = rt.alloc();
-    let mut descs = Vec::new(alloc);
-    descs.push(described(alloc)?)?;
-    let mut devices: Vec<Device<Kfifo>> = devices_of(alloc, descs, Vec::new(alloc))?;
-    let mut device = devices.pop().ok_or("no device")?;
+    let mut device = device_of(alloc, &[])?;
     let mut trigger = Trigger::new(1);
     assert_eq!(rt; device.groups(), 0);
     let joins = [

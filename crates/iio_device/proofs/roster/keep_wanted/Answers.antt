@@ -4,5 +4,5 @@ use Rattle.iio_device.specs.Groups.{GroupRecord}
 use Rattle.iio_device.specs.Members.{is_wanted}
 use Rattle.iio_device.proofs.roster.keep_wanted.Goals as goal
 
-pub returns : goal.returns
-returns g c = filter_same _ (λ (x : GroupRecord). is_wanted c.args.members.now x.mask) _ (λ x b f' k. search rules) _ _ c.retain.ensures.filtered
+pub returns-clause-kept : goal.returns-clause-kept
+returns-clause-kept g c = filter_same _ (λ (x : GroupRecord). is_wanted c.args.members.now x.mask) _ (λ x b f' k. search rules) _ _ c.retain.ensures.filtered

@@ -17,12 +17,12 @@ remake_for-requires-clause-within g c =
     let contains : IfSome c.active_for-active.result (λ m. is_within (union_of_all (masks_of c.remove-tail.new.self.items)) m.bits ≡ true) =
     rw (sym c.deref-2.ensures.value) c.active_for-active.ensures.contains in
     some_more (λ m. is_within (union_of_all (masks_of c.remove-tail.new.self.items)) m.bits ≡ true) _ c.active_for-active.result contains
-    (λ m h. rw (c.keep_wanted.ensures, c.deref-3.ensures.value) (kept_within tail.taken tail.lost tail.size c.remove-tail.new.self.items c.args.self.now.groups.items m.bits h))
+    (λ m h. rw (c.keep_wanted.ensures.kept, c.deref-3.ensures.value) (kept_within tail.taken tail.lost tail.size c.remove-tail.new.self.items c.args.self.now.groups.items m.bits h))
 
 pub remake_for-requires-clause-made : goal.remake_for-requires-clause-made
 remake_for-requires-clause-made g c =
     let roster = c.args.self.now in
-    rw (c.keep_wanted.ensures, c.deref-3.ensures.value)
+    rw (c.keep_wanted.ensures.kept, c.deref-3.ensures.value)
     (All-filter (λ (x : GroupRecord). is_wanted c.remove-tail.new.self.items x.mask) (IsGroup roster.shape (unwrap_or (bits_of roster.active) 0)) roster.groups.items roster.sound.grouped.each)
 
 pub invariant_of-self-2 : goal.invariant_of-self-2
@@ -35,7 +35,7 @@ invariant_of-self-2 g c =
       sized = c.asked_size_after-self.ensures;
       roomy = roster.roomy;
       placed = search rules;
-      sound = rw (c.remake_for.ensures.remade, c.keep_wanted.ensures, c.deref-3.ensures.value)
+      sound = rw (c.remake_for.ensures.remade, c.keep_wanted.ensures.kept, c.deref-3.ensures.value)
           (sound_leaves_at tail.taken tail.lost tail.size roster.shape roster.active c.active_for-active.result roster.captures roster.next roster.members.items c.remove-tail.new.self.items
           c.in_ok-at.at c.remove-tail.result roster.groups.items roster.sound within c.remove-tail.ensures.value c.remove-tail.ensures.by_index.2 ruled c.active_for-active.ensures.below);
     }

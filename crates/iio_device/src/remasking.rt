@@ -1,0 +1,56 @@
+//! Members that exchange their masks.
+
+ghost use Rattle.std.specs.Prelude.{◌≡◌, ◌+◌};
+ghost use Rattle.iio_base.specs.Refusals.{first_refusal, unless_refused};
+ghost use Rattle.iio_layout.specs.Layout.{scan_size};
+ghost use Rattle.iio_device.specs.Device.{RemasksDevice, remask_faults, view_of};
+
+use crate::device::Fitted;
+use crate::iio_dev::IioDev;
+use crate::joining::is_bad_mask;
+use crate::membership::Member;
+use crate::plug::Plug;
+use crate::roster::{RemaskFault, RemaskRefused};
+use iio_kfifo::Tail;
+use iio_mask::Mask;
+use iio_sensor::Sensor;
+
+impl<Q: Tail> Fitted<IioDev<Q>> {
+    /// Whether a member could have that mask in place of its own. Refused in this order: `Gone`, the device is unplugged;
+    /// `NotLive`, the member isn't live; `BadMask`, a bit at or above the number of channels, or no data channel;
+    /// `NoUnion`, the sensor can be asked under no mask that serves the other members and this one. Never `Mem`.
+    pub fn may_remask(&self, member: &Member, mask: Mask) -> Result<(), RemaskFault>
+        ensures { result ≡ unless_refused tt (first_refusal (remask_faults (view_of ⟦<Plug as Sensor>⟧.driver self.now.core self.now.plug) member.now.number mask.bits)) }
+    {
+        if self.plug.is_none() {
+            return Err(RemaskFault::Gone);
+        }
+        if !self.core.roster.is_live(member.number) {
+            return Err(RemaskFault::NotLive);
+        }
+        if is_bad_mask(self.shape(), mask) {
+            return Err(RemaskFault::BadMask);
+        }
+        if self.core.roster.active_under(member.number, mask).is_none() {
+            return Err(RemaskFault::NoUnion);
+        }
+        Ok(())
+    }
+
+    /// A member begins anew under another mask, with another queue's end: the next capture is the first that this takes or
+    /// loses. The member keeps its number and its place among the members. Its queue's end of before comes back, and what
+    /// that lost counts in the device's totals. Refused as by `may_remask`, and then `Mem`; a refusal gives the new end back and
+    /// changes nothing. All memory that the exchange needs is taken before anything changes.
+    pub fn remask(&mut self, member: &Member, mask: Mask, tail: Q) -> Result<Q, RemaskRefused<Q>>
+        requires size { Q.size tail ≡ scan_size self.old.core.roster.shape mask.bits }
+        requires fresh { Q.taken tail + Q.lost tail ≡ 0 }
+        ensures { RemasksDevice Q.lost member.now.number mask tail result (view_of ⟦<Plug as Sensor>⟧.driver self.old.core self.old.plug) (view_of ⟦<Plug as Sensor>⟧.driver self.new.core self.new.plug) }
+    {
+        if let Err(fault) = self.may_remask(member, mask) {
+            return Err(RemaskRefused { fault, tail });
+        }
+        let before = self.core.roster.remask(member.number, mask, tail)?;
+        self.core.totals.lose(before.lost());
+        Ok(before)
+    }
+}
