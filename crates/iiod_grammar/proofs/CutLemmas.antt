@@ -1,5 +1,5 @@
 -- The first piece of bytes that were begun and further ones.
-use Rattle.std.proofs.Common.{◌≡◌, ℕ, ◌+◌, ◌-◌, ◌<◌, ◌≤◌, ◌==◌, not, true, List, ◌++◌, length, take, Some, None, refl, sym, ap, ◌∙◌, arith, length-append}
+use Rattle.std.proofs.Common.{◌≡◌, ℕ, ◌+◌, ◌-◌, ◌<◌, ◌≤◌, ◌==◌, not, true, List, [], ◌∷◌, ◌++◌, length, take, get_or, Some, None, refl, sym, ap, ◌∙◌, arith, length-append}
 use Rattle.std.specs.List.{position_or_len}
 use Rattle.std.proofs.lemmas.Bool.{and_parts, lt-ltb, le-ltb, le-leb, leb-true, eq-eqb}
 use Rattle.std.proofs.lemmas.List.Folds.{prefix_len-append}
@@ -45,6 +45,14 @@ line_whole begun bytes e h is within some =
     let end : position_or_len is_lf (begun ++ bytes) ≡ length begun + e = end_after begun bytes h ∙ ap (λ n. length begun + n) (sym is) in
     let size : length begun + e + 1 ≡ length begun + (e + 1) = omega arith in
     rw (end, le-ltb 1024 (length begun + e) within, lt-ltb (length begun + e) (length (begun ++ bytes)) (omega (arith, length-append begun bytes)), take-append-add begun bytes e, size) refl
+
+-- an LF at the begin of a line
+pub line_blank : (begun bytes : List ℕ) → begun ≡ [] → 0 < length bytes → get_or bytes 0 0 ≡ 10 → cut None (begun ++ bytes) ≡ WholeLine begun (length begun + 1)
+line_blank begun bytes none some lf = rw none (line_whole [] bytes 0 refl (first bytes some lf) (omega arith) some)
+  where
+    first : (bytes : List ℕ) → 0 < length bytes → get_or bytes 0 0 ≡ 10 → 0 ≡ position_or_len is_lf bytes
+    first [] some lf = absurd (omega (arith, some))
+    first (b ∷ bs) some lf = rw lf refl
 
 pub line_begun : (begun : List ℕ) → is_begun None begun ≡ true → length begun ≤ 1024
 line_begun begun h = leb-true (length begun) 1024 (and_parts _ _ h).1

@@ -1,5 +1,5 @@
 -- What a command line says. (libiio 0.25's iiod, its text protocol. SET's BUFFERS_COUNT is its too; EVOPEN, EVREAD and
--- EVCLOSE, the numbers and the CRs before an LF are this project's own.)
+-- EVCLOSE, REMASK, the numbers and the CRs before an LF are this project's own.)
 use Rattle.std.specs.Prelude.{ℕ, ⊤, Bool, true, false, List, [], ◌∷◌, ◌==◌, reverse, codes, Option, Some, None, unwrap_or, Result, Ok, Err, if◌then◌else◌}
 use Rattle.std.specs.Option.{ok_or}
 use Rattle.std.specs.Str.{bytes_eq}
@@ -39,6 +39,7 @@ pub data Command : Type 0 where
   -- no trigger takes the device's off
   SetTrig : (device : List ℕ) (trigger : Option (List ℕ)) → Command
   SetBuffers : (device : List ℕ) (count : ℕ) → Command
+  Remask : (device : List ℕ) (mask : List ℕ) → Command
   EvOpen : (device : List ℕ) → Command
   EvRead : (device : List ℕ) → Command
   EvClose : (device : List ℕ) → Command
@@ -185,6 +186,12 @@ set_form (device ∷ words) = do
   n ← number pair.1
   Ok (SetBuffers device n)
 
+-- a device and a mask
+abbrev pub remask_form : List (List ℕ) → Result Command Refused
+remask_form words = do
+  pair ← two_words words
+  Ok (Remask pair.0 pair.1)
+
 -- ---- lines
 
 -- the commands: the first word, in upper case alone, and the form of those after it
@@ -204,6 +211,7 @@ commands =
     ∷ (codes "GETTRIG", device_form GetTrig)
     ∷ (codes "SETTRIG", trigger_form)
     ∷ (codes "SET", set_form)
+    ∷ (codes "REMASK", remask_form)
     ∷ (codes "EVOPEN", device_form EvOpen)
     ∷ (codes "EVREAD", device_form EvRead)
     ∷ (codes "EVCLOSE", device_form EvClose)

@@ -20,7 +20,7 @@ pub data Cut : Type 0 where
   -- a line that is too long
   Overlong : Cut
 
--- the first piece of all bytes since the piece before: a payload of so many bytes, or else a line
+-- the first piece of all bytes since the piece before: a payload of that many bytes, or else a line
 abbrev pub cut : Option ℕ → List ℕ → Cut
 cut (Some count) bytes = if nat_lt (length bytes) count then NotYet else WholePayload (take count bytes)
 cut None bytes =

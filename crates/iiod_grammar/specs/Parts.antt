@@ -7,7 +7,7 @@ use Rattle.iiod_grammar.specs.declared.words.PlaceWord.{PlaceWord}
 use Rattle.iiod_grammar.specs.declared.words.PlaceWord.TheVariants as word
 use Rattle.iiod_grammar.specs.declared.words.Verb.{Verb}
 use Rattle.iiod_grammar.specs.declared.words.Verb.TheVariants as verb
-use Rattle.iiod_grammar.specs.Command.{at_place, at_channel, bare_form, timeout_form, open_form, device_form, bytes_form, read_form, write_form, trigger_form, set_form}
+use Rattle.iiod_grammar.specs.Command.{at_place, at_channel, bare_form, timeout_form, open_form, device_form, bytes_form, read_form, write_form, trigger_form, set_form, remask_form}
 use Rattle.iiod_grammar.specs.Command.{AtBuffer, AtDebug, AtInput, AtOutput, Target, Command, Help, Exit, Version, Print, Close, ReadBuf, WriteBuf, GetTrig, EvOpen, EvRead, EvClose}
 use Rattle.iiod_grammar.specs.View.{target_view}
 
@@ -49,6 +49,7 @@ command_form verb.WriteBuf = bytes_form WriteBuf
 command_form verb.GetTrig = device_form GetTrig
 command_form verb.SetTrig = trigger_form
 command_form verb.Set = set_form
+command_form verb.Remask = remask_form
 command_form verb.EvOpen = device_form EvOpen
 command_form verb.EvRead = device_form EvRead
 command_form verb.EvClose = device_form EvClose

@@ -7,7 +7,7 @@ use Rattle.iiod_grammar.specs.declared.command.Place.{Place as CodePlace}
 use Rattle.iiod_grammar.specs.declared.command.Place.TheVariants.{Device, Buffer, Debug, Input, Output}
 use Rattle.iiod_grammar.specs.declared.command.Command.{Command as CodeCommand}
 use Rattle.iiod_grammar.specs.declared.command.Command.TheVariants as code
-use Rattle.iiod_grammar.specs.Command.{Place, AtDevice, AtBuffer, AtDebug, AtInput, AtOutput, Target, Command, Help, Exit, Version, Print, Timeout, Open, Close, Read, Write, ReadBuf, WriteBuf, GetTrig, SetTrig, SetBuffers, EvOpen, EvRead, EvClose}
+use Rattle.iiod_grammar.specs.Command.{Place, AtDevice, AtBuffer, AtDebug, AtInput, AtOutput, Target, Command, Help, Exit, Version, Print, Timeout, Open, Close, Read, Write, ReadBuf, WriteBuf, GetTrig, SetTrig, SetBuffers, Remask, EvOpen, EvRead, EvClose}
 
 abbrev pub place_view : CodePlace → Place
 place_view Device = AtDevice
@@ -34,6 +34,7 @@ command_view (code.WriteBuf dev bytes) = WriteBuf dev.now bytes
 command_view (code.GetTrig dev) = GetTrig dev.now
 command_view (code.SetTrig dev trigger) = SetTrig dev.now (option_copied trigger)
 command_view (code.SetBuffers dev count) = SetBuffers dev.now count
+command_view (code.Remask dev mask) = Remask dev.now mask.now
 command_view (code.EvOpen dev) = EvOpen dev.now
 command_view (code.EvRead dev) = EvRead dev.now
 command_view (code.EvClose dev) = EvClose dev.now

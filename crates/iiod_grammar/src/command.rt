@@ -67,7 +67,7 @@ pub enum Command<'a> {
         target: Option<(Place<'a>, Option<&'a [u8]>)>,
         count: u32,
     },
-    /// `READBUF dev bytes`: up to so many bytes of scans.
+    /// `READBUF dev bytes`: up to that many bytes of scans.
     ReadBuf {
         dev: &'a [u8],
         bytes: u32,
@@ -90,6 +90,11 @@ pub enum Command<'a> {
     SetBuffers {
         dev: &'a [u8],
         count: u32,
+    },
+    /// `REMASK dev mask`: the text of a mask, under which the connection's buffer of the device begins anew.
+    Remask {
+        dev: &'a [u8],
+        mask: &'a [u8],
     },
     /// `EVOPEN dev`: the device's threshold events go to this connection.
     EvOpen {

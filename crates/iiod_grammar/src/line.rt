@@ -1,7 +1,7 @@
 //! Lines as commands.
 
 ghost use Rattle.std.specs.Prelude.{◌≡◌, ◌≤◌, ◌∷◌, [], length, take, option_map};
-ghost use Rattle.iiod_grammar.specs.Command.{number, target_of, no_words, one_word, two_words, bare_form, timeout_form, open_form, cyclic_of, read_form, last_of, counted_word, counted_target, write_form, trigger_form, set_form, command_of, without_returns, bytes_form, ReadBuf, WriteBuf};
+ghost use Rattle.iiod_grammar.specs.Command.{number, target_of, no_words, one_word, two_words, bare_form, timeout_form, open_form, cyclic_of, read_form, last_of, counted_word, counted_target, write_form, trigger_form, set_form, remask_form, command_of, without_returns, bytes_form, ReadBuf, WriteBuf};
 ghost use Rattle.iiod_grammar.specs.Parts.{word_view, counted_view, split_view, pair_view};
 ghost use Rattle.iiod_grammar.specs.View.{target_view, line_view, command_view};
 
@@ -162,6 +162,14 @@ fn read_set<'a>(words: &mut Words<'a>) -> Result<Command<'a>, Refused>
     }
     let count = number(count)?;
     Ok(Command::SetBuffers { dev, count })
+}
+
+#[inline(always)]
+fn read_remask<'a>(words: &mut Words<'a>) -> Result<Command<'a>, Refused>
+    ensures { line_view result ≡ remask_form (words.old) }
+{
+    let (dev, mask) = two_words(words)?;
+    Ok(Command::Remask { dev, mask })
 }
 
 // ---- targets
@@ -339,6 +347,7 @@ pub fn read_line(line: &[u8]) -> Result<Command<'_>, Refused>
         }),
         Verb::SetTrig => read_set_trigger(&mut words),
         Verb::Set => read_set(&mut words),
+        Verb::Remask => read_remask(&mut words),
         Verb::EvOpen => Ok(Command::EvOpen {
             dev: one_word(&mut words)?,
         }),

@@ -5,6 +5,7 @@ ghost use Rattle.iiod_grammar.specs.Lines.{is_begun, new_lines, feed_of};
 ghost use Rattle.iiod_grammar.specs.Scans.{Scans, EndsPiece};
 ghost use Rattle.iiod_grammar.specs.Taking.{Takes};
 ghost use Rattle.iiod_grammar.specs.declared.lines.Ready.{Ready};
+ghost use Rattle.iiod_grammar.specs.declared.lines.TheConstants.{MAX_PAYLOAD};
 
 use crate::line::len_without_returns;
 use iio_base::Mem;
@@ -44,6 +45,7 @@ pub struct Lines {
 impl Model for Lines {
     ghost use Rattle.std.specs.Prelude.{◌≡◌, ◌≤◌, true, [], if◌then◌else◌, vec_capacity};
     ghost use Rattle.iiod_grammar.specs.Lines.{LinesRecord, is_begun};
+    ghost use Rattle.iiod_grammar.specs.declared.lines.TheConstants.{MAX_PAYLOAD};
 
     ghost Value = { LinesRecord };
 
@@ -54,7 +56,7 @@ impl Model for Lines {
       overlong = x.overlong;
     } };
 
-    ghost invariant = { λ x. (65536 ≤ vec_capacity x.kept) × (is_begun x.wanted (if x.is_whole then [] else x.kept.items) ≡ true) };
+    ghost invariant = { λ x. (MAX_PAYLOAD ≤ vec_capacity x.kept) × (is_begun x.wanted (if x.is_whole then [] else x.kept.items) ≡ true) };
 }
 
 impl Lines {
@@ -147,14 +149,17 @@ fn keep(kept: &mut Vec<u8>, bytes: &[u8])
 // Takes bytes to those of a line.
 fn take_line(kept: &mut Vec<u8>, bytes: &[u8]) -> (usize, Ready)
     requires begun { is_begun None kept.old.items ≡ true }
-    requires room { 65536 ≤ vec_capacity kept.old }
+    requires room { MAX_PAYLOAD ≤ vec_capacity kept.old }
     ensures takes { Takes None kept.old.items bytes.now result.0 result.1 kept.new.items }
     ensures within { result.0 ≤ length bytes.now }
     ensures some { result.1 ≡ Ready.Line → 0 < result.0 }
-    ensures room { 65536 ≤ vec_capacity kept.new }
+    ensures room { MAX_PAYLOAD ≤ vec_capacity kept.new }
 {
     if bytes.is_empty() {
         return (0, Ready::More);
+    }
+    if kept.is_empty() && bytes[0] == b'\n' {
+        return (1, Ready::Line);
     }
     let end = line_len(bytes);
     if kept.len() + end > MAX_LINE {
@@ -172,11 +177,11 @@ fn take_line(kept: &mut Vec<u8>, bytes: &[u8]) -> (usize, Ready)
 // Takes bytes to those of a payload of `count` bytes.
 fn take_payload(kept: &mut Vec<u8>, count: u32, bytes: &[u8]) -> (usize, Ready)
     requires begun { is_begun (Some count) kept.old.items ≡ true }
-    requires room { 65536 ≤ vec_capacity kept.old }
+    requires room { MAX_PAYLOAD ≤ vec_capacity kept.old }
     ensures takes { Takes (Some count) kept.old.items bytes.now result.0 result.1 kept.new.items }
     ensures within { result.0 ≤ length bytes.now }
     ensures some { result.1 ≡ Ready.Line → 0 < result.0 }
-    ensures room { 65536 ≤ vec_capacity kept.new }
+    ensures room { MAX_PAYLOAD ≤ vec_capacity kept.new }
 {
     let missing = count as usize - kept.len();
     if bytes.len() < missing {

@@ -32,6 +32,7 @@ pub(crate) enum Verb {
     GetTrig,
     SetTrig,
     Set,
+    Remask,
     EvOpen,
     EvRead,
     EvClose,
@@ -95,6 +96,8 @@ fn later_verb_of(word: &[u8]) -> Option<Verb>
         Some(Verb::SetTrig)
     } else if is_word(word, b"SET") {
         Some(Verb::Set)
+    } else if is_word(word, b"REMASK") {
+        Some(Verb::Remask)
     } else if is_word(word, b"EVOPEN") {
         Some(Verb::EvOpen)
     } else if is_word(word, b"EVREAD") {

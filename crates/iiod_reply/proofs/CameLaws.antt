@@ -1,10 +1,13 @@
--- A number in the place of another that is no smaller.
-use Rattle.std.proofs.Common.{◌≡◌, ℕ, ◌+◌, ◌-◌, ◌/◌, ◌%◌, ◌^◌, ◌<◌, ◌≤◌, List, [], ◌∷◌, ◌++◌, length, take, drop, append_assoc, length-append, length-drop, length-take, inl, inr, sym, ap, ◌∙◌, arith}
+-- A number's length; and bytes in the place of others.
+use Rattle.std.proofs.Common.{◌≡◌, ℕ, ◌+◌, ◌*◌, ◌/◌, ◌%◌, ◌^◌, ◌<◌, ◌≤◌, nat_le, List, [], ◌∷◌, ◌++◌, length, take, drop, append_assoc, length-append, refl, inl, inr, sym, ap, ◌∙◌, arith}
 use Rattle.std.specs.Fmt.{decimal}
+use Rattle.std.specs.Int.{byte_len, w32, w64, to_be_bytes}
 use Rattle.std.proofs.Math.Seq.{drop-append-add, take-append_seam}
 use Rattle.std.proofs.lemmas.List.{drop-drop, length-take-le}
-use Rattle.std.proofs.lemmas.Bool.{cases_lt}
+use Rattle.std.proofs.lemmas.Bool.{cases_lt, cond_both}
 use Rattle.std.proofs.lemmas.Fmt.{decimal_by_steps, decimal_step, length-decimal-le}
+use Rattle.iio_mask.specs.Text.{digit_count, digits_of, mask_text}
+use Rattle.iiod_reply.specs.Reply.{head_length, head_text}
 
 -- a smaller number has no more digits
 pub no_longer : (came most : ℕ) → came ≤ most → most < 2 ^ 64 → length (decimal came) ≤ length (decimal most)
@@ -20,24 +23,64 @@ no_longer came most less small = decimal_by_steps (λ m ds. (n : ℕ) → n ≤ 
       | inr many ↦ omega (arith, ap length (decimal_step n many s), length-append (decimal (n / 10)) ((48 + n % 10) ∷ []), length-append ds ((48 + m % 10) ∷ []), h (n / 10) (omega arith) (omega arith))
     ]
 
--- what is named stands within
-pub is_within : (start : ℕ) (old digits : List ℕ) → 0 < length digits → old ≡ take start old ++ (digits ++ drop (start + length digits) old) → start + length digits ≤ length old
-is_within start old digits some h =
-    omega (arith, some, ap length h, length-append (take start old) (digits ++ drop (start + length digits) old), length-append digits (drop (start + length digits) old), length-take start old, length-drop (start + length digits) old)
+-- how many digits a number has: one, or one more than its tenth
+pub length_one : (n : ℕ) → n < 10 → length (decimal n) ≡ 1
+length_one n few = decimal_by_steps (λ m ds. m < 10 → length ds ≡ 1) (λ m l h. refl) (λ m ds l h few. absurd (omega arith)) n (omega arith) few
 
--- what stands once the digits are put over the front of others and the rest of these is taken out
-pub put_in_place : (start wide : ℕ) (old digits all new : List ℕ) → length digits ≤ wide → start + wide ≤ length old
-    → all ≡ take start old ++ (digits ++ drop (start + length digits) old)
-    → new ≡ take (start + length digits) all ++ drop (start + length digits + (start + wide - (start + length digits))) all
-    → new ≡ take start old ++ (digits ++ drop (start + wide) old)
-put_in_place start wide old digits all new fits within put cut =
-    let n = start + length digits in
-    let front = take start old ++ digits in
-    let rest = drop n old in
-    let long : length front ≡ n = length-append (take start old) digits ∙ ap (λ k. k + length digits) (length-take-le start old (omega arith)) in
-    let whole : all ≡ front ++ rest = put ∙ sym (append_assoc (take start old) digits rest) in
-    let first : take n all ≡ front = ap (λ k. take k all) (sym long) ∙ ap (take (length front)) whole ∙ take-append_seam front rest in
-    let more = start + wide - n in
-    let last : drop (n + more) all ≡ drop (start + wide) old =
-    ap (λ k. drop (k + more) all) (sym long) ∙ ap (drop (length front + more)) whole ∙ drop-append-add front rest more ∙ drop-drop more n old ∙ ap (λ k. drop k old) (omega arith) in
-    cut ∙ rw (first, last) (append_assoc (take start old) digits (drop (start + wide) old))
+pub length_more : (n : ℕ) → 10 ≤ n → n < 2 ^ 64 → length (decimal n) ≡ length (decimal (n / 10)) + 1
+length_more n many small = ap length (decimal_step n many small) ∙ length-append (decimal (n / 10)) ((48 + n % 10) ∷ [])
+
+pub length_most : (n : ℕ) → n < 2 ^ 64 → length (decimal n) ≤ 20
+length_most n small = length-decimal-le 20 n (omega arith) (omega (arith, small)) small
+
+-- a mask's text has so many digits
+pub length_mask : (channels bits : ℕ) → length (mask_text channels bits) ≡ digit_count channels
+length_mask channels bits = cond_both (nat_le channels 32) w32 w64 (λ w. length (digits_of (to_be_bytes w bits)) ≡ 2 * byte_len w) (λ _. refl) (λ _. refl)
+
+-- ... and a head so many bytes
+pub length_head : (channels mask came : ℕ) → length (head_text channels mask came) ≡ head_length channels came
+length_head channels mask came =
+    let line = mask_text channels mask ++ 10 ∷ [] in
+    omega (
+      arith,
+      length-append (decimal came ++ 10 ∷ []) line,
+      length-append (decimal came) (10 ∷ []),
+      length-append (mask_text channels mask) (10 ∷ []),
+      length_mask channels mask,
+    )
+
+-- a head for fewer bytes is no longer
+pub no_longer_head : (channels came most : ℕ) → came ≤ most → most < 2 ^ 64 → head_length channels came ≤ head_length channels most
+no_longer_head channels came most less small = omega (arith, no_longer came most less small)
+
+-- what was put, and what stands after it
+put_whole : (at : ℕ) (old a mid : List ℕ) → at + length a ≤ length old → mid ≡ take at old ++ (a ++ drop (at + length a) old)
+    → (take (at + length a) mid ≡ take at old ++ a) × ((n : ℕ) → drop (at + length a + n) mid ≡ drop (at + length a + n) old)
+put_whole at old a mid within put =
+    let front = take at old ++ a in
+    let rest = drop (at + length a) old in
+    let long : length front ≡ at + length a = length-append (take at old) a ∙ ap (λ k. k + length a) (length-take-le at old (omega arith)) in
+    let whole : mid ≡ front ++ rest = put ∙ sym (append_assoc (take at old) a rest) in (
+      ap (λ k. take k mid) (sym long) ∙ ap (take (length front)) whole ∙ take-append_seam front rest,
+      λ n. ap (λ k. drop (k + n) mid) (sym long) ∙ ap (drop (length front + n)) whole ∙ drop-append-add front rest n ∙ drop-drop n (at + length a) old,
+    )
+
+-- bytes that are put one after another
+pub put_beside : (at : ℕ) (old a b mid new : List ℕ) → at + length a + length b ≤ length old
+    → mid ≡ take at old ++ (a ++ drop (at + length a) old)
+    → new ≡ take (at + length a) mid ++ (b ++ drop (at + length a + length b) mid)
+    → new ≡ take at old ++ ((a ++ b) ++ drop (at + length (a ++ b)) old)
+put_beside at old a b mid new within first second =
+    let w = put_whole at old a mid (omega arith) first in
+    let n : at + length a + length b ≡ at + length (a ++ b) = omega (arith, length-append a b) in
+    second ∙ rw (w.0, w.1 (length b)) (append_assoc (take at old) a (b ++ drop (at + length a + length b) old)
+    ∙ ap (λ xs. take at old ++ xs) (sym (append_assoc a b (drop (at + length a + length b) old)) ∙ ap (λ k. (a ++ b) ++ drop k old) n))
+
+-- ... and after which some are taken out
+pub put_short : (at gone : ℕ) (old a mid new : List ℕ) → at + length a ≤ length old
+    → mid ≡ take at old ++ (a ++ drop (at + length a) old)
+    → new ≡ take (at + length a) mid ++ drop (at + length a + gone) mid
+    → new ≡ take at old ++ (a ++ drop (at + length a + gone) old)
+put_short at gone old a mid new within first second =
+    let w = put_whole at old a mid within first in
+    second ∙ rw (w.0, w.1 gone) (append_assoc (take at old) a (drop (at + length a + gone) old))

@@ -1,12 +1,12 @@
 -- What an item of a connection is answered, and the bytes of the answer. (libiio 0.25's iiod. That a value's number
 -- leaves out its closing LF, and READBUF's block with its one mask and its closing 0, are this project's own.)
 use Rattle.std.specs.Prelude.{◌≡◌, ◌+◌, ◌≤◌, ℕ, ℤ, pos, negsuc, neg_ℤ, nat_lt, if◌then◌else◌, codes, ⊤, List, [], ◌∷◌, ◌++◌, length, Result, Ok, Err, IsOk}
-use Rattle.std.specs.Fmt.{signed_decimal}
+use Rattle.std.specs.Fmt.{decimal, signed_decimal}
 use Rattle.std.specs.List.{flat_map}
 use Rattle.iio_base.specs.declared.Mem.{Mem}
 use Rattle.iio_text.specs.declared.errors.Errno.{Errno}
 use Rattle.iio_text.specs.Errno.{errno_number}
-use Rattle.iio_mask.specs.Text.{mask_text}
+use Rattle.iio_mask.specs.Text.{digit_count, mask_text}
 
 pub data Reply : Type 0 where
   -- no answer: to a line without a word, and to EXIT
@@ -21,7 +21,7 @@ pub data Reply : Type 0 where
   Value : (bytes : List ℕ) → Reply
   -- bytes with no line after them: of EVREAD
   Raw : (bytes : List ℕ) → Reply
-  -- READBUF's scans under the member's own mask, of so many channels, where so many bytes were asked for
+  -- READBUF's scans under the member's own mask, of that many channels, where that many bytes were asked for
   Block : (channels mask : ℕ) (scans : List (List ℕ)) (asked : ℕ) → Reply
   -- out of memory, which a server alone answers
   NoMemory : Reply
@@ -49,6 +49,10 @@ closing_text came asked = if nat_lt came asked then line (codes "0") else []
 abbrev pub head_text : ℕ → ℕ → ℕ → List ℕ
 head_text channels mask came = number_text (pos came) ++ line (mask_text channels mask)
 
+-- how many bytes that has
+abbrev pub head_length : ℕ → ℕ → ℕ
+head_length channels came = length (decimal came) + 1 + digit_count channels + 1
+
 abbrev pub block_text : ℕ → ℕ → List ℕ → ℕ → List ℕ
 block_text channels mask bytes asked = head_text channels mask (length bytes) ++ (bytes ++ closing_text (length bytes) asked)
 
@@ -71,6 +75,11 @@ text_of NoMemory = number_text (negsuc 11)
 abbrev pub Appends : List ℕ → List ℕ → Result ⊤ Mem → List ℕ → Type 0
 Appends text old (Ok done) new = new ≡ old ++ text
 Appends text old (Err mem) new = new ≡ old
+
+-- so many bytes stand at the end of what was there, whatever they are, or there was no memory and what was there stays
+abbrev pub AppendsRoom : ℕ → List ℕ → Result ⊤ Mem → List ℕ → Type 0
+AppendsRoom n old (Ok done) new = (room : List ℕ) × (length room ≡ n) × (new ≡ old ++ room)
+AppendsRoom n old (Err mem) new = new ≡ old
 
 -- where the room is there already, memory doesn't run out
 abbrev pub FitsInRoom : List ℕ → List ℕ → ℕ → Result ⊤ Mem → Type 0

@@ -2,23 +2,30 @@
 //!
 //! A number is a line of its own. A value is the number of its bytes, the bytes, and LF. A block of READBUF is the number
 //! of its bytes, the mask that they are under, the bytes, and a closing 0 where fewer came than were asked for. A caller who
-//! takes the scans straight into the answer puts the head of the most that can come before them, and says how many came and
-//! closes the block once they stand.
+//! takes the scans straight into the answer leaves room for the head before them, and puts the head there and closes the block
+//! once they stand.
 #![tactic(auto)]
 
-ghost use Rattle.std.specs.Prelude.{◌≡◌, ◌+◌, ◌^◌, ◌≤◌, ◌<◌, ◌++◌, length, take, drop, vec_capacity, decimal};
+ghost use Rattle.std.specs.Prelude.{◌≡◌, ◌+◌, ◌^◌, ◌≤◌, ◌<◌, ◌++◌, length, take, drop, vec_capacity, decimal, IsOk};
 ghost use Rattle.iio_mask.specs.Text.{digit_count};
-ghost use Rattle.iiod_reply.specs.Reply.{Number, Value, text_of, block_text, closing_text, head_text, Appends, FitsInRoom};
+ghost use Rattle.iiod_reply.specs.Reply.{Number, Value, line, text_of, block_text, closing_text, head_length, head_text, Appends, AppendsRoom, FitsInRoom};
 
 pub use iio_base::Mem;
 use iio_mask::Mask;
 use itoa::Buffer;
+
+// The most bytes of a block's head: the number of its bytes, the mask, and an LF after each.
+const MOST_HEAD: usize = 20 + 1 + 16 + 1;
+
+// What stands in the place of a head until it is put there.
+const HEAD_ROOM: [u8; MOST_HEAD] = [b' '; MOST_HEAD];
 
 /// Appends a number as a plain answer: its decimal digits, with a `-` before them where it is negative, and LF. A refusal
 /// is minus its `Errno`'s number. After `Mem`, `out` is unchanged.
 pub fn number(n: i64, out: &mut Vec<u8>) -> Result<(), Mem>
     ensures text { Appends (text_of (Number n)) out.old.items result out.new.items }
     ensures room { FitsInRoom (text_of (Number n)) out.old.items (vec_capacity out.old) result }
+    ensures capacity { vec_capacity out.old ≤ vec_capacity out.new }
 {
     let mut buffer = Buffer::new();
     let digits = buffer.format(n).as_bytes();
@@ -61,56 +68,52 @@ pub fn block(
     ensures room { FitsInRoom (block_text channels mask.bits scans.now asked) out.old.items (vec_capacity out.old) result }
 {
     let start = out.len();
-    let closing = closing(scans.len(), asked);
-    block_head(mask, channels, scans.len(), out)?;
-    if out.reserve(scans.len() + closing.len()).is_err() {
-        out.truncate(start);
-        return Err(Mem);
-    }
+    let came = scans.len();
+    let head = head_length(channels, came);
+    let closing = closing(came, asked);
+    out.reserve(head + came + closing.len())?;
+    append(&HEAD_ROOM[..head], out);
     append(scans, out);
     append(closing, out);
+    block_head(mask, channels, came, came, start, out);
     Ok(())
 }
 
-/// Appends the head of a block, where so many bytes of scans come: their number, LF, the mask's text for that many
-/// channels, LF. After `Mem`, `out` is unchanged.
-pub fn block_head(mask: Mask, channels: u32, came: usize, out: &mut Vec<u8>) -> Result<(), Mem>
+/// Appends room for the head of a block in which at most that many bytes of scans come: as many bytes as that head has. What
+/// they are means nothing. After `Mem`, `out` is unchanged.
+pub fn block_room(channels: u32, most: usize, out: &mut Vec<u8>) -> Result<(), Mem>
+    ensures room { AppendsRoom (head_length channels most) out.old.items result out.new.items }
+    ensures fits { length out.old.items + head_length channels most ≤ vec_capacity out.old → IsOk result }
+    ensures capacity { vec_capacity out.old ≤ vec_capacity out.new }
+{
+    out.extend_from_slice(&HEAD_ROOM[..head_length(channels, most)])?;
+    Ok(())
+}
+
+/// Puts the head of a block in which `came` bytes of scans came into the room that begins at `start`, which is that of the
+/// head for `most` bytes: their number, LF, the mask's text for that many channels, LF. What stands after the room stays, and
+/// moves up where the head is shorter. It takes no memory.
+pub fn block_head(
+    mask: Mask,
+    channels: u32,
+    most: usize,
+    came: usize,
+    start: usize,
+    out: &mut Vec<u8>,
+)
     requires some { 1 ≤ channels }
     requires few { channels ≤ 64 }
     requires below { mask.bits < 2 ^ channels }
-    ensures text { Appends (head_text channels mask.bits came) out.old.items result out.new.items }
-    ensures room { FitsInRoom (head_text channels mask.bits came) out.old.items (vec_capacity out.old) result }
-    ensures capacity { vec_capacity out.old ≤ vec_capacity out.new }
-{
-    let mut buffer = Buffer::new();
-    let count = buffer.format(came).as_bytes();
-    let digits = mask.digits(channels);
-    let digits = &digits[..digit_count(channels)];
-    out.reserve(count.len() + 1 + digits.len() + 1)?;
-    append(count, out);
-    append(b"\n", out);
-    append(digits, out);
-    append(b"\n", out);
-    Ok(())
-}
-
-/// Names the bytes that came at the head of a block, which begins at `start` and names `most` so far, the most that could
-/// come. What stands after the number stays, and moves up where the number is shorter now. It takes no memory.
-pub fn block_came(most: usize, came: usize, start: usize, out: &mut Vec<u8>)
     requires fewer { came ≤ most }
-    requires head { out.old.items ≡ take start out.old.items ++ (decimal most ++ drop (start + length (decimal most)) out.old.items) }
-    ensures items { out.new.items ≡ take start out.old.items ++ (decimal came ++ drop (start + length (decimal most)) out.old.items) }
+    requires room { start + head_length channels most ≤ length out.old.items }
+    ensures items { out.new.items ≡ take start out.old.items ++ (head_text channels mask.bits came ++ drop (start + head_length channels most) out.old.items) }
     ensures capacity { vec_capacity out.new ≡ vec_capacity out.old }
 {
-    if came == most {
-        return;
+    let room = head_length(channels, most);
+    let head = put_head(mask, channels, came, start, out);
+    if head < room {
+        remove(out, start + head, room - head);
     }
-    let mut buffer = Buffer::new();
-    let end = start + buffer.format(most).len();
-    let digits = buffer.format(came).as_bytes();
-    let behind = start + digits.len();
-    overwrite(out, start, digits);
-    remove(out, behind, end - behind);
 }
 
 /// Appends the closing of a block: `0`, LF exactly where fewer bytes of scans came than were asked for. After `Mem`, `out`
@@ -125,7 +128,8 @@ pub fn block_closing(came: usize, asked: u32, out: &mut Vec<u8>) -> Result<(), M
 
 // How many digits the text of a mask has.
 fn digit_count(channels: u32) -> usize
-    ensures { result ≡ digit_count channels }
+    ensures value { result ≡ digit_count channels }
+    ensures within { result ≤ 16 }
 {
     if channels <= 32 { 8 } else { 16 }
 }
@@ -137,6 +141,59 @@ fn closing(came: usize, asked: u32) -> &'static [u8]
     if came < asked as usize { b"0\n" } else { b"" }
 }
 
+// How many digits a number has.
+#[tactic(auto, using(crate::proofs::CameLaws::length_more, crate::proofs::CameLaws::length_one, crate::proofs::CameLaws::length_most))]
+fn decimal_length(n: usize) -> usize
+    ensures value { result ≡ length (decimal n) }
+    ensures within { result ≤ 20 }
+{
+    let mut length = 1;
+    let mut rest = n;
+    while rest >= 10 {
+        rest /= 10;
+        length += 1;
+    }
+    length
+}
+
+// How many bytes the head of a block has, where that many bytes of scans come.
+fn head_length(channels: u32, came: usize) -> usize
+    ensures value { result ≡ head_length channels came }
+    ensures within { result ≤ MOST_HEAD }
+{
+    decimal_length(came) + 1 + digit_count(channels) + 1
+}
+
+// Puts a line, with its LF, in the place of as many bytes from `at` on, and says how many.
+fn put_line(text: &[u8], at: usize, out: &mut Vec<u8>) -> usize
+    requires { at + length (line text.now) ≤ length out.old.items }
+    ensures length { result ≡ length (line text.now) }
+    ensures items { out.new.items ≡ take at out.old.items ++ (line text.now ++ drop (at + length (line text.now)) out.old.items) }
+    ensures capacity { vec_capacity out.new ≡ vec_capacity out.old }
+{
+    overwrite(out, at, text);
+    overwrite(out, at + text.len(), b"\n");
+    text.len() + 1
+}
+
+// Puts the head of a block in the place of as many bytes from `at` on, and says how many.
+fn put_head(mask: Mask, channels: u32, came: usize, at: usize, out: &mut Vec<u8>) -> usize
+    requires some { 1 ≤ channels }
+    requires few { channels ≤ 64 }
+    requires below { mask.bits < 2 ^ channels }
+    requires room { at + head_length channels came ≤ length out.old.items }
+    ensures length { result ≡ head_length channels came }
+    ensures items { out.new.items ≡ take at out.old.items ++ (head_text channels mask.bits came ++ drop (at + head_length channels came) out.old.items) }
+    ensures capacity { vec_capacity out.new ≡ vec_capacity out.old }
+{
+    let mut buffer = Buffer::new();
+    let count = buffer.format(came).as_bytes();
+    let digits = mask.digits(channels);
+    let digits = &digits[..digit_count(channels)];
+    let length = put_line(count, at, out);
+    length + put_line(digits, at + length, out)
+}
+
 // Puts bytes in the place of as many from `at` on.
 fn overwrite(out: &mut Vec<u8>, at: usize, bytes: &[u8])
     requires { at + length bytes.now ≤ length out.old.items }
@@ -146,7 +203,7 @@ fn overwrite(out: &mut Vec<u8>, at: usize, bytes: &[u8])
     out[at..at + bytes.len()].copy_from_slice(bytes);
 }
 
-// Takes so many bytes out from `at` on.
+// Takes that many bytes out from `at` on.
 fn remove(out: &mut Vec<u8>, at: usize, count: usize)
     requires { at + count ≤ length out.old.items }
     ensures items { out.new.items ≡ take at out.old.items ++ drop (at + count) out.old.items }

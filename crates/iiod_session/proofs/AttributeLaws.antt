@@ -1,5 +1,6 @@
 -- READ and WRITE at a device.
-use Rattle.std.proofs.Common.{◌≡◌, ℕ, ℤ, ◌<◌, Bool, true, false, not, List, length, slice_index_or, Option, Some, None, IfSome, is_some, Result, Ok, Err, inl, refl, sym, ap, ◌∙◌}
+use Rattle.std.proofs.Common.{◌≡◌, ℕ, ℤ, ◌<◌, Bool, true, false, not, List, length, slice_index_or, Option, Some, None, IfSome, is_some, Result, Ok, Err, inl, refl, sym, subst, ap, ◌∙◌}
+use Rattle.std.proofs.lemmas.List.Elements.{All-get_or}
 use Rattle.std.specs.Prelude.{⊤}
 use Rattle.std.specs.Fmt.{decimal}
 use Rattle.iio_base.specs.Refusals.{◌>>=◌, ensure}
@@ -24,7 +25,7 @@ use Rattle.iiod_session.specs.declared.iio.No.TheVariants.{Errno as NoErrno, Mem
 use Rattle.iiod_session.specs.Acts.{Acted, act, at_device, only, refused, read_attribute_at, read_buffer_attribute, read_buffer_attribute_at, read_device_attribute, read_named, value_reply, write_assignment, write_attribute_at, written}
 use Rattle.iiod_session.specs.Attributes.{Assignment, Named, buffer_number, found, is_of_buffer, text_of_value, write_found}
 use Rattle.iiod_session.specs.Calls.{raw_answer, read_attr_of, write_attr_of}
-use Rattle.iiod_session.specs.Desk.{DeskRecord, bare_of, place_of, seats_of, with_seats}
+use Rattle.iiod_session.specs.Desk.{AllHeld, DeskRecord, IsHeld, bare_of, place_of, seats_of, with_seats}
 use Rattle.iiod_session.specs.Front.{Front, find_device, shape_at}
 use Rattle.iiod_session.specs.Machine.{Machine, MemberId, Station, is_plugged, lost_of, queue_of, station_at}
 use Rattle.iiod_session.specs.Moves.{AnswersAs, Serves}
@@ -85,9 +86,14 @@ said_short front (Some m) told' desk dev target v a = (a.1 ∙ ap (λ (n : Machi
 -- ---- an attribute of a buffer
 
 module _ {S : Type 0} (seen : S → SeatRecord) where
+  -- a seat that is held has its mask
+  pub held_under : (front : Front) (held : List (Held S)) (i : ℕ) (h : Held S) → i < length held → h ≡ slice_index_or held i h → AllHeld seen front held
+      → (seen h.seat).mask ≡ h.mask.bits
+  held_under front held i h l e all = subst (λ (x : Held S). (seen x.seat).mask ≡ x.mask.bits) (sym e) (All-get_or (IsHeld seen front) held i h l all).owned.under
+
   pub counted : (told told' : Option Machine) (base : DeskRecord) (dev i n : ℕ) (a : Attr) (held : List (Held S)) (h : Held S)
       → place_of dev (seats_of seen held) ≡ Some i → i < length held → h ≡ slice_index_or held i h → (seen h.seat).mask ≡ h.mask.bits
-      → IfSome told (λ m. n ≡ buffer_number a h.capacity (length (queue_of m h.dev (seat_id (seen h.seat)))) (lost_of m h.dev (seat_id (seen h.seat))))
+      → IfSome told (λ m. n ≡ buffer_number a h.capacity (length (queue_of m h.dev (seat_id (seen h.seat)))) (lost_of m h.dev (seat_id (seen h.seat))) h.discarded)
       → IfSome told (λ m. told' ≡ Some m)
       → IfSome told (λ m. Comes m (with_seats (seats_of seen held) base) (read_buffer_attribute_at m (with_seats (seats_of seen held) base) a (place_of dev (seats_of seen held)))
       (Value (decimal n)) told' (with_seats (seats_of seen held) base))
@@ -97,7 +103,7 @@ module _ {S : Type 0} (seen : S → SeatRecord) where
     t,
     ap (λ p. read_buffer_attribute_at m desk a p) at
         ∙ ap (λ s. read_buffer_attribute m desk a s) (get_is seen (bare_of seen) held i h l e)
-        ∙ ap (λ (id : MemberId). record { reply = Value (decimal (buffer_number a h.capacity (length (queue_of m h.dev id)) (lost_of m h.dev id))); machine = m; desk = desk })
+        ∙ ap (λ (id : MemberId). record { reply = Value (decimal (buffer_number a h.capacity (length (queue_of m h.dev id)) (lost_of m h.dev id) h.discarded)); machine = m; desk = desk })
         (id_is (bare_of seen h) (seen h.seat) refl under)
         ∙ ap (λ (k : ℕ). record { reply = Value (decimal k); machine = m; desk = desk }) (sym v),
   )

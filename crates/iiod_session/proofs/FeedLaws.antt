@@ -39,7 +39,7 @@ fed_then manner front a b c all left rest before mid after f g = record {
   run = run_then manner front a b c f.items g.items f.replies g.replies f.run g.run;
 }
 
--- the same with bytes behind that aren't looked at
+-- the same with further bytes that aren't looked at
 pub fed_more : (manner : Manner) (front : Front) (a b : State) (all left : Scanned) (before after bytes : List ℕ)
     → Fed manner front a all before after b left → Fed manner front a (scan_on all bytes) before after b (scan_on left bytes)
 fed_more manner front a b all left before after bytes f = record {
@@ -82,7 +82,7 @@ pub feeds_then : (manner : Manner) (front : Front) (a b c : State) (all left res
 feeds_then manner front a b c all left rest before mid after going f g =
     feeds_of manner front a g.mid c all rest before after going (fed_then manner front a b g.mid all left rest before mid after f g.fed) g.stands
 
--- where the connection doesn't go on, further bytes stay behind
+-- where the connection doesn't go on, further bytes are left over
 pub feeds_more : (manner : Manner) (front : Front) (a b : State) (all left : Scanned) (before after bytes : List ℕ) (going : Going) → going ≢ On
     → Carries manner front a all before after b left going → Carries manner front a (scan_on all bytes) before after b (scan_on left bytes) going
 feeds_more manner front a b all left before after bytes going stops f =

@@ -1,5 +1,5 @@
 -- What the seats gave is what was answered.
-use Rattle.std.proofs.Common.{◌≡◌, ℕ, suc, zero, ◌+◌, ◌<◌, ◌==◌, nat_lt, Bool, true, false, List, [], ◌∷◌, ◌++◌, length, length-append, refl, sym, ap, ◌∙◌, Option, Some, None, option_map, inl, inr, Ok, arith, ℤ}
+use Rattle.std.proofs.Common.{◌≡◌, ℕ, suc, zero, ◌+◌, ◌<◌, ◌==◌, ◌||◌, nat_lt, Bool, true, false, List, [], ◌∷◌, ◌++◌, length, length-append, refl, sym, ap, ◌∙◌, Option, Some, None, option_map, inl, inr, Ok, arith, ℤ}
 use Rattle.std.proofs.lemmas.Bool.{eqb-true, lt-ltb, ltb-true}
 use Rattle.std.proofs.lemmas.Bool.Decides.{nat_tests}
 use Rattle.std.specs.Prelude.{if◌then◌else◌, remove, slice_get, slice_set}
@@ -7,12 +7,12 @@ use Rattle.std.specs.List.{position_or_len}
 use Rattle.std.proofs.Math.ListN.{length-set}
 use Rattle.iio_text.specs.declared.errors.Errno.{Errno}
 use Rattle.iio_text.specs.declared.errors.Errno.TheVariants.{EAGAIN, EBADF, ENODEV}
-use Rattle.iiod_grammar.specs.Command.{Open, Close, ReadBuf, SetBuffers, EvOpen, EvClose}
+use Rattle.iiod_grammar.specs.Command.{Open, Close, ReadBuf, Remask, SetBuffers, EvOpen, EvClose}
 use Rattle.iiod_grammar.specs.Stream.{Item, Said, End}
 use Rattle.iiod_reply.specs.Reply.{Reply, Number, Refusal, Block, NoMemory}
 use Rattle.iiod_session.specs.declared.manner.Manner.{Manner}
 use Rattle.iiod_session.specs.Acts.{zero_reply}
-use Rattle.iiod_session.specs.Desk.{Bare, DeskRecord, are_apart, has_seat, place_of}
+use Rattle.iiod_session.specs.Desk.{Bare, DeskRecord, are_apart, bare_remasked, has_seat, place_of}
 use Rattle.iiod_session.specs.Front.{Front, find_device, size_at}
 use Rattle.iiod_session.specs.Given.{GivenIs, given_after, given_by, given_in, is_named, tale_at}
 use Rattle.iiod_session.specs.Moves.{Moves, ReadMoves, ReadsAs, ReadsAt, ReadsBy, ReadsFrom}
@@ -87,6 +87,15 @@ place_first dev seats i e = by (nat_lt (position_or_len (λ (s : Bare). s.dev ==
         let at : position_or_len (λ (s : Bare). s.dev == dev) seats ≡ i = cc in
         first_from dev seats i (let less : position_or_len (λ (s : Bare). s.dev == dev) seats < length seats = ltb-true _ _ l in omega arith) at
     by false l = let n : None ≡ Some i = rw l at e in cc
+
+-- it is at that device
+first_is : (dev : ℕ) (seats : List Bare) (i : ℕ) (s : Bare) → IsFirst dev seats i → slice_get seats i ≡ Some s → s.dev ≡ dev
+first_is dev [] i s f here = absurd f
+first_is dev (x ∷ xs) zero s f here = let one : s ≡ x = cc in ap (λ (b : Bare). b.dev) one ∙ eqb-true x.dev dev f
+first_is dev (x ∷ xs) (suc i) s f here = first_is dev xs i s f.1 here
+
+pub placed_at : (dev : ℕ) (seats : List Bare) (i : ℕ) (s : Bare) → place_of dev seats ≡ Some i → slice_get seats i ≡ Some s → s.dev ≡ dev
+placed_at dev seats i s at here = first_is dev seats i s (place_first dev seats i at) here
 
 -- ---- a seat more
 
@@ -236,6 +245,11 @@ same : (front : Front) (item : Item) (reply : Reply) (seats seats' : List Bare) 
 same front item reply seats seats' tales tales' s t gives a =
     rw (s, t) (a, λ given is dev x e. is dev x e ∙ sym (gives dev (given dev)))
 
+-- of a seat that begins nothing was given
+none_given : (y : Option Tale) (x : Tale) → y ≡ option_map (λ (z : Tale). first_tale) y → y ≡ Some x → x.given ≡ []
+none_given None x f e = cc
+none_given (Some y) x f e = let first : Some x ≡ Some first_tale = sym e ∙ f in let here : x ≡ first_tale = cc in ap (λ (z : Tale). z.given) here
+
 opened : (front : Front) (device text : List ℕ) (samples : ℕ) (cyclic : Bool) (n : ℤ) (s : Bare) (t : Option Tale) (seats : List Bare) (tales : List (Option Tale))
     → find_device front device ≡ Some s.dev → place_of s.dev seats ≡ None → t ≡ option_map (λ (x : Tale). first_tale) t → AreSeated seats tales
     → Keeps front (Said (Ok (Open device samples text cyclic))) (Number n) seats tales (seats ++ s ∷ []) (tales ++ t ∷ [])
@@ -247,10 +261,6 @@ opened front device text samples cyclic n s t seats tales named free fresh a = (
   λ given is dev x e. by given is dev x e (s.dev == dev) refl,
 )
   where
-    none_given : (y : Option Tale) (x : Tale) → y ≡ option_map (λ (z : Tale). first_tale) y → y ≡ Some x → x.given ≡ []
-    none_given None x f e = cc
-    none_given (Some y) x f e = let first : Some x ≡ Some first_tale = sym e ∙ f in let here : x ≡ first_tale = cc in ap (λ (z : Tale). z.given) here
-
     by : (given : ℕ → List (List ℕ)) → IsTold given seats tales → (dev : ℕ) (x : Tale) → tale_at dev (seats ++ s ∷ []) (tales ++ t ∷ []) ≡ Some x
         → (b : Bool) → (s.dev == dev) ≡ b → x.given ≡ given_by front dev (Said (Ok (Open device samples text cyclic))) (Number n) (given dev)
     by given is dev x e true here =
@@ -269,6 +279,54 @@ closed front device n k i seats tales at a = (
     by : (given : ℕ → List (List ℕ)) → IsTold given seats tales → (dev : ℕ) (x : Tale) → tale_at dev (remove seats i) (remove tales i) ≡ Some x → (b : Bool) → (k == dev) ≡ b → x.given ≡ given dev
     by given is dev x e true here = let n : None ≡ Some x = sym (tale_gone k dev i seats tales (place_first k seats i at) a.apart here) ∙ e in cc
     by given is dev x e false here = is dev x (sym (tale_kept k dev i seats tales (place_first k seats i at) here) ∙ e)
+
+-- ---- REMASK
+
+-- another seat at the same device, in the place of one
+has_under : (dev i : ℕ) (seats : List Bare) (s s' : Bare) → slice_get seats i ≡ Some s → s'.dev ≡ s.dev → has_seat dev (slice_set seats i s') ≡ has_seat dev seats
+has_under dev i [] s s' here same = cc
+has_under dev zero (x ∷ xs) s s' here same = let one : s ≡ x = cc in ap (λ (n : ℕ). (n == dev) || has_seat dev xs) (same ∙ ap (λ (b : Bare). b.dev) one)
+has_under dev (suc i) (x ∷ xs) s s' here same = ap (λ (b : Bool). (x.dev == dev) || b) (has_under dev i xs s s' here same)
+
+pub apart_under : (i : ℕ) (seats : List Bare) (s s' : Bare) → slice_get seats i ≡ Some s → s'.dev ≡ s.dev → AreApart seats → AreApart (slice_set seats i s')
+apart_under i [] s s' here same a = cc
+apart_under zero (x ∷ xs) s s' here same a = let one : s ≡ x = cc in (ap (λ (n : ℕ). has_seat n xs) (same ∙ ap (λ (b : Bare). b.dev) one) ∙ a.0, a.1)
+apart_under (suc i) (x ∷ xs) s s' here same a = (has_under x.dev i xs s s' here same ∙ a.0, apart_under i xs s s' here same a.1)
+
+tale_under : (dev i : ℕ) (seats : List Bare) (tales : List (Option Tale)) (s s' : Bare) → slice_get seats i ≡ Some s → s'.dev ≡ s.dev
+    → tale_at dev (slice_set seats i s') tales ≡ tale_at dev seats tales
+tale_under dev i [] tales s s' here same = cc
+tale_under dev zero (x ∷ xs) [] s s' here same = refl
+tale_under dev (suc i) (x ∷ xs) [] s s' here same = refl
+tale_under dev zero (x ∷ xs) (t ∷ ts) s s' here same =
+    let one : s ≡ x = cc in ap (λ (n : ℕ). if n == dev then t else tale_at dev xs ts) (same ∙ ap (λ (b : Bare). b.dev) one)
+tale_under dev (suc i) (x ∷ xs) (t ∷ ts) s s' here same = ap (λ (z : Option Tale). if x.dev == dev then t else z) (tale_under dev i xs ts s s' here same)
+
+-- the tale beside a seat
+tale_beside : (i : ℕ) (seats : List Bare) (tales : List (Option Tale)) (s : Bare) → length tales ≡ length seats → slice_get seats i ≡ Some s
+    → (t : Option Tale) × (slice_get tales i ≡ Some t)
+tale_beside i [] tales s long here = cc
+tale_beside i (x ∷ xs) [] s long here = absurd (omega (arith, long))
+tale_beside zero (x ∷ xs) (t ∷ ts) s long here = (t, refl)
+tale_beside (suc i) (x ∷ xs) (t ∷ ts) s long here = tale_beside i xs ts s (omega (arith, long)) here
+
+remasked : (front : Front) (device text : List ℕ) (n : ℤ) (i : ℕ) (s s' : Bare) (t : Option Tale) (seats : List Bare) (tales : List (Option Tale))
+    → find_device front device ≡ Some s.dev → place_of s.dev seats ≡ Some i → slice_get seats i ≡ Some s → s'.dev ≡ s.dev
+    → t ≡ option_map (λ (x : Tale). first_tale) t → AreSeated seats tales
+    → Keeps front (Said (Ok (Remask device text))) (Number n) seats tales (slice_set seats i s') (slice_set tales i t)
+remasked front device text n i s s' t seats tales named at here dev_same fresh a = (
+  record { apart = apart_under i seats s s' here dev_same a.apart; told = length-set tales i t ∙ a.told ∙ sym (length-set seats i s') },
+  λ given is dev x e. by given is dev x (sym (tale_under dev i seats (slice_set tales i t) s s' here dev_same) ∙ e) (s.dev == dev) refl,
+)
+  where
+    by : (given : ℕ → List (List ℕ)) → IsTold given seats tales → (dev : ℕ) (x : Tale) → tale_at dev seats (slice_set tales i t) ≡ Some x
+        → (b : Bool) → (s.dev == dev) ≡ b → x.given ≡ given_by front dev (Said (Ok (Remask device text))) (Number n) (given dev)
+    by given is dev x e true own =
+        let beside = tale_beside i seats tales s a.told here in
+        let both = tale_set s.dev dev i seats tales beside.0 t (place_first s.dev seats i at) beside.1 own in
+        rw (named, own) (none_given t x fresh (sym both.1 ∙ e))
+    by given is dev x e false other =
+        rw (named, other) (is dev x (sym (tale_other s.dev dev i seats tales t (place_first s.dev seats i at) other) ∙ e))
 
 -- ---- READBUF
 
@@ -358,6 +416,8 @@ moved front desk desk' tales tales' (Said (Ok (Open device samples text cyclic))
     rw (ap (λ (d : DeskRecord). d.seats) m.added, m.told) (opened front device text samples cyclic n m.s m.t desk.seats tales m.named m.free m.fresh a)
 moved front desk desk' tales tales' (Said (Ok (Close device))) (Number n) a m =
     rw (ap (λ (d : DeskRecord). d.seats) m.gone, m.told) (closed front device n m.dev m.i desk.seats tales m.at a)
+moved front desk desk' tales tales' (Said (Ok (Remask device text))) (Number n) a m =
+    rw (ap (λ (d : DeskRecord). d.seats) m.under, m.told) (remasked front device text n m.i m.s (bare_remasked m.mask m.waiting m.s) m.t desk.seats tales m.named m.at m.here refl m.fresh a)
 moved front desk desk' tales tales' (Said (Ok (ReadBuf device asked))) NoMemory a m = same front (Said (Ok (ReadBuf device asked))) NoMemory _ _ _ _ (seats_in desk desk' m.0) m.1 (λ dev g. refl) a
 moved front desk desk' tales tales' (Said (Ok (ReadBuf device asked))) reply a m =
     rw (seats_in desk desk' m.0) (read_from front device asked (find_device front device) reply desk.seats tales tales' refl m.1 a)
@@ -395,6 +455,7 @@ none_gives front dev item e g = by item
     by : (item : Item) → given_by front dev item (Refusal e) g ≡ g
     by (Said (Ok (Open device samples text cyclic))) = refl
     by (Said (Ok (ReadBuf device asked))) = refl
+    by (Said (Ok (Remask device text))) = refl
     by item = refl
 
 pub waiting_gives : (front : Front) (items : List Item) (replies : List Reply) (seats : List Bare) (tales : List (Option Tale)) (a b : State) (item : Item) (e : Errno)

@@ -6,6 +6,7 @@ use Rattle.iio_base.specs.declared.Mem.{Mem}
 use Rattle.iio_text.specs.declared.errors.Errno.{Errno}
 use Rattle.iio_text.specs.declared.errors.Errno.TheVariants.{E2BIG, EFBIG}
 use Rattle.iiod_grammar.specs.declared.command.Refused.{Refused}
+use Rattle.iiod_grammar.specs.declared.command.Refused.TheVariants.{Empty}
 use Rattle.iiod_grammar.specs.declared.lines.Ready.{Ready}
 use Rattle.iiod_grammar.specs.declared.lines.Ready.TheVariants.{More, Line, Payload, TooLong}
 use Rattle.iiod_grammar.specs.declared.lines.TheConstants.{MAX_PAYLOAD}
@@ -14,7 +15,7 @@ use Rattle.iiod_grammar.specs.declared.command.Command.{Command as CodeCommand}
 use Rattle.iiod_grammar.specs.declared.command.Command.TheVariants as code
 use Rattle.iiod_grammar.specs.declared.command.Place.{Place as CodePlace}
 use Rattle.iiod_grammar.specs.View.{command_view}
-use Rattle.iiod_grammar.specs.Command.{Command, Exit, Target, Write, command_of}
+use Rattle.iiod_grammar.specs.Command.{Command, Exit, ReadBuf, Target, Write, command_of}
 use Rattle.iiod_grammar.specs.Lines.{LinesRecord, after_piece}
 use Rattle.iiod_grammar.specs.Scans.{ScansBy, scan_on, scanner_at}
 use Rattle.iiod_grammar.specs.Stream.{Item, Said, Written, End, ItemsCutAnywhere, ScannerCutAnywhere, Scanned, AtEnd, InLine, after_line, after_said, ended_by, no_item, one_item}
@@ -32,10 +33,10 @@ use Rattle.iiod_session.specs.Front.{Front}
 use Rattle.iiod_session.specs.Machine.{Machine}
 use Rattle.iiod_session.specs.Moves.{AnswersAlone, AnswersAs}
 use Rattle.iiod_session.specs.PendingWrite.{PendingRecord}
-use Rattle.iiod_session.specs.Performs.{IsAllowed, Performs}
+use Rattle.iiod_session.specs.Performs.{IsAllowed, IsReadOf, Performs}
 use Rattle.iiod_session.specs.Run.{State, Fed, Carries}
 use Rattle.iiod_session.specs.Seat.{SeatRecord}
-use Rattle.iiod_session.specs.Session.{IsKept, IsPlain, IsReady, piece_by, stream_by, unread_of}
+use Rattle.iiod_session.specs.Session.{IsAtOnce, IsKept, IsPlain, IsReady, piece_by, stream_by, unread_of}
 use Rattle.iiod_session.proofs.FeedLaws.{fed_more, fed_none, fed_one, fed_then, feeds_more, feeds_of, feeds_on, feeds_then, goes_on}
 use Rattle.iiod_session.proofs.StreamLaws.{scan_end, scan_nil, scan_rest, scanner_goes_on}
 
@@ -96,11 +97,11 @@ ended_line manner front a b error all before after lines pending (Ok On) is e f 
 ended_line manner front a b error all before after lines pending (Ok (Waits dev)) is e f = cc
 ended_line manner front a b error all before after lines pending (Err fault) is e f = tt
 
-pub ended_ready : (lines : LinesRecord) (r : Result Going Mem) → IfOk r (λ going. going ≡ Ended) → IfOk r (λ going. IsReady going lines)
-ended_ready lines (Ok Ended) e = tt
-ended_ready lines (Ok On) e = cc
-ended_ready lines (Ok (Waits dev)) e = cc
-ended_ready lines (Err fault) e = tt
+pub ended_ready : (lines : LinesRecord) (pending : PendingRecord) (r : Result Going Mem) → IfOk r (λ going. going ≡ Ended) → IfOk r (λ going. IsReady going lines pending)
+ended_ready lines pending (Ok Ended) e = tt
+ended_ready lines pending (Ok On) e = cc
+ended_ready lines pending (Ok (Waits dev)) e = cc
+ended_ready lines pending (Err fault) e = tt
 
 -- ---- lines
 
@@ -112,15 +113,15 @@ overlong_line line device target count e more = ap (λ said. after_said said) e 
 
 -- the line of a WRITE whose payload comes next
 write_stream : (line device : List ℕ) (target : Option Target) (count : ℕ) → command_of line ≡ Ok (Write device target count) → count ≤ MAX_PAYLOAD
-    → after_line line ≡ stream_by On (record (after_piece line) { wanted = Some count }) (record { device = device; target = target })
-write_stream line device target count e within =
+    → (asked : ℕ) → after_line line ≡ stream_by On (record (after_piece line) { wanted = Some count }) (record { device = device; target = target; asked = asked })
+write_stream line device target count e within asked =
     ap (λ said. after_said said) e ∙ rw (let b : nat_lt MAX_PAYLOAD count ≡ false = grind arith in b) refl
 
 pub write_feeds : (manner : Manner) (front : Front) (a : State) (line device : List ℕ) (target : Option Target) (count : ℕ) (before : List ℕ) (lines : LinesRecord) (kept : PendingRecord)
-    → command_of line ≡ Ok (Write device target count) → count ≤ MAX_PAYLOAD → lines ≡ record (after_piece line) { wanted = Some count } → kept ≡ record { device = device; target = target }
+    → command_of line ≡ Ok (Write device target count) → count ≤ MAX_PAYLOAD → lines ≡ record (after_piece line) { wanted = Some count } → (asked : ℕ) → kept ≡ record { device = device; target = target; asked = asked }
     → Carries manner front a (after_line line) before before a (stream_by On lines kept) On
-write_feeds manner front a line device target count before lines kept e within is same =
-    let here : after_line line ≡ stream_by On lines kept = write_stream line device target count e within ∙ rw (is, same) refl in
+write_feeds manner front a line device target count before lines kept e within is asked same =
+    let here : after_line line ≡ stream_by On lines kept = write_stream line device target count e within asked ∙ rw (is, same) refl in
     goes_on manner front a a (after_line line) (stream_by On lines kept) before before (scanner_goes_on lines kept.device kept.target)
     (rw here (fed_none manner front a (stream_by On lines kept) before))
 
@@ -149,6 +150,23 @@ plain_feeds manner front a b line kept said lines before after (PerformedWaits d
     (rw (all, left, x.0) (fed_none manner front a (one_item (Said said)) before))
     (record { server = x.1; item = Said said; more = []; first = ap (λ (z : Scanned). z.items) left; read = x.2; served = x.3 })
 
+-- a line that is answered at once
+once_plain : (said : Result Command Refused) → IsAtOnce said → IsPlain said
+once_plain (Ok Exit) once = absurd once
+once_plain (Ok (Write device target count)) once = absurd once
+once_plain said once = tt
+
+no_wait : (front : Front) (dev : ℕ) (said : Result Command Refused) → IsAtOnce said → IsReadOf front dev (Said said) → ⊥
+no_wait front dev (Ok (ReadBuf device asked)) once r = absurd once
+no_wait front dev said once r = r
+
+pub at_once_feeds : (manner : Manner) (front : Front) (a b : State) (kept : PendingRecord) (said : Result Command Refused) (lines : LinesRecord) (before after : List ℕ) (p : Performed)
+    → lines ≡ after_piece lines.piece → command_of lines.piece ≡ said → IsAtOnce said
+    → Performs manner front a.told b.told a.desk a.tales (Said said) b.desk b.tales before after p
+    → Carries manner front a (after_line lines.piece) before after b (stream_by On lines kept) On
+at_once_feeds manner front a b kept said lines before after Done is e once x = plain_feeds manner front a b lines.piece kept said lines before after Done e (once_plain said once) is x
+at_once_feeds manner front a b kept said lines before after (PerformedWaits dev) is e once x = absurd (no_wait front dev said once x.2)
+
 -- ---- payloads
 
 pub written_feeds : (manner : Manner) (front : Front) (a b : State) (lines : LinesRecord) (kept : PendingRecord) (device : List ℕ) (target : Option Target) (payload before after : List ℕ) (p : Performed)
@@ -166,6 +184,10 @@ pub said_feeds : (manner : Manner) (front : Front) (a b : State) (kept : Pending
     → Performs manner front a.told b.told a.desk a.tales (Said said) b.desk b.tales before after p
     → Carries manner front a (after_line lines.piece) before after b (stream_by (going_of p) lines kept) (going_of p)
 said_feeds manner front a b kept said lines before after p is e plain x = plain_feeds manner front a b lines.piece kept said lines before after p e plain is x
+
+-- a line of no bytes
+pub blank_line : (line : List ℕ) → line ≡ [] → command_of line ≡ Err Empty
+blank_line line none = ap command_of none
 
 -- ---- pieces of further bytes
 
@@ -240,6 +262,14 @@ resumed manner front a b c all left before mid after bytes next (Ok x) f g =
     (fed_more manner front a b all left before mid bytes (feeds_on manner front a b all left before mid f)) g
 resumed manner front a b c all left before mid after bytes next (Err fault) f g = tt
 
+-- where no bytes come after it
+pub again_feeds : (manner : Manner) (front : Front) (a b : State) (all left : Scanned) (before after bytes : List ℕ) (going : Going) → bytes ≡ []
+    → Carries manner front a all before after b left going → Carries manner front a (scan_on all bytes) before after b (scan_on left (drop 0 bytes)) going
+again_feeds manner front a b all left before after bytes going none f = rw none (rw (scan_nil all, scan_nil left) f)
+
+pub none_begun : (lines : LinesRecord) (kept : PendingRecord) → lines ≡ after_piece lines.piece → (stream_by On lines kept).items ≡ []
+none_begun lines kept is = ap (λ (z : LinesRecord). (stream_by On z kept).items) is
+
 -- the bytes that are kept
 pub unread_feeds : (manner : Manner) (front : Front) (a b : State) (all : Scanned) (before after bytes : List ℕ) (taken : ℕ) (going : Going) (lines : LinesRecord) (kept : PendingRecord)
     → (going ≡ On → (taken ≡ length bytes) × ((stream_by On lines kept).items ≡ []))
@@ -257,17 +287,19 @@ none_left bytes taken On lines kept on e = ap (λ (s : Scanned). s.items) (scan_
 none_left bytes taken (Waits dev) lines kept on e = cc
 none_left bytes taken Ended lines kept on e = cc
 
-pub kept_by : (bytes : List ℕ) (taken : ℕ) (going : Going) (lines : LinesRecord) → IsReady going lines → IsKept going lines (unread_of going taken bytes)
-kept_by bytes taken On lines r = (r, refl)
-kept_by bytes taken (Waits dev) lines r = r
-kept_by bytes taken Ended lines r = tt
+pub kept_by : (bytes : List ℕ) (taken : ℕ) (going : Going) (lines : LinesRecord) (pending : PendingRecord) → IsReady going lines pending → IsKept going lines pending (unread_of going taken bytes)
+kept_by bytes taken On lines pending r = (r, refl)
+kept_by bytes taken (Waits dev) lines pending r = r
+kept_by bytes taken Ended lines pending r = tt
 
 -- ---- a command of the code
 
-pub plain_command : (command : CodeCommand) → (command ≡ code.Exit → ⊥) → ((dev : Bor (List ℕ)) (target : Option (CodePlace × Option (Bor (List ℕ)))) (count : ℕ) → command ≡ code.Write dev target count → ⊥) → IsPlain (Ok (command_view command))
-plain_command code.Exit e w = absurd (e refl)
-plain_command (code.Write dev target count) e w = absurd (w dev target count refl)
-plain_command command e w = tt
+pub at_once_command : (command : CodeCommand) → (command ≡ code.Exit → ⊥) → ((dev : Bor (List ℕ)) (target : Option (CodePlace × Option (Bor (List ℕ)))) (count : ℕ) → command ≡ code.Write dev target count → ⊥)
+    → ((dev : Bor (List ℕ)) (bytes : ℕ) → command ≡ code.ReadBuf dev bytes → ⊥) → IsAtOnce (Ok (command_view command))
+at_once_command code.Exit e w r = absurd (e refl)
+at_once_command (code.Write dev target count) e w r = absurd (w dev target count refl)
+at_once_command (code.ReadBuf dev bytes) e w r = absurd (r dev bytes refl)
+at_once_command command e w r = tt
 
 -- ---- whether a connection has ended
 
@@ -277,11 +309,11 @@ is_ended lines kept left going e = ap (λ g. scan_on (stream_by g lines kept) le
 not_nothing : (item : Item) (more : List Item) → item ∷ more ≡ [] → ⊥
 not_nothing item more e = cc
 
-pub not_ended : (lines : LinesRecord) (kept : PendingRecord) (left : List ℕ) (going : Going) → IsKept going lines left → (going ≡ Ended → ⊥) → scan_on (stream_by going lines kept) left ≡ no_item AtEnd → ⊥
+pub not_ended : (lines : LinesRecord) (kept : PendingRecord) (left : List ℕ) (going : Going) → IsKept going lines kept left → (going ≡ Ended → ⊥) → scan_on (stream_by going lines kept) left ≡ no_item AtEnd → ⊥
 not_ended lines kept left Ended k n e = n refl
 not_ended lines kept left On k n e =
     let stays : scan_on (stream_by On lines kept) left ≡ stream_by On lines kept = ap (λ bs. scan_on (stream_by On lines kept) bs) k.1 ∙ scan_nil (stream_by On lines kept) in
     scanner_goes_on lines kept.device kept.target (ap (λ (s : Scanned). s.next) (sym stays ∙ e))
 not_ended lines kept left (Waits dev) k n e =
-    let one : after_line lines.piece ≡ one_item (Said (command_of lines.piece)) = plain_line (command_of lines.piece) k.1 in
+    let one : after_line lines.piece ≡ one_item (Said (command_of lines.piece)) = plain_line (command_of lines.piece) (rw k.1 tt) in
     not_nothing _ _ (ap (λ (s : Scanned). s.items) (ap (λ s. scan_on s left) (sym one) ∙ e))

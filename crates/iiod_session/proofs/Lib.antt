@@ -12,3 +12,4 @@ pub mod HearLaws
 pub mod PlainLaws
 pub mod NameLaws
 pub mod AttributeLaws
+pub mod ShortLaws

@@ -64,6 +64,7 @@ queue_numbers_kept : (a : Attr) → (row_of a).scope ≡ scope.Buffer → (text 
 queue_numbers_kept attr.Overruns e text = refl
 queue_numbers_kept attr.DataAvailable e text = refl
 queue_numbers_kept attr.Length e text = refl
+queue_numbers_kept attr.Discarded e text = refl
 queue_numbers_kept a e text = absurd (cc)
 
 -- what a text is checked for can be written
@@ -73,6 +74,7 @@ writable_is attr.Raw text v e = absurd (cc)
 writable_is attr.Overruns text v e = absurd (cc)
 writable_is attr.DataAvailable text v e = absurd (cc)
 writable_is attr.Length text v e = absurd (cc)
+writable_is attr.Discarded text v e = absurd (cc)
 writable_is a text v e = refl
 
 -- ---- what is named

@@ -1,12 +1,12 @@
 -- A connection's seats as lists.
-use Rattle.std.proofs.Common.{◌≡◌, ◌≢◌, ℕ, zero, suc, ◌+◌, ◌<◌, ◌==◌, Bool, true, not, cond, List, [], ◌∷◌, ◌++◌, map, length, slice_get, slice_set, slice_index_or, remove, Option, Some, None, IfSome, is_some, Result, Ok, Err, refl, sym, ap, ◌∙◌, arith}
+use Rattle.std.proofs.Common.{◌≡◌, ◌≢◌, ℕ, zero, suc, ◌+◌, ◌<◌, ◌==◌, Bool, true, not, cond, List, [], ◌∷◌, ◌++◌, map, length, slice_get, slice_set, slice_index_or, remove, Option, Some, None, option_map, IfSome, is_some, Result, Ok, Err, refl, sym, ap, ◌∙◌, arith}
 use Rattle.std.proofs.lemmas.List.{length-map}
 use Rattle.std.specs.Prelude.{⊤}
 use Rattle.std.specs.List.{position, prefix_len}
 use Rattle.iio_base.specs.declared.Mem.{Mem}
 use Rattle.iio_layout.specs.Shape.{ShapeRecord}
 use Rattle.iio_text.specs.declared.errors.Errno.{Errno}
-use Rattle.iio_text.specs.declared.errors.Errno.TheVariants.{EBADF}
+use Rattle.iio_text.specs.declared.errors.Errno.TheVariants.{EBADF, ENODEV}
 use Rattle.iiod_reply.specs.Reply.{Reply, Refusal}
 use Rattle.iiod_session.specs.declared.desk.Desk.{Desk}
 use Rattle.iiod_session.specs.declared.desk.Held.{Held}
@@ -16,15 +16,15 @@ use Rattle.iiod_session.specs.declared.iio.Took.{Took}
 use Rattle.iiod_session.specs.declared.iio.Took.TheVariants.{Scan, Empty, Gone}
 use Rattle.iiod_session.specs.declared.wanted.Wanted.{Wanted as CodeWanted}
 use Rattle.iio_mask.specs.declared.Mask.{Mask}
-use Rattle.iiod_session.specs.Acts.{all_closed, all_released, zero_reply, open_at, open_wanted, joined_at, close_at, close_seat, read_at, read_seat, read_at_seat}
+use Rattle.iiod_session.specs.Acts.{all_closed, all_released, zero_reply, open_at, open_wanted, joined_at, close_at, close_seat, read_at, read_seat, read_at_seat, refused, remask_at, remask_place, remask_seat}
 use Rattle.iiod_session.specs.Calls.{closed, ev_close_of}
 use Rattle.iiod_session.specs.Desk.{IsDesk, IsWanted, Wanted, Bare, DeskRecord, are_apart, bare_of, tale_of, seats_of, tales_of, place_of, buffers_of, with_seats, wanted_of}
 use Rattle.iiod_session.specs.Front.{Front, shape_at}
 use Rattle.iiod_session.specs.Machine.{Machine, is_plugged}
 use Rattle.iiod_session.specs.Moves.{ReadsBy}
-use Rattle.iiod_session.specs.Performs.{Comes, JoinsBy, LeavesBy, OpensBy, ReadAt, ReadHeld, ReadServed, ReadServedAt}
-use Rattle.iiod_session.specs.Seat.{Answers, SeatRecord, Tale, IsNew}
-use Rattle.iiod_session.proofs.GivenLaws.{AreSeated, apart_by, apart_kept, apart_last, are_apart_by, none_has}
+use Rattle.iiod_session.specs.Performs.{Comes, JoinsBy, LeavesBy, OpensBy, ReadAt, ReadHeld, ReadServed, ReadServedAt, RemaskMoves, RemaskTold, RemasksBy, reply_by}
+use Rattle.iiod_session.specs.Seat.{Answers, SeatRecord, Tale, IsNew, first_tale}
+use Rattle.iiod_session.proofs.GivenLaws.{AreSeated, apart_by, apart_kept, apart_last, apart_under, are_apart_by, none_has, placed_at}
 use Rattle.iiod_session.specs.Wanted.{wanted_of_code}
 
 module _ {S : Type 0} (seen : S → SeatRecord) where
@@ -34,10 +34,10 @@ module _ {S : Type 0} (seen : S → SeatRecord) where
 
   pub joins : (front : Front) (dev capacity size : ℕ) (mask : Mask) (base : DeskRecord) (held mid held' : List (Held S)) (s : S) → IsNew front dev mask.bits capacity (seen s)
       → place_of dev (seats_of seen held) ≡ None
-      → mid ≡ held → held' ≡ mid ++ record { dev = dev; mask = mask; capacity = capacity; size = size; seat = s } ∷ []
+      → mid ≡ held → held' ≡ mid ++ record { dev = dev; mask = mask; capacity = capacity; size = size; discarded = 0; seat = s } ∷ []
       → JoinsBy dev (record { mask = mask.bits; capacity = capacity }) (with_seats (seats_of seen held) base) (tales_of seen held) (Ok tt) (with_seats (seats_of seen held') base) (tales_of seen held')
   joins front dev capacity size mask base held mid held' s is free z e' =
-      let e : held' ≡ held ++ record { dev = dev; mask = mask; capacity = capacity; size = size; seat = s } ∷ [] = rw z at e' in
+      let e : held' ≡ held ++ record { dev = dev; mask = mask; capacity = capacity; size = size; discarded = 0; seat = s } ∷ [] = rw z at e' in
       record {
         number = (seen s).number;
         t = (seen s).tale;
@@ -153,6 +153,73 @@ module _ {S : Type 0} (seen : S → SeatRecord) where
   pub apart_set : (held : List (Held S)) (i : ℕ) (y h : Held S) → i < length held → h ≡ slice_index_or held i h → bare_of seen y ≡ bare_of seen h
       → are_apart (seats_of seen held) ≡ true → are_apart (seats_of seen (slice_set held i y)) ≡ true
   apart_set held i y h l e same a = rw (map_set_same (bare_of seen) held i y h l e same) a
+
+  -- a seat under another mask
+  pub apart_under_mask : (held : List (Held S)) (i : ℕ) (y h : Held S) → i < length held → h ≡ slice_index_or held i h → y.dev ≡ h.dev
+      → are_apart (seats_of seen held) ≡ true → are_apart (seats_of seen (slice_set held i y)) ≡ true
+  apart_under_mask held i y h l e same a =
+      rw (map_set (bare_of seen) held i y)
+      (are_apart_by (slice_set (seats_of seen held) i (bare_of seen y))
+      (apart_under i (seats_of seen held) (bare_of seen h) (bare_of seen y) (get_is (bare_of seen) held i h l e) same (apart_by (seats_of seen held) a)))
+
+  remask_found : (front : Front) (m : Machine) (base : DeskRecord) (dev i : ℕ) (text : List ℕ) (held : List (Held S)) (h : Held S)
+      → Some i ≡ place_of dev (seats_of seen held) → i < length held → h ≡ slice_index_or held i h → true ≡ is_plugged m dev
+      → remask_at front m (with_seats (seats_of seen held) base) text dev ≡ remask_seat front m (with_seats (seats_of seen held) base) text i (Some (bare_of seen h))
+  remask_found front m base dev i text held h at l e plugged =
+      let desk = with_seats (seats_of seen held) base in
+      ap (λ (b : Bool). cond b (remask_place front m desk text (place_of dev (seats_of seen held))) (refused ENODEV m desk)) (sym plugged)
+      ∙ ap (λ (p : Option ℕ). remask_place front m desk text p) (sym at)
+      ∙ ap (λ (s : Option Bare). remask_seat front m desk text i s) (get_is (bare_of seen) held i h l e)
+
+  pub remask_comes : (front : Front) (told told' : Option Machine) (base : DeskRecord) (dev i : ℕ) (text : List ℕ) (held : List (Held S)) (h h' : Held S) (r : Result ⊤ No)
+      → Some i ≡ place_of dev (seats_of seen held) → i < length held → h ≡ slice_index_or held i h → IfSome told (λ m. true ≡ is_plugged m dev)
+      → RemaskMoves front text (bare_of seen h) (tale_of seen h) r (bare_of seen h') (tale_of seen h')
+      → IfSome told (λ m. RemaskTold front text m (bare_of seen h) r told' (bare_of seen h'))
+      → IfSome told (λ m. Comes m (with_seats (seats_of seen held) base) (remask_at front m (with_seats (seats_of seen held) base) text dev)
+      (reply_by r) told' (with_seats (seats_of seen (slice_set held i h')) base))
+  remask_comes front None told' base dev i text held h h' r at l e plugged moves t = tt
+  remask_comes front (Some m) told' base dev i text held h h' (Ok done) at l e plugged moves t = (
+    t.0,
+    t.1,
+    remask_found front m base dev i text held h at l e plugged ∙ t.2 (with_seats (seats_of seen held) base) i
+        ∙ ap (λ (bs : List Bare). record { reply = zero_reply; machine = t.0; desk = with_seats bs base }) (sym (map_set (bare_of seen) held i h')),
+  )
+  remask_comes front (Some m) told' base dev i text held h h' (Err (NoErrno x)) at l e plugged moves t = (
+    t.0,
+    t.1,
+    remask_found front m base dev i text held h at l e plugged ∙ t.2 (with_seats (seats_of seen held) base) i
+        ∙ ap (λ (bs : List Bare). record { reply = Refusal x; machine = t.0; desk = with_seats bs base }) (sym (map_set_same (bare_of seen) held i h' h l e moves.0)),
+  )
+  remask_comes front (Some m) told' base dev i text held h h' (Err NoMem) at l e plugged moves t =
+      (t, ap (λ (bs : List Bare). with_seats bs base) (map_set_same (bare_of seen) held i h' h l e moves.0))
+
+  pub remasks_by : (front : Front) (base : DeskRecord) (dev i : ℕ) (text : List ℕ) (held : List (Held S)) (h h' : Held S) (r : Result ⊤ No)
+      → Some i ≡ place_of dev (seats_of seen held) → i < length held → h ≡ slice_index_or held i h
+      → RemaskMoves front text (bare_of seen h) (tale_of seen h) r (bare_of seen h') (tale_of seen h')
+      → RemasksBy front dev text (with_seats (seats_of seen held) base) (tales_of seen held) r (with_seats (seats_of seen (slice_set held i h')) base) (tales_of seen (slice_set held i h'))
+  remasks_by front base dev i text held h h' (Ok done) at l e j =
+      let here = get_is (bare_of seen) held i h l e in
+      let its = placed_at dev (seats_of seen held) i (bare_of seen h) (sym at) here in
+      record {
+        s = bare_of seen h;
+        i = i;
+        mask = j.0;
+        waiting = j.1;
+        t = tale_of seen h';
+        its = its;
+        at = sym at;
+        here = here;
+        wanted = rw its at j.2;
+        under = ap (λ (bs : List Bare). with_seats bs base) (map_set (bare_of seen) held i h' ∙ ap (λ (s : Bare). slice_set (seats_of seen held) i s) j.3);
+        told = map_set (tale_of seen) held i h';
+        fresh = begun (tale_of seen h) (tale_of seen h') j.4;
+      }
+    where
+      begun : (a b : Option Tale) → b ≡ option_map (λ (x : Tale). first_tale) a → b ≡ option_map (λ (x : Tale). first_tale) b
+      begun None b is = rw is refl
+      begun (Some x) b is = rw is refl
+  remasks_by front base dev i text held h h' (Err why) at l e j =
+      (ap (λ (bs : List Bare). with_seats bs base) (map_set_same (bare_of seen) held i h' h l e j.0), map_set_same (tale_of seen) held i h' h l e j.1)
 
   -- what a connection has is seated
   pub seated : (front : Front) (d : Desk S) → IsDesk seen front d → AreSeated (seats_of seen d.held.items) (tales_of seen d.held.items)

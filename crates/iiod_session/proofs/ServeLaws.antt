@@ -5,7 +5,7 @@ use Rattle.iio_base.specs.declared.Mem.{Mem}
 use Rattle.iio_text.specs.declared.errors.Errno.{Errno}
 use Rattle.iio_text.specs.declared.errors.Errno.TheVariants.{EAGAIN, EBADF, ENODEV}
 use Rattle.iio_event.specs.declared.event.EventData.{EventData}
-use Rattle.iiod_grammar.specs.Command.{Open, Close, ReadBuf, GetTrig, SetTrig, SetBuffers, WriteBuf, EvOpen, EvRead, EvClose}
+use Rattle.iiod_grammar.specs.Command.{Open, Close, ReadBuf, GetTrig, SetTrig, SetBuffers, Remask, WriteBuf, EvOpen, EvRead, EvClose}
 use Rattle.iiod_grammar.specs.Stream.{Item, Said}
 use Rattle.iiod_reply.specs.Reply.{Reply, Nothing, Number, Refusal, Line, Value, Raw, Block, NoMemory, text_of}
 use Rattle.iiod_session.specs.declared.iio.No.{No}
@@ -16,12 +16,12 @@ use Rattle.iiod_session.specs.declared.manner.Manner.{Manner}
 use Rattle.iiod_session.specs.declared.manner.Manner.TheVariants.{Script, Server}
 use Rattle.iiod_session.specs.declared.manner.Performed.{Performed}
 use Rattle.iiod_session.specs.declared.manner.Performed.TheVariants.{Done, Waits}
-use Rattle.iiod_session.specs.Acts.{Acted, Acts, act, at_device, refused, open_at, close_at, read_at, ev_close_at, ev_open_at, ev_read_at, get_trigger_at, set_buffers_at, set_trigger_at, write_buffer_at, zero_reply}
+use Rattle.iiod_session.specs.Acts.{Acted, Acts, act, at_device, refused, open_at, close_at, read_at, ev_close_at, ev_open_at, ev_read_at, get_trigger_at, remask_at, set_buffers_at, set_trigger_at, write_buffer_at, zero_reply}
 use Rattle.iiod_session.specs.Desk.{Bare, DeskRecord, place_of, with_count, with_holding, without_holding}
 use Rattle.iiod_session.specs.Front.{Front, find_device, trigger_name}
 use Rattle.iiod_session.specs.Machine.{Machine}
 use Rattle.iiod_session.specs.Moves.{Accepts, AnswersAs, IsOrShort, Moves, ReadsBy, ReadsFrom, Serves, at_known, at_seat}
-use Rattle.iiod_session.specs.Performs.{AltersBy, AnswersRead, Comes, IsAllowed, IsAnswerOf, IsFound, IsNowhere, IsWhole, LeavesBy, OpensBy, Performs, ReadAt, ReadServedAt, event_by, reply_by, trigger_by}
+use Rattle.iiod_session.specs.Performs.{AltersBy, AnswersRead, Comes, IsAllowed, IsAnswerOf, IsFound, IsNowhere, IsWhole, LeavesBy, OpensBy, Performs, ReadAt, ReadServedAt, RemasksBy, event_by, reply_by, trigger_by}
 use Rattle.iiod_session.specs.Seat.{Tale}
 
 -- an outcome that is the item's
@@ -100,7 +100,7 @@ serves_open front told told' desk desk' tales tales' device samples text cyclic 
   where
     moved : (r : Result ⊤ No) → OpensBy front dev samples text cyclic desk tales r desk' tales' → Moves front desk tales (Said (Ok (Open device samples text cyclic))) (reply_by r) desk' tales'
     moved (Ok n) j = record {
-      s = record { dev = dev; number = j.2.number; mask = j.0.mask; capacity = j.0.capacity };
+      s = record { dev = dev; number = j.2.number; mask = j.0.mask; capacity = j.0.capacity; discarded = 0 };
       t = j.2.t;
       named = e;
       free = j.2.free;
@@ -151,6 +151,49 @@ unknown_close front desk device e m = ap (λ o. at_device m desk (λ k. close_at
 pub no_close : (front : Front) (told : Option Machine) (desk : DeskRecord) (tales : List (Option Tale)) (device : List ℕ) → find_device front device ≡ None
     → Serves front told desk tales (Said (Ok (Close device))) (Refusal ENODEV) told desk tales
 no_close front told desk tales device e = record { alone = rw e (inl refl); formed = tt; exact = all_refused front told desk _ ENODEV (unknown_close front desk device e); moves = (refl, refl) }
+
+-- ---- REMASK
+
+remask_is : (front : Front) (desk : DeskRecord) (device text : List ℕ) (dev : ℕ) → find_device front device ≡ Some dev → (m : Machine)
+    → act front m desk (Said (Ok (Remask device text))) ≡ remask_at front m desk text dev
+unfolding act
+remask_is front desk device text dev e m = ap (λ o. at_device m desk (λ k. remask_at front m desk text k) o) e
+
+pub serves_remask : (front : Front) (told told' : Option Machine) (desk desk' : DeskRecord) (tales tales' : List (Option Tale)) (device text : List ℕ) (dev : ℕ) (r : Result ⊤ No)
+    → find_device front device ≡ Some dev
+    → IfSome told (λ m. Comes m desk (remask_at front m desk text dev) (reply_by r) told' desk')
+    → RemasksBy front dev text desk tales r desk' tales'
+    → Serves front told desk tales (Said (Ok (Remask device text))) (reply_by r) told' desk' tales'
+serves_remask front told told' desk desk' tales tales' device text dev r e t j =
+    record { alone = rw e tt; formed = settles front (Said (Ok (Remask device text))) r refl; exact = all_comes front told told' desk desk' _ (λ m. remask_at front m desk text dev) (reply_by r) (remask_is front desk device text dev e) t; moves = moved r j }
+  where
+    moved : (r : Result ⊤ No) → RemasksBy front dev text desk tales r desk' tales' → Moves front desk tales (Said (Ok (Remask device text))) (reply_by r) desk' tales'
+    moved (Ok n) j = record {
+      s = j.s;
+      i = j.i;
+      mask = j.mask;
+      waiting = j.waiting;
+      t = j.t;
+      named = rw j.its e;
+      at = rw j.its j.at;
+      here = j.here;
+      wanted = rw j.its j.wanted;
+      under = j.under;
+      told = j.told;
+      fresh = j.fresh;
+    }
+    moved (Err (NoErrno x)) j = j
+    moved (Err NoMem) j = j
+
+unknown_remask : (front : Front) (desk : DeskRecord) (device text : List ℕ) → find_device front device ≡ None → (m : Machine)
+    → act front m desk (Said (Ok (Remask device text))) ≡ refused ENODEV m desk
+unfolding act
+unknown_remask front desk device text e m = ap (λ o. at_device m desk (λ k. remask_at front m desk text k) o) e
+
+pub no_remask : (front : Front) (told : Option Machine) (desk : DeskRecord) (tales : List (Option Tale)) (device text : List ℕ) → find_device front device ≡ None
+    → Serves front told desk tales (Said (Ok (Remask device text))) (Refusal ENODEV) told desk tales
+no_remask front told desk tales device text e =
+    record { alone = rw e (inl refl); formed = tt; exact = all_refused front told desk _ ENODEV (unknown_remask front desk device text e); moves = (refl, refl) }
 
 -- ---- READBUF
 

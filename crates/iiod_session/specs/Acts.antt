@@ -1,5 +1,5 @@
 -- What an item is answered over a told state, and what stands then.
-use Rattle.std.specs.Prelude.{◌≡◌, ℕ, pos, Bool, true, false, ◌&&◌, nat_le, nat_lt, codes, ⊤, List, [], ◌∷◌, ◌++◌, take, drop, length, slice_get, remove, Option, Some, None, is_some, Result, Ok, Err, if◌then◌else◌}
+use Rattle.std.specs.Prelude.{◌≡◌, ℕ, pos, Bool, true, false, ◌&&◌, nat_le, nat_lt, codes, ⊤, List, [], ◌∷◌, ◌++◌, take, drop, length, slice_get, slice_set, remove, Option, Some, None, is_some, Result, Ok, Err, if◌then◌else◌}
 use Rattle.std.specs.Fmt.{decimal}
 use Rattle.std.specs.Option.{ok_or}
 use Rattle.iio_base.specs.Refusals.{ensure, ◌>>=◌}
@@ -10,15 +10,15 @@ use Rattle.iio_attr.specs.declared.values.Value.{Value as AttrValue}
 use Rattle.iio_event.specs.Code.{event_bytes}
 use Rattle.iio_event.specs.declared.event.EventData.{EventData}
 use Rattle.iiod_grammar.specs.declared.command.Refused.TheVariants.{Empty}
-use Rattle.iiod_grammar.specs.Command.{Place, Help, Version, Print, Timeout, Open, Close, Read, ReadBuf, WriteBuf, GetTrig, SetTrig, SetBuffers, EvOpen, EvRead, EvClose}
+use Rattle.iiod_grammar.specs.Command.{Place, Help, Version, Print, Timeout, Open, Close, Read, ReadBuf, WriteBuf, GetTrig, SetTrig, SetBuffers, Remask, EvOpen, EvRead, EvClose}
 use Rattle.iiod_grammar.specs.Stream.{Item, Said, Written, End}
 use Rattle.iiod_reply.specs.Reply.{Reply, Nothing, Number, Refusal, Line, Value, Raw, Block, NoMemory}
 use Rattle.iiod_session.specs.declared.desk.TheConstants.{MAX_BUFFERS}
 use Rattle.iiod_session.specs.Attributes.{Assignment, Named, buffer_number, found, is_of_buffer, text_of_value, write_found}
 use Rattle.iiod_session.specs.Front.{Front, channel_count, find_device, find_trigger, shape_at, size_at, trigger_name}
 use Rattle.iiod_session.specs.Machine.{Machine, is_plugged, lost_of, queue_of, station_at, with_queue}
-use Rattle.iiod_session.specs.Calls.{Outcome, closed, ev_close_of, ev_open_of, ev_read_of, open_of, read_attr_of, set_trigger_of, write_attr_of}
-use Rattle.iiod_session.specs.Desk.{Wanted, Bare, DeskRecord, wanted_of, buffers_of, bare_id, place_of, with_count, with_holding, with_seats, without_holding}
+use Rattle.iiod_session.specs.Calls.{Outcome, closed, ev_close_of, ev_open_of, ev_read_of, open_of, read_attr_of, remask_of, set_trigger_of, write_attr_of}
+use Rattle.iiod_session.specs.Desk.{Wanted, Bare, DeskRecord, wanted_of, mask_wanted, buffers_of, bare_id, bare_remasked, place_of, with_count, with_holding, with_seats, without_holding}
 use Rattle.iiod_session.specs.Reading.{most_scans}
 
 -- an answer, and what stands then
@@ -49,7 +49,7 @@ refused e m desk = only (Refusal e) m desk
 abbrev pub opened : DeskRecord → ℕ → Wanted → Machine → Result ℕ Errno → Acted
 opened desk dev x m (Err e) = refused e m desk
 opened desk dev x m (Ok number) =
-    record { reply = zero_reply; machine = m; desk = with_seats (desk.seats ++ record { dev = dev; number = number; mask = x.mask; capacity = x.capacity } ∷ []) desk }
+    record { reply = zero_reply; machine = m; desk = with_seats (desk.seats ++ record { dev = dev; number = number; mask = x.mask; capacity = x.capacity; discarded = 0 } ∷ []) desk }
 
 abbrev pub joined_at : Front → Machine → DeskRecord → ℕ → Wanted → Acted
 joined_at front m desk dev x = let o = open_of front m dev x.mask x.capacity in opened desk dev x o.machine o.answer
@@ -73,9 +73,28 @@ abbrev pub close_at : Machine → DeskRecord → Option ℕ → Acted
 close_at m desk None = refused EBADF m desk
 close_at m desk (Some i) = close_seat m desk i (slice_get desk.seats i)
 
+-- ---- REMASK
+
+-- the seat in place i under its new mask
+abbrev pub remasked_seat : DeskRecord → ℕ → Bare → ℕ → Machine → Result ℕ Errno → Acted
+remasked_seat desk i s mask m (Err e) = refused e m desk
+remasked_seat desk i s mask m (Ok waiting) = record { reply = zero_reply; machine = m; desk = with_seats (slice_set desk.seats i (bare_remasked mask waiting s)) desk }
+
+abbrev pub remask_wanted : Front → Machine → DeskRecord → ℕ → Bare → Result ℕ Errno → Acted
+remask_wanted front m desk i s (Err e) = refused e m desk
+remask_wanted front m desk i s (Ok mask) = let o = remask_of front m s.dev (bare_id s) mask s.capacity in remasked_seat desk i s mask o.machine o.answer
+
+abbrev pub remask_seat : Front → Machine → DeskRecord → List ℕ → ℕ → Option Bare → Acted
+remask_seat front m desk text i None = refused EBADF m desk
+remask_seat front m desk text i (Some s) = remask_wanted front m desk i s (mask_wanted (shape_at front s.dev) s.capacity text)
+
+abbrev pub remask_place : Front → Machine → DeskRecord → List ℕ → Option ℕ → Acted
+remask_place front m desk text None = refused EBADF m desk
+remask_place front m desk text (Some i) = remask_seat front m desk text i (slice_get desk.seats i)
+
 -- ---- READBUF
 
--- the scans that wait, up to so many
+-- the scans that wait, up to that many
 abbrev pub read_scans_of : Front → Machine → DeskRecord → Bare → ℕ → ℕ → List (List ℕ) → Acted
 read_scans_of front m desk s want asked [] = refused (if is_plugged m s.dev then EAGAIN else ENODEV) m desk
 read_scans_of front m desk s want asked (x ∷ xs) = record {
@@ -112,6 +131,9 @@ settled desk o = altered (λ d. d) desk o.machine o.answer
 -- a command that is refused where the device is unplugged
 abbrev pub if_plugged : Machine → DeskRecord → ℕ → Acted → Acted
 if_plugged m desk dev acted = if is_plugged m dev then acted else refused ENODEV m desk
+
+abbrev pub remask_at : Front → Machine → DeskRecord → List ℕ → ℕ → Acted
+remask_at front m desk text dev = if_plugged m desk dev (remask_place front m desk text (place_of dev desk.seats))
 
 -- 1 to 64 buffers
 abbrev pub is_buffers_count : ℕ → Bool
@@ -166,7 +188,7 @@ ev_close_at m desk dev = if_plugged m desk dev (let o = ev_close_of m dev desk.w
 
 -- a buffer's attribute
 abbrev pub buffer_text : Machine → Attr → Bare → List ℕ
-buffer_text m a s = decimal (buffer_number a s.capacity (length (queue_of m s.dev (bare_id s))) (lost_of m s.dev (bare_id s)))
+buffer_text m a s = decimal (buffer_number a s.capacity (length (queue_of m s.dev (bare_id s))) (lost_of m s.dev (bare_id s)) s.discarded)
 
 abbrev pub read_buffer_attribute : Machine → DeskRecord → Attr → Option Bare → Acted
 read_buffer_attribute m desk a None = refused EBADF m desk
@@ -257,6 +279,7 @@ act front m desk (Said (Ok (WriteBuf device bytes))) = at_device m desk (λ dev.
 act front m desk (Said (Ok (GetTrig device))) = at_device m desk (λ dev. get_trigger_at front m desk dev) (find_device front device)
 act front m desk (Said (Ok (SetTrig device name))) = at_device m desk (λ dev. set_trigger_at front m desk name dev) (find_device front device)
 act front m desk (Said (Ok (SetBuffers device n))) = at_device m desk (λ dev. set_buffers_at m desk n dev) (find_device front device)
+act front m desk (Said (Ok (Remask device text))) = at_device m desk (λ dev. remask_at front m desk text dev) (find_device front device)
 act front m desk (Said (Ok (EvOpen device))) = at_device m desk (λ dev. ev_open_at m desk dev) (find_device front device)
 act front m desk (Said (Ok (EvRead device))) = at_device m desk (λ dev. ev_read_at m desk dev) (find_device front device)
 act front m desk (Said (Ok (EvClose device))) = at_device m desk (λ dev. ev_close_at m desk dev) (find_device front device)

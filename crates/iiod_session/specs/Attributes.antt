@@ -76,7 +76,8 @@ text_of_value (Int n) = signed_decimal n
 text_of_value (Text text) = text
 
 -- the number of a queue that a buffer's attribute is
-abbrev pub buffer_number : Attr → (capacity waiting lost : ℕ) → ℕ
-buffer_number attr.Overruns capacity waiting lost = lost
-buffer_number attr.DataAvailable capacity waiting lost = waiting
-buffer_number a capacity waiting lost = capacity
+abbrev pub buffer_number : Attr → (capacity waiting lost discarded : ℕ) → ℕ
+buffer_number attr.Overruns capacity waiting lost discarded = lost
+buffer_number attr.DataAvailable capacity waiting lost discarded = waiting
+buffer_number attr.Discarded capacity waiting lost discarded = discarded
+buffer_number a capacity waiting lost discarded = capacity

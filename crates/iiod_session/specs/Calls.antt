@@ -1,9 +1,9 @@
 -- What the calls of an `Iio` answer over a told state, and what stands then.
-use Rattle.std.specs.Prelude.{ℕ, ℤ, suc, ◌+◌, ◌-◌, ◌^◌, ◌==◌, ◌&&◌, ◌||◌, not, nat_lt, Bool, true, false, ⊤, List, [], ◌∷◌, ◌++◌, Option, Some, None, is_none, slice_get, Result, Ok, Err, if◌then◌else◌}
+use Rattle.std.specs.Prelude.{ℕ, ℤ, suc, ◌+◌, ◌-◌, ◌^◌, ◌==◌, ◌&&◌, ◌||◌, not, nat_lt, Bool, true, false, ⊤, List, [], ◌∷◌, ◌++◌, map, length, Option, Some, None, is_none, slice_get, Result, Ok, Err, if◌then◌else◌}
 use Rattle.std.specs.Option.{option_map_or}
 use Rattle.iio_base.specs.Refusals.{ensure, ◌>>=◌, first_refusal, unless_refused}
 use Rattle.iio_text.specs.declared.errors.Errno.{Errno}
-use Rattle.iio_text.specs.declared.errors.Errno.TheVariants.{EBADF, EBUSY, EIO, ENODEV}
+use Rattle.iio_text.specs.declared.errors.Errno.TheVariants.{EBADF, EBUSY, EINVAL, EIO, ENODEV}
 use Rattle.iio_text.specs.declared.values.Fixed.{Fixed}
 use Rattle.iio_attr.specs.declared.attributes.Attr.{Attr}
 use Rattle.iio_attr.specs.declared.attributes.Attr.TheVariants as attr
@@ -18,7 +18,7 @@ use Rattle.iio_device.specs.Site.{is_empty, attached, sampled, site_written, wit
 use Rattle.iio_device.specs.Stored.{attr_value}
 use Rattle.iio_device.specs.Totals.{with_left}
 use Rattle.iiod_session.specs.Front.{Front, shape_at, device_name, place_count}
-use Rattle.iiod_session.specs.Machine.{Member, Station, Machine, station_at, with_station, with_site, lost_by, masks_of, without}
+use Rattle.iiod_session.specs.Machine.{Member, MemberId, Station, Machine, queue_of, station_at, with_station, with_site, lost_by, masks_of, member_in, without}
 use Rattle.iiod_session.specs.Opening.{join_refusals}
 
 -- an answer, and what stands then
@@ -78,6 +78,29 @@ left number st = record st { totals = with_left (lost_by number st.members) st.t
 -- `close`
 unfoldable pub closed : Machine → ℕ → ℕ → Machine
 closed m dev number = with_station (left number) dev m
+
+-- why a member can't have another mask, in this order; the others' masks stay
+abbrev pub remask_refusals : ShapeRecord → Station → MemberId → ℕ → List (Bool × Errno)
+remask_refusals shape st id mask =
+    (not st.site.plugged, ENODEV)
+    ∷ (is_none (member_in id st.members), EBADF)
+    ∷ (is_without_union shape (masks_of (without id.number st.members)) mask, EINVAL)
+    ∷ []
+
+-- the member of that number under another mask: a queue for that many scans begins anew, and the others stay
+abbrev pub with_mask : (number mask capacity : ℕ) → Member → Member
+with_mask number mask capacity x = if x.number == number then record x { mask = mask; capacity = capacity; scans = []; lost = 0 } else x
+
+-- a device with it; what its queue of before lost is counted
+abbrev pub remasked : (number mask capacity : ℕ) → Station → Station
+remasked number mask capacity st =
+    record st { totals = with_left (lost_by number st.members) st.totals; members = map (with_mask number mask capacity) st.members }
+
+-- `remask`: how many scans waited
+unfoldable pub remask_of : Front → Machine → ℕ → MemberId → (mask capacity : ℕ) → Outcome ℕ
+remask_of front m dev id mask capacity =
+    unless (remasked id.number mask capacity) dev m
+    (unless_refused (length (queue_of m dev id)) (first_refusal (remask_refusals (shape_at front dev) (station_at m dev) id mask)))
 
 -- ---- attributes
 

@@ -1,9 +1,10 @@
 -- What a connection has of the devices: its seats, its buffers counts, and the devices whose events go to it. The seats'
 -- tales stand beside, in the same order.
-use Rattle.std.specs.Prelude.{◌≡◌, ℕ, ◌*◌, ◌==◌, ◌<◌, ◌≤◌, ◌||◌, ◌&&◌, not, Bool, true, false, List, [], ◌∷◌, ◌++◌, map, filter, length, if◌then◌else◌, Option, Some, is_none, unwrap_or, All, Result, position}
+use Rattle.std.specs.Prelude.{◌≡◌, ℕ, ◌+◌, ◌-◌, ◌*◌, ◌^◌, ◌==◌, ◌<◌, ◌≤◌, ◌||◌, ◌&&◌, min, nat_lt, not, Bool, true, false, List, [], ◌∷◌, ◌++◌, map, filter, length, if◌then◌else◌, Option, Some, is_none, unwrap_or, All, Result, position}
 use Rattle.iio_base.specs.Refusals.{first_refusal, unless_refused}
 use Rattle.iio_text.specs.declared.errors.Errno.{Errno}
 use Rattle.iio_mask.specs.Text.{mask_of}
+use Rattle.iio_kfifo.specs.declared.limits.TheConstants.{MAX_BYTES}
 use Rattle.iio_layout.specs.Active.{has_data}
 use Rattle.iio_layout.specs.Layout.{scan_size}
 use Rattle.iio_layout.specs.Shape.{ShapeRecord, count_of}
@@ -13,7 +14,7 @@ use Rattle.iiod_session.specs.declared.desk.Held.{Held}
 use Rattle.iiod_session.specs.declared.desk.TheConstants.{FIRST_BUFFERS}
 use Rattle.iiod_session.specs.Front.{Front, size_at}
 use Rattle.iiod_session.specs.Machine.{MemberId}
-use Rattle.iiod_session.specs.Opening.{asked_refusals, is_excess}
+use Rattle.iiod_session.specs.Opening.{asked_refusals, is_excess, mask_refusals}
 use Rattle.iiod_session.specs.Seat.{SeatRecord, Tale, MayOpen, IsOwned}
 
 -- a seat of a connection as the told state knows it
@@ -22,6 +23,8 @@ pub record Bare : Type 0 where
   pub number : ℕ
   pub mask : ℕ
   pub capacity : ℕ
+  -- how many scans its REMASKs discarded
+  pub discarded : ℕ
 
 -- whose queue it is
 abbrev pub bare_id : Bare → MemberId
@@ -88,11 +91,25 @@ pub record IsWanted (shape : ShapeRecord) (buffers samples : ℕ) (text : List �
   pub capacity : x.capacity ≡ samples * buffers
   pub once : cyclic ≡ false
 
+-- the mask of a REMASK, for a queue of that capacity
+unfoldable pub mask_wanted : ShapeRecord → (capacity : ℕ) → (text : List ℕ) → Result ℕ Errno
+mask_wanted shape capacity text =
+    let mask = unwrap_or (mask_of text (count_of shape)) 0 in
+    unless_refused mask
+    (first_refusal (mask_refusals (is_none (mask_of text (count_of shape))) (not (has_data shape mask)) (nat_lt MAX_BYTES (capacity * scan_size shape mask))))
+
+-- a seat under another mask: the scans that waited are discarded, and counted, but for a count at its end
+abbrev pub more_discarded : ℕ → ℕ → ℕ
+more_discarded n waiting = min (n + waiting) (2 ^ 64 - 1)
+
+abbrev pub bare_remasked : (mask waiting : ℕ) → Bare → Bare
+bare_remasked mask waiting s = record s { mask = mask; discarded = more_discarded s.discarded waiting }
+
 -- ---- a connection's seats as these lists
 
 module _ {S : Type 0} (seen : S → SeatRecord) where
   abbrev pub bare_of : Held S → Bare
-  bare_of h = record { dev = h.dev; number = (seen h.seat).number; mask = h.mask.bits; capacity = h.capacity }
+  bare_of h = record { dev = h.dev; number = (seen h.seat).number; mask = h.mask.bits; capacity = h.capacity; discarded = h.discarded }
 
   abbrev pub tale_of : Held S → Option Tale
   tale_of h = (seen h.seat).tale
@@ -106,7 +123,7 @@ module _ {S : Type 0} (seen : S → SeatRecord) where
   abbrev pub desk_of : Desk S → DeskRecord
   desk_of d = record { who = d.who; seats = seats_of d.held.items; buffers = d.buffers.items; holdings = d.holdings.items }
 
-  -- a seat is owned at its device, with the mask and the capacity of its OPEN, and its size is that of the mask's scans
+  -- a seat is owned at its device, with its mask and the capacity of its OPEN, and its size is that of the mask's scans
   pub record IsHeld (front : Front) (h : Held S) : Type 0 where
     pub opened : MayOpen front h.dev h.mask.bits h.capacity
     pub sized : h.size ≡ size_at front h.dev h.mask.bits

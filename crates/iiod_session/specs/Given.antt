@@ -1,7 +1,7 @@
 -- The scans that READBUF's answers give, device by device, by the items and their answers alone.
 use Rattle.std.specs.Prelude.{◌≡◌, ℕ, ◌==◌, Bool, false, List, [], ◌∷◌, ◌++◌, Option, Some, None, Ok, if◌then◌else◌}
 use Rattle.std.specs.Option.{option_map_or}
-use Rattle.iiod_grammar.specs.Command.{Open, ReadBuf}
+use Rattle.iiod_grammar.specs.Command.{Open, ReadBuf, Remask}
 use Rattle.iiod_grammar.specs.Stream.{Item, Said}
 use Rattle.iiod_reply.specs.Reply.{Reply, Number, Block}
 use Rattle.iiod_session.specs.Desk.{Bare}
@@ -12,10 +12,11 @@ use Rattle.iiod_session.specs.Seat.{Tale}
 abbrev pub is_named : Front → List ℕ → ℕ → Bool
 is_named front device dev = option_map_or (λ k. k == dev) (find_device front device) false
 
--- what was given of a device, once an item was answered: an OPEN that is accepted begins anew, a READBUF adds its scans
+-- what was given of a device, once an item was answered: an OPEN or a REMASK that is accepted begins anew, a READBUF adds its scans
 abbrev pub given_by : Front → ℕ → Item → Reply → List (List ℕ) → List (List ℕ)
 given_by front dev (Said (Ok (Open device samples text cyclic))) (Number n) given = if is_named front device dev then [] else given
 given_by front dev (Said (Ok (ReadBuf device asked))) (Block channels mask scans bytes) given = if is_named front device dev then given ++ scans else given
+given_by front dev (Said (Ok (Remask device text))) (Number n) given = if is_named front device dev then [] else given
 given_by front dev item reply given = given
 
 -- after items with their answers

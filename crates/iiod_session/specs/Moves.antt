@@ -2,16 +2,18 @@
 use Rattle.std.specs.Prelude.{◌≡◌, ◌⊎◌, ℕ, pos, nat_lt, Bool, false, true, List, [], ◌∷◌, ◌++◌, length, slice_get, slice_set, remove, Option, Some, None, option_map, IfSome, MatchBool, Ok, Err}
 use Rattle.iio_text.specs.declared.errors.Errno.TheVariants.{EAGAIN, EBADF, EINVAL, ENODEV}
 use Rattle.iio_event.specs.Code.{event_bytes}
+use Rattle.iio_layout.specs.Shape.{count_of}
+use Rattle.iio_mask.specs.Text.{mask_of}
 use Rattle.iio_event.specs.declared.event.EventData.{EventData}
 use Rattle.iiod_grammar.specs.declared.command.Refused.TheVariants.{Empty}
-use Rattle.iiod_grammar.specs.Command.{Help, Exit, Version, Print, Timeout, Open, Close, Read, Write, ReadBuf, WriteBuf, GetTrig, SetTrig, SetBuffers, EvOpen, EvRead, EvClose}
+use Rattle.iiod_grammar.specs.Command.{Help, Exit, Version, Print, Timeout, Open, Close, Read, Write, ReadBuf, WriteBuf, GetTrig, SetTrig, SetBuffers, Remask, EvOpen, EvRead, EvClose}
 use Rattle.iiod_grammar.specs.Stream.{Item, Said, Written, End}
 use Rattle.iiod_reply.specs.Reply.{Reply, Nothing, Number, Refusal, Value, Raw, Block, NoMemory}
 use Rattle.iiod_session.specs.Acts.{Acts, end_reply, help_reply, left_desk, trigger_reply, version_reply, zero_reply}
 use Rattle.iiod_session.specs.Front.{Front, channel_count, find_device, shape_at, size_at}
 use Rattle.iiod_session.specs.Machine.{Machine}
 use Rattle.iiod_session.specs.Seat.{Tale, after_nothing, first_tale}
-use Rattle.iiod_session.specs.Desk.{Bare, DeskRecord, IsWanted, buffers_of, place_of, with_count, with_holding, with_seats, without_holding}
+use Rattle.iiod_session.specs.Desk.{Bare, DeskRecord, IsWanted, bare_remasked, buffers_of, place_of, with_count, with_holding, with_seats, without_holding}
 use Rattle.iiod_session.specs.Reading.{Reads, most_scans}
 
 -- what a READBUF's answer says of the tale of its seat: its scans are those by which the tale grew
@@ -67,6 +69,21 @@ pub record Leaves (front : Front) (device : List ℕ) (desk : DeskRecord) (tales
   pub gone : desk' ≡ with_seats (remove desk.seats i) desk
   pub told : tales' ≡ remove tales i
 
+-- a seat under another mask, that of the REMASK's text, with its capacity as it was. Nothing was taken of it yet
+pub record Remasks (front : Front) (device text : List ℕ) (desk : DeskRecord) (tales : List (Option Tale)) (desk' : DeskRecord) (tales' : List (Option Tale)) : Type 0 where
+  pub s : Bare
+  pub i : ℕ
+  pub mask : ℕ
+  pub waiting : ℕ
+  pub t : Option Tale
+  pub named : find_device front device ≡ Some s.dev
+  pub at : place_of s.dev desk.seats ≡ Some i
+  pub here : slice_get desk.seats i ≡ Some s
+  pub wanted : mask_of text (count_of (shape_at front s.dev)) ≡ Some mask
+  pub under : desk' ≡ with_seats (slice_set desk.seats i (bare_remasked mask waiting s)) desk
+  pub told : tales' ≡ slice_set tales i t
+  pub fresh : t ≡ option_map (λ (x : Tale). first_tale) t
+
 -- what the connection has besides is altered
 pub record Alters (front : Front) (device : List ℕ) (change : ℕ → DeskRecord → DeskRecord) (desk : DeskRecord) (tales : List (Option Tale)) (desk' : DeskRecord) (tales' : List (Option Tale)) : Type 0 where
   pub dev : ℕ
@@ -78,6 +95,7 @@ pub record Alters (front : Front) (device : List ℕ) (change : ℕ → DeskReco
 abbrev pub Moves : Front → DeskRecord → List (Option Tale) → Item → Reply → DeskRecord → List (Option Tale) → Type 0
 Moves front desk tales (Said (Ok (Open device samples text cyclic))) (Number n) desk' tales' = Joins front device samples text cyclic desk tales desk' tales'
 Moves front desk tales (Said (Ok (Close device))) (Number n) desk' tales' = Leaves front device desk tales desk' tales'
+Moves front desk tales (Said (Ok (Remask device text))) (Number n) desk' tales' = Remasks front device text desk tales desk' tales'
 Moves front desk tales (Said (Ok (ReadBuf device asked))) NoMemory desk' tales' = (desk' ≡ desk) × (tales' ≡ tales)
 Moves front desk tales (Said (Ok (ReadBuf device asked))) reply desk' tales' =
     (desk' ≡ desk) × ReadsFrom front asked desk.seats tales (find_device front device) reply tales'
@@ -123,6 +141,7 @@ answer_alone front desk (Said (Ok (WriteBuf device bytes))) = of_device front de
 answer_alone front desk (Said (Ok (GetTrig device))) = of_device front device
 answer_alone front desk (Said (Ok (SetTrig device name))) = of_device front device
 answer_alone front desk (Said (Ok (SetBuffers device n))) = of_device front device
+answer_alone front desk (Said (Ok (Remask device text))) = of_device front device
 answer_alone front desk (Said (Ok (EvOpen device))) = of_device front device
 answer_alone front desk (Said (Ok (EvRead device))) = of_device front device
 answer_alone front desk (Said (Ok (EvClose device))) = of_device front device
@@ -150,6 +169,7 @@ Accepts front (Said (Ok (WriteBuf device bytes))) reply = ⊥
 Accepts front (Said (Ok (GetTrig device))) reply = (trigger : Option ℕ) × (reply ≡ trigger_reply front trigger)
 Accepts front (Said (Ok (SetTrig device name))) reply = reply ≡ zero_reply
 Accepts front (Said (Ok (SetBuffers device n))) reply = reply ≡ zero_reply
+Accepts front (Said (Ok (Remask device text))) reply = reply ≡ zero_reply
 Accepts front (Said (Ok (EvOpen device))) reply = reply ≡ zero_reply
 Accepts front (Said (Ok (EvRead device))) reply = (event : EventData) × (reply ≡ Raw (event_bytes event))
 Accepts front (Said (Ok (EvClose device))) reply = reply ≡ zero_reply

@@ -2,13 +2,16 @@
 -- project's own, is said in docs/FORMATS.md.)
 use Rattle.std.specs.Prelude.{ℕ, ◌*◌, ◌==◌, ◌||◌, nat_lt, Bool, List, [], ◌∷◌, Option, Some, None}
 use Rattle.iio_text.specs.declared.errors.Errno.{Errno}
-use Rattle.iio_text.specs.declared.errors.Errno.TheVariants.{EBUSY, ENODEV, EINVAL, ENOSPC, ENOSYS}
+use Rattle.iio_text.specs.declared.errors.Errno.TheVariants.{EBADF, EBUSY, ENODEV, EINVAL, ENOSPC, ENOSYS}
 use Rattle.iio_device.specs.declared.roster.JoinFault.{JoinFault}
 use Rattle.iio_device.specs.declared.roster.JoinFault.TheVariants as fault
+use Rattle.iio_device.specs.declared.roster.RemaskFault.{RemaskFault}
+use Rattle.iio_device.specs.declared.roster.RemaskFault.TheVariants as remask
 use Rattle.iio_device.specs.Joining.{member_faults}
-use Rattle.iiod_session.specs.declared.limits.TheConstants.{MAX_SCANS, MAX_BYTES}
+use Rattle.iio_kfifo.specs.declared.limits.TheConstants.{MAX_BYTES}
+use Rattle.iiod_session.specs.declared.limits.TheConstants.{MAX_SCANS}
 
--- whether a member can't have a queue of so many scans of that size
+-- whether a member can't have a queue of that many scans of that size
 abbrev pub is_excess : ℕ → ℕ → Bool
 is_excess capacity size = capacity == 0 || nat_lt MAX_SCANS capacity || nat_lt MAX_BYTES (capacity * size)
 
@@ -21,6 +24,14 @@ asked_refusals is_gone is_cyclic is_no_mask is_without_data is_too_much is_open 
     ∷ (is_without_data, EINVAL)
     ∷ (is_too_much, EINVAL)
     ∷ (is_open, EBUSY)
+    ∷ []
+
+-- what a REMASK asks for, before others are looked at
+abbrev pub mask_refusals : Bool → Bool → Bool → List (Bool × Errno)
+mask_refusals is_no_mask is_without_data is_too_much =
+    (is_no_mask, EINVAL)
+    ∷ (is_without_data, EINVAL)
+    ∷ (is_too_much, EINVAL)
     ∷ []
 
 -- what a fault of joining is answered with; want of memory has its own answer, which is no errno
@@ -45,3 +56,11 @@ errnos_of (r ∷ rs) = with_errno r.0 (errno_of r.1) (errnos_of rs)
 -- a member more at a device
 abbrev pub join_refusals : Bool → Bool → Bool → List (Bool × Errno)
 join_refusals is_without_trigger is_without_union is_full = errnos_of (member_faults is_without_trigger is_without_union is_full)
+
+-- what a fault of another mask is answered with; want of memory has its own answer, which is no errno
+abbrev pub remask_errno : RemaskFault → Option Errno
+remask_errno remask.Gone = Some ENODEV
+remask_errno remask.NotLive = Some EBADF
+remask_errno remask.BadMask = Some EINVAL
+remask_errno remask.NoUnion = Some EINVAL
+remask_errno remask.Mem = None

@@ -1,13 +1,14 @@
--- The WRITE whose payload comes, as a session keeps it.
+-- The command that isn't done, as a session keeps it: a WRITE whose payload comes, or a READBUF that waits.
 use Rattle.std.specs.Prelude.{ℕ, Bool, List, Option, Some, None, if◌then◌else◌, option_map}
 use Rattle.iiod_grammar.specs.Command.{Place, Target, AtDevice, AtBuffer, AtDebug, AtInput, AtOutput}
 use Rattle.iiod_session.specs.declared.pending_write.PlaceKind.{PlaceKind}
 use Rattle.iiod_session.specs.declared.pending_write.PlaceKind.TheVariants.{Device, Buffer, Debug, Input, Output}
 
--- what it names
+-- what a WRITE names; what a READBUF asks of the device
 pub record PendingRecord : Type 0 where
   pub device : List ℕ
   pub target : Option Target
+  pub asked : ℕ
 
 -- a place by its kind, and by its channel where it has one
 abbrev pub place_by : PlaceKind → (channel : List ℕ) → Place

@@ -1,10 +1,12 @@
 -- What the functions below a command promise. Cited by private functions alone.
-use Rattle.std.specs.Prelude.{◌≡◌, ℕ, Bool, List, [], ◌∷◌, ◌++◌, remove, Option, Some, None, option_map, IfSome, Result, Ok, Err, ⊤}
+use Rattle.std.specs.Prelude.{◌≡◌, ℕ, Bool, List, [], ◌∷◌, ◌++◌, remove, slice_get, slice_set, Option, Some, None, option_map, IfSome, Result, Ok, Err, ⊤}
 use Rattle.iio_base.specs.declared.Mem.{Mem}
 use Rattle.iio_text.specs.declared.errors.Errno.{Errno}
 use Rattle.iio_text.specs.declared.errors.Errno.TheVariants.{EAGAIN, ENODEV}
 use Rattle.iio_event.specs.Code.{event_bytes}
 use Rattle.iio_event.specs.declared.event.EventData.{EventData}
+use Rattle.iio_layout.specs.Shape.{count_of}
+use Rattle.iio_mask.specs.Text.{mask_of}
 use Rattle.iiod_grammar.specs.Command.{ReadBuf}
 use Rattle.iiod_grammar.specs.Stream.{Item, Said}
 use Rattle.iiod_reply.specs.Reply.{Reply, Raw, Refusal, NoMemory, text_of}
@@ -19,8 +21,8 @@ use Rattle.iiod_session.specs.declared.manner.Performed.TheVariants.{Done, Waits
 use Rattle.iiod_session.specs.Front.{Front, find_device, shape_at}
 use Rattle.iiod_session.specs.Machine.{Machine}
 use Rattle.iiod_session.specs.Seat.{Tale, first_tale}
-use Rattle.iiod_session.specs.Desk.{Bare, DeskRecord, IsWanted, Wanted, buffers_of, place_of, with_seats}
-use Rattle.iiod_session.specs.Acts.{Acted, read_at, read_at_seat, trigger_reply, zero_reply}
+use Rattle.iiod_session.specs.Desk.{Bare, DeskRecord, IsWanted, Wanted, bare_remasked, buffers_of, place_of, with_seats}
+use Rattle.iiod_session.specs.Acts.{Acted, read_at, read_at_seat, remask_seat, trigger_reply, zero_reply}
 use Rattle.iiod_session.specs.Moves.{ReadMoves, ReadsBy, Serves}
 
 -- the reply to an answer by 0 or a refusal
@@ -55,7 +57,7 @@ pub record JoinsAt (dev : ℕ) (x : Wanted) (desk : DeskRecord) (tales : List (O
   pub number : ℕ
   pub t : Option Tale
   pub free : place_of dev desk.seats ≡ None
-  pub added : desk' ≡ with_seats (desk.seats ++ record { dev = dev; number = number; mask = x.mask; capacity = x.capacity } ∷ []) desk
+  pub added : desk' ≡ with_seats (desk.seats ++ record { dev = dev; number = number; mask = x.mask; capacity = x.capacity; discarded = 0 } ∷ []) desk
   pub told : tales' ≡ tales ++ t ∷ []
   pub fresh : t ≡ option_map (λ (x : Tale). first_tale) t
 
@@ -75,6 +77,41 @@ abbrev pub LeavesBy : ℕ → DeskRecord → List (Option Tale) → Result ⊤ N
 LeavesBy dev desk tales (Ok done) desk' tales' =
     (i : ℕ) × (place_of dev desk.seats ≡ Some i) × (desk' ≡ with_seats (remove desk.seats i) desk) × (tales' ≡ remove tales i)
 LeavesBy dev desk tales (Err e) desk' tales' = (desk' ≡ desk) × (tales' ≡ tales)
+
+-- a seat under another mask, by what its REMASK asks for
+pub record RemasksAt (front : Front) (dev : ℕ) (text : List ℕ) (desk : DeskRecord) (tales : List (Option Tale)) (desk' : DeskRecord) (tales' : List (Option Tale)) : Type 0 where
+  pub s : Bare
+  pub i : ℕ
+  pub mask : ℕ
+  pub waiting : ℕ
+  pub t : Option Tale
+  pub its : s.dev ≡ dev
+  pub at : place_of dev desk.seats ≡ Some i
+  pub here : slice_get desk.seats i ≡ Some s
+  pub wanted : mask_of text (count_of (shape_at front dev)) ≡ Some mask
+  pub under : desk' ≡ with_seats (slice_set desk.seats i (bare_remasked mask waiting s)) desk
+  pub told : tales' ≡ slice_set tales i t
+  pub fresh : t ≡ option_map (λ (x : Tale). first_tale) t
+
+-- ... or every seat as it was
+abbrev pub RemasksBy : Front → (dev : ℕ) → (text : List ℕ) → DeskRecord → List (Option Tale) → Result ⊤ No → DeskRecord → List (Option Tale) → Type 0
+RemasksBy front dev text desk tales (Ok done) desk' tales' = RemasksAt front dev text desk tales desk' tales'
+RemasksBy front dev text desk tales (Err e) desk' tales' = (desk' ≡ desk) × (tales' ≡ tales)
+
+-- the seat itself, over a told state: what a REMASK of it makes, in whatever place it stands
+abbrev pub RemaskTold : Front → List ℕ → Machine → Bare → Result ⊤ No → Option Machine → Bare → Type 0
+RemaskTold front text m s (Ok done) told s' = (n : Machine) × (told ≡ Some n)
+    × ((desk : DeskRecord) (i : ℕ) → remask_seat front m desk text i (Some s)
+    ≡ record { reply = zero_reply; machine = n; desk = with_seats (slice_set desk.seats i s') desk })
+RemaskTold front text m s (Err (NoErrno e)) told s' = (n : Machine) × (told ≡ Some n)
+    × ((desk : DeskRecord) (i : ℕ) → remask_seat front m desk text i (Some s) ≡ record { reply = Refusal e; machine = n; desk = desk })
+RemaskTold front text m s (Err NoMem) told s' = told ≡ Some m
+
+-- ... and over any Iio
+abbrev pub RemaskMoves : Front → List ℕ → Bare → Option Tale → Result ⊤ No → Bare → Option Tale → Type 0
+RemaskMoves front text s tale (Ok done) s' tale' = (mask waiting : ℕ)
+    × (mask_of text (count_of (shape_at front s.dev)) ≡ Some mask) × (s' ≡ bare_remasked mask waiting s) × (tale' ≡ option_map (λ (x : Tale). first_tale) tale)
+RemaskMoves front text s tale (Err e) s' tale' = (s' ≡ s) × (tale' ≡ tale)
 
 -- ---- READBUF
 

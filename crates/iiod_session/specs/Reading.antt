@@ -8,7 +8,7 @@ use Rattle.iiod_session.specs.Front.{Front, channel_count, size_at}
 use Rattle.iiod_session.specs.Machine.{Machine, MemberId, is_plugged, queue_of, with_queue}
 use Rattle.iiod_session.specs.Seat.{SeatRecord, Tale, seat_id, after_scans, after_nothing}
 
--- how many scans a READBUF of so many bytes may take: those asked for, and no more than the queue holds
+-- how many scans a READBUF of that many bytes may take: those asked for, and no more than the queue holds
 abbrev pub most_scans : (asked size capacity : ℕ) → ℕ
 most_scans asked size capacity = min (asked / size) capacity
 
@@ -35,7 +35,7 @@ pub record ReadNone (dev : ℕ) (gone : Bool) (told told' : Option Machine) (s s
   pub same : s' ≡ record s { tale = option_map (after_nothing gone) s.tale }
   pub from : FoundNothing dev (seat_id s) (not gone) told told'
 
--- up to so many scans were taken, and their bytes stand behind what stood before; or the first take found nothing
+-- up to that many scans were taken, and their bytes stand after what stood before; or the first take found nothing
 abbrev pub TakesScans : (dev most : ℕ) → (told told' : Option Machine) → (s s' : SeatRecord) → (before after : List ℕ) → Took → Type 0
 TakesScans dev most told told' s s' before after Scan =
     (scans : List (List ℕ)) × (after ≡ before ++ joined_scans scans) × ReadSome dev most told told' s s' scans

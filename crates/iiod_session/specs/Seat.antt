@@ -1,7 +1,8 @@
 -- What a seat is, by its own value alone; and what the calls of an `Iio` answer, by cases on the answer.
 use Rattle.std.specs.Prelude.{◌≡◌, ℕ, ◌+◌, ◌-◌, ◌*◌, ◌^◌, ◌≤◌, ◌<◌, min, Bool, true, false, List, [], ◌∷◌, ◌++◌, length, drop, Option, Some, option_map, Result, Ok, Err}
 use Rattle.iio_layout.specs.Active.{has_data}
-use Rattle.iiod_session.specs.declared.limits.TheConstants.{MAX_SCANS, MAX_BYTES}
+use Rattle.iio_kfifo.specs.declared.limits.TheConstants.{MAX_BYTES}
+use Rattle.iiod_session.specs.declared.limits.TheConstants.{MAX_SCANS}
 use Rattle.iiod_session.specs.declared.iio.No.{No}
 use Rattle.iiod_session.specs.declared.iio.No.TheVariants.{Errno as NoErrno, Mem as NoMem}
 use Rattle.iiod_session.specs.declared.iio.Took.{Took}
@@ -68,6 +69,17 @@ IsOfDevice front dev s = IsOwned front dev s.mask s.capacity s
 pub record IsNew (front : Front) (dev mask capacity : ℕ) (s : SeatRecord) : Type 0 where
   pub owned : IsOwned front dev mask capacity s
   pub fresh : s.tale ≡ option_map (λ (t : Tale). first_tale) s.tale
+
+-- the seat of a member under another mask: its number and its capacity stay, and what it tells begins anew
+pub record IsRemasked (front : Front) (dev mask : ℕ) (old new : SeatRecord) : Type 0 where
+  pub number : new.number ≡ old.number
+  pub owned : IsOwned front dev mask old.capacity new
+  pub fresh : new.tale ≡ option_map (λ (t : Tale). first_tale) old.tale
+
+-- and where that is refused the seat is as before
+abbrev pub Remasks : {A : Type 0} → Front → (dev mask : ℕ) → Result A No → (old new : SeatRecord) → Type 0
+Remasks front dev mask (Ok x) old new = IsRemasked front dev mask old new
+Remasks front dev mask (Err refusal) old new = new ≡ old
 
 -- ---- what a call answers over a told state. Want of memory is free, and changes nothing
 

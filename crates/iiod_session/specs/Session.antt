@@ -4,7 +4,7 @@ use Rattle.iio_text.specs.declared.errors.Errno.TheVariants.{E2BIG}
 use Rattle.iiod_grammar.specs.declared.command.Refused.{Refused}
 use Rattle.iiod_grammar.specs.declared.lines.Ready.{Ready}
 use Rattle.iiod_grammar.specs.declared.lines.Ready.TheVariants.{More, Line, Payload, TooLong}
-use Rattle.iiod_grammar.specs.Command.{Command, Exit, Write, command_of}
+use Rattle.iiod_grammar.specs.Command.{Command, Exit, ReadBuf, Write, command_of}
 use Rattle.iiod_grammar.specs.Lines.{LinesRecord, after_piece}
 use Rattle.iiod_grammar.specs.Scans.{scanner_at}
 use Rattle.iiod_grammar.specs.Stream.{AtEnd, InLine, Scanned, Written, after_line, ended_by, no_item, one_item}
@@ -36,11 +36,18 @@ IsPlain (Ok Exit) = ⊥
 IsPlain (Ok (Write device target count)) = ⊥
 IsPlain said = Unit {0}
 
--- further lines can be taken, or the last piece, a line, is looked at again
-abbrev pub IsReady : Going → LinesRecord → Type 0
-IsReady On lines = lines.overlong ≡ false
-IsReady (Waits dev) lines = (lines ≡ after_piece lines.piece) × IsPlain (command_of lines.piece)
-IsReady Ended lines = Unit {0}
+-- a line that says none of EXIT, WRITE and READBUF: it is answered as soon as it is whole
+abbrev pub IsAtOnce : Result Command Refused → Type 0
+IsAtOnce (Ok Exit) = ⊥
+IsAtOnce (Ok (Write device target count)) = ⊥
+IsAtOnce (Ok (ReadBuf device asked)) = ⊥
+IsAtOnce said = Unit {0}
+
+-- further lines can be taken, or the last piece is the line of the READBUF that is kept
+abbrev pub IsReady : Going → LinesRecord → (pending : PendingRecord) → Type 0
+IsReady On lines pending = lines.overlong ≡ false
+IsReady (Waits dev) lines pending = (lines ≡ after_piece lines.piece) × (command_of lines.piece ≡ Ok (ReadBuf pending.device pending.asked))
+IsReady Ended lines pending = Unit {0}
 
 -- what a feed of `Lines` made whole, as the items that it is
 abbrev pub piece_by : Ready → LinesRecord → (pending : PendingRecord) → Scanned
@@ -57,16 +64,16 @@ IsWhole ready lines = lines ≡ after_piece lines.piece
 
 -- ---- bytes that were kept
 
--- the bytes that a READBUF keeps waiting, of those of which so many were looked at
+-- the bytes that a READBUF keeps waiting, where that many were looked at
 abbrev pub unread_of : Going → ℕ → List ℕ → List ℕ
 unread_of (Waits dev) taken bytes = drop taken bytes
 unread_of going taken bytes = []
 
--- bytes are kept only behind a READBUF that waits
-abbrev pub IsKept : Going → LinesRecord → (left : List ℕ) → Type 0
-IsKept On lines left = IsReady On lines × (left ≡ [])
-IsKept (Waits dev) lines left = IsReady (Waits dev) lines
-IsKept Ended lines left = Unit {0}
+-- bytes are kept only after a READBUF that waits
+abbrev pub IsKept : Going → LinesRecord → (pending : PendingRecord) → (left : List ℕ) → Type 0
+IsKept On lines pending left = IsReady On lines pending × (left ≡ [])
+IsKept (Waits dev) lines pending left = IsReady (Waits dev) lines pending
+IsKept Ended lines pending left = Unit {0}
 
 -- ---- a new session
 

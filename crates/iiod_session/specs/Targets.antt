@@ -49,7 +49,7 @@ text_by (Ok (text.Name name)) = Value name
 text_by (Err (NoErrno e)) = Refusal e
 text_by (Err NoMem) = NoMemory
 
--- to a WRITE of so many bytes
+-- to a WRITE of that many bytes
 abbrev pub written_by : ℕ → Result ⊤ No → Reply
 written_by count (Ok done) = Number (pos count)
 written_by count (Err (NoErrno e)) = Refusal e

@@ -1,5 +1,5 @@
--- What an OPEN asks for, as contracts see it. Cited by private functions alone.
-use Rattle.std.specs.Prelude.{Result, Ok, Err}
+-- What an OPEN and a REMASK ask for, as contracts see it. Cited by private functions alone.
+use Rattle.std.specs.Prelude.{ℕ, Result, Ok, Err}
 use Rattle.iio_text.specs.declared.errors.Errno.{Errno}
 use Rattle.iiod_session.specs.declared.wanted.Wanted.{Wanted as CodeWanted}
 use Rattle.iiod_session.specs.Desk.{Wanted}
@@ -10,3 +10,7 @@ wanted_of_code x = record { mask = x.mask.bits; capacity = x.capacity }
 abbrev pub wanted_view : Result CodeWanted Errno → Result Wanted Errno
 wanted_view (Ok x) = Ok (wanted_of_code x)
 wanted_view (Err e) = Err e
+
+abbrev pub mask_view : Result CodeWanted Errno → Result ℕ Errno
+mask_view (Ok x) = Ok x.mask.bits
+mask_view (Err e) = Err e

@@ -1,9 +1,10 @@
 //! Answers, appended to what was answered before.
 
-ghost use Rattle.std.specs.Prelude.{◌≡◌, ◌<◌, ◌≤◌, ◌+◌, ◌^◌, ◌++◌, length, pos, vec_capacity, IfOk, OnOk};
-ghost use Rattle.iiod_reply.specs.Reply.{Appends, Line, Number, Raw, Refusal, text_of};
+ghost use Rattle.std.specs.Prelude.{◌≡◌, ◌<◌, ◌≤◌, ◌+◌, ◌^◌, ◌++◌, length, pos, vec_capacity, IfOk, IsOk, OnOk};
+ghost use Rattle.iiod_reply.specs.Reply.{Appends, FitsInRoom, Line, Number, Raw, Refusal, text_of};
 ghost use Rattle.iiod_session.specs.Performs.{IsAllowed, reply_by};
 ghost use Rattle.iiod_session.specs.Plain.{EndsPush};
+ghost use Rattle.iiod_session.specs.declared.manner.Manner.{Manner};
 ghost use Rattle.iiod_session.specs.declared.manner.Performed.{Performed};
 
 use crate::iio::No;
@@ -13,12 +14,16 @@ use iio_text::Errno;
 use iiod_reply::number;
 use itoa::Buffer;
 
+/// The most bytes that an answer by a number alone has. This room is taken first, so that a server can answer want of memory.
+pub(crate) const SHORT_ANSWER: usize = 16;
+
 // What want of memory is answered with.
 const ENOMEM: i64 = 12;
 
 // Appends bytes. After `Mem`, `out` is unchanged.
 fn push(out: &mut Vec<u8>, bytes: &[u8]) -> Result<(), Mem>
-    ensures { Appends bytes.now out.old.items result out.new.items }
+    ensures text { Appends bytes.now out.old.items result out.new.items }
+    ensures room { FitsInRoom bytes.now out.old.items (vec_capacity out.old) result }
 {
     out.reserve(bytes.len())?;
     append(bytes, out);
@@ -48,7 +53,8 @@ fn refusal(errno: Errno) -> &'static [u8]
 
 /// Minus the error's number.
 pub(crate) fn push_refusal(out: &mut Vec<u8>, errno: Errno) -> Result<(), Mem>
-    ensures { Appends (text_of (Refusal errno)) out.old.items result out.new.items }
+    ensures text { Appends (text_of (Refusal errno)) out.old.items result out.new.items }
+    ensures room { length out.old.items + SHORT_ANSWER ≤ vec_capacity out.old → IsOk result }
 {
     push(out, refusal(errno))
 }
@@ -61,6 +67,7 @@ pub(crate) fn push_answer(
 ) -> Result<(), Mem>
     ensures text { OnOk result (out.new.items ≡ out.old.items ++ text_of (reply_by answer)) }
     ensures allowed { OnOk result (IsAllowed manner (reply_by answer)) }
+    ensures answers { manner ≡ Manner.Server → length out.old.items + SHORT_ANSWER ≤ vec_capacity out.old → IsOk result }
 {
     match answer {
         Ok(()) => number(0, out),
@@ -81,6 +88,7 @@ pub(crate) fn finish(
     ensures done { IfOk result (λ p. p ≡ Performed.Done) }
     ensures text { OnOk result (out.new.items ≡ out.old.items ++ text_of (reply_by answer)) }
     ensures allowed { OnOk result (IsAllowed manner (reply_by answer)) }
+    ensures answers { manner ≡ Manner.Server → length out.old.items + SHORT_ANSWER ≤ vec_capacity out.old → IsOk result }
 {
     push_answer(manner, out, answer)?;
     Ok(Performed::Done)

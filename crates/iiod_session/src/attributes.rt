@@ -77,13 +77,14 @@ fn buffer_number<I: Iio>(iio: &mut I, h: &mut Held<I::Seat>, attribute: Attr) ->
     ensures bare { bare_of I.seen h.new ≡ bare_of I.seen h.old }
     ensures tale { tale_of I.seen h.new ≡ tale_of I.seen h.old }
     ensures value { IfSome (I.told iio.old) (λ m. result ≡ buffer_number attribute h.old.capacity
-        (length (queue_of m h.old.dev (seat_id (I.seen h.old.seat)))) (lost_of m h.old.dev (seat_id (I.seen h.old.seat)))) }
+        (length (queue_of m h.old.dev (seat_id (I.seen h.old.seat)))) (lost_of m h.old.dev (seat_id (I.seen h.old.seat))) h.old.discarded) }
     ensures told { IfSome (I.told iio.old) (λ m. I.told iio.new ≡ Some m) }
 {
     let counts = iio.counts(h.dev, &mut h.seat);
     match attribute {
         Attr::Overruns => counts.lost,
         Attr::DataAvailable => counts.waiting,
+        Attr::Discarded => h.discarded,
         _ => u64::from(h.capacity),
     }
 }
@@ -260,7 +261,7 @@ fn write_attribute<I: Iio>(
     }
 }
 
-// The answer to a WRITE of so many bytes.
+// The answer to a WRITE of that many bytes.
 fn push_written(
     manner: Manner,
     out: &mut Vec<u8>,

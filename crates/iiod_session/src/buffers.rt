@@ -1,13 +1,15 @@
-//! The commands of buffers: OPEN, CLOSE, READBUF, WRITEBUF and SET.
+//! The commands of buffers: OPEN, CLOSE, REMASK, READBUF, WRITEBUF and SET.
 
-ghost use Rattle.std.specs.Prelude.{◌≡◌, ◌<◌, ◌≤◌, ◌++◌, ◌==◌, filter, not, length, vec_capacity, Ok, Err, IfOk, IfSome, OnOk};
+ghost use Rattle.std.specs.Prelude.{◌≡◌, ◌+◌, ◌<◌, ◌≤◌, ◌++◌, ◌==◌, filter, not, length, vec_capacity, Ok, Err, IfOk, IfSome, IsOk, OnOk};
 ghost use Rattle.iio_text.specs.declared.errors.Errno.{Errno};
-ghost use Rattle.iiod_grammar.specs.Command.{Open, Close, ReadBuf, SetBuffers, WriteBuf};
+ghost use Rattle.iiod_grammar.specs.Command.{Open, Close, ReadBuf, Remask, SetBuffers, WriteBuf};
 ghost use Rattle.iiod_grammar.specs.Stream.{Said};
 ghost use Rattle.iiod_reply.specs.Reply.{Refusal};
 ghost use Rattle.iiod_session.specs.Acts.{at_device, set_buffers_at, write_buffer_at};
 ghost use Rattle.iiod_session.specs.declared.desk.BuffersCount.{BuffersCount};
+ghost use Rattle.iiod_session.specs.declared.answers.TheConstants.{SHORT_ANSWER};
 ghost use Rattle.iiod_session.specs.declared.iio.No.{No};
+ghost use Rattle.iiod_session.specs.declared.manner.Manner.{Manner};
 ghost use Rattle.iiod_session.specs.Desk.{DeskRecord, IsDesk, desk_of, tales_of, with_count};
 ghost use Rattle.iiod_session.specs.Front.{find_device};
 ghost use Rattle.iiod_session.specs.Performs.{AltersBy, AnswersRead, Comes, IsNowhere, Performs, desk_by, reply_by};
@@ -16,7 +18,7 @@ use crate::answers::finish;
 use crate::desk::{BuffersCount, Desk, MAX_BUFFERS};
 use crate::iio::{Iio, No, Took};
 use crate::manner::{Manner, Performed};
-use crate::seats::{close_at, open_at, read_at};
+use crate::seats::{close_at, open_at, read_at, remask_at};
 use iio_base::Mem;
 use iio_text::Errno;
 
@@ -37,6 +39,7 @@ pub(crate) fn open<I: Iio>(
     ensures served { IfOk result (Performs manner (I.front (I.kept iio.old)) (I.told iio.old) (I.told iio.new)
         (desk_of I.seen desk.old) (tales_of I.seen desk.old.held.items) (Said (Ok (Open device.now samples text.now cyclic)))
         (desk_of I.seen desk.new) (tales_of I.seen desk.new.held.items) out.old.items out.new.items) }
+    ensures answers { manner ≡ Manner.Server → length out.old.items + SHORT_ANSWER ≤ vec_capacity out.old → IsOk result }
 {
     match iio.find(device) {
         None => finish(manner, out, Err(No::Errno(Errno::ENODEV))),
@@ -61,6 +64,7 @@ pub(crate) fn close<I: Iio>(
     ensures served { IfOk result (Performs manner (I.front (I.kept iio.old)) (I.told iio.old) (I.told iio.new)
         (desk_of I.seen desk.old) (tales_of I.seen desk.old.held.items) (Said (Ok (Close device.now)))
         (desk_of I.seen desk.new) (tales_of I.seen desk.new.held.items) out.old.items out.new.items) }
+    ensures answers { manner ≡ Manner.Server → length out.old.items + SHORT_ANSWER ≤ vec_capacity out.old → IsOk result }
 {
     match iio.find(device) {
         None => finish(manner, out, Err(No::Errno(Errno::ENODEV))),
@@ -71,7 +75,33 @@ pub(crate) fn close<I: Iio>(
     }
 }
 
-/// READBUF.
+/// REMASK.
+pub(crate) fn remask<I: Iio>(
+    manner: Manner,
+    desk: &mut Desk<I::Seat>,
+    iio: &mut I,
+    device: &[u8],
+    text: &[u8],
+    out: &mut Vec<u8>,
+) -> Result<Performed, Mem>
+    requires desk { IsDesk I.seen (I.front (I.kept iio.old)) desk.old }
+    ensures kept { I.kept iio.new ≡ I.kept iio.old }
+    ensures desk { IsDesk I.seen (I.front (I.kept iio.new)) desk.new }
+    ensures served { IfOk result (Performs manner (I.front (I.kept iio.old)) (I.told iio.old) (I.told iio.new)
+        (desk_of I.seen desk.old) (tales_of I.seen desk.old.held.items) (Said (Ok (Remask device.now text.now)))
+        (desk_of I.seen desk.new) (tales_of I.seen desk.new.held.items) out.old.items out.new.items) }
+    ensures answers { manner ≡ Manner.Server → length out.old.items + SHORT_ANSWER ≤ vec_capacity out.old → IsOk result }
+{
+    match iio.find(device) {
+        None => finish(manner, out, Err(No::Errno(Errno::ENODEV))),
+        Some(dev) => {
+            let answer = remask_at(desk, iio, dev, text);
+            finish(manner, out, answer)
+        }
+    }
+}
+
+/// READBUF. The room for a block is taken before a scan is, so that a server can answer want of memory.
 pub(crate) fn read_buffer<I: Iio>(
     manner: Manner,
     desk: &mut Desk<I::Seat>,
@@ -103,7 +133,8 @@ fn finish_read(
     took: Result<Took, Mem>,
     out: &mut Vec<u8>,
 ) -> Result<Performed, Mem>
-    ensures { IfOk result (AnswersRead manner dev took out.old.items out.new.items) }
+    ensures read { IfOk result (AnswersRead manner dev took out.old.items out.new.items) }
+    ensures answers { manner ≡ Manner.Server → length out.old.items + SHORT_ANSWER ≤ vec_capacity out.old → IsOk result }
 {
     match took {
         Ok(Took::Scan) => Ok(Performed::Done),
@@ -185,6 +216,7 @@ pub(crate) fn set_buffers<I: Iio>(
     ensures served { IfOk result (Performs manner (I.front (I.kept iio.now)) (I.told iio.now) (I.told iio.now)
         (desk_of I.seen desk.old) (tales_of I.seen desk.old.held.items) (Said (Ok (SetBuffers device.now count)))
         (desk_of I.seen desk.new) (tales_of I.seen desk.new.held.items) out.old.items out.new.items) }
+    ensures answers { manner ≡ Manner.Server → length out.old.items + SHORT_ANSWER ≤ vec_capacity out.old → IsOk result }
 {
     let answer = set_buffers_of(desk, iio, device, count);
     finish(manner, out, answer)
@@ -226,6 +258,7 @@ pub(crate) fn write_buffer<I: Iio>(
     ensures served { IfOk result (Performs manner (I.front (I.kept iio.now)) (I.told iio.now) (I.told iio.now)
         (desk_of I.seen desk.now) (tales_of I.seen desk.now.held.items) (Said (Ok (WriteBuf device.now bytes)))
         (desk_of I.seen desk.now) (tales_of I.seen desk.now.held.items) out.old.items out.new.items) }
+    ensures answers { manner ≡ Manner.Server → length out.old.items + SHORT_ANSWER ≤ vec_capacity out.old → IsOk result }
 {
     let errno = write_buffer_refusal(iio, device);
     finish(manner, out, Err(No::Errno(errno)))

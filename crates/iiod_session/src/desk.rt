@@ -8,13 +8,15 @@ pub const FIRST_BUFFERS: u32 = 4;
 /// The most buffers.
 pub const MAX_BUFFERS: u32 = 64;
 
-/// A seat, with its device, the mask and the capacity of its OPEN, and the bytes of its scans.
+/// A seat, with its device, the mask of its OPEN or of the last REMASK, the capacity of its OPEN, the bytes of its scans, and
+/// how many scans REMASKs discarded.
 #[derive(Drop)]
 pub(crate) struct Held<S> {
     pub(crate) dev: u32,
     pub(crate) mask: Mask,
     pub(crate) capacity: u32,
     pub(crate) size: u32,
+    pub(crate) discarded: u64,
     pub(crate) seat: S,
 }
 

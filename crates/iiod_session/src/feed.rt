@@ -1,7 +1,7 @@
 //! The items of a stream, carried out one after another.
 
 ghost use Rattle.std.specs.Prelude.{◌≡◌, ◌≤◌, ◌++◌, [], Ok, Err, IfOk, OnOk, drop, length};
-ghost use Rattle.iiod_grammar.specs.Command.{command_of};
+ghost use Rattle.iiod_grammar.specs.Command.{ReadBuf, command_of};
 ghost use Rattle.iiod_grammar.specs.Lines.{LinesRecord, after_piece};
 ghost use Rattle.iiod_grammar.specs.Scans.{scan_on};
 ghost use Rattle.iiod_grammar.specs.Stream.{AtEnd, Written, after_line, ended_by, no_item};
@@ -12,12 +12,13 @@ ghost use Rattle.iiod_session.specs.Desk.{IsDesk, desk_of, tales_of};
 ghost use Rattle.iiod_session.specs.PendingWrite.{PendingRecord};
 ghost use Rattle.iiod_session.specs.Performs.{Performs};
 ghost use Rattle.iiod_session.specs.Run.{Carries, state_of};
-ghost use Rattle.iiod_session.specs.Session.{IsKept, IsPlain, IsReady, IsWhole, piece_by, stream_by, unread_of};
+ghost use Rattle.iiod_session.specs.Session.{IsAtOnce, IsKept, IsReady, IsWhole, piece_by, stream_by, unread_of};
 ghost use Rattle.iiod_session.specs.declared.manner.Going.{Going};
 ghost use Rattle.iiod_session.specs.declared.manner.Manner.{Manner};
 ghost use Rattle.iiod_grammar.specs.declared.lines.Ready.{Ready};
 
 use crate::answers::push_refusal;
+use crate::buffers::read_buffer;
 use crate::desk::Desk;
 use crate::iio::Iio;
 use crate::leave::leave;
@@ -66,21 +67,18 @@ fn hear_refused<I: Iio>(
     why: Refused,
     out: &mut Vec<u8>,
 ) -> Result<Going, Mem>
-    ensures ready { (lines : LinesRecord) → lines ≡ after_piece lines.piece
-        → command_of lines.piece ≡ Err why → IfOk result (λ going. IsReady going lines) }
+    ensures ready { (lines : LinesRecord) (pending : PendingRecord) → lines ≡ after_piece lines.piece → IfOk result (λ going. IsReady going lines pending) }
     ensures carries { (lines : LinesRecord) (pending : PendingRecord) → lines ≡ after_piece lines.piece
         → command_of lines.piece ≡ Err why
         → IfOk result (λ going. Carries manner (I.front (I.kept iio.now)) (state_of I.seen (I.told iio.now) desk.now)
         (after_line lines.piece) out.old.items out.new.items (state_of I.seen (I.told iio.now) desk.now)
         (stream_by going lines pending) going) }
 {
-    match perform_refused(manner, desk, iio, why, out)? {
-        Performed::Done => Ok(Going::On),
-        Performed::Waits(dev) => Ok(Going::Waits(dev)),
-    }
+    perform_refused(manner, desk, iio, why, out)?;
+    Ok(Going::On)
 }
 
-// A command but EXIT and WRITE.
+// A command that is answered at once: not EXIT, WRITE or READBUF.
 fn hear_said<I: Iio>(
     alloc: Global,
     manner: Manner,
@@ -90,17 +88,70 @@ fn hear_said<I: Iio>(
     out: &mut Vec<u8>,
 ) -> Result<Going, Mem>
     requires desk { IsDesk I.seen (I.front (I.kept iio.old)) desk.old }
+    requires at_once { IsAtOnce (Ok (command_view command.now)) }
     ensures kept { I.kept iio.new ≡ I.kept iio.old }
     ensures desk { IsDesk I.seen (I.front (I.kept iio.new)) desk.new }
-    ensures ready { (lines : LinesRecord) → lines ≡ after_piece lines.piece
-        → command_of lines.piece ≡ Ok (command_view command.now) → IsPlain (Ok (command_view command.now)) → IfOk result (λ going. IsReady going lines) }
+    ensures ready { (lines : LinesRecord) (pending : PendingRecord) → lines ≡ after_piece lines.piece → IfOk result (λ going. IsReady going lines pending) }
     ensures carries { (lines : LinesRecord) (pending : PendingRecord) → lines ≡ after_piece lines.piece
-        → command_of lines.piece ≡ Ok (command_view command.now) → IsPlain (Ok (command_view command.now))
+        → command_of lines.piece ≡ Ok (command_view command.now)
         → IfOk result (λ going. Carries manner (I.front (I.kept iio.old)) (state_of I.seen (I.told iio.old) desk.old)
         (after_line lines.piece) out.old.items out.new.items (state_of I.seen (I.told iio.new) desk.new)
         (stream_by going lines pending) going) }
 {
-    match perform(alloc, manner, desk, iio, command, out)? {
+    perform(alloc, manner, desk, iio, command, out)?;
+    Ok(Going::On)
+}
+
+// A READBUF. What one that waits asks for is kept, and it isn't read again.
+fn hear_read<I: Iio>(
+    manner: Manner,
+    desk: &mut Desk<I::Seat>,
+    iio: &mut I,
+    device: &[u8],
+    asked: u32,
+    pending: &mut PendingWrite,
+    out: &mut Vec<u8>,
+) -> Result<Going, Mem>
+    requires desk { IsDesk I.seen (I.front (I.kept iio.old)) desk.old }
+    ensures kept { I.kept iio.new ≡ I.kept iio.old }
+    ensures desk { IsDesk I.seen (I.front (I.kept iio.new)) desk.new }
+    ensures ready { (lines : LinesRecord) → lines ≡ after_piece lines.piece
+        → command_of lines.piece ≡ Ok (ReadBuf device.now asked) → IfOk result (λ going. IsReady going lines pending.new) }
+    ensures carries { (lines : LinesRecord) → lines ≡ after_piece lines.piece
+        → command_of lines.piece ≡ Ok (ReadBuf device.now asked)
+        → IfOk result (λ going. Carries manner (I.front (I.kept iio.old)) (state_of I.seen (I.told iio.old) desk.old)
+        (after_line lines.piece) out.old.items out.new.items (state_of I.seen (I.told iio.new) desk.new)
+        (stream_by going lines pending.new) going) }
+{
+    match read_buffer(manner, desk, iio, device, asked, out)? {
+        Performed::Done => Ok(Going::On),
+        Performed::Waits(dev) => {
+            pending.keep_read(device, asked)?;
+            Ok(Going::Waits(dev))
+        }
+    }
+}
+
+// The READBUF that waits is tried again.
+fn hear_again<I: Iio>(
+    manner: Manner,
+    desk: &mut Desk<I::Seat>,
+    iio: &mut I,
+    pending: &PendingWrite,
+    out: &mut Vec<u8>,
+) -> Result<Going, Mem>
+    requires desk { IsDesk I.seen (I.front (I.kept iio.old)) desk.old }
+    ensures kept { I.kept iio.new ≡ I.kept iio.old }
+    ensures desk { IsDesk I.seen (I.front (I.kept iio.new)) desk.new }
+    ensures ready { (lines : LinesRecord) → lines ≡ after_piece lines.piece
+        → command_of lines.piece ≡ Ok (ReadBuf pending.now.device pending.now.asked) → IfOk result (λ going. IsReady going lines pending.now) }
+    ensures carries { (lines : LinesRecord) → lines ≡ after_piece lines.piece
+        → command_of lines.piece ≡ Ok (ReadBuf pending.now.device pending.now.asked)
+        → IfOk result (λ going. Carries manner (I.front (I.kept iio.old)) (state_of I.seen (I.told iio.old) desk.old)
+        (after_line lines.piece) out.old.items out.new.items (state_of I.seen (I.told iio.new) desk.new)
+        (stream_by going lines pending.now) going) }
+{
+    match read_buffer(manner, desk, iio, pending.device(), pending.asked(), out)? {
         Performed::Done => Ok(Going::On),
         Performed::Waits(dev) => Ok(Going::Waits(dev)),
     }
@@ -120,7 +171,7 @@ fn hear_line<I: Iio>(
     requires desk { IsDesk I.seen (I.front (I.kept iio.old)) desk.old }
     ensures kept { I.kept iio.new ≡ I.kept iio.old }
     ensures desk { IsDesk I.seen (I.front (I.kept iio.new)) desk.new }
-    ensures ready { IfOk result (λ going. IsReady going lines.new) }
+    ensures ready { IfOk result (λ going. IsReady going lines.new pending.new) }
     ensures carries { IfOk result (λ going. Carries manner (I.front (I.kept iio.old)) (state_of I.seen (I.told iio.old) desk.old)
         (after_line lines.old.piece) out.old.items out.new.items (state_of I.seen (I.told iio.new) desk.new)
         (stream_by going lines.new pending.new) going) }
@@ -137,6 +188,9 @@ fn hear_line<I: Iio>(
                 pending.keep(dev, *target)?;
                 lines.want(count);
                 Ok(Going::On)
+            }
+            Command::ReadBuf { dev, bytes } => {
+                hear_read(manner, desk, iio, dev, *bytes, pending, out)
             }
             command => hear_said(alloc, manner, desk, iio, command, out),
         },
@@ -188,7 +242,7 @@ fn hear_piece<I: Iio>(
     requires desk { IsDesk I.seen (I.front (I.kept iio.old)) desk.old }
     ensures kept { I.kept iio.new ≡ I.kept iio.old }
     ensures desk { IsDesk I.seen (I.front (I.kept iio.new)) desk.new }
-    ensures ready { IfOk result (λ going. IsReady going lines.new) }
+    ensures ready { IfOk result (λ going. IsReady going lines.new pending.new) }
     ensures payload { ready ≡ Ready.Payload → lines.new ≡ lines.old }
     ensures carries { IfOk result (λ going. Carries manner (I.front (I.kept iio.old)) (state_of I.seen (I.told iio.old) desk.old)
         (piece_by ready lines.old pending.old) out.old.items out.new.items (state_of I.seen (I.told iio.new) desk.new)
@@ -196,7 +250,12 @@ fn hear_piece<I: Iio>(
 {
     match ready {
         Ready::More => Ok(Going::On),
-        Ready::Line => hear_line(alloc, manner, desk, iio, lines, pending, out),
+        Ready::Line => {
+            if lines.piece().is_empty() {
+                return hear_refused(manner, desk, iio, Refused::Empty, out);
+            }
+            hear_line(alloc, manner, desk, iio, lines, pending, out)
+        }
         Ready::Payload => {
             hear_payload(alloc, manner, desk, iio, lines.piece(), pending, out)?;
             Ok(Going::On)
@@ -216,12 +275,12 @@ fn carry_on<I: Iio>(
     bytes: &[u8],
     out: &mut Vec<u8>,
 ) -> Result<(usize, Going), Mem>
-    requires ready { IsReady Going.On lines.old }
+    requires ready { IsReady Going.On lines.old pending.old }
     requires desk { IsDesk I.seen (I.front (I.kept iio.old)) desk.old }
     ensures kept { I.kept iio.new ≡ I.kept iio.old }
     ensures desk { IsDesk I.seen (I.front (I.kept iio.new)) desk.new }
     ensures within { IfOk result (λ r. r.0 ≤ length bytes.now) }
-    ensures ready { IfOk result (λ r. IsReady r.1 lines.new) }
+    ensures ready { IfOk result (λ r. IsReady r.1 lines.new pending.new) }
     ensures carries { IfOk result (λ r. Carries manner (I.front (I.kept iio.old)) (state_of I.seen (I.told iio.old) desk.old)
         (scan_on (stream_by Going.On lines.old pending.old) bytes.now) out.old.items out.new.items (state_of I.seen (I.told iio.new) desk.new)
         (scan_on (stream_by r.1 lines.new pending.new) (drop r.0 bytes.now)) r.1) }
@@ -255,12 +314,12 @@ pub(crate) fn carry_out<I: Iio>(
     bytes: &[u8],
     out: &mut Vec<u8>,
 ) -> Result<(usize, Going), Mem>
-    requires ready { IsReady going lines.old }
+    requires ready { IsReady going lines.old pending.old }
     requires desk { IsDesk I.seen (I.front (I.kept iio.old)) desk.old }
     ensures kept { I.kept iio.new ≡ I.kept iio.old }
     ensures desk { IsDesk I.seen (I.front (I.kept iio.new)) desk.new }
     ensures within { IfOk result (λ r. r.0 ≤ length bytes.now) }
-    ensures ready { IfOk result (λ r. IsReady r.1 lines.new) }
+    ensures ready { IfOk result (λ r. IsReady r.1 lines.new pending.new) }
     ensures carries { IfOk result (λ r. Carries manner (I.front (I.kept iio.old)) (state_of I.seen (I.told iio.old) desk.old)
         (scan_on (stream_by going lines.old pending.old) bytes.now) out.old.items out.new.items (state_of I.seen (I.told iio.new) desk.new)
         (scan_on (stream_by r.1 lines.new pending.new) (drop r.0 bytes.now)) r.1) }
@@ -269,8 +328,13 @@ pub(crate) fn carry_out<I: Iio>(
     match going {
         Going::On => carry_on(alloc, manner, desk, iio, lines, pending, bytes, out),
         Going::Ended => Ok((0, Going::Ended)),
-        Going::Waits(_) => match hear_line(alloc, manner, desk, iio, lines, pending, out)? {
-            Going::On => carry_on(alloc, manner, desk, iio, lines, pending, bytes, out),
+        Going::Waits(_) => match hear_again(manner, desk, iio, pending, out)? {
+            Going::On => {
+                if bytes.is_empty() {
+                    return Ok((0, Going::On));
+                }
+                carry_on(alloc, manner, desk, iio, lines, pending, bytes, out)
+            }
             going => Ok((0, going)),
         },
     }
@@ -287,7 +351,7 @@ fn unread(going: Going, taken: usize, bytes: &[u8]) -> &[u8]
     }
 }
 
-// Puts the bytes that a READBUF keeps waiting behind those that wait already.
+// Puts the bytes that a READBUF keeps waiting after those that wait already.
 fn keep_unread(left: &mut Vec<u8>, going: Going, taken: usize, bytes: &[u8]) -> Result<(), Mem>
     requires { taken ≤ length bytes.now }
     ensures { OnOk result (left.new.items ≡ left.old.items ++ unread_of going taken bytes.now) }
@@ -312,11 +376,11 @@ pub(crate) fn hear<I: Iio>(
     bytes: &[u8],
     out: &mut Vec<u8>,
 ) -> Result<Going, Mem>
-    requires ready { IsKept was lines.old left.old.items }
+    requires ready { IsKept was lines.old pending.old left.old.items }
     requires desk { IsDesk I.seen (I.front (I.kept iio.old)) desk.old }
     ensures kept { I.kept iio.new ≡ I.kept iio.old }
     ensures desk { IsDesk I.seen (I.front (I.kept iio.new)) desk.new }
-    ensures ready { IfOk result (λ going. IsKept going lines.new left.new.items) }
+    ensures ready { IfOk result (λ going. IsKept going lines.new pending.new left.new.items) }
     ensures carries { IfOk result (λ going. Carries manner (I.front (I.kept iio.old)) (state_of I.seen (I.told iio.old) desk.old)
         (scan_on (scan_on (stream_by was lines.old pending.old) left.old.items) bytes.now) out.old.items out.new.items (state_of I.seen (I.told iio.new) desk.new)
         (scan_on (stream_by going lines.new pending.new) left.new.items) going) }

@@ -48,9 +48,9 @@ pub trait Iio {
     ghost use Rattle.iio_desc.specs.declared.limits.TheConstants.{MAX_TRIGGERS};
     ghost use Rattle.iiod_session.specs.Front.{Front, find_device, find_trigger, shape_at, trigger_name};
     ghost use Rattle.iiod_session.specs.Machine.{Machine, is_plugged, lost_of, queue_of, station_at};
-    ghost use Rattle.iiod_session.specs.Calls.{closed, ev_close_of, ev_open_of, ev_read_of, open_of, read_attr_of, set_trigger_of, write_attr_of};
+    ghost use Rattle.iiod_session.specs.Calls.{closed, ev_close_of, ev_open_of, ev_read_of, open_of, read_attr_of, remask_of, set_trigger_of, write_attr_of};
     ghost use Rattle.iiod_session.specs.Reading.{TakesScans};
-    ghost use Rattle.iiod_session.specs.Seat.{Answers, IsNew, IsOfDevice, MayOpen, SeatRecord, Takes, after_take, seat_id, number_by};
+    ghost use Rattle.iiod_session.specs.Seat.{Answers, IsNew, IsOfDevice, MayOpen, Remasks, SeatRecord, Takes, after_take, seat_id, number_by};
     ghost use Rattle.iiod_session.specs.Target.{MayRead, MayWrite};
     ghost use Rattle.iiod_session.specs.declared.iio.No.{No};
 
@@ -89,6 +89,16 @@ pub trait Iio {
         ensures kept { kept self.new ≡ kept self.old }
         ensures seat { IfOk result (λ s. IsNew (front (kept self.old)) dev mask.bits capacity (seen s)) }
         ensures told { IfSome (told self.old) (λ m. Answers (open_of (front (kept self.old)) m dev mask.bits capacity) m (number_by seen result) (told self.new)) };
+
+    /// The member begins anew under another mask: how many scans waited, which are gone. The seat keeps its capacity, and what
+    /// it tells begins anew. `ENODEV` comes where the device is unplugged, then `EBADF` where the member isn't there, then
+    /// `EINVAL` where no listed mask serves the other members and this one; a refusal changes nothing.
+    fn remask(&mut self, dev: u32, seat: &mut Self::Seat, mask: Mask) -> Result<u64, No>
+        requires may_open { MayOpen (front (kept self.old)) dev mask.bits (seen seat.old).capacity }
+        requires owned { IsOfDevice (front (kept self.old)) dev (seen seat.old) }
+        ensures kept { kept self.new ≡ kept self.old }
+        ensures seat { Remasks (front (kept self.old)) dev mask.bits result (seen seat.old) (seen seat.new) }
+        ensures told { IfSome (told self.old) (λ m. Answers (remask_of (front (kept self.old)) m dev (seat_id (seen seat.old)) mask.bits (seen seat.old).capacity) m result (told self.new)) };
 
     /// The member leaves; scans that wait are gone with it.
     fn close(&mut self, dev: u32, seat: Self::Seat)

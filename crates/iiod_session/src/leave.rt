@@ -20,6 +20,7 @@ fn close_all<I: Iio>(held: &mut Vec<Held<I::Seat>>, iio: &mut I)
             mask: _,
             capacity: _,
             size: _,
+            discarded: _,
             seat,
         } = h;
         iio.close(dev, seat);

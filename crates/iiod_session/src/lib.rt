@@ -24,7 +24,7 @@ mod wanted;
 pub use desk::{FIRST_BUFFERS, MAX_BUFFERS};
 pub use iio::{Bells, Counts, Iio, No, Took};
 pub use iio_base::Mem;
-pub use limits::{MAX_BYTES, MAX_SCANS};
+pub use limits::MAX_SCANS;
 pub use manner::{Going, Manner};
 pub use reading::read_scans;
 pub use session::Session;

@@ -1,4 +1,4 @@
-//! The WRITE whose payload comes.
+//! The command that isn't done: a WRITE whose payload comes, or a READBUF that waits.
 
 ghost use Rattle.std.specs.Prelude.{◌≡◌, option_map, OnOk};
 ghost use Rattle.iiod_grammar.specs.View.{place_view, target_view};
@@ -19,7 +19,8 @@ pub(crate) enum PlaceKind {
     Output,
 }
 
-/// What the WRITE whose payload comes names. Its words are kept in rooms that serve one WRITE after another.
+/// What the WRITE whose payload comes names, or the READBUF that waits. Its words are kept in rooms that serve one command
+/// after another.
 #[derive(Drop)]
 pub(crate) struct PendingWrite {
     device: Vec<u8>,
@@ -28,6 +29,8 @@ pub(crate) struct PendingWrite {
     channel: Vec<u8>,
     has_attribute: bool,
     attribute: Vec<u8>,
+    // The bytes that a READBUF asks for.
+    asked: u32,
 }
 
 impl Model for PendingWrite {
@@ -38,6 +41,7 @@ impl Model for PendingWrite {
     ghost view = { λ x. record {
       device = x.device.items;
       target = target_of_parts x.kind x.channel.items x.has_attribute x.attribute.items;
+      asked = x.asked;
     } };
 }
 
@@ -77,7 +81,7 @@ fn replace(room: &mut Vec<u8>, word: &[u8]) -> Result<(), Mem>
 }
 
 impl PendingWrite {
-    /// No WRITE yet.
+    /// No command yet.
     pub(crate) fn new(alloc: Global) -> PendingWrite {
         PendingWrite {
             device: Vec::new(alloc),
@@ -85,6 +89,7 @@ impl PendingWrite {
             channel: Vec::new(alloc),
             has_attribute: false,
             attribute: Vec::new(alloc),
+            asked: 0,
         }
     }
 
@@ -94,7 +99,7 @@ impl PendingWrite {
         device: &[u8],
         target: Option<(Place<'_>, Option<&[u8]>)>,
     ) -> Result<(), Mem>
-        ensures { OnOk result (self.new ≡ record { device = device.now; target = option_map target_view target.entry }) }
+        ensures { OnOk result (self.new ≡ record { device = device.now; target = option_map target_view target.entry; asked = self.old.asked }) }
     {
         replace(&mut self.device, device)?;
         let Some((place, attribute)) = target else {
@@ -106,6 +111,22 @@ impl PendingWrite {
         replace(&mut self.channel, channel)?;
         self.has_attribute = attribute.is_some();
         replace(&mut self.attribute, attribute.unwrap_or(b""))
+    }
+
+    /// Keeps what a READBUF asks for.
+    pub(crate) fn keep_read(&mut self, device: &[u8], asked: u32) -> Result<(), Mem>
+        ensures { OnOk result ((self.new.device ≡ device.now) × (self.new.asked ≡ asked)) }
+    {
+        replace(&mut self.device, device)?;
+        self.asked = asked;
+        Ok(())
+    }
+
+    /// How many bytes a READBUF asks for.
+    pub(crate) fn asked(&self) -> u32
+        ensures { result ≡ self.now.asked }
+    {
+        self.asked
     }
 
     /// The device's name.

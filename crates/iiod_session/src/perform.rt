@@ -7,8 +7,9 @@ ghost use Rattle.iiod_session.specs.Desk.{IsDesk, desk_of, tales_of};
 ghost use Rattle.iiod_session.specs.Performs.{Performs};
 ghost use Rattle.iiod_session.specs.declared.manner.Performed.{Performed};
 
+use crate::answers::SHORT_ANSWER;
 use crate::attributes::{read, write};
-use crate::buffers::{close, open, read_buffer, set_buffers, write_buffer};
+use crate::buffers::{close, open, read_buffer, remask, set_buffers, write_buffer};
 use crate::desk::Desk;
 use crate::events::{ev_close, ev_open, ev_read};
 use crate::iio::Iio;
@@ -18,9 +19,6 @@ use crate::triggers::{get_trigger, set_trigger};
 use iio_base::Mem;
 use iiod_grammar::{Command, Place, Refused};
 use std::alloc::Global;
-
-// The most bytes that an answer by a number alone has. This room is taken first, so that a server can answer want of memory.
-const SHORT_ANSWER: usize = 16;
 
 // A command.
 fn perform_command<I: Iio>(
@@ -59,6 +57,7 @@ fn perform_command<I: Iio>(
         Command::GetTrig { dev } => get_trigger(manner, desk, iio, dev, out),
         Command::SetTrig { dev, trigger } => set_trigger(manner, desk, iio, dev, trigger, out),
         Command::SetBuffers { dev, count } => set_buffers(manner, desk, iio, dev, count, out),
+        Command::Remask { dev, mask } => remask(manner, desk, iio, dev, mask, out),
         Command::EvOpen { dev } => ev_open(manner, desk, iio, dev, out),
         Command::EvRead { dev } => ev_read(manner, desk, iio, dev, out),
         Command::EvClose { dev } => ev_close(manner, desk, iio, dev, out),
@@ -100,7 +99,6 @@ pub(crate) fn perform_refused<I: Iio>(
         (desk_of I.seen desk.now) (tales_of I.seen desk.now.held.items) (Said (Err why))
         (desk_of I.seen desk.now) (tales_of I.seen desk.now.held.items) out.old.items out.new.items) }
 {
-    out.reserve(SHORT_ANSWER)?;
     refuse(manner, why, out)
 }
 

@@ -1,9 +1,6 @@
 //! Scans taken from a seat.
 
 ghost use Rattle.std.specs.Prelude.{◌≡◌, ◌+◌, ◌-◌, ◌*◌, ◌/◌, ◌≤◌, ◌<◌, ◌^◌, ◌++◌, length, take, drop, vec_capacity, true, ℕ, IfSome, Some};
-ghost use Rattle.iio_layout.specs.Active.{has_data};
-ghost use Rattle.iio_layout.specs.Layout.{scan_size};
-ghost use Rattle.iio_layout.specs.Shape.{count_of};
 ghost use Rattle.iiod_reply.specs.Reply.{block_text, head_text};
 ghost use Rattle.iiod_session.specs.Front.{channel_count, size_at};
 ghost use Rattle.iiod_session.specs.Reading.{ReadEnds, ReadsBlock};
@@ -11,9 +8,9 @@ ghost use Rattle.iiod_session.specs.Seat.{IsOfDevice, IsOwned, MayOpen};
 
 use crate::iio::{Iio, Took};
 use iio_base::Mem;
-use iio_layout::{Shape, scan_size};
+use iio_layout::scan_size;
 use iio_mask::Mask;
-use iiod_reply::{block_came, block_closing, block_head};
+use iiod_reply::{block_closing, block_head, block_room};
 
 // The most bytes of a block's head: the count, the mask, and an LF after each.
 const MOST_HEAD: usize = 10 + 1 + 16 + 1;
@@ -21,18 +18,8 @@ const MOST_HEAD: usize = 10 + 1 + 16 + 1;
 // The most bytes that a block has besides its scans: the head, the closing 0, and an LF after it.
 const BLOCK_FRAME: usize = MOST_HEAD + 1 + 1;
 
-// The bytes of a scan under a mask with a data channel.
-pub(crate) fn data_scan_size(shape: &Shape, mask: Mask) -> u32
-    requires below { mask.bits < 2 ^ count_of shape.now }
-    requires channel { has_data shape.now mask.bits ≡ true }
-    ensures value { result ≡ scan_size shape.now mask.bits }
-    ensures some { 1 ≤ result }
-{
-    scan_size(shape, mask)
-}
-
-// The block of up to so many scans, at least one. They are taken behind the head of a block of so many, which then says how
-// many bytes came. There is room for it in `out`.
+// The block of up to that many scans, at least one. They are taken after room for the head of a block, which is put there only
+// once some came. There is space for it all in `out`.
 fn read_into<I: Iio>(
     iio: &mut I,
     dev: u32,
@@ -58,13 +45,13 @@ fn read_into<I: Iio>(
     let channels = iio.shape(dev).count();
     let start = out.len();
     let most = want as usize * size as usize;
-    let _ = block_head(mask, channels, most, out);
+    let _ = block_room(channels, most, out);
     let first = out.len();
     let took = iio.take_scans(dev, seat, want, out);
     match took {
         Took::Scan => {
             let came = out.len() - first;
-            block_came(most, came, start, out);
+            block_head(mask, channels, most, came, start, out);
             let _ = block_closing(came, asked, out);
         }
         _ => out.truncate(start),
@@ -119,6 +106,6 @@ pub fn read_scans<I: Iio>(
     ensures ends { ReadEnds (I.front (I.kept iio.old)) dev mask.bits capacity asked
         (I.told iio.old) (I.told iio.new) (I.seen seat.old) (I.seen seat.new) out.old.items out.new.items result }
 {
-    let size = data_scan_size(iio.shape(dev), mask);
+    let size = scan_size(iio.shape(dev), mask);
     read_sized(iio, dev, seat, mask, capacity, size, asked, out)
 }

@@ -1,11 +1,11 @@
-//! A connection's seats: OPEN, CLOSE and READBUF, the device's number known.
+//! A connection's seats: OPEN, CLOSE, REMASK and READBUF, the device's number known.
 
 ghost use Rattle.std.specs.Prelude.{◌≡◌, ◌==◌, ◌<◌, ◌≤◌, ◌++◌, ℕ, length, IfSome, IfOk, Some, None, Err, is_some, Bool, List};
 ghost use Rattle.std.specs.List.{position};
-ghost use Rattle.iiod_session.specs.Acts.{close_at, joined_at, open_at};
+ghost use Rattle.iiod_session.specs.Acts.{close_at, joined_at, open_at, remask_at};
 ghost use Rattle.iiod_session.specs.Front.{size_at};
 ghost use Rattle.iiod_session.specs.Desk.{IsDesk, IsHeld, bare_of, buffers_of, desk_of, place_of, seats_of, tale_of, tales_of};
-ghost use Rattle.iiod_session.specs.Performs.{Comes, JoinsBy, LeavesBy, OpensBy, ReadAt, ReadHeld, reply_by};
+ghost use Rattle.iiod_session.specs.Performs.{Comes, JoinsBy, LeavesBy, OpensBy, ReadAt, ReadHeld, RemaskMoves, RemaskTold, RemasksBy, reply_by};
 ghost use Rattle.iiod_session.specs.Seat.{MayOpen};
 ghost use Rattle.iiod_session.specs.Wanted.{wanted_of_code};
 ghost use Rattle.iio_text.specs.declared.errors.Errno.{Errno};
@@ -16,7 +16,7 @@ use crate::answers::push_refusal;
 use crate::desk::{BuffersCount, Desk, FIRST_BUFFERS, Held};
 use crate::iio::{Iio, No, Took};
 use crate::reading::read_sized;
-use crate::wanted::{Wanted, wanted_by};
+use crate::wanted::{Wanted, mask_wanted_by, wanted_by};
 use iio_base::Mem;
 use iio_text::Errno;
 use iiod_reply::number;
@@ -80,6 +80,7 @@ fn join<I: Iio>(desk: &mut Desk<I::Seat>, iio: &mut I, dev: u32, wanted: Wanted)
                 mask,
                 capacity,
                 size,
+                discarded: 0,
                 seat,
             });
             Ok(())
@@ -143,12 +144,66 @@ pub(crate) fn close_at<I: Iio>(desk: &mut Desk<I::Seat>, iio: &mut I, dev: u32) 
                 mask: _,
                 capacity: _,
                 size: _,
+                discarded: _,
                 seat,
             } = desk.held.remove(i);
             iio.close(at, seat);
             Ok(())
         }
     }
+}
+
+// REMASK at a seat: its mask is exchanged, and what its queue held is counted as discarded.
+fn remask_held<I: Iio>(iio: &mut I, h: &mut Held<I::Seat>, text: &[u8]) -> Result<(), No>
+    requires { IsHeld I.seen (I.front (I.kept iio.old)) h.old }
+    ensures kept { I.kept iio.new ≡ I.kept iio.old }
+    ensures held { IsHeld I.seen (I.front (I.kept iio.new)) h.new }
+    ensures dev { h.new.dev ≡ h.old.dev }
+    ensures told { IfSome (I.told iio.old) (λ m. RemaskTold (I.front (I.kept iio.old)) text.now m (bare_of I.seen h.old)
+        result (I.told iio.new) (bare_of I.seen h.new)) }
+    ensures moves { RemaskMoves (I.front (I.kept iio.old)) text.now (bare_of I.seen h.old) (tale_of I.seen h.old)
+        result (bare_of I.seen h.new) (tale_of I.seen h.new) }
+{
+    let wanted = match mask_wanted_by(iio.shape(h.dev), h.capacity, text) {
+        Err(errno) => return Err(No::Errno(errno)),
+        Ok(wanted) => wanted,
+    };
+    match iio.remask(h.dev, &mut h.seat, wanted.mask) {
+        Err(no) => Err(no),
+        Ok(waiting) => {
+            h.mask = wanted.mask;
+            h.size = wanted.size;
+            h.discarded = h.discarded.saturating_add(waiting);
+            Ok(())
+        }
+    }
+}
+
+/// REMASK. `ENODEV` comes where the device is unplugged, `EBADF` where the connection has no seat at it; then it is refused as
+/// by [`mask_wanted_by`], and then as by [`Iio::remask`]. A refusal changes nothing.
+pub(crate) fn remask_at<I: Iio>(
+    desk: &mut Desk<I::Seat>,
+    iio: &mut I,
+    dev: u32,
+    text: &[u8],
+) -> Result<(), No>
+    requires dev { dev < length (I.front (I.kept iio.old)).devices }
+    requires desk { IsDesk I.seen (I.front (I.kept iio.old)) desk.old }
+    ensures kept { I.kept iio.new ≡ I.kept iio.old }
+    ensures desk { IsDesk I.seen (I.front (I.kept iio.new)) desk.new }
+    ensures told { IfSome (I.told iio.old) (λ m. Comes m (desk_of I.seen desk.old)
+        (remask_at (I.front (I.kept iio.old)) m (desk_of I.seen desk.old) text.now dev)
+        (reply_by result) (I.told iio.new) (desk_of I.seen desk.new)) }
+    ensures moves { RemasksBy (I.front (I.kept iio.old)) dev text.now (desk_of I.seen desk.old) (tales_of I.seen desk.old.held.items)
+        result (desk_of I.seen desk.new) (tales_of I.seen desk.new.held.items) }
+{
+    if !iio.plugged(dev) {
+        return Err(No::Errno(Errno::ENODEV));
+    }
+    let Some(i) = place(iio, &desk.held, dev) else {
+        return Err(No::Errno(Errno::EBADF));
+    };
+    remask_held(iio, &mut desk.held[i], text)
 }
 
 // READBUF at a seat.

@@ -1,6 +1,6 @@
 //! A connection: what it sent, what it is answered, and what it has of the devices.
 
-ghost use Rattle.std.specs.Prelude.{◌≡◌, ◌↔◌, [], IfOk, IfSome, IsTrue, Some};
+ghost use Rattle.std.specs.Prelude.{◌≡◌, ◌↔◌, [], IfOk, IfSome, IsTrue, OnErr, Some};
 ghost use Rattle.iiod_grammar.specs.Scans.{scan_on};
 ghost use Rattle.iiod_grammar.specs.Stream.{AtEnd, no_item};
 ghost use Rattle.iiod_session.specs.Acts.{left_desk, left_machine};
@@ -29,10 +29,10 @@ pub struct Session<S> {
     manner: Manner,
     desk: Desk<S>,
     lines: Lines,
-    // The WRITE whose payload comes.
+    // The WRITE whose payload comes, or the READBUF that waits.
     pending: PendingWrite,
     going: Going,
-    // The bytes behind a READBUF that waits.
+    // The bytes after a READBUF that waits.
     left: Vec<u8>,
 }
 
@@ -48,7 +48,7 @@ impl<S> Model for Session<S> {
       stream = scan_on (stream_by x.going x.lines x.pending) x.left.items;
     } };
 
-    ghost invariant = { λ x. IsKept x.going x.lines x.left.items };
+    ghost invariant = { λ x. IsKept x.going x.lines x.pending x.left.items };
 }
 
 impl<S> Session<S> {
@@ -81,8 +81,9 @@ impl<S> Session<S> {
     /// manner Server `Waits` comes where a READBUF for at least one scan finds nothing at a device that is plugged: it isn't
     /// answered, and the next feed tries it again, before further bytes. In manner Script it is answered -11.
     ///
-    /// After `Mem` the session has ended but for [`Session::drop_all`]. In manner Server it comes only where there is no room
-    /// for a short answer or for bytes that are kept: want of memory in a command is answered -12 and changes nothing.
+    /// After `Mem` the session has ended too: all seats are closed and all holdings of events have ended. In manner Server it
+    /// comes only where there is no room for a short answer or for bytes that are kept: want of memory in a command is answered
+    /// -12 and changes nothing.
     pub fn feed<I: Iio<Seat = S>>(
         &mut self,
         alloc: Global,
@@ -97,6 +98,7 @@ impl<S> Session<S> {
             (scan_on self.old.stream bytes.now) out.old.items out.new.items (state_of I.seen (I.told iio.new) self.new.desk) self.new.stream) }
         ensures all { IfOk result (λ going. going ≡ Going.On → self.new.stream.items ≡ []) }
         ensures manner { self.new.manner ≡ self.old.manner }
+        ensures gone { OnErr result ((self.new.desk.held.items ≡ []) × (self.new.desk.holdings.items ≡ []) × (self.new.stream ≡ no_item AtEnd)) }
 
         // In a script, over devices that tell their state, all of it is determined.
         ensures script { IfOk result (λ going. FeedTells self.old.manner (I.front (I.kept iio.old)) (state_of I.seen (I.told iio.old) self.old.desk)
@@ -104,7 +106,7 @@ impl<S> Session<S> {
     {
         let was = self.going;
         self.going = Going::Ended;
-        let going = hear(
+        match hear(
             alloc,
             self.manner,
             &mut self.desk,
@@ -115,9 +117,16 @@ impl<S> Session<S> {
             was,
             bytes,
             out,
-        )?;
-        self.going = going;
-        Ok(going)
+        ) {
+            Ok(going) => {
+                self.going = going;
+                Ok(going)
+            }
+            Err(Mem) => {
+                leave(&mut self.desk, iio);
+                Err(Mem)
+            }
+        }
     }
 
     /// Closes every seat and ends every holding of events: the connection is lost.

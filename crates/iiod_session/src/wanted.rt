@@ -1,18 +1,20 @@
-//! What an OPEN asks for.
+//! What an OPEN and a REMASK ask for.
 
-ghost use Rattle.std.specs.Prelude.{◌≡◌, ◌<◌, ◌≤◌, ◌^◌, ℕ, true, IfOk, Ok, false, length};
+ghost use Rattle.std.specs.Prelude.{◌≡◌, ◌<◌, ◌≤◌, ◌^◌, ℕ, true, IfOk, Ok, Some, false, length};
 ghost use Rattle.iio_base.specs.Refusals.{ensure};
 ghost use Rattle.iio_layout.specs.Active.{has_data};
 ghost use Rattle.iio_layout.specs.Layout.{scan_size};
-ghost use Rattle.iiod_session.specs.Wanted.{wanted_of_code, wanted_view};
-ghost use Rattle.iiod_session.specs.Desk.{IsWanted, wanted_of};
+ghost use Rattle.iio_layout.specs.Shape.{count_of};
+ghost use Rattle.iio_mask.specs.Text.{mask_of};
+ghost use Rattle.iiod_session.specs.Wanted.{mask_view, wanted_of_code, wanted_view};
+ghost use Rattle.iiod_session.specs.Desk.{IsWanted, mask_wanted, wanted_of};
 ghost use Rattle.iiod_session.specs.Front.{Front, shape_at};
 ghost use Rattle.iiod_session.specs.Opening.{is_excess};
 ghost use Rattle.iiod_session.specs.Seat.{MayOpen};
 
-use crate::limits::{MAX_BYTES, MAX_SCANS};
-use crate::reading::data_scan_size;
-use iio_layout::Shape;
+use crate::limits::MAX_SCANS;
+use iio_kfifo::MAX_BYTES;
+use iio_layout::{Shape, has_data, scan_size};
 use iio_mask::Mask;
 use iio_text::Errno;
 
@@ -24,20 +26,7 @@ pub(crate) struct Wanted {
     pub(crate) size: u32,
 }
 
-// Whether a mask has a data channel.
-#[tactic(auto, using(crate::proofs::BlockLaws::has_below_at))]
-fn has_data(shape: &Shape, mask: Mask) -> bool
-    ensures { result ≡ has_data shape.now mask.bits }
-{
-    for c in 0..shape.inputs() {
-        if mask.contains(c) {
-            return true;
-        }
-    }
-    false
-}
-
-// Whether a member can't have a queue of so many scans of that size.
+// Whether a member can't have a queue of that many scans of that size.
 fn is_excess(capacity: u64, size: u32) -> bool
     ensures { result ≡ is_excess capacity size }
 {
@@ -78,12 +67,38 @@ pub(crate) fn wanted_by(
     let mask = Mask::read(text, shape.count()).ok_or(Errno::EINVAL)?;
     ensure(has_data(shape, mask), Errno::EINVAL)?;
     let capacity = u64::from(samples) * u64::from(buffers);
-    let size = data_scan_size(shape, mask);
+    let size = scan_size(shape, mask);
     ensure(!is_excess(capacity, size), Errno::EINVAL)?;
     ensure(!is_open, Errno::EBUSY)?;
     Ok(Wanted {
         mask,
         capacity: capacity as u32,
+        size,
+    })
+}
+
+/// The mask of a REMASK, for a queue of that capacity. Of the refusals the first that applies is the answer: the text is no
+/// mask, the mask has no data channel, the queue would have too many bytes.
+#[tactic(auto, unfolding(crate::specs::Desk::mask_wanted))]
+pub(crate) fn mask_wanted_by(shape: &Shape, capacity: u32, text: &[u8]) -> Result<Wanted, Errno>
+    ensures value { mask_view result ≡ mask_wanted shape.now capacity text.now }
+    ensures wanted { IfOk result (λ x. mask_of text.now (count_of shape.now) ≡ Some x.mask.bits) }
+    ensures capacity { IfOk result (λ x. x.capacity ≡ capacity) }
+    ensures size { IfOk result (λ x. x.size ≡ scan_size shape.now x.mask.bits) }
+    ensures some { IfOk result (λ x. 1 ≤ x.size) }
+    ensures may_open { (front : Front) (dev mask : ℕ) → shape.now ≡ shape_at front dev → MayOpen front dev mask capacity
+        → IfOk result (λ x. MayOpen front dev x.mask.bits capacity) }
+{
+    let Some(mask) = Mask::read(text, shape.count()) else {
+        return Err(Errno::EINVAL);
+    };
+    ensure(has_data(shape, mask), Errno::EINVAL)?;
+    let size = scan_size(shape, mask);
+    let bytes = u64::from(capacity) * u64::from(size);
+    ensure(bytes <= u64::from(MAX_BYTES), Errno::EINVAL)?;
+    Ok(Wanted {
+        mask,
+        capacity,
         size,
     })
 }

@@ -1,9 +1,10 @@
 use Rattle.std.proofs.Common.{◌+◌, ◌<◌, ◌≤◌, ◌++◌, length, take, refl, sym, ap, ◌∙◌, arith, None}
 use Rattle.std.specs.List.{position_or_len}
 use Rattle.std.proofs.lemmas.List.{take_all}
+use Rattle.std.proofs.lemmas.Grind.{common_steps}
 use Rattle.iiod_grammar.specs.Command.{without_returns}
 use Rattle.iiod_grammar.specs.Lines.{is_lf, is_begun, WholeLine}
-use Rattle.iiod_grammar.proofs.CutLemmas.{line_overlong, line_not_yet, line_whole}
+use Rattle.iiod_grammar.proofs.CutLemmas.{line_overlong, line_not_yet, line_blank, line_whole}
 use Rattle.iiod_grammar.proofs.lines.take_line.Goals as goal
 
 pub returns-then-len-end-gt-MAX_LINE-clause-takes :
@@ -21,6 +22,9 @@ returns-then-end-bytes-clause-takes c =
     let all = take_all c.line_len-end.result c.args.bytes.now (omega (arith, c.if-end-bytes.true)) in
     let items = c.keep.ensures.items ∙ ap (λ more. kept ++ more) all in
     (cut.0, c.if-end-bytes.true, items, ap (is_begun None) items ∙ cut.1)
+
+pub returns-then-bytes-eq10-clause-takes : goal.returns-then-bytes-eq10-clause-takes
+returns-then-bytes-eq10-clause-takes c = line_blank c.args.kept.now.items c.args.bytes.now (grind (arith, common_steps)) (grind (arith, common_steps)) c.if-bytes-eq10.true
 
 pub returns-clause-takes : goal.returns-clause-takes
 returns-clause-takes c =

@@ -1,7 +1,7 @@
 use Rattle.std.proofs.Common.{ap, rules, List}
 use Rattle.std.proofs.lemmas.List.Elements.{All-set}
 use Rattle.iiod_session.specs.Desk.{Bare, IsHeld, bare_of, desk_of, tale_of, with_seats}
-use Rattle.iiod_session.proofs.AttributeLaws.{counted}
+use Rattle.iiod_session.proofs.AttributeLaws.{counted, held_under}
 use Rattle.iiod_session.proofs.SeatsLaws.{apart_set, map_set_same}
 use Rattle.iiod_session.proofs.attributes.read_buffer.Goals as goal
 
@@ -10,7 +10,7 @@ returns-in-Some-clause-desk g c = record {
   seats = rw c.buffer_number.ensures.kept
       (All-set (IsHeld g.I.Iio.seen (g.I.Iio.front (g.I.Iio.kept c.args.iio.now))) c.args.desk.now.held.items c.in-Some.i c.buffer_number.new.h (rw c.buffer_number.ensures.kept at c.buffer_number.ensures.held) c.requires.desk.seats);
   apart = apart_set g.I.Iio.seen c.args.desk.now.held.items c.in-Some.i c.buffer_number.new.h c.index_mut.result.now (search rules) c.index_mut.ensures.value c.buffer_number.ensures.bare c.requires.desk.apart;
-  holdings = search rules;
+  holdings = rw c.buffer_number.ensures.kept c.requires.desk.holdings;
 }
 
 pub returns-in-Some-clause-same : goal.returns-in-Some-clause-same
@@ -25,4 +25,6 @@ returns-in-Some-clause-tales g c =
 pub returns-in-Some-clause-told : goal.returns-in-Some-clause-told
 returns-in-Some-clause-told g c =
     counted g.I.Iio.seen _ _ (desk_of g.I.Iio.seen c.args.desk.now) c.args.dev c.in-Some.i _ c.args.attribute c.args.desk.now.held.items c.index_mut.result.now
-    (search rules) (search rules) c.index_mut.ensures.value (search rules) c.buffer_number.ensures.value c.buffer_number.ensures.told
+    (search rules) (search rules) c.index_mut.ensures.value
+    (held_under g.I.Iio.seen _ c.args.desk.now.held.items c.in-Some.i c.index_mut.result.now (search rules) c.index_mut.ensures.value c.requires.desk.seats)
+    c.buffer_number.ensures.value c.buffer_number.ensures.told

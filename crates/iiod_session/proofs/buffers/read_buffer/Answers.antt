@@ -10,4 +10,4 @@ returns-in-None-clause-served g c =
 
 pub returns-in-Some-clause-served : goal.returns-in-Some-clause-served
 returns-in-Some-clause-served g c =
-    answers _ _ _ _ _ _ _ _ _ _ c.in-Some.dev _ _ _ c.read_at-took.result _ (search rules) c.read_at-took.ensures.same c.read_at-took.ensures.read c.finish_read.ensures
+    answers _ _ _ _ _ _ _ _ _ _ c.in-Some.dev _ _ _ c.read_at-took.result _ (search rules) c.read_at-took.ensures.same c.read_at-took.ensures.read c.finish_read.ensures.read

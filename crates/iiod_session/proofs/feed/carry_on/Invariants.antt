@@ -12,7 +12,7 @@ invariant-loop-desk g l = let iio = g.I.Iio in record {
   kept : iio.kept l.iio ≡ iio.kept l.fn.iio;
   desk : IsDesk iio.seen (iio.front (iio.kept l.fn.iio)) l.desk;
   within : l.at ≤ length l.bytes;
-  ready : IsReady On l.lines;
+  ready : IsReady On l.lines l.pending;
   fed : Fed l.manner (iio.front (iio.kept l.fn.iio)) (state_of iio.seen (iio.told l.fn.iio) l.fn.desk) (scan_on (stream_by On l.fn.lines l.fn.pending) l.bytes)
       l.fn.out.items l.out.items (state_of iio.seen (iio.told l.iio) l.desk) (scan_on (stream_by On l.lines l.pending) (drop l.at l.bytes));
 }

@@ -3,7 +3,7 @@ use Rattle.iio_text.specs.declared.errors.Errno.TheVariants.{EFBIG}
 use Rattle.iiod_grammar.specs.Command.{command_of}
 use Rattle.iiod_grammar.specs.Lines.{LinesRecord}
 use Rattle.iiod_grammar.specs.View.{line_view, target_view}
-use Rattle.iiod_session.proofs.HearLaws.{ended_line, exit_line, overlong_line, plain_command, write_feeds}
+use Rattle.iiod_session.proofs.HearLaws.{ended_line, at_once_command, exit_line, overlong_line, write_feeds}
 use Rattle.iiod_session.proofs.feed.hear_line.Goals as goal
 
 pub returns-in-Err-clause-carries : goal.returns-in-Err-clause-carries
@@ -27,17 +27,29 @@ returns-in_ok-keep-in-Write-clause-carries g c =
     write_feeds _ _ _ c.args.lines.now.piece c.in-Write.dev.now (option_map target_view c.in-Write.target) c.in-Write.count _ c.want.new.self c.keep.new.self
     (ap command_of (sym c.piece.ensures) ∙ sym c.read_line.ensures ∙ ap line_view c.in-Ok.is ∙ ap (λ x. line_view (Ok x)) c.in-Write.is) c.if-count-gt-MAX_PAYLOAD.false
     (c.want.ensures ∙ ap (λ (x : LinesRecord). record x { wanted = Some c.in-Write.count }) c.requires.piece)
-    c.in_ok-keep-in-Write.ensures
+    c.args.pending.now.asked c.in_ok-keep-in-Write.ensures
 
 pub returns-in_default-clause-carries : goal.returns-in_default-clause-carries
 returns-in_default-clause-carries g c =
     c.hear_said.ensures.carries c.args.lines.now c.args.pending.now c.requires.piece
-    (ap command_of (sym c.piece.ensures) ∙ sym c.read_line.ensures ∙ ap line_view c.in-Ok.is) (plain_command c.in-Ok.command c.in_default.not-Exit c.in_default.not-Write)
+    (ap command_of (sym c.piece.ensures) ∙ sym c.read_line.ensures ∙ ap line_view c.in-Ok.is)
+
+pub hear_said-requires-clause-at_once : goal.hear_said-requires-clause-at_once
+hear_said-requires-clause-at_once g c = at_once_command c.in-Ok.command c.in_default.not-Exit c.in_default.not-Write c.in_default.not-ReadBuf
+
+pub returns-in-ReadBuf-clause-carries : goal.returns-in-ReadBuf-clause-carries
+returns-in-ReadBuf-clause-carries g c =
+    c.hear_read.ensures.carries c.args.lines.now c.requires.piece
+    (ap command_of (sym c.piece.ensures) ∙ sym c.read_line.ensures ∙ ap line_view c.in-Ok.is ∙ ap (λ x. line_view (Ok x)) c.in-ReadBuf.is)
+
+pub returns-in-ReadBuf-clause-ready : goal.returns-in-ReadBuf-clause-ready
+returns-in-ReadBuf-clause-ready g c =
+    c.hear_read.ensures.ready c.args.lines.now c.requires.piece
+    (ap command_of (sym c.piece.ensures) ∙ sym c.read_line.ensures ∙ ap line_view c.in-Ok.is ∙ ap (λ x. line_view (Ok x)) c.in-ReadBuf.is)
 
 pub returns-in-Err-clause-ready : goal.returns-in-Err-clause-ready
-returns-in-Err-clause-ready g c = c.hear_refused.ensures.ready c.args.lines.now c.requires.piece (ap command_of (sym c.piece.ensures) ∙ sym c.read_line.ensures ∙ ap line_view c.in-Err.is)
+returns-in-Err-clause-ready g c = c.hear_refused.ensures.ready c.args.lines.now c.args.pending.now c.requires.piece
 
 pub returns-in_default-clause-ready : goal.returns-in_default-clause-ready
 returns-in_default-clause-ready g c =
-    c.hear_said.ensures.ready c.args.lines.now c.requires.piece (ap command_of (sym c.piece.ensures) ∙ sym c.read_line.ensures ∙ ap line_view c.in-Ok.is)
-    (plain_command c.in-Ok.command c.in_default.not-Exit c.in_default.not-Write)
+    c.hear_said.ensures.ready c.args.lines.now c.args.pending.now c.requires.piece

@@ -14,7 +14,7 @@ returns-in-Some-clause-desk g c = record {
   seats = rw c.read_held.ensures.kept
       (All-set (IsHeld g.I.Iio.seen (g.I.Iio.front (g.I.Iio.kept c.args.iio.now))) c.args.desk.now.held.items c.in-Some.i c.read_held.new.h (rw c.read_held.ensures.kept at c.read_held.ensures.held) c.requires.desk.seats);
   apart = apart_set g.I.Iio.seen c.args.desk.now.held.items c.in-Some.i c.read_held.new.h c.index_mut.result.now (search rules) c.index_mut.ensures.value c.read_held.ensures.bare c.requires.desk.apart;
-  holdings = search rules;
+  holdings = rw c.read_held.ensures.kept c.requires.desk.holdings;
 }
 
 pub returns-in-Some-clause-same : goal.returns-in-Some-clause-same
