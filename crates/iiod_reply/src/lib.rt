@@ -40,6 +40,7 @@ pub fn number(n: i64, out: &mut Vec<u8>) -> Result<(), Mem>
 pub fn value(bytes: &[u8], out: &mut Vec<u8>) -> Result<(), Mem>
     ensures text { Appends (text_of (Value bytes.now)) out.old.items result out.new.items }
     ensures room { FitsInRoom (text_of (Value bytes.now)) out.old.items (vec_capacity out.old) result }
+    ensures capacity { vec_capacity out.old ≤ vec_capacity out.new }
 {
     let mut buffer = Buffer::new();
     let count = buffer.format(bytes.len()).as_bytes();
@@ -121,6 +122,7 @@ pub fn block_head(
 pub fn block_closing(came: usize, asked: u32, out: &mut Vec<u8>) -> Result<(), Mem>
     ensures text { Appends (closing_text came asked) out.old.items result out.new.items }
     ensures room { FitsInRoom (closing_text came asked) out.old.items (vec_capacity out.old) result }
+    ensures capacity { vec_capacity out.old ≤ vec_capacity out.new }
 {
     out.extend_from_slice(closing(came, asked))?;
     Ok(())

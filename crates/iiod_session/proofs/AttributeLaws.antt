@@ -1,5 +1,6 @@
 -- READ and WRITE at a device.
-use Rattle.std.proofs.Common.{◌≡◌, ℕ, ℤ, ◌<◌, Bool, true, false, not, List, length, slice_index_or, Option, Some, None, IfSome, is_some, Result, Ok, Err, inl, refl, sym, subst, ap, ◌∙◌}
+use Rattle.std.proofs.Common.{◌≡◌, ℕ, zero, suc, ℤ, ◌+◌, ◌/◌, ◌%◌, ◌^◌, ◌<◌, ◌≤◌, Bool, true, false, not, List, [], ◌∷◌, ◌++◌, length, length-append, arith, slice_index_or, Option, Some, None, IfSome, is_some, if◌then◌else◌, Result, Ok, Err, inl, refl, sym, subst, ap, ◌∙◌}
+use Rattle.std.proofs.lemmas.Fmt.{length-decimal-le}
 use Rattle.std.proofs.lemmas.List.Elements.{All-get_or}
 use Rattle.std.specs.Prelude.{⊤}
 use Rattle.std.specs.Fmt.{decimal}
@@ -7,6 +8,9 @@ use Rattle.iio_base.specs.Refusals.{◌>>=◌, ensure}
 use Rattle.iio_text.specs.declared.errors.Errno.{Errno}
 use Rattle.iio_text.specs.declared.errors.Errno.TheVariants.{EBUSY, EINVAL, EIO, ENODEV}
 use Rattle.iio_text.specs.declared.values.Fixed.{Fixed}
+use Rattle.iio_text.specs.declared.values.Form.{Form}
+use Rattle.iio_text.specs.declared.values.Form.TheVariants as form
+use Rattle.iio_text.specs.Fixed.{last_digits, part_text, printed_fixed}
 use Rattle.iio_attr.specs.declared.attributes.Attr.{Attr}
 use Rattle.iio_attr.specs.declared.attributes.Attr.TheVariants as attr
 use Rattle.iio_attr.specs.declared.values.Value.{Value as AttrValue}
@@ -237,3 +241,29 @@ pub writes : (front : Front) (told told' : Option Machine) (desk : DeskRecord) (
 writes front told told' desk dev place name payload is_open plugged shape x r e0 e1 e2 e a =
     writes_found front told told' desk dev place name payload is_open plugged shape (Ok x) (written_by (length payload) r) e0 e1 e2 e
     (wrote told told' desk dev (length payload) x r a)
+
+-- ---- how long a value's text is
+
+length-last_digits : (k n : ℕ) → length (last_digits k n) ≡ k
+length-last_digits zero n = refl
+length-last_digits (suc k) n =
+    let rest = length-last_digits k (n / 10) in
+    omega (arith, rest, length-append (last_digits k (n / 10)) ((48 + n % 10) ∷ []))
+
+short_part : (f : Form) (part : ℕ) → length (part_text f part) ≤ 10
+short_part form.Int part = omega arith
+short_part form.Micro part = let digits = length-last_digits 6 part in omega (arith, digits)
+short_part form.Nano part = let digits = length-last_digits 9 part in omega (arith, digits)
+
+-- a stored number's
+pub short_fixed : (v : Fixed) → v.whole < 2 ^ 32 → length (printed_fixed v) ≤ 32
+short_fixed v less = by v.negative
+  where
+    tail : length (decimal v.whole ++ part_text v.form v.part) ≤ 20
+    tail =
+        let digits = length-decimal-le 10 v.whole (omega arith) (omega (arith, less)) (omega (arith, less)) in
+        omega (arith, digits, short_part v.form v.part, length-append (decimal v.whole) (part_text v.form v.part))
+
+    by : (negative : Bool) → length ((if negative then 45 ∷ [] else []) ++ decimal v.whole ++ part_text v.form v.part) ≤ 32
+    by true = omega (arith, tail)
+    by false = omega (arith, tail)

@@ -1,5 +1,5 @@
 -- Items that change nothing, and answers that are appended last.
-use Rattle.std.proofs.Common.{◌≡◌, ◌≢◌, ◌⊎◌, inl, inr, ℕ, List, ◌++◌, Option, Some, None, IfSome, Result, Ok, Err, IfOk, OnOk, refl, sym, ap, ◌∙◌}
+use Rattle.std.proofs.Common.{◌≡◌, ◌≢◌, ◌⊎◌, inl, inr, ℕ, ◌+◌, ◌≤◌, List, ◌++◌, length, Option, Some, None, IfSome, Result, Ok, Err, IfOk, IsOk, OnErr, OnOk, refl, sym, ap, ◌∙◌, arith}
 use Rattle.std.proofs.lemmas.List.{append-nil}
 use Rattle.std.specs.Prelude.{⊤, codes}
 use Rattle.iio_base.specs.declared.Mem.{Mem}
@@ -9,7 +9,9 @@ use Rattle.iiod_grammar.specs.declared.command.Refused.TheVariants.{Empty, Unkno
 use Rattle.iiod_grammar.specs.Command.{Help, Exit, Version, Print, Timeout, Write, Target}
 use Rattle.iiod_grammar.specs.Stream.{Item, Said}
 use Rattle.iiod_reply.specs.Reply.{Reply, Nothing, Number, Refusal, Line, Value, Raw, Block, NoMemory, Appends, text_of}
+use Rattle.iiod_session.specs.declared.answers.TheConstants.{SHORT_ANSWER}
 use Rattle.iiod_session.specs.declared.manner.Manner.{Manner}
+use Rattle.iiod_session.specs.declared.manner.Manner.TheVariants.{Server}
 use Rattle.iiod_session.specs.declared.manner.Performed.{Performed}
 use Rattle.iiod_session.specs.declared.manner.Performed.TheVariants.{Done}
 use Rattle.iiod_session.specs.Acts.{Acts, act, only, zero_reply}
@@ -17,7 +19,7 @@ use Rattle.iiod_session.specs.Desk.{DeskRecord}
 use Rattle.iiod_session.specs.Front.{Front}
 use Rattle.iiod_session.specs.Machine.{Machine}
 use Rattle.iiod_session.specs.Moves.{AnswersAlone, AnswersAs, Moves, Serves}
-use Rattle.iiod_session.specs.Performs.{Comes, IsAllowed, IsAnswerOf, IsWhole, Performs}
+use Rattle.iiod_session.specs.Performs.{AnswersInRoom, Comes, IsAllowed, IsAnswerOf, IsWhole, Performs}
 use Rattle.iiod_session.specs.Plain.{EndsPush, Keeps}
 use Rattle.iiod_session.specs.Seat.{Tale}
 use Rattle.iiod_session.proofs.ServeLaws.{all_comes, allowed, short_answer}
@@ -196,3 +198,13 @@ pub kept : (manner : Manner) (front : Front) (told : Option Machine) (desk : Des
     → IfOk r (λ p. (front : Front) → Keeps manner front item before after p) → IfOk r (Performs manner front told told desk tales item desk tales before after)
 kept manner front told desk tales item before after (Ok p) k = k front told desk tales
 kept manner front told desk tales item before after (Err mem) k = tt
+
+-- ---- want of memory, in the room for a short answer
+
+-- an answer was appended last, or there was no memory for it and the room is there still
+pub answered_in_room : {A : Type 0} (manner : Manner) (text before after : List ℕ) (capacity capacity' : ℕ) (pushed : Result ⊤ Mem) (result : Result A Mem)
+    → Appends text before pushed after → capacity ≤ capacity' → (manner ≡ Server → OnErr pushed (length after + SHORT_ANSWER ≤ capacity') → IsOk result)
+    → AnswersInRoom manner before capacity result
+answered_in_room manner text before after capacity capacity' (Ok done) result appends grows ends = λ server room. ends server tt
+answered_in_room manner text before after capacity capacity' (Err mem) result appends grows ends =
+    λ server room. ends server (let same : length after ≡ length before = ap (λ (xs : List ℕ). length xs) appends in omega (arith, room, grows, same))

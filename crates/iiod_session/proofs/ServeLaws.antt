@@ -1,5 +1,5 @@
 -- One item and its answer.
-use Rattle.std.proofs.Common.{◌≡◌, ℕ, Bool, List, ◌++◌, inl, inr, Option, Some, None, IfSome, Result, Ok, Err, IfOk, OnOk, refl, ap, ◌∙◌}
+use Rattle.std.proofs.Common.{◌≡◌, ℕ, ◌+◌, ◌≤◌, Bool, List, ◌++◌, length, arith, inl, inr, Option, Some, None, IfSome, Result, Ok, Err, IfOk, OnOk, refl, ap, ◌∙◌}
 use Rattle.std.specs.Prelude.{⊤}
 use Rattle.iio_base.specs.declared.Mem.{Mem}
 use Rattle.iio_text.specs.declared.errors.Errno.{Errno}
@@ -8,6 +8,7 @@ use Rattle.iio_event.specs.declared.event.EventData.{EventData}
 use Rattle.iiod_grammar.specs.Command.{Open, Close, ReadBuf, GetTrig, SetTrig, SetBuffers, Remask, WriteBuf, EvOpen, EvRead, EvClose}
 use Rattle.iiod_grammar.specs.Stream.{Item, Said}
 use Rattle.iiod_reply.specs.Reply.{Reply, Nothing, Number, Refusal, Line, Value, Raw, Block, NoMemory, text_of}
+use Rattle.iiod_session.specs.declared.answers.TheConstants.{SHORT_ANSWER}
 use Rattle.iiod_session.specs.declared.iio.No.{No}
 use Rattle.iiod_session.specs.declared.iio.No.TheVariants.{Errno as NoErrno, Mem as NoMem}
 use Rattle.iiod_session.specs.declared.iio.Took.{Took}
@@ -21,7 +22,7 @@ use Rattle.iiod_session.specs.Desk.{Bare, DeskRecord, place_of, with_count, with
 use Rattle.iiod_session.specs.Front.{Front, find_device, trigger_name}
 use Rattle.iiod_session.specs.Machine.{Machine}
 use Rattle.iiod_session.specs.Moves.{Accepts, AnswersAs, IsOrShort, Moves, ReadsBy, ReadsFrom, Serves, at_known, at_seat}
-use Rattle.iiod_session.specs.Performs.{AltersBy, AnswersRead, Comes, IsAllowed, IsAnswerOf, IsFound, IsNowhere, IsWhole, LeavesBy, OpensBy, Performs, ReadAt, ReadServedAt, RemasksBy, event_by, reply_by, trigger_by}
+use Rattle.iiod_session.specs.Performs.{AltersBy, AnswersRead, Comes, HasRoomAfter, IsAllowed, IsAnswerOf, IsFound, IsNowhere, IsWhole, LeavesBy, OpensBy, Performs, ReadAt, ReadServedAt, RemasksBy, event_by, reply_by, trigger_by}
 use Rattle.iiod_session.specs.Seat.{Tale}
 
 -- an outcome that is the item's
@@ -472,3 +473,17 @@ pub serves_write_buffer : (front : Front) (told : Option Machine) (desk : DeskRe
     → Serves front told desk tales (Said (Ok (WriteBuf device bytes))) (Refusal e) told desk tales
 serves_write_buffer front told desk tales device bytes e c none =
     record { alone = alone_at (find_device front device) (Refusal e) (λ n. ap Refusal (none n)); formed = tt; exact = all_comes front told told desk desk _ (λ m. at_device m desk (write_buffer_at m desk) (find_device front device)) (Refusal e) (λ m. write_buffer_is front m desk device bytes) c; moves = (refl, refl) }
+
+unchanged : (before after : List ℕ) (capacity capacity' : ℕ) → after ≡ before → capacity ≤ capacity' → length before + SHORT_ANSWER ≤ capacity → length after + SHORT_ANSWER ≤ capacity'
+unchanged before after capacity capacity' same grows room =
+    let long : length after ≡ length before = ap (λ (xs : List ℕ). length xs) same in
+    omega (arith, long, grows, room)
+
+-- after a take there is the room for what is left of READBUF's answer, where it was there before
+pub room_after : (front : Front) (dev asked : ℕ) (told told' : Option Machine) (desk : DeskRecord) (tales tales' : List (Option Tale)) (before after : List ℕ) (capacity capacity' : ℕ) (took : Result Took Mem)
+    → ReadAt front dev asked told told' desk tales tales' before after took → capacity ≤ capacity' → length before + SHORT_ANSWER ≤ capacity
+    → HasRoomAfter took after capacity'
+room_after front dev asked told told' desk tales tales' before after capacity capacity' (Ok Scan) read grows room = tt
+room_after front dev asked told told' desk tales tales' before after capacity capacity' (Ok Empty) read grows room = unchanged before after capacity capacity' read.0 grows room
+room_after front dev asked told told' desk tales tales' before after capacity capacity' (Ok Gone) read grows room = unchanged before after capacity capacity' read.0 grows room
+room_after front dev asked told told' desk tales tales' before after capacity capacity' (Err mem) read grows room = unchanged before after capacity capacity' read.0 grows room

@@ -1,5 +1,5 @@
 -- What the functions below a command promise. Cited by private functions alone.
-use Rattle.std.specs.Prelude.{◌≡◌, ℕ, Bool, List, [], ◌∷◌, ◌++◌, remove, slice_get, slice_set, Option, Some, None, option_map, IfSome, Result, Ok, Err, ⊤}
+use Rattle.std.specs.Prelude.{◌≡◌, ℕ, ◌+◌, ◌≤◌, Bool, List, [], ◌∷◌, ◌++◌, length, remove, slice_get, slice_set, Option, Some, None, option_map, IfSome, IsOk, Result, Ok, Err, ⊤}
 use Rattle.iio_base.specs.declared.Mem.{Mem}
 use Rattle.iio_text.specs.declared.errors.Errno.{Errno}
 use Rattle.iio_text.specs.declared.errors.Errno.TheVariants.{EAGAIN, ENODEV}
@@ -10,6 +10,7 @@ use Rattle.iio_mask.specs.Text.{mask_of}
 use Rattle.iiod_grammar.specs.Command.{ReadBuf}
 use Rattle.iiod_grammar.specs.Stream.{Item, Said}
 use Rattle.iiod_reply.specs.Reply.{Reply, Raw, Refusal, NoMemory, text_of}
+use Rattle.iiod_session.specs.declared.answers.TheConstants.{SHORT_ANSWER}
 use Rattle.iiod_session.specs.declared.iio.No.{No}
 use Rattle.iiod_session.specs.declared.iio.No.TheVariants.{Errno as NoErrno, Mem as NoMem}
 use Rattle.iiod_session.specs.declared.iio.Took.{Took}
@@ -30,6 +31,15 @@ abbrev pub reply_by : Result ⊤ No → Reply
 reply_by (Ok done) = zero_reply
 reply_by (Err (NoErrno e)) = Refusal e
 reply_by (Err NoMem) = NoMemory
+
+-- a server answers want of memory, where there is the room for a short answer
+abbrev pub AnswersInRoom : {A : Type 0} → Manner → (before : List ℕ) → (capacity : ℕ) → Result A Mem → Type 0
+AnswersInRoom manner before capacity result = manner ≡ Server → length before + SHORT_ANSWER ≤ capacity → IsOk result
+
+-- the room for what is left of READBUF's answer: none after a block
+abbrev pub HasRoomAfter : Result Took Mem → (before : List ℕ) → (capacity : ℕ) → Type 0
+HasRoomAfter (Ok Scan) before capacity = Unit {0}
+HasRoomAfter took before capacity = length before + SHORT_ANSWER ≤ capacity
 
 -- an outcome, or want of memory, which changes nothing
 abbrev pub Comes : Machine → DeskRecord → Acted → Reply → Option Machine → DeskRecord → Type 0

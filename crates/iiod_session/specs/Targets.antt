@@ -1,5 +1,5 @@
 -- What READ and WRITE name, and what they answer, as contracts see it of the code. Cited by private functions alone.
-use Rattle.std.specs.Prelude.{ℕ, pos, ⊤, List, Option, Result, Ok, Err, string_bytes}
+use Rattle.std.specs.Prelude.{ℕ, ◌≤◌, pos, ⊤, List, length, Option, Result, Ok, Err, string_bytes}
 use Rattle.std.specs.Fmt.{decimal, signed_decimal}
 use Rattle.std.specs.Option.{ok_or}
 use Rattle.iio_base.specs.Refusals.{◌>>=◌}
@@ -48,6 +48,11 @@ text_by (Ok (text.Count n)) = Value (decimal n)
 text_by (Ok (text.Name name)) = Value name
 text_by (Err (NoErrno e)) = Refusal e
 text_by (Err NoMem) = NoMemory
+
+-- a text for which a READ's room is enough
+abbrev pub IsShortText : AttrText → Type 0
+IsShortText (text.Fixed digits) = length (string_bytes digits) ≤ 32
+IsShortText value = Unit {0}
 
 -- to a WRITE of that many bytes
 abbrev pub written_by : ℕ → Result ⊤ No → Reply

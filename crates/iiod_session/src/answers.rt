@@ -1,9 +1,10 @@
 //! Answers, appended to what was answered before.
 
-ghost use Rattle.std.specs.Prelude.{◌≡◌, ◌<◌, ◌≤◌, ◌+◌, ◌^◌, ◌++◌, length, pos, vec_capacity, IfOk, IsOk, OnOk};
+ghost use Rattle.std.specs.Prelude.{◌≡◌, ◌<◌, ◌≤◌, ◌+◌, ◌^◌, ◌++◌, length, pos, vec_capacity, IfOk, IsOk, OnErr, OnOk};
 ghost use Rattle.iiod_reply.specs.Reply.{Appends, FitsInRoom, Line, Number, Raw, Refusal, text_of};
-ghost use Rattle.iiod_session.specs.Performs.{IsAllowed, reply_by};
+ghost use Rattle.iiod_session.specs.Performs.{AnswersInRoom, IsAllowed, reply_by};
 ghost use Rattle.iiod_session.specs.Plain.{EndsPush};
+ghost use Rattle.iiod_session.specs.declared.answers.TheConstants.{SHORT_ANSWER};
 ghost use Rattle.iiod_session.specs.declared.manner.Manner.{Manner};
 ghost use Rattle.iiod_session.specs.declared.manner.Performed.{Performed};
 
@@ -14,8 +15,9 @@ use iio_text::Errno;
 use iiod_reply::number;
 use itoa::Buffer;
 
-/// The most bytes that an answer by a number alone has. This room is taken first, so that a server can answer want of memory.
-pub(crate) const SHORT_ANSWER: usize = 16;
+/// The most bytes that an answer by a number alone has: 20 digits, and an LF after them. This room is taken first, so that a server
+/// can answer want of memory.
+pub(crate) const SHORT_ANSWER: usize = 20 + 1;
 
 // What want of memory is answered with.
 const ENOMEM: i64 = 12;
@@ -24,6 +26,7 @@ const ENOMEM: i64 = 12;
 fn push(out: &mut Vec<u8>, bytes: &[u8]) -> Result<(), Mem>
     ensures text { Appends bytes.now out.old.items result out.new.items }
     ensures room { FitsInRoom bytes.now out.old.items (vec_capacity out.old) result }
+    ensures capacity { vec_capacity out.old ≤ vec_capacity out.new }
 {
     out.reserve(bytes.len())?;
     append(bytes, out);
@@ -55,6 +58,7 @@ fn refusal(errno: Errno) -> &'static [u8]
 pub(crate) fn push_refusal(out: &mut Vec<u8>, errno: Errno) -> Result<(), Mem>
     ensures text { Appends (text_of (Refusal errno)) out.old.items result out.new.items }
     ensures room { length out.old.items + SHORT_ANSWER ≤ vec_capacity out.old → IsOk result }
+    ensures capacity { vec_capacity out.old ≤ vec_capacity out.new }
 {
     push(out, refusal(errno))
 }
@@ -67,7 +71,7 @@ pub(crate) fn push_answer(
 ) -> Result<(), Mem>
     ensures text { OnOk result (out.new.items ≡ out.old.items ++ text_of (reply_by answer)) }
     ensures allowed { OnOk result (IsAllowed manner (reply_by answer)) }
-    ensures answers { manner ≡ Manner.Server → length out.old.items + SHORT_ANSWER ≤ vec_capacity out.old → IsOk result }
+    ensures answers { AnswersInRoom manner out.old.items (vec_capacity out.old) result }
 {
     match answer {
         Ok(()) => number(0, out),
@@ -88,7 +92,7 @@ pub(crate) fn finish(
     ensures done { IfOk result (λ p. p ≡ Performed.Done) }
     ensures text { OnOk result (out.new.items ≡ out.old.items ++ text_of (reply_by answer)) }
     ensures allowed { OnOk result (IsAllowed manner (reply_by answer)) }
-    ensures answers { manner ≡ Manner.Server → length out.old.items + SHORT_ANSWER ≤ vec_capacity out.old → IsOk result }
+    ensures answers { AnswersInRoom manner out.old.items (vec_capacity out.old) result }
 {
     push_answer(manner, out, answer)?;
     Ok(Performed::Done)
@@ -101,7 +105,8 @@ pub(crate) fn finish_push(
     out: &mut Vec<u8>,
     pushed: Result<(), Mem>,
 ) -> Result<Performed, Mem>
-    ensures { IfOk result (EndsPush manner pushed out.old.items out.new.items) }
+    ensures ends { IfOk result (EndsPush manner pushed out.old.items out.new.items) }
+    ensures answers { manner ≡ Manner.Server → OnErr pushed (length out.old.items + SHORT_ANSWER ≤ vec_capacity out.old) → IsOk result }
 {
     match pushed {
         Ok(()) => Ok(Performed::Done),
@@ -120,7 +125,9 @@ fn append(bytes: &[u8], out: &mut Vec<u8>)
 
 /// A text that is a line of its own. After `Mem`, `out` is unchanged.
 pub(crate) fn push_line(out: &mut Vec<u8>, text: &[u8]) -> Result<(), Mem>
-    ensures { Appends (text_of (Line text.now)) out.old.items result out.new.items }
+    ensures text { Appends (text_of (Line text.now)) out.old.items result out.new.items }
+    ensures room { FitsInRoom (text_of (Line text.now)) out.old.items (vec_capacity out.old) result }
+    ensures capacity { vec_capacity out.old ≤ vec_capacity out.new }
 {
     out.reserve(text.len() + 1)?;
     append(text, out);
@@ -130,14 +137,18 @@ pub(crate) fn push_line(out: &mut Vec<u8>, text: &[u8]) -> Result<(), Mem>
 
 /// A number of bytes. After `Mem`, `out` is unchanged.
 pub(crate) fn push_count(out: &mut Vec<u8>, count: usize) -> Result<(), Mem>
-    ensures { Appends (text_of (Number (pos count))) out.old.items result out.new.items }
+    ensures text { Appends (text_of (Number (pos count))) out.old.items result out.new.items }
+    ensures room { FitsInRoom (text_of (Number (pos count))) out.old.items (vec_capacity out.old) result }
+    ensures capacity { vec_capacity out.old ≤ vec_capacity out.new }
 {
     push_line(out, Buffer::new().format(count).as_bytes())
 }
 
 /// Bytes, with their number in a line before them. After `Mem`, `out` is unchanged.
 pub(crate) fn push_raw(out: &mut Vec<u8>, bytes: &[u8]) -> Result<(), Mem>
-    ensures { Appends (text_of (Raw bytes.now)) out.old.items result out.new.items }
+    ensures text { Appends (text_of (Raw bytes.now)) out.old.items result out.new.items }
+    ensures room { FitsInRoom (text_of (Raw bytes.now)) out.old.items (vec_capacity out.old) result }
+    ensures capacity { vec_capacity out.old ≤ vec_capacity out.new }
 {
     let mut buffer = Buffer::new();
     let count = buffer.format(bytes.len()).as_bytes();

@@ -1,6 +1,6 @@
 //! The commands of attributes: READ and WRITE.
 
-ghost use Rattle.std.specs.Prelude.{◌≡◌, ◌<◌, ◌++◌, length, is_some, option_map, Ok, Err, IfOk, IfSome, OnOk, Some, ℕ, List};
+ghost use Rattle.std.specs.Prelude.{◌≡◌, ◌<◌, ◌≤◌, ◌+◌, ◌++◌, length, vec_capacity, is_some, option_map, Ok, Err, IfOk, IfSome, IsOk, OnOk, Some, ℕ, List};
 ghost use Rattle.std.specs.Option.{option_copied};
 ghost use Rattle.iio_text.specs.declared.errors.Errno.{Errno};
 ghost use Rattle.iiod_grammar.specs.Command.{Read};
@@ -12,11 +12,13 @@ ghost use Rattle.iiod_session.specs.Attributes.{buffer_number};
 ghost use Rattle.iiod_session.specs.Desk.{DeskRecord, IsDesk, IsHeld, bare_of, desk_of, place_of, tale_of, tales_of};
 ghost use Rattle.iiod_session.specs.Front.{find_device};
 ghost use Rattle.iiod_session.specs.Machine.{lost_of, queue_of};
-ghost use Rattle.iiod_session.specs.Performs.{Comes, IsAllowed, IsNowhere, Performs};
+ghost use Rattle.iiod_session.specs.Performs.{AnswersInRoom, Comes, IsAllowed, IsNowhere, Performs};
 ghost use Rattle.iiod_session.specs.Seat.{seat_id};
 ghost use Rattle.iiod_session.specs.Target.{MayRead};
-ghost use Rattle.iiod_session.specs.Targets.{named_of_code, text_by, written_by};
+ghost use Rattle.iiod_session.specs.Targets.{IsShortText, named_of_code, text_by, written_by};
+ghost use Rattle.iiod_session.specs.declared.attributes.TheConstants.{VALUE_ROOM};
 ghost use Rattle.iiod_session.specs.declared.iio.No.{No};
+ghost use Rattle.iiod_session.specs.declared.manner.Manner.{Manner};
 ghost use Rattle.iiod_session.specs.declared.manner.Performed.{Performed};
 
 use crate::answers::{finish, push_answer, push_count};
@@ -34,7 +36,7 @@ use itoa::Buffer;
 use std::alloc::Global;
 
 // The most bytes that the answer to a READ of an attribute has: the count, the longest value, and an LF after each.
-const VALUE_ROOM: usize = 2 + 1 + 32 + 1;
+pub(crate) const VALUE_ROOM: usize = 2 + 1 + 32 + 1;
 
 /// The value of an attribute, as READ prints it.
 #[derive(Drop)]
@@ -57,6 +59,7 @@ fn read_device<I: Iio>(alloc: Global, iio: &mut I, dev: u32, target: Named) -> R
     ensures kept { I.kept iio.new ≡ I.kept iio.old }
     ensures told { (desk : DeskRecord) → IfSome (I.told iio.old) (λ m. Comes m desk
         (read_device_attribute (I.front (I.kept iio.old)) m desk dev (named_of_code target)) (text_by result) (I.told iio.new) desk) }
+    ensures short { IfOk result IsShortText }
 {
     match iio.read_attr(dev, target.channel, target.attribute) {
         Err(no) => Err(no),
@@ -104,6 +107,7 @@ fn read_buffer<I: Iio>(
     ensures told { IfSome (I.told iio.old) (λ m. Comes m (desk_of I.seen desk.old)
         (read_buffer_attribute_at m (desk_of I.seen desk.old) attribute (place_of dev (desk_of I.seen desk.old).seats))
         (text_by result) (I.told iio.new) (desk_of I.seen desk.old)) }
+    ensures short { IfOk result IsShortText }
 {
     match seats::place(iio, &desk.held, dev) {
         None => Err(No::Errno(Errno::EBADF)),
@@ -129,6 +133,7 @@ fn read_attribute_at<I: Iio>(
     ensures told { IfSome (I.told iio.old) (λ m. Comes m (desk_of I.seen desk.old)
         (read_attribute_at (I.front (I.kept iio.old)) m (desk_of I.seen desk.old) (place_view place.entry) (option_copied name.entry) dev)
         (text_by result) (I.told iio.new) (desk_of I.seen desk.old)) }
+    ensures short { IfOk result IsShortText }
 {
     let is_open = seats::place(iio, &desk.held, dev).is_some();
     let plugged = iio.plugged(dev);
@@ -165,6 +170,7 @@ fn read_attribute<I: Iio>(
         (read_attribute_at (I.front (I.kept iio.old)) m (desk_of I.seen desk.old) (place_view place.entry) (option_copied name.entry))
         (find_device (I.front (I.kept iio.old)) device.now))
         (text_by result) (I.told iio.new) (desk_of I.seen desk.old)) }
+    ensures short { IfOk result IsShortText }
 {
     match iio.find(device) {
         None => Err(No::Errno(Errno::ENODEV)),
@@ -174,8 +180,10 @@ fn read_attribute<I: Iio>(
 
 // The answer to a READ.
 fn push_text(manner: Manner, out: &mut Vec<u8>, text: Result<AttrText, No>) -> Result<(), Mem>
+    requires short { IfOk text IsShortText }
     ensures text { OnOk result (out.new.items ≡ out.old.items ++ text_of (text_by text)) }
     ensures allowed { OnOk result (IsAllowed manner (text_by text)) }
+    ensures answers { manner ≡ Manner.Server → length out.old.items + VALUE_ROOM ≤ vec_capacity out.old → IsOk result }
 {
     match text {
         Ok(AttrText::Fixed(digits)) => value(digits.as_bytes(), out),
@@ -204,6 +212,7 @@ pub(crate) fn read<I: Iio>(
         (desk_of I.seen desk.old) (tales_of I.seen desk.old.held.items)
         (Said (Ok (Read device.now (place_view place.entry) (option_copied name.entry))))
         (desk_of I.seen desk.new) (tales_of I.seen desk.new.held.items) out.old.items out.new.items) }
+    ensures answers { AnswersInRoom manner out.old.items (vec_capacity out.old) result }
 {
     if out.reserve(VALUE_ROOM).is_err() {
         return finish(manner, out, Err(No::Mem));
@@ -270,6 +279,7 @@ fn push_written(
 ) -> Result<(), Mem>
     ensures text { OnOk result (out.new.items ≡ out.old.items ++ text_of (written_by count answer)) }
     ensures allowed { OnOk result (IsAllowed manner (written_by count answer)) }
+    ensures answers { AnswersInRoom manner out.old.items (vec_capacity out.old) result }
 {
     match answer {
         Ok(()) => push_count(out, count),
@@ -293,6 +303,7 @@ pub(crate) fn write<I: Iio>(
         (desk_of I.seen desk.now) (tales_of I.seen desk.now.held.items)
         (Written device.now (option_map target_view target.entry) payload.now)
         (desk_of I.seen desk.now) (tales_of I.seen desk.now.held.items) out.old.items out.new.items) }
+    ensures answers { AnswersInRoom manner out.old.items (vec_capacity out.old) result }
 {
     match target {
         None => finish(manner, out, Err(No::Errno(Errno::EINVAL))),

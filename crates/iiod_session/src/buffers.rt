@@ -12,7 +12,7 @@ ghost use Rattle.iiod_session.specs.declared.iio.No.{No};
 ghost use Rattle.iiod_session.specs.declared.manner.Manner.{Manner};
 ghost use Rattle.iiod_session.specs.Desk.{DeskRecord, IsDesk, desk_of, tales_of, with_count};
 ghost use Rattle.iiod_session.specs.Front.{find_device};
-ghost use Rattle.iiod_session.specs.Performs.{AltersBy, AnswersRead, Comes, IsNowhere, Performs, desk_by, reply_by};
+ghost use Rattle.iiod_session.specs.Performs.{AltersBy, AnswersInRoom, AnswersRead, Comes, HasRoomAfter, IsNowhere, Performs, desk_by, reply_by};
 
 use crate::answers::finish;
 use crate::desk::{BuffersCount, Desk, MAX_BUFFERS};
@@ -39,7 +39,7 @@ pub(crate) fn open<I: Iio>(
     ensures served { IfOk result (Performs manner (I.front (I.kept iio.old)) (I.told iio.old) (I.told iio.new)
         (desk_of I.seen desk.old) (tales_of I.seen desk.old.held.items) (Said (Ok (Open device.now samples text.now cyclic)))
         (desk_of I.seen desk.new) (tales_of I.seen desk.new.held.items) out.old.items out.new.items) }
-    ensures answers { manner ≡ Manner.Server → length out.old.items + SHORT_ANSWER ≤ vec_capacity out.old → IsOk result }
+    ensures answers { AnswersInRoom manner out.old.items (vec_capacity out.old) result }
 {
     match iio.find(device) {
         None => finish(manner, out, Err(No::Errno(Errno::ENODEV))),
@@ -64,7 +64,7 @@ pub(crate) fn close<I: Iio>(
     ensures served { IfOk result (Performs manner (I.front (I.kept iio.old)) (I.told iio.old) (I.told iio.new)
         (desk_of I.seen desk.old) (tales_of I.seen desk.old.held.items) (Said (Ok (Close device.now)))
         (desk_of I.seen desk.new) (tales_of I.seen desk.new.held.items) out.old.items out.new.items) }
-    ensures answers { manner ≡ Manner.Server → length out.old.items + SHORT_ANSWER ≤ vec_capacity out.old → IsOk result }
+    ensures answers { AnswersInRoom manner out.old.items (vec_capacity out.old) result }
 {
     match iio.find(device) {
         None => finish(manner, out, Err(No::Errno(Errno::ENODEV))),
@@ -90,7 +90,7 @@ pub(crate) fn remask<I: Iio>(
     ensures served { IfOk result (Performs manner (I.front (I.kept iio.old)) (I.told iio.old) (I.told iio.new)
         (desk_of I.seen desk.old) (tales_of I.seen desk.old.held.items) (Said (Ok (Remask device.now text.now)))
         (desk_of I.seen desk.new) (tales_of I.seen desk.new.held.items) out.old.items out.new.items) }
-    ensures answers { manner ≡ Manner.Server → length out.old.items + SHORT_ANSWER ≤ vec_capacity out.old → IsOk result }
+    ensures answers { AnswersInRoom manner out.old.items (vec_capacity out.old) result }
 {
     match iio.find(device) {
         None => finish(manner, out, Err(No::Errno(Errno::ENODEV))),
@@ -116,6 +116,7 @@ pub(crate) fn read_buffer<I: Iio>(
     ensures served { IfOk result (Performs manner (I.front (I.kept iio.old)) (I.told iio.old) (I.told iio.new)
         (desk_of I.seen desk.old) (tales_of I.seen desk.old.held.items) (Said (Ok (ReadBuf device.now asked)))
         (desk_of I.seen desk.new) (tales_of I.seen desk.new.held.items) out.old.items out.new.items) }
+    ensures answers { AnswersInRoom manner out.old.items (vec_capacity out.old) result }
 {
     match iio.find(device) {
         None => finish(manner, out, Err(No::Errno(Errno::ENODEV))),
@@ -134,7 +135,7 @@ fn finish_read(
     out: &mut Vec<u8>,
 ) -> Result<Performed, Mem>
     ensures read { IfOk result (AnswersRead manner dev took out.old.items out.new.items) }
-    ensures answers { manner ≡ Manner.Server → length out.old.items + SHORT_ANSWER ≤ vec_capacity out.old → IsOk result }
+    ensures answers { manner ≡ Manner.Server → HasRoomAfter took out.old.items (vec_capacity out.old) → IsOk result }
 {
     match took {
         Ok(Took::Scan) => Ok(Performed::Done),
@@ -216,7 +217,7 @@ pub(crate) fn set_buffers<I: Iio>(
     ensures served { IfOk result (Performs manner (I.front (I.kept iio.now)) (I.told iio.now) (I.told iio.now)
         (desk_of I.seen desk.old) (tales_of I.seen desk.old.held.items) (Said (Ok (SetBuffers device.now count)))
         (desk_of I.seen desk.new) (tales_of I.seen desk.new.held.items) out.old.items out.new.items) }
-    ensures answers { manner ≡ Manner.Server → length out.old.items + SHORT_ANSWER ≤ vec_capacity out.old → IsOk result }
+    ensures answers { AnswersInRoom manner out.old.items (vec_capacity out.old) result }
 {
     let answer = set_buffers_of(desk, iio, device, count);
     finish(manner, out, answer)
@@ -258,7 +259,7 @@ pub(crate) fn write_buffer<I: Iio>(
     ensures served { IfOk result (Performs manner (I.front (I.kept iio.now)) (I.told iio.now) (I.told iio.now)
         (desk_of I.seen desk.now) (tales_of I.seen desk.now.held.items) (Said (Ok (WriteBuf device.now bytes)))
         (desk_of I.seen desk.now) (tales_of I.seen desk.now.held.items) out.old.items out.new.items) }
-    ensures answers { manner ≡ Manner.Server → length out.old.items + SHORT_ANSWER ≤ vec_capacity out.old → IsOk result }
+    ensures answers { AnswersInRoom manner out.old.items (vec_capacity out.old) result }
 {
     let errno = write_buffer_refusal(iio, device);
     finish(manner, out, Err(No::Errno(errno)))

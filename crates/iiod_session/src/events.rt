@@ -1,15 +1,17 @@
 //! The commands of threshold events: EVOPEN, EVREAD and EVCLOSE.
 
-ghost use Rattle.std.specs.Prelude.{◌≡◌, ◌==◌, ◌<◌, ◌++◌, length, filter, not, Ok, Err, IfOk, OnOk, IfSome, ℕ, List};
+ghost use Rattle.std.specs.Prelude.{◌≡◌, ◌==◌, ◌<◌, ◌≤◌, ◌+◌, ◌++◌, length, vec_capacity, filter, not, Ok, Err, IfOk, IsOk, OnOk, IfSome, ℕ, List};
 ghost use Rattle.iio_text.specs.declared.errors.Errno.{Errno};
 ghost use Rattle.iiod_grammar.specs.Command.{EvOpen, EvRead, EvClose};
 ghost use Rattle.iiod_grammar.specs.Stream.{Said};
 ghost use Rattle.iiod_reply.specs.Reply.{text_of};
 ghost use Rattle.iiod_session.specs.Acts.{at_device, ev_close_at, ev_open_at, ev_read_at};
+ghost use Rattle.iiod_session.specs.declared.answers.TheConstants.{SHORT_ANSWER};
 ghost use Rattle.iiod_session.specs.declared.iio.No.{No};
+ghost use Rattle.iiod_session.specs.declared.manner.Manner.{Manner};
 ghost use Rattle.iiod_session.specs.Desk.{IsDesk, desk_of, tales_of, with_holding, without_holding};
 ghost use Rattle.iiod_session.specs.Front.{find_device};
-ghost use Rattle.iiod_session.specs.Performs.{AltersBy, Comes, IsAllowed, IsNowhere, Performs, desk_by, event_by, reply_by};
+ghost use Rattle.iiod_session.specs.Performs.{AltersBy, AnswersInRoom, Comes, IsAllowed, IsNowhere, Performs, desk_by, event_by, reply_by};
 
 use crate::answers::{finish, push_answer, push_raw};
 use crate::desk::Desk;
@@ -77,6 +79,7 @@ pub(crate) fn ev_open<I: Iio>(
     ensures served { IfOk result (Performs manner (I.front (I.kept iio.old)) (I.told iio.old) (I.told iio.new)
         (desk_of I.seen desk.old) (tales_of I.seen desk.old.held.items) (Said (Ok (EvOpen device.now)))
         (desk_of I.seen desk.new) (tales_of I.seen desk.new.held.items) out.old.items out.new.items) }
+    ensures answers { AnswersInRoom manner out.old.items (vec_capacity out.old) result }
 {
     let answer = ev_open_of(desk, iio, device);
     finish(manner, out, answer)
@@ -144,6 +147,7 @@ pub(crate) fn ev_close<I: Iio>(
     ensures served { IfOk result (Performs manner (I.front (I.kept iio.old)) (I.told iio.old) (I.told iio.new)
         (desk_of I.seen desk.old) (tales_of I.seen desk.old.held.items) (Said (Ok (EvClose device.now)))
         (desk_of I.seen desk.new) (tales_of I.seen desk.new.held.items) out.old.items out.new.items) }
+    ensures answers { AnswersInRoom manner out.old.items (vec_capacity out.old) result }
 {
     let answer = ev_close_of(desk, iio, device);
     finish(manner, out, answer)
@@ -175,6 +179,7 @@ fn push_event(
 ) -> Result<(), Mem>
     ensures text { OnOk result (out.new.items ≡ out.old.items ++ text_of (event_by event)) }
     ensures allowed { OnOk result (IsAllowed manner (event_by event)) }
+    ensures answers { AnswersInRoom manner out.old.items (vec_capacity out.old) result }
 {
     match event {
         Ok(Some(event)) => push_raw(out, &event.bytes()),
@@ -195,6 +200,7 @@ pub(crate) fn ev_read<I: Iio>(
     ensures served { IfOk result (Performs manner (I.front (I.kept iio.old)) (I.told iio.old) (I.told iio.new)
         (desk_of I.seen desk.now) (tales_of I.seen desk.now.held.items) (Said (Ok (EvRead device.now)))
         (desk_of I.seen desk.now) (tales_of I.seen desk.now.held.items) out.old.items out.new.items) }
+    ensures answers { AnswersInRoom manner out.old.items (vec_capacity out.old) result }
 {
     if out.reserve(EVENT_ROOM).is_err() {
         return finish(manner, out, Err(No::Mem));

@@ -1,10 +1,10 @@
 //! One item of a connection.
 
-ghost use Rattle.std.specs.Prelude.{◌≡◌, option_map, Ok, Err, IfOk};
+ghost use Rattle.std.specs.Prelude.{◌≡◌, option_map, vec_capacity, Ok, Err, IfOk};
 ghost use Rattle.iiod_grammar.specs.Stream.{Said, Written};
 ghost use Rattle.iiod_grammar.specs.View.{command_view, target_view};
 ghost use Rattle.iiod_session.specs.Desk.{IsDesk, desk_of, tales_of};
-ghost use Rattle.iiod_session.specs.Performs.{Performs};
+ghost use Rattle.iiod_session.specs.Performs.{AnswersInRoom, Performs};
 ghost use Rattle.iiod_session.specs.declared.manner.Performed.{Performed};
 
 use crate::answers::SHORT_ANSWER;
@@ -35,6 +35,7 @@ fn perform_command<I: Iio>(
     ensures served { IfOk result (Performs manner (I.front (I.kept iio.old)) (I.told iio.old) (I.told iio.new)
         (desk_of I.seen desk.old) (tales_of I.seen desk.old.held.items) (Said (Ok (command_view command.now)))
         (desk_of I.seen desk.new) (tales_of I.seen desk.new.held.items) out.old.items out.new.items) }
+    ensures answers { AnswersInRoom manner out.old.items (vec_capacity out.old) result }
 {
     match *command {
         Command::Help => help(manner, out),
@@ -82,6 +83,7 @@ pub(crate) fn perform<I: Iio>(
     ensures served { IfOk result (Performs manner (I.front (I.kept iio.old)) (I.told iio.old) (I.told iio.new)
         (desk_of I.seen desk.old) (tales_of I.seen desk.old.held.items) (Said (Ok (command_view command.now)))
         (desk_of I.seen desk.new) (tales_of I.seen desk.new.held.items) out.old.items out.new.items) }
+    ensures answers { AnswersInRoom manner out.old.items (vec_capacity out.old) result }
 {
     out.reserve(SHORT_ANSWER)?;
     perform_command(alloc, manner, desk, iio, command, out)
@@ -95,9 +97,10 @@ pub(crate) fn perform_refused<I: Iio>(
     why: Refused,
     out: &mut Vec<u8>,
 ) -> Result<Performed, Mem>
-    ensures { IfOk result (Performs manner (I.front (I.kept iio.now)) (I.told iio.now) (I.told iio.now)
+    ensures served { IfOk result (Performs manner (I.front (I.kept iio.now)) (I.told iio.now) (I.told iio.now)
         (desk_of I.seen desk.now) (tales_of I.seen desk.now.held.items) (Said (Err why))
         (desk_of I.seen desk.now) (tales_of I.seen desk.now.held.items) out.old.items out.new.items) }
+    ensures answers { AnswersInRoom manner out.old.items (vec_capacity out.old) result }
 {
     refuse(manner, why, out)
 }
@@ -121,6 +124,7 @@ pub(crate) fn perform_written<I: Iio>(
         (desk_of I.seen desk.old) (tales_of I.seen desk.old.held.items)
         (Written device.now (option_map target_view target.entry) payload.now)
         (desk_of I.seen desk.new) (tales_of I.seen desk.new.held.items) out.old.items out.new.items) }
+    ensures answers { AnswersInRoom manner out.old.items (vec_capacity out.old) result }
 {
     out.reserve(SHORT_ANSWER)?;
     write(manner, desk, iio, device, target, payload, out)

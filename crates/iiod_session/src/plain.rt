@@ -1,9 +1,10 @@
 //! The commands that touch no device, HELP, VERSION, PRINT and TIMEOUT, and lines that are no command.
 
-ghost use Rattle.std.specs.Prelude.{Ok, Err, IfOk};
+ghost use Rattle.std.specs.Prelude.{Ok, Err, IfOk, vec_capacity};
 ghost use Rattle.iiod_grammar.specs.Command.{Help, Version, Print, Timeout};
 ghost use Rattle.iiod_grammar.specs.Stream.{Said};
 ghost use Rattle.iiod_session.specs.Front.{Front};
+ghost use Rattle.iiod_session.specs.Performs.{AnswersInRoom};
 ghost use Rattle.iiod_session.specs.Plain.{Keeps};
 
 use crate::answers::{finish, finish_push, push_line};
@@ -16,7 +17,8 @@ use iiod_reply::value;
 
 /// HELP.
 pub(crate) fn help(manner: Manner, out: &mut Vec<u8>) -> Result<Performed, Mem>
-    ensures { IfOk result (λ p. (front : Front) → Keeps manner front (Said (Ok Help)) out.old.items out.new.items p) }
+    ensures keeps { IfOk result (λ p. (front : Front) → Keeps manner front (Said (Ok Help)) out.old.items out.new.items p) }
+    ensures answers { AnswersInRoom manner out.old.items (vec_capacity out.old) result }
 {
     let pushed = push_line(out, b"Commands of libiio 0.25 iiod, profile iiosim0");
     finish_push(manner, out, pushed)
@@ -24,7 +26,8 @@ pub(crate) fn help(manner: Manner, out: &mut Vec<u8>) -> Result<Performed, Mem>
 
 /// VERSION.
 pub(crate) fn version(manner: Manner, out: &mut Vec<u8>) -> Result<Performed, Mem>
-    ensures { IfOk result (λ p. (front : Front) → Keeps manner front (Said (Ok Version)) out.old.items out.new.items p) }
+    ensures keeps { IfOk result (λ p. (front : Front) → Keeps manner front (Said (Ok Version)) out.old.items out.new.items p) }
+    ensures answers { AnswersInRoom manner out.old.items (vec_capacity out.old) result }
 {
     let pushed = push_line(out, b"0.25.iiosim0");
     finish_push(manner, out, pushed)
@@ -32,7 +35,8 @@ pub(crate) fn version(manner: Manner, out: &mut Vec<u8>) -> Result<Performed, Me
 
 /// PRINT.
 pub(crate) fn print<I: Iio>(manner: Manner, iio: &I, out: &mut Vec<u8>) -> Result<Performed, Mem>
-    ensures { IfOk result (Keeps manner (I.front (I.kept iio.now)) (Said (Ok Print)) out.old.items out.new.items) }
+    ensures keeps { IfOk result (Keeps manner (I.front (I.kept iio.now)) (Said (Ok Print)) out.old.items out.new.items) }
+    ensures answers { AnswersInRoom manner out.old.items (vec_capacity out.old) result }
 {
     let pushed = value(iio.context(), out);
     finish_push(manner, out, pushed)
@@ -40,14 +44,16 @@ pub(crate) fn print<I: Iio>(manner: Manner, iio: &I, out: &mut Vec<u8>) -> Resul
 
 /// TIMEOUT.
 pub(crate) fn timeout(manner: Manner, ms: u32, out: &mut Vec<u8>) -> Result<Performed, Mem>
-    ensures { IfOk result (λ p. (front : Front) → Keeps manner front (Said (Ok (Timeout ms))) out.old.items out.new.items p) }
+    ensures keeps { IfOk result (λ p. (front : Front) → Keeps manner front (Said (Ok (Timeout ms))) out.old.items out.new.items p) }
+    ensures answers { AnswersInRoom manner out.old.items (vec_capacity out.old) result }
 {
     finish(manner, out, Ok(()))
 }
 
 /// A line that is no command. `EINVAL` is answered, but to a line without a word.
 pub(crate) fn refuse(manner: Manner, why: Refused, out: &mut Vec<u8>) -> Result<Performed, Mem>
-    ensures { IfOk result (λ p. (front : Front) → Keeps manner front (Said (Err why)) out.old.items out.new.items p) }
+    ensures keeps { IfOk result (λ p. (front : Front) → Keeps manner front (Said (Err why)) out.old.items out.new.items p) }
+    ensures answers { AnswersInRoom manner out.old.items (vec_capacity out.old) result }
 {
     match why {
         Refused::Empty => Ok(Performed::Done),

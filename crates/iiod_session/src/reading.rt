@@ -41,6 +41,7 @@ fn read_into<I: Iio>(
     ensures kept { I.kept iio.new ≡ I.kept iio.old }
     ensures read { ReadsBlock (channel_count (I.front (I.kept iio.old)) dev) dev want mask.bits asked
         (I.told iio.old) (I.told iio.new) (I.seen seat.old) (I.seen seat.new) out.old.items out.new.items result }
+    ensures capacity { vec_capacity out.old ≤ vec_capacity out.new }
 {
     let channels = iio.shape(dev).count();
     let start = out.len();
@@ -78,6 +79,7 @@ pub(crate) fn read_sized<I: Iio>(
     ensures kept { I.kept iio.new ≡ I.kept iio.old }
     ensures ends { ReadEnds (I.front (I.kept iio.old)) dev mask.bits capacity asked
         (I.told iio.old) (I.told iio.new) (I.seen seat.old) (I.seen seat.new) out.old.items out.new.items result }
+    ensures capacity { vec_capacity out.old ≤ vec_capacity out.new }
 {
     let want = (asked / size).min(capacity);
     out.reserve(want as usize * size as usize + BLOCK_FRAME)?;
@@ -105,6 +107,7 @@ pub fn read_scans<I: Iio>(
     ensures kept { I.kept iio.new ≡ I.kept iio.old }
     ensures ends { ReadEnds (I.front (I.kept iio.old)) dev mask.bits capacity asked
         (I.told iio.old) (I.told iio.new) (I.seen seat.old) (I.seen seat.new) out.old.items out.new.items result }
+    ensures capacity { vec_capacity out.old ≤ vec_capacity out.new }
 {
     let size = scan_size(iio.shape(dev), mask);
     read_sized(iio, dev, seat, mask, capacity, size, asked, out)

@@ -1,6 +1,6 @@
 //! A connection's seats: OPEN, CLOSE, REMASK and READBUF, the device's number known.
 
-ghost use Rattle.std.specs.Prelude.{◌≡◌, ◌==◌, ◌<◌, ◌≤◌, ◌++◌, ℕ, length, IfSome, IfOk, Some, None, Err, is_some, Bool, List};
+ghost use Rattle.std.specs.Prelude.{◌≡◌, ◌==◌, ◌<◌, ◌≤◌, ◌++◌, ℕ, length, IfSome, IfOk, Some, None, Err, is_some, Bool, List, vec_capacity};
 ghost use Rattle.std.specs.List.{position};
 ghost use Rattle.iiod_session.specs.Acts.{close_at, joined_at, open_at, remask_at};
 ghost use Rattle.iiod_session.specs.Front.{size_at};
@@ -219,6 +219,7 @@ fn read_held<I: Iio>(
     ensures bare { bare_of I.seen h.new ≡ bare_of I.seen h.old }
     ensures read { ReadHeld (I.front (I.kept iio.old)) asked (I.told iio.old) (I.told iio.new)
         (bare_of I.seen h.old) (tale_of I.seen h.old) (tale_of I.seen h.new) out.old.items out.new.items result }
+    ensures capacity { vec_capacity out.old ≤ vec_capacity out.new }
 {
     if asked < h.size {
         number(0, out)?;
@@ -250,6 +251,7 @@ pub(crate) fn read_at<I: Iio>(
     ensures same { desk_of I.seen desk.new ≡ desk_of I.seen desk.old }
     ensures read { ReadAt (I.front (I.kept iio.old)) dev asked (I.told iio.old) (I.told iio.new)
         (desk_of I.seen desk.old) (tales_of I.seen desk.old.held.items) (tales_of I.seen desk.new.held.items) out.old.items out.new.items result }
+    ensures capacity { vec_capacity out.old ≤ vec_capacity out.new }
 {
     match place(iio, &desk.held, dev) {
         None => {

@@ -1,6 +1,6 @@
 //! The commands of triggers: SETTRIG and GETTRIG.
 
-ghost use Rattle.std.specs.Prelude.{◌≡◌, ◌<◌, length, Ok, Err, IfOk, IfSome, ℕ, List};
+ghost use Rattle.std.specs.Prelude.{◌≡◌, ◌<◌, ◌≤◌, length, vec_capacity, Ok, Err, IfOk, IfSome, ℕ, List};
 ghost use Rattle.std.specs.Option.{option_copied};
 ghost use Rattle.iio_text.specs.declared.errors.Errno.{Errno};
 ghost use Rattle.iio_desc.specs.declared.limits.TheConstants.{MAX_TRIGGERS};
@@ -11,7 +11,7 @@ ghost use Rattle.iiod_session.specs.Acts.{at_device, get_trigger_at, set_trigger
 ghost use Rattle.iiod_session.specs.declared.iio.No.{No};
 ghost use Rattle.iiod_session.specs.Desk.{DeskRecord, desk_of, tales_of};
 ghost use Rattle.iiod_session.specs.Front.{find_device};
-ghost use Rattle.iiod_session.specs.Performs.{Comes, IsNowhere, Performs, reply_by, trigger_by};
+ghost use Rattle.iiod_session.specs.Performs.{AnswersInRoom, Comes, IsNowhere, Performs, reply_by, trigger_by};
 
 use crate::answers::{finish, finish_push, push_refusal};
 use crate::desk::Desk;
@@ -78,6 +78,7 @@ pub(crate) fn set_trigger<I: Iio>(
     ensures served { IfOk result (Performs manner (I.front (I.kept iio.old)) (I.told iio.old) (I.told iio.new)
         (desk_of I.seen desk.now) (tales_of I.seen desk.now.held.items) (Said (Ok (SetTrig device.now (option_copied name.entry))))
         (desk_of I.seen desk.now) (tales_of I.seen desk.now.held.items) out.old.items out.new.items) }
+    ensures answers { AnswersInRoom manner out.old.items (vec_capacity out.old) result }
 {
     let answer = set_trigger_of(iio, device, name);
     finish(manner, out, answer)
@@ -115,7 +116,8 @@ fn push_trigger<I: Iio>(
     trigger: Result<Option<u32>, Errno>,
     out: &mut Vec<u8>,
 ) -> Result<(), Mem>
-    ensures { Appends (text_of (trigger_by (I.front (I.kept iio.now)) trigger)) out.old.items result out.new.items }
+    ensures text { Appends (text_of (trigger_by (I.front (I.kept iio.now)) trigger)) out.old.items result out.new.items }
+    ensures capacity { vec_capacity out.old ≤ vec_capacity out.new }
 {
     match trigger {
         Ok(None) => number(0, out),
@@ -135,6 +137,7 @@ pub(crate) fn get_trigger<I: Iio>(
     ensures served { IfOk result (Performs manner (I.front (I.kept iio.now)) (I.told iio.now) (I.told iio.now)
         (desk_of I.seen desk.now) (tales_of I.seen desk.now.held.items) (Said (Ok (GetTrig device.now)))
         (desk_of I.seen desk.now) (tales_of I.seen desk.now.held.items) out.old.items out.new.items) }
+    ensures answers { AnswersInRoom manner out.old.items (vec_capacity out.old) result }
 {
     let trigger = trigger_of(iio, device);
     let pushed = push_trigger(iio, trigger, out);

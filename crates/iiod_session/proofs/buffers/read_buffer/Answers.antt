@@ -1,7 +1,7 @@
 use Rattle.std.proofs.Common.{rules}
 use Rattle.iio_text.specs.declared.errors.Errno.TheVariants.{ENODEV}
 use Rattle.iiod_reply.specs.Reply.{Refusal}
-use Rattle.iiod_session.proofs.ServeLaws.{finished, found_answer, answers, no_read}
+use Rattle.iiod_session.proofs.ServeLaws.{finished, found_answer, answers, no_read, room_after}
 use Rattle.iiod_session.proofs.buffers.read_buffer.Goals as goal
 
 pub returns-in-None-clause-served : goal.returns-in-None-clause-served
@@ -11,3 +11,7 @@ returns-in-None-clause-served g c =
 pub returns-in-Some-clause-served : goal.returns-in-Some-clause-served
 returns-in-Some-clause-served g c =
     answers _ _ _ _ _ _ _ _ _ _ c.in-Some.dev _ _ _ c.read_at-took.result _ (search rules) c.read_at-took.ensures.same c.read_at-took.ensures.read c.finish_read.ensures.read
+
+pub returns-in-Some-clause-answers : goal.returns-in-Some-clause-answers
+returns-in-Some-clause-answers g c = λ server room.
+    c.finish_read.ensures.answers server (room_after _ _ _ _ _ _ _ _ _ _ _ _ _ c.read_at-took.ensures.read c.read_at-took.ensures.capacity room)

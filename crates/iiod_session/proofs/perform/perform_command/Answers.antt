@@ -6,7 +6,7 @@ use Rattle.iiod_session.proofs.PlainLaws.{exit_keeps, kept, kept_at, write_keeps
 use Rattle.iiod_session.proofs.perform.perform_command.Goals as goal
 
 pub returns-in-Help-clause-served : goal.returns-in-Help-clause-served
-returns-in-Help-clause-served g c = rw c.in-Help.is (kept _ (g.I.Iio.front (g.I.Iio.kept c.args.iio.now)) (g.I.Iio.told c.args.iio.now) (desk_of g.I.Iio.seen c.args.desk.now) (tales_of g.I.Iio.seen c.args.desk.now.held.items) (Said (Ok Help)) _ _ _ c.help.ensures)
+returns-in-Help-clause-served g c = rw c.in-Help.is (kept _ (g.I.Iio.front (g.I.Iio.kept c.args.iio.now)) (g.I.Iio.told c.args.iio.now) (desk_of g.I.Iio.seen c.args.desk.now) (tales_of g.I.Iio.seen c.args.desk.now.held.items) (Said (Ok Help)) _ _ _ c.help.ensures.keeps)
 
 pub returns-in-Exit-clause-served : goal.returns-in-Exit-clause-served
 returns-in-Exit-clause-served g c = elim c.in-Exit.is [
@@ -15,10 +15,10 @@ returns-in-Exit-clause-served g c = elim c.in-Exit.is [
 ]
 
 pub returns-in-Version-clause-served : goal.returns-in-Version-clause-served
-returns-in-Version-clause-served g c = rw c.in-Version.is (kept _ (g.I.Iio.front (g.I.Iio.kept c.args.iio.now)) (g.I.Iio.told c.args.iio.now) (desk_of g.I.Iio.seen c.args.desk.now) (tales_of g.I.Iio.seen c.args.desk.now.held.items) (Said (Ok Version)) _ _ _ c.version.ensures)
+returns-in-Version-clause-served g c = rw c.in-Version.is (kept _ (g.I.Iio.front (g.I.Iio.kept c.args.iio.now)) (g.I.Iio.told c.args.iio.now) (desk_of g.I.Iio.seen c.args.desk.now) (tales_of g.I.Iio.seen c.args.desk.now.held.items) (Said (Ok Version)) _ _ _ c.version.ensures.keeps)
 
 pub returns-in-Print-clause-served : goal.returns-in-Print-clause-served
-returns-in-Print-clause-served g c = rw c.in-Print.is (kept_at _ (g.I.Iio.front (g.I.Iio.kept c.args.iio.now)) (g.I.Iio.told c.args.iio.now) (desk_of g.I.Iio.seen c.args.desk.now) (tales_of g.I.Iio.seen c.args.desk.now.held.items) (Said (Ok Print)) _ _ _ c.print.ensures)
+returns-in-Print-clause-served g c = rw c.in-Print.is (kept_at _ (g.I.Iio.front (g.I.Iio.kept c.args.iio.now)) (g.I.Iio.told c.args.iio.now) (desk_of g.I.Iio.seen c.args.desk.now) (tales_of g.I.Iio.seen c.args.desk.now.held.items) (Said (Ok Print)) _ _ _ c.print.ensures.keeps)
 
 pub returns-in-Timeout-clause-served : goal.returns-in-Timeout-clause-served
-returns-in-Timeout-clause-served g c = rw c.in-Timeout.is (kept _ (g.I.Iio.front (g.I.Iio.kept c.args.iio.now)) (g.I.Iio.told c.args.iio.now) (desk_of g.I.Iio.seen c.args.desk.now) (tales_of g.I.Iio.seen c.args.desk.now.held.items) (Said (Ok (Timeout c.in-Timeout.ms))) _ _ _ c.timeout.ensures)
+returns-in-Timeout-clause-served g c = rw c.in-Timeout.is (kept _ (g.I.Iio.front (g.I.Iio.kept c.args.iio.now)) (g.I.Iio.told c.args.iio.now) (desk_of g.I.Iio.seen c.args.desk.now) (tales_of g.I.Iio.seen c.args.desk.now.held.items) (Said (Ok (Timeout c.in-Timeout.ms))) _ _ _ c.timeout.ensures.keeps)
