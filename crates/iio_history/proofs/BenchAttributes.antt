@@ -219,8 +219,8 @@ module _ (s : Setup) (m : Told) (name : List ℕ) (desk : DeskRecord) (device : 
           subst (λ (p : Option ℕ). IsAct s m name (Said (Ok (Read device place to))) (read_buffer_attribute_at (machine_of m) desk target.attribute p)) (sym f.place)
           (subst (λ (b : Option Bare). IsAct s m name (Said (Ok (Read device place to))) (read_buffer_attribute (machine_of m) desk target.attribute b)) (sym f.here)
           (read_idle (Ok target) (Value (buffer_text (machine_of m) target.attribute (bare_by k y))) is idle
-          (ap (λ (xs : List (List ℕ)). Value (decimal (queue_number target.attribute y.member.capacity (length xs) (lost_of (machine_of m) k (id_of_seat y))))) (waiting_is y seat)
-          ∙ ap (λ (n : ℕ). Value (decimal (queue_number target.attribute y.member.capacity (length y.queue.scans) n))) (lost_is y seat)
+          (ap (λ (xs : List (List ℕ)). Value (decimal (queue_number target.attribute y.member.capacity (length xs) (lost_of (machine_of m) k (id_of_seat y)) y.discarded))) (waiting_is y seat)
+          ∙ ap (λ (n : ℕ). Value (decimal (queue_number target.attribute y.member.capacity (length y.queue.scans) n y.discarded))) (lost_is y seat)
           ∙ sym (ap (λ (x : Option Seat). replied (buffer_value target.attribute x)) seat) ∙ read_reply s m name device place to k st (Ok target) true called at is own)))
 
   -- an attribute that isn't `raw`

@@ -49,17 +49,19 @@ offered_bare : (shape : ShapeRecord) (c : Capture) (w : Who) (k : ℕ) (xs : Lis
 offered_bare shape c w k [] = refl
 offered_bare shape c w k (x ∷ xs) = bare_same_by (same w x.member.who) k (offered_seat shape c x) x (seat_of w (map (offered_seat shape c) xs)) (seat_of w xs) refl (offered_bare shape c w k xs)
 
-read_bare_by : (b c : Bool) (k : ℕ) (w : Who) (x y : Seat) (f g : Option Seat) → y.member ≡ x.member → y.number ≡ x.number → option_map (bare_by k) f ≡ option_map (bare_by k) g
+read_bare_by : (b c : Bool) (k : ℕ) (w : Who) (x y : Seat) (f g : Option Seat) → y.member ≡ x.member → y.number ≡ x.number → y.discarded ≡ x.discarded → option_map (bare_by k) f ≡ option_map (bare_by k) g
     → option_map (bare_by k) (cond (same w (cond b y x).member.who) (Some (cond b y x)) f) ≡ option_map (bare_by k) (cond (same w x.member.who) (Some x) g)
-read_bare_by true c k w x y f g member number rest =
+read_bare_by true c k w x y f g member number discarded rest =
     ap (λ (m : Member). option_map (bare_by k) (cond (same w m.who) (Some y) f)) member
-    ∙ bare_same_by (same w x.member.who) k y x f g (ap (λ (m : Member). record { dev = k; number = y.number; mask = m.mask; capacity = m.capacity }) member ∙ ap (λ (n : ℕ). record { dev = k; number = n; mask = x.member.mask; capacity = x.member.capacity }) number) rest
-read_bare_by false c k w x y f g member number rest = bare_same_by (same w x.member.who) k x x f g refl rest
+    ∙ bare_same_by (same w x.member.who) k y x f g (ap (λ (m : Member). record { dev = k; number = y.number; mask = m.mask; capacity = m.capacity; discarded = y.discarded }) member
+    ∙ ap (λ (n : ℕ). record { dev = k; number = n; mask = x.member.mask; capacity = x.member.capacity; discarded = y.discarded }) number
+    ∙ ap (λ (n : ℕ). record { dev = k; number = x.number; mask = x.member.mask; capacity = x.member.capacity; discarded = n }) discarded) rest
+read_bare_by false c k w x y f g member number discarded rest = bare_same_by (same w x.member.who) k x x f g refl rest
 
 read_bare : (shape : ShapeRecord) (who : Who) (bytes : ℕ) (w : Who) (k : ℕ) (xs : List Seat) → option_map (bare_by k) (seat_of w (map (read_seat shape who bytes) xs)) ≡ option_map (bare_by k) (seat_of w xs)
 read_bare shape who bytes w k [] = refl
 read_bare shape who bytes w k (x ∷ xs) =
-    read_bare_by (same who x.member.who) true k w x _ (seat_of w (map (read_seat shape who bytes) xs)) (seat_of w xs) refl refl (read_bare shape who bytes w k xs)
+    read_bare_by (same who x.member.who) true k w x _ (seat_of w (map (read_seat shape who bytes) xs)) (seat_of w xs) refl refl refl (read_bare shape who bytes w k xs)
 
 among_same : (w x : Who) (gone : List Who) → same w x ≡ true → is_among x gone ≡ is_among w gone
 among_same w x gone h = ap (λ (y : Who). is_among y gone) (sym (same_is w x h))

@@ -1,7 +1,7 @@
 -- Every item, in both views.
 use Rattle.std.proofs.Common.{◌≡◌, ℕ, true, List, Option, Some, None, Ok, Err, refl, ap, ◌∙◌, subst}
 use Rattle.iio_text.specs.declared.errors.Errno.{Errno}
-use Rattle.iiod_grammar.specs.Command.{Command, Exit, Help, Version, Print, Timeout, Open, Close, Read, ReadBuf, Write, WriteBuf, GetTrig, SetTrig, SetBuffers, EvOpen, EvRead, EvClose}
+use Rattle.iiod_grammar.specs.Command.{Command, Exit, Help, Version, Print, Timeout, Open, Close, Read, ReadBuf, Write, WriteBuf, GetTrig, SetTrig, SetBuffers, Remask, EvOpen, EvRead, EvClose}
 use Rattle.iiod_grammar.specs.Stream.{Item, Said, Written, End}
 use Rattle.iiod_reply.specs.Reply.{Reply, NoMemory}
 use Rattle.iiod_session.specs.Acts.{Acted, Acts, act, end_reply}
@@ -20,6 +20,7 @@ use Rattle.iio_history.proofs.BenchEvents.{ev_close_is, ev_open_is, ev_read_is}
 use Rattle.iio_history.proofs.BenchBuffers.{close_is, read_buffer_is}
 use Rattle.iio_history.proofs.BenchAttributes.{read_is, write_is}
 use Rattle.iio_history.proofs.BenchOpen.{open_is}
+use Rattle.iio_history.proofs.BenchRemask.{remask_is}
 use Rattle.iio_history.proofs.BenchEnds.{ends_are_left}
 
 command_is : (s : Setup) (m : Told) (name : List ℕ) (desk : DeskRecord) (command : Command) → IsBench s m → is_in (names_of m) name ≡ true → IsDeskOf m name desk → Every CanJoin m.stations
@@ -39,6 +40,7 @@ command_is s m name desk (WriteBuf device bytes) bench there d room = write_buff
 command_is s m name desk (GetTrig device) bench there d room = get_trigger_is s m name desk device bench d
 command_is s m name desk (SetTrig device to) bench there d room = set_trigger_is s m name desk device to bench d
 command_is s m name desk (SetBuffers device n) bench there d room = set_buffers_is s m name desk device n bench there d
+command_is s m name desk (Remask device text) bench there d room = remask_is s m name desk device text bench d
 command_is s m name desk (EvOpen device) bench there d room = ev_open_is s m name desk device bench d
 command_is s m name desk (EvRead device) bench there d room = ev_read_is s m name desk device bench d
 command_is s m name desk (EvClose device) bench there d room = ev_close_is s m name desk device bench d

@@ -5,8 +5,11 @@ use Rattle.std.proofs.lemmas.Bool.Decides.{nat_tests}
 use Rattle.std.proofs.lemmas.List.{length-set}
 use Rattle.std.proofs.lemmas.List.{length-replicate}
 use Rattle.std.specs.Str.{bytes_eq}
-use Rattle.iio_base.specs.Refusals.{first_refusal, unless_refused}
+use Rattle.iio_base.specs.Refusals.{ensure, ◌>>=◌, first_refusal, unless_refused}
+use Rattle.std.specs.Option.{ok_or}
+use Rattle.std.specs.Prelude.{unwrap_or}
 use Rattle.iio_text.specs.declared.errors.Errno.{Errno}
+use Rattle.iio_text.specs.declared.errors.Errno.TheVariants.{EBADF, ENODEV}
 use Rattle.iio_mask.specs.Text.{mask_of}
 use Rattle.iio_layout.specs.Active.{has_data}
 use Rattle.iio_layout.specs.Layout.{scan_size}
@@ -16,19 +19,20 @@ use Rattle.iio_desc.specs.Description.{DeviceRecord, find_device}
 use Rattle.iio_desc.specs.declared.description.AttrDesc.{AttrDesc}
 use Rattle.iio_device.specs.Site.{Site, is_current, new_site, number_in, with_attr}
 use Rattle.iio_history.specs.Places.{map_from}
-use Rattle.iiod_grammar.specs.Command.{Open, Close, Read, ReadBuf, SetTrig, EvOpen, EvRead, EvClose, SetBuffers}
+use Rattle.iiod_grammar.specs.Command.{Open, Close, Read, ReadBuf, SetTrig, EvOpen, EvRead, EvClose, SetBuffers, Remask}
 use Rattle.iiod_grammar.specs.Stream.{Item, Said, Written}
 use Rattle.iiod_session.specs.Acts.{is_buffers_count}
+use Rattle.iiod_session.specs.Desk.{more_discarded}
 use Rattle.iio_history.specs.Who.{Who, Conn, is_among, same}
-use Rattle.iio_history.specs.Event.{Event, Arrived, Heard, Handled, Sensed, Unplugged, Remasked}
-use Rattle.iio_history.specs.Registry.{Setup, Member, Device, Outline, outline_of, outlines_of, User, Registry, Entry, Capture, buffers_of, entries_at, entry_of, first_buffers, is_live, is_member, is_named, user_named, without_members}
-use Rattle.iio_history.specs.Opening.{open_refusals, opened, member_asked, trigger_answer}
+use Rattle.iio_history.specs.Event.{Event, Arrived, Heard, Handled, Sensed, Unplugged}
+use Rattle.iio_history.specs.Registry.{Setup, Member, Device, Outline, outline_of, outlines_of, User, Registry, Entry, Capture, buffers_of, entries_at, entry_of, first_buffers, is_live, is_member, is_named, mask_of_member, member_of, user_named, without_members}
+use Rattle.iio_history.specs.Opening.{Remasked, open_refusals, opened, member_asked, remasked, remask_refusals, trigger_answer}
 use Rattle.iio_history.specs.Act.{Act, Nothing, Joining, Remasking, Leaving, Ending, Reading, Capturing, Failing, Asking, Holding, Draining, Releasing, Sensing, Unplugging, Retriggering, only, accepted, asking, found, write_found, setting, handled_act, item_act, act_of}
-use Rattle.iio_history.specs.Fold.{buffers_after, first_device, first_driver, is_plugged, with_count, members_after, new_user, newcomers}
+use Rattle.iio_history.specs.Fold.{buffers_after, first_device, first_driver, is_plugged, with_count, with_mask, members_after, new_user, newcomers}
 use Rattle.iio_history.specs.Queue.{Queue, new_queue, offered, taken_from}
 use Rattle.iio_history.specs.Membership.{joinings_after}
 use Rattle.iio_history.specs.Told.{Line, Seat, Station, Told, device_of, member_of_seat, registry_of, station_told, told, user_of}
-use Rattle.iio_history.specs.Machine.{line_after, new_line, offered_seat, read_seat, seats_after, station_after, step, without_seats}
+use Rattle.iio_history.specs.Machine.{line_after, new_line, offered_seat, read_seat, remasked_seat, seats_after, station_after, step, without_seats}
 use Rattle.iio_history.specs.Law.{AreApart}
 use Rattle.iio_history.specs.Bench.{AreDistinct, CanJoin, Every, HasBuffers, HasDeviceSizes, IsBench, IsHolderThere, IsSeat, IsStation, IsStep, IsThere, NumbersRise, is_in, name_of, names_of, shape_of_device, shape_of_station}
 use Rattle.iio_history.specs.BenchLaw.{AreSteps, CanJoinMore}
@@ -41,7 +45,7 @@ use Rattle.iio_history.proofs.BenchDesks.{HolderAfter, holder_after, written_hol
 -- ---- members and seats
 
 -- the members of the seats after an act
-left_members : (gone : List Who) (xs : List Seat) → map member_of_seat (without_seats gone xs) ≡ without_members gone (map member_of_seat xs)
+pub left_members : (gone : List Who) (xs : List Seat) → map member_of_seat (without_seats gone xs) ≡ without_members gone (map member_of_seat xs)
 left_members gone [] = refl
 left_members gone (x ∷ xs) = by (is_among x.member.who gone) (left_members gone xs)
   where
@@ -66,16 +70,25 @@ offered_members : (shape : ShapeRecord) (c : Capture) (xs : List Seat) → map m
 offered_members shape c [] = refl
 offered_members shape c (x ∷ xs) = ap (λ (ms : List Member). x.member ∷ ms) (offered_members shape c xs)
 
--- what an act tells of the device where it happens; none is a REMASK
+remasked_members : (who : Who) (mask : ℕ) (xs : List Seat) → map member_of_seat (map (remasked_seat who mask) xs) ≡ map (with_mask who mask) (map member_of_seat xs)
+remasked_members who mask [] = refl
+remasked_members who mask (x ∷ xs) =
+    ap (λ (m : Member). m ∷ map member_of_seat (map (remasked_seat who mask) xs)) (by (same who x.member.who)) ∙ ap (λ (ms : List Member). with_mask who mask x.member ∷ ms) (remasked_members who mask xs)
+  where
+    by : (b : Bool) → (cond b (record { member = record x.member { mask = mask }; number = x.number; queue = new_queue; discarded = more_discarded x.discarded (length x.queue.scans) }) x).member ≡ cond b (record x.member { mask = mask }) x.member
+    by true = refl
+    by false = refl
+
+-- what an act tells of the device where it happens
 abbrev Suits : List (List ℕ) → Act → Device → Type 0
 Suits names (Joining m) d = IsThere names m.who × (has_data d.shape m.mask ≡ true)
-Suits names (Remasking m mask) d = ⊥
+Suits names (Remasking m mask) d = has_data d.shape mask ≡ true
 Suits names (Holding who) d = IsThere names who
 Suits names act d = Unit {0}
 
 members_of : (names : List (List ℕ)) (shape : ShapeRecord) (joinings : ℕ) (act : Act) (d : Device) (xs : List Seat) → Suits names act d → map member_of_seat (seats_after shape joinings act xs) ≡ members_after act (map member_of_seat xs)
 members_of names shape joinings (Joining m) d xs suits = joined_members xs (record { member = m; number = joinings; queue = new_queue; discarded = 0 })
-members_of names shape joinings (Remasking m mask) d xs suits = absurd suits
+members_of names shape joinings (Remasking m mask) d xs suits = remasked_members m.who mask xs
 members_of names shape joinings (Leaving gone) d xs suits = left_members gone xs
 members_of names shape joinings (Ending gone) d xs suits = left_members gone xs
 members_of names shape joinings (Reading who bytes) d xs suits = read_members shape who bytes xs
@@ -117,9 +130,16 @@ read_number shape who bytes x = by (same who x.member.who)
     by true = refl
     by false = refl
 
+remasked_number : (who : Who) (mask : ℕ) (x : Seat) → (remasked_seat who mask x).number ≡ x.number
+remasked_number who mask x = by (same who x.member.who)
+  where
+    by : (b : Bool) → (cond b (record { member = record x.member { mask = mask }; number = x.number; queue = new_queue; discarded = more_discarded x.discarded (length x.queue.scans) }) x).number ≡ x.number
+    by true = refl
+    by false = refl
+
 rise_after : (names : List (List ℕ)) (shape : ShapeRecord) (joinings : ℕ) (act : Act) (d : Device) (xs : List Seat) → Suits names act d → NumbersRise 0 joinings xs → NumbersRise 0 (joinings_after act joinings) (seats_after shape joinings act xs)
 rise_after names shape joinings (Joining m) d xs suits rising = joined_rise 0 joinings xs _ refl rising
-rise_after names shape joinings (Remasking m mask) d xs suits rising = absurd suits
+rise_after names shape joinings (Remasking m mask) d xs suits rising = kept_rise (remasked_seat m.who mask) 0 joinings xs (remasked_number m.who mask) rising
 rise_after names shape joinings (Leaving gone) d xs suits rising = left_rise gone 0 joinings xs rising
 rise_after names shape joinings (Ending gone) d xs suits rising = left_rise gone 0 joinings xs rising
 rise_after names shape joinings (Reading who bytes) d xs suits rising = kept_rise (read_seat shape who bytes) 0 joinings xs (read_number shape who bytes) rising
@@ -157,10 +177,17 @@ offered_bound capacity scan q bound = by (nat_lt (length q.scans) capacity) refl
 offered_sound : (names : List (List ℕ)) (shape : ShapeRecord) (c : Capture) (x : Seat) → IsSeat names shape x → IsSeat names shape (offered_seat shape c x)
 offered_sound names shape c x sound = record { there = sound.there; channel = sound.channel; bounded = offered_bound x.member.capacity _ x.queue sound.bounded }
 
+remasked_sound : (names : List (List ℕ)) (shape : ShapeRecord) (who : Who) (mask : ℕ) (x : Seat) → has_data shape mask ≡ true → IsSeat names shape x → IsSeat names shape (remasked_seat who mask x)
+remasked_sound names shape who mask x channel sound = by (same who x.member.who)
+  where
+    by : (b : Bool) → IsSeat names shape (cond b (record { member = record x.member { mask = mask }; number = x.number; queue = new_queue; discarded = more_discarded x.discarded (length x.queue.scans) }) x)
+    by true = record { there = sound.there; channel = channel; bounded = omega arith }
+    by false = sound
+
 seats_sound : (names : List (List ℕ)) (joinings : ℕ) (act : Act) (d : Device) (xs : List Seat) → Suits names act d → Every (IsSeat names d.shape) xs → Every (IsSeat names d.shape) (seats_after d.shape joinings act xs)
 seats_sound names joinings (Joining m) d xs suits all =
     joined_seats (IsSeat names d.shape) xs _ (record { there = suits.0; channel = suits.1; bounded = omega arith }) all
-seats_sound names joinings (Remasking m mask) d xs suits all = absurd suits
+seats_sound names joinings (Remasking m mask) d xs suits all = every_map (IsSeat names d.shape) (IsSeat names d.shape) (remasked_seat m.who mask) xs (λ x sound. remasked_sound names d.shape m.who mask x suits sound) all
 seats_sound names joinings (Leaving gone) d xs suits all = left_seats (IsSeat names d.shape) gone xs all
 seats_sound names joinings (Ending gone) d xs suits all = left_seats (IsSeat names d.shape) gone xs all
 seats_sound names joinings (Reading who bytes) d xs suits all = every_map (IsSeat names d.shape) (IsSeat names d.shape) (read_seat d.shape who bytes) xs (read_sound names d.shape who bytes) all
@@ -199,6 +226,20 @@ suits_open names s outlines d m is_mask cyclic there =
     let refusals = open_refusals s outlines (outline_of d) (is_member m.who d.members) is_mask cyclic m.mask m.capacity in
     suits_joining names (first_refusal refusals) m d there (λ h. let all : NoneApplies refusals = passed refusals h in not_not (has_data d.shape m.mask) all.1.1.1.0)
 
+suits_remasking : (names : List (List ℕ)) (o : Option Errno) (m : Member) (mask : ℕ) (d : Device) → (o ≡ None → has_data d.shape mask ≡ true)
+    → Suits names (accepted (λ (x : Remasked). Remasking x.member x.mask) (unless_refused (record { member = m; mask = mask }) o)) d
+suits_remasking names None m mask d h = h refl
+suits_remasking names (Some e) m mask d h = tt
+
+suits_remask : (names : List (List ℕ)) (d : Device) (text : List ℕ) (b : Bool) (o : Option Member)
+    → Suits names (accepted (λ (x : Remasked). Remasking x.member x.mask) (ensure b ENODEV >>= (λ plugged. ok_or o EBADF >>= remasked d text))) d
+suits_remask names d text false o = tt
+suits_remask names d text true None = tt
+suits_remask names d text true (Some m) =
+    let mask = unwrap_or (mask_of text (count_of d.shape)) 0 in
+    let refusals = remask_refusals d.shape (map mask_of_member (without_members (m.who ∷ []) d.members)) m (is_some (mask_of text (count_of d.shape))) mask in
+    suits_remasking names (first_refusal refusals) m mask d (λ h. let all : NoneApplies refusals = passed refusals h in not_not (has_data d.shape mask) all.1.0)
+
 suits_entry : (names : List (List ℕ)) (o : Outline) (d : Device) (e : Option Entry) → Suits names (handled_act o e) d
 suits_entry names o d None = tt
 suits_entry names o d (Some e) = by (is_current e.attachment o.site.attachment o.masks o.site.plugged) (ask_fails o.site.driver)
@@ -220,6 +261,7 @@ suits_item names s r name (Written device (Some target) payload) k d there =
     suits_only names (is_named s device k) _ d (suits_accepted names setting (write_found d (Conn name) target.0 target.1 payload) d (λ x. tt))
 suits_item names s r name (Said (Ok (SetTrig device trigger))) k d there =
     suits_only names (is_named s device k) _ d (suits_accepted names (λ t. Retriggering t) (trigger_answer s (outline_of d) trigger) d (λ t. tt))
+suits_item names s r name (Said (Ok (Remask device text))) k d there = suits_only names (is_named s device k) _ d (suits_remask names d text d.site.plugged (member_of (Conn name) d.members))
 suits_item names s r name (Said (Ok (EvOpen device))) k d there = suits_only names (is_named s device k && d.site.plugged) (Holding (Conn name)) d there
 suits_item names s r name (Said (Ok (EvRead device))) k d there = suits_only names (is_named s device k && d.site.plugged) (Draining (Conn name)) d tt
 suits_item names s r name (Said (Ok (EvClose device))) k d there = suits_only names (is_named s device k && d.site.plugged) (Releasing (Conn name)) d tt
@@ -230,7 +272,6 @@ suits names s r (Heard name item) k d there = suits_item names s r name item k d
 suits names s r (Handled trigger device) k d there = suits_only names (device == k) _ d (suits_entry names (outline_of d) d (entry_of k (entries_at r.triggers trigger)))
 suits names s r (Sensed device moment) k d there = suits_only names (device == k && d.site.plugged) (Sensing moment) d tt
 suits names s r (Unplugged device) k d there = suits_only names (device == k) Unplugging d tt
-suits names s r (Remasked name device text) k d there = absurd there
 suits names s r e k d there = tt
 
 -- ---- a station
@@ -346,7 +387,6 @@ lines_sound s r e (l ∷ ls) more all new = (buffers_sound s r e l.user ∙ all.
 
 step_there : (names more : List (List ℕ)) (e : Event) → IsStep names e → IsStep (names ++ more) e
 step_there names more (Heard name item) there = still_in names more name there
-step_there names more (Remasked name device text) there = there
 step_there names more e there = tt
 
 pub bench_kept : (s : Setup) (m : Told) (e : Event) → IsStep (names_of m) e → IsBench s m → IsBench s (step s m e)

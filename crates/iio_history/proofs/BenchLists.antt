@@ -122,7 +122,7 @@ place_same ns a b there =
     (λ h. ap (λ (n : List ℕ). bytes_eq a n) (sym (place_tells ns a b there (same_number (place_in ns a) (place_in ns b) h))) ∙ name_itself a)
     (λ h. ap (λ (n : List ℕ). place_in ns a == place_in ns n) (sym (name_same a b h)) ∙ itself (place_in ns a))
 
--- the place of a name that is there stays where others come behind
+-- the place of a name that is there stays where others come after it
 pub place_stays : (ns more : List (List ℕ)) (a : List ℕ) → is_in ns a ≡ true → place_in (ns ++ more) a ≡ place_in ns a
 place_stays [] more a there = cc
 place_stays (n ∷ ns) more a there = by (bytes_eq n a) there (place_stays ns more a)

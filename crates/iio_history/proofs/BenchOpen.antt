@@ -46,11 +46,11 @@ use Rattle.iio_history.proofs.BenchAttributes.{is_open}
 -- ---- refusals
 
 -- the first of two lists
-abbrev first_of_two : Option Errno → Option Errno → Option Errno
+abbrev pub first_of_two : Option Errno → Option Errno → Option Errno
 first_of_two None later = later
 first_of_two (Some e) later = Some e
 
-first_appended : (xs bs : List (Bool × Errno)) → first_refusal (xs ++ bs) ≡ first_of_two (first_refusal xs) (first_refusal bs)
+pub first_appended : (xs bs : List (Bool × Errno)) → first_refusal (xs ++ bs) ≡ first_of_two (first_refusal xs) (first_refusal bs)
 first_appended [] bs = refl
 first_appended (a ∷ xs) bs = by a.0 (first_appended xs bs)
   where
@@ -123,7 +123,7 @@ module _ (s : Setup) (m : Told) (name : List ℕ) (desk : DeskRecord) (device : 
 
     -- a seat more
     abbrev new_bare : Member → Bare
-    new_bare x = record { dev = k; number = st.joinings; mask = x.mask; capacity = x.capacity }
+    new_bare x = record { dev = k; number = st.joinings; mask = x.mask; capacity = x.capacity; discarded = 0 }
 
     join_seats : (who : Who) (xs : List Seat) (y : Seat) → same who y.member.who ≡ true → seat_of who xs ≡ None → seat_of who (xs ++ y ∷ []) ≡ Some y
     join_seats who [] y own none = ap (λ (b : Bool). cond b (Some y) None) own
@@ -201,7 +201,7 @@ module _ (s : Setup) (m : Told) (name : List ℕ) (desk : DeskRecord) (device : 
         join_refusals (is_none st.site.trigger) (is_without_union st.shape (outline_of (device_of st)).masks asked.mask)
         (is_empty (outline_of (device_of st)).masks && has_no_place s (outlines_of (registry_of m)) st.site.trigger)
 
-    no_mask : (o : Option ℕ) → not (is_some o) ≡ is_none o
+    pub no_mask : (o : Option ℕ) → not (is_some o) ≡ is_none o
     no_mask None = refl
     no_mask (Some n) = refl
 

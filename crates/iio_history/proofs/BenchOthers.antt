@@ -10,15 +10,15 @@ use Rattle.iio_text.specs.declared.errors.Errno.TheVariants.{EBADF, ENODEV}
 use Rattle.iio_sensor.specs.Driver.{ask_fails, values_of}
 use Rattle.iio_desc.specs.Description.{find_device}
 use Rattle.iio_device.specs.Site.{is_current}
-use Rattle.iiod_grammar.specs.Command.{Open, Close, Read, ReadBuf, SetTrig, EvOpen, EvRead, EvClose, SetBuffers}
+use Rattle.iiod_grammar.specs.Command.{Open, Close, Read, ReadBuf, SetTrig, EvOpen, EvRead, EvClose, SetBuffers, Remask}
 use Rattle.iiod_grammar.specs.Stream.{Item, Said, Written, End}
 use Rattle.iiod_session.specs.Desk.{DeskRecord}
 use Rattle.iiod_session.specs.Machine.{Station as MachineStation}
 use Rattle.iio_history.specs.Places.{map_from}
 use Rattle.iio_history.specs.Who.{Who, Conn, same}
-use Rattle.iio_history.specs.Event.{Event, Arrived, Heard, Dropped, Handled, Sensed, Unplugged, Remasked}
+use Rattle.iio_history.specs.Event.{Event, Arrived, Heard, Dropped, Handled, Sensed, Unplugged}
 use Rattle.iio_history.specs.Registry.{Setup, Member, Device, Outline, Entry, User, Registry, buffers_of, entries_at, entry_of, first_buffers, is_named, member_of, outline_of, user_named}
-use Rattle.iio_history.specs.Opening.{Remask, member_asked, remasked, trigger_answer}
+use Rattle.iio_history.specs.Opening.{Remasked, member_asked, remasked, trigger_answer}
 use Rattle.iio_history.specs.Act.{Act, Nothing, Joining, Remasking, Leaving, Reading, Asking, Capturing, Failing, Holding, Draining, Releasing, Sensing, Unplugging, Retriggering, accepted, asking, found, write_found, setting, handled_act, item_act, act_of}
 use Rattle.iio_history.specs.Fold.{buffers_after, new_user, newcomers, user_after, with_count}
 use Rattle.iio_history.specs.Told.{Line, Seat, Station, Told, device_of, registry_of, user_of}
@@ -52,6 +52,16 @@ spares_joining w (Some e) m apart = tt
 or_false : (b : Bool) → b ≡ false → (b || false) ≡ false
 or_false b h = ap (λ (x : Bool). x || false) h
 
+spares_remasking : (w : Who) (o : Option Errno) (m : Member) (mask : ℕ) → same w m.who ≡ false → Spares w (accepted (λ (x : Remasked). Remasking x.member x.mask) (unless_refused (record { member = m; mask = mask }) o))
+spares_remasking w None m mask apart = apart
+spares_remasking w (Some e) m mask apart = tt
+
+spares_remask : (d : Device) (who w : Who) (text : List ℕ) (b : Bool) (o : Option Member) → same w who ≡ false → member_of who d.members ≡ o
+    → Spares w (accepted (λ (x : Remasked). Remasking x.member x.mask) (ensure b ENODEV >>= (λ plugged. ok_or o EBADF >>= remasked d text)))
+spares_remask d who w text false o apart is = tt
+spares_remask d who w text true None apart is = tt
+spares_remask d who w text true (Some m) apart is = spares_remasking w _ m _ (ap (same w) (sym (name_found who d.members m is)) ∙ apart)
+
 spares_item : (s : Setup) (r : Registry) (name w : List ℕ) (item : Item) (k : ℕ) (d : Device) → bytes_eq w name ≡ false → Spares (Conn w) (item_act s r name item k d)
 spares_item s r name w (Said (Ok (Open device samples text cyclic))) k d apart =
     spares_only (Conn w) (is_named s device k) _ (spares_joining (Conn w) _ (member_asked d (Conn name) (buffers_of r.users name k) samples text) apart)
@@ -63,6 +73,8 @@ spares_item s r name w (Written device (Some target) payload) k d apart =
     spares_only (Conn w) (is_named s device k) _ (spares_accepted (Conn w) setting (write_found d (Conn name) target.0 target.1 payload) (λ x. tt))
 spares_item s r name w (Said (Ok (SetTrig device trigger))) k d apart =
     spares_only (Conn w) (is_named s device k) _ (spares_accepted (Conn w) (λ t. Retriggering t) (trigger_answer s (outline_of d) trigger) (λ t. tt))
+spares_item s r name w (Said (Ok (Remask device text))) k d apart =
+    spares_only (Conn w) (is_named s device k) _ (spares_remask d (Conn name) (Conn w) text d.site.plugged (member_of (Conn name) d.members) apart refl)
 spares_item s r name w (Said (Ok (EvOpen device))) k d apart = spares_only (Conn w) (is_named s device k && d.site.plugged) (Holding (Conn name)) apart
 spares_item s r name w (Said (Ok (EvRead device))) k d apart = spares_only (Conn w) (is_named s device k && d.site.plugged) (Draining (Conn name)) tt
 spares_item s r name w (Said (Ok (EvClose device))) k d apart = spares_only (Conn w) (is_named s device k && d.site.plugged) (Releasing (Conn name)) tt
@@ -78,24 +90,12 @@ spares_entry w o (Some e) = by (is_current e.attachment o.site.attachment o.mask
     by true true = tt
     by true false = tt
 
-spares_remasking : (w : Who) (o : Option Errno) (m : Member) (mask : ℕ) → same w m.who ≡ false → Spares w (accepted (λ (x : Remask). Remasking x.member x.mask) (unless_refused (record { member = m; mask = mask }) o))
-spares_remasking w None m mask apart = apart
-spares_remasking w (Some e) m mask apart = tt
-
-spares_remask : (d : Device) (who w : Who) (text : List ℕ) (b : Bool) (o : Option Member) → same w who ≡ false → member_of who d.members ≡ o
-    → Spares w (accepted (λ (x : Remask). Remasking x.member x.mask) (ensure b ENODEV >>= (λ plugged. ok_or o EBADF >>= remasked d text)))
-spares_remask d who w text false o apart is = tt
-spares_remask d who w text true None apart is = tt
-spares_remask d who w text true (Some m) apart is = spares_remasking w _ m _ (ap (same w) (sym (name_found who d.members m is)) ∙ apart)
-
 spares_event : (s : Setup) (r : Registry) (w : List ℕ) (e : Event) (k : ℕ) (d : Device) → IsOthers w e → Spares (Conn w) (act_of s r e k d)
 spares_event s r w (Heard name item) k d apart = spares_item s r name w item k d (other_name name w apart)
 spares_event s r w (Dropped name) k d apart = or_false (bytes_eq w name) (other_name name w apart)
 spares_event s r w (Handled trigger device) k d apart = spares_only (Conn w) (device == k) _ (spares_entry (Conn w) (outline_of d) (entry_of k (entries_at r.triggers trigger)))
 spares_event s r w (Sensed device moment) k d apart = spares_only (Conn w) (device == k && d.site.plugged) (Sensing moment) tt
 spares_event s r w (Unplugged device) k d apart = spares_only (Conn w) (device == k) Unplugging tt
-spares_event s r w (Remasked name device text) k d apart =
-    spares_only (Conn w) (device == k) _ (spares_remask d (Conn name) (Conn w) text d.site.plugged (member_of (Conn name) d.members) (other_name name w apart) refl)
 spares_event s r w e k d apart = tt
 
 -- ---- buffers counts of others

@@ -29,7 +29,7 @@ above n number h = grind (arith, nat_tests)
 apart_number : (n number : ℕ) → suc n ≤ number → (n == number) ≡ false
 apart_number n number h = grind (arith, nat_tests)
 
--- behind the one of the number there is none of its name and none of its number
+-- after the one of the number there is none of its name and none of its number
 behind : (who : Who) (y : Seat) (low high : ℕ) (xs : List Seat) → y.number < low → is_member who (map member_of_seat xs) ≡ false → NumbersRise low high xs → TellSame who y xs
 behind who y low high [] below absent rising = tt
 behind who y low high (x ∷ xs) below absent rising =

@@ -51,7 +51,7 @@ pub at_changed : (m : Machine) (dev : ℕ) (st : Station) (change : Station → 
 unfolding with_station
 at_changed m dev st change e = get_changed m.stations dev st change e
 
-station_here : (m : Machine) (dev : ℕ) (st : Station) → slice_get m.stations dev ≡ Some st → station_at m dev ≡ st
+pub station_here : (m : Machine) (dev : ℕ) (st : Station) → slice_get m.stations dev ≡ Some st → station_at m dev ≡ st
 unfolding station_at
 station_here m dev st e = ap (λ (o : Option Station). unwrap_or o no_station) e
 
@@ -210,11 +210,11 @@ module _ {Q : Type 0} (lost capacity : Q → ℕ) (waits : Q → List (List ℕ)
   abbrev pub station : DeviceView Q → Station
   station d = station_of lost capacity waits d
 
-  without_is : (n : ℕ) (ms : List (Membership Q)) → without n (map member ms) ≡ map member (without_of n ms)
+  pub without_is : (n : ℕ) (ms : List (Membership Q)) → without n (map member ms) ≡ map member (without_of n ms)
   without_is n ms = filter_map_is member (λ (m : Membership Q). not (m.number == n)) (λ (x : Member). not (x.number == n)) ms (λ m. refl)
 
   -- what was lost of the member of that number
-  lost_told : (n : ℕ) (ms : List (Membership Q)) → lost_by n (map member ms) ≡ option_map lost (option_map (λ (m : Membership Q). m.tail) (membership_of n ms))
+  pub lost_told : (n : ℕ) (ms : List (Membership Q)) → lost_by n (map member ms) ≡ option_map lost (option_map (λ (m : Membership Q). m.tail) (membership_of n ms))
   lost_told n [] = refl
   lost_told n (m ∷ ms) = by (m.number == n) (lost_told n ms)
     where

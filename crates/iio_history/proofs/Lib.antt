@@ -23,12 +23,14 @@ pub mod BenchEvents
 pub mod BenchBuffers
 pub mod BenchAttributes
 pub mod BenchOpen
+pub mod BenchRemask
 pub mod BenchItems
 pub mod BenchOthers
 pub mod BenchEnds
 pub mod BenchFeeds
 pub mod BenchMoves
 pub mod DeviceLaws
+pub mod DeviceRemasks
 pub mod DeviceHandlings
 pub mod DeviceMoves
 mod Rows

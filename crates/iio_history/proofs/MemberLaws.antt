@@ -2,13 +2,14 @@
 use Rattle.std.proofs.Common.{◌≡◌, ℕ, ◌/◌, Bool, true, false, List, [], ◌∷◌, ◌++◌, map, length, cond, refl, sym, ap, ◌∙◌}
 use Rattle.iio_layout.specs.Shape.{ShapeRecord}
 use Rattle.iio_layout.specs.Layout.{scan_size}
+use Rattle.iiod_session.specs.Desk.{more_discarded}
 use Rattle.iio_history.specs.Who.{Who, same, is_among}
 use Rattle.iio_history.specs.Registry.{Member, Capture, is_member, without_members}
 use Rattle.iio_history.specs.Act.{Act, Joining, Remasking, Leaving, Ending, Reading, Capturing}
 use Rattle.iio_history.specs.Fold.{with_mask, members_after}
 use Rattle.iio_history.specs.Log.{Logged, Taken, logged}
 use Rattle.iio_history.specs.Queue.{new_queue, private_queue}
-use Rattle.iio_history.specs.Membership.{numbered, more_discarded, discarded_by}
+use Rattle.iio_history.specs.Membership.{numbered, discarded_by}
 use Rattle.iio_history.specs.Told.{Seat, member_of_seat}
 use Rattle.iio_history.specs.Machine.{offered_seat, read_seat, remasked_seat, without_seats, seats_after}
 use Rattle.iio_history.proofs.WhoLaws.{same_self, either}
@@ -40,7 +41,7 @@ abbrev pub AreIt : Member → List Member → Type 0
 AreIt m [] = Unit {0}
 AreIt m (x ∷ xs) = (same m.who x.who ≡ true → x ≡ m) × AreIt m xs
 
--- a member that joins wasn't one before; one whose mask changes is the one of its name, and so many scans wait for it
+-- a member that joins wasn't one before; one whose mask changes is the one of its name, and that many scans wait for it
 abbrev pub IsSound : ShapeRecord → Book → ℕ → Act → List Member → Type 0
 IsSound shape book waiting (Joining m) ms = is_member m.who ms ≡ false
 IsSound shape book waiting (Remasking m mask) ms = AreIt m ms × (waiting ≡ length (seat_by shape book m).queue.scans)

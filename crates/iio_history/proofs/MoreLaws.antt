@@ -1,23 +1,26 @@
 -- What follows from the law: each queue is a private one, and other connections leave a log alone.
 use Rattle.std.proofs.Common.{◌≡◌, ℕ, ◌+◌, ◌&&◌, Bool, true, false, List, [], ◌∷◌, Option, Some, None, Result, Ok, Err, slice_get, refl, sym, ap, ◌∙◌, subst, arith, option_map}
 use Rattle.std.proofs.lemmas.Option.{slice_get-map}
-use Rattle.iio_base.specs.Refusals.{unless_refused}
+use Rattle.std.specs.Option.{ok_or}
+use Rattle.iio_base.specs.Refusals.{ensure, ◌>>=◌, unless_refused}
 use Rattle.iio_text.specs.declared.errors.Errno.{Errno}
+use Rattle.iio_text.specs.declared.errors.Errno.TheVariants.{EBADF, ENODEV}
 use Rattle.iio_layout.specs.Shape.{ShapeRecord}
 use Rattle.iio_layout.specs.Layout.{scan_size}
-use Rattle.iiod_grammar.specs.Command.{Open, Close, Read, ReadBuf, SetTrig, EvOpen, EvRead, EvClose}
+use Rattle.iiod_grammar.specs.Command.{Open, Close, Read, ReadBuf, SetTrig, Remask, EvOpen, EvRead, EvClose}
 use Rattle.iio_history.specs.Who.{Who, Conn, same}
 use Rattle.iiod_grammar.specs.Stream.{Item, Said, Written}
 use Rattle.iio_history.specs.Event.{Event, Heard, Dropped}
-use Rattle.iio_history.specs.Registry.{Setup, Member, Device, Registry, outline_of, buffers_of, is_named}
-use Rattle.iio_history.specs.Opening.{member_asked, trigger_answer}
-use Rattle.iio_history.specs.Act.{Act, Nothing, Joining, Leaving, Reading, Asking, Retriggering, Holding, Draining, Releasing, only, accepted, asking, found, write_found, setting, item_act, act_of, act_at}
+use Rattle.iio_history.specs.Registry.{Setup, Member, Device, Registry, outline_of, buffers_of, is_named, member_of}
+use Rattle.iio_history.specs.Opening.{Remasked, member_asked, remasked, trigger_answer}
+use Rattle.iio_history.specs.Act.{Act, Nothing, Joining, Remasking, Leaving, Reading, Asking, Retriggering, Holding, Draining, Releasing, only, accepted, asking, found, write_found, setting, item_act, act_of, act_at}
 use Rattle.iio_history.specs.Fold.{registry_after}
 use Rattle.iio_history.specs.Log.{Logged, logged, membership_log}
 use Rattle.iio_history.specs.Queue.{private_queue}
 use Rattle.iio_history.specs.Told.{Seat, Station, Told, seat_told, station_told, told}
 use Rattle.iio_history.specs.Machine.{machine_after}
 use Rattle.iio_history.proofs.PlaceLemmas.{get_map_from}
+use Rattle.iio_history.proofs.RegistryLaws.{name_found}
 use Rattle.iio_history.proofs.ToldLaws.{machine_is_told}
 
 -- ---- queues
@@ -62,6 +65,17 @@ of_open : (m : Member) (o : Option Errno) → IsOf m.who (accepted (λ m. Joinin
 of_open m None = λ who size log apart. rw apart refl
 of_open m (Some e) = λ who size log apart. refl
 
+of_remasking : (m : Member) (mask : ℕ) (o : Option Errno) → IsOf m.who (accepted (λ (x : Remasked). Remasking x.member x.mask) (unless_refused (record { member = m; mask = mask }) o))
+of_remasking m mask None = λ who size log apart. rw apart refl
+of_remasking m mask (Some e) = λ who size log apart. refl
+
+of_remask : (d : Device) (who : Who) (text : List ℕ) (b : Bool) (o : Option Member) → member_of who d.members ≡ o
+    → IsOf who (accepted (λ (x : Remasked). Remasking x.member x.mask) (ensure b ENODEV >>= (λ plugged. ok_or o EBADF >>= remasked d text)))
+of_remask d who text false o is = λ other size log apart. refl
+of_remask d who text true None is = λ other size log apart. refl
+of_remask d who text true (Some m) is =
+    subst (λ (w : Who). IsOf w (accepted (λ (x : Remasked). Remasking x.member x.mask) (remasked d text m))) (sym (name_found who d.members m is)) (of_remasking m _ _)
+
 of_item : (s : Setup) (r : Registry) (name : List ℕ) (item : Item) (k : ℕ) (d : Device) → IsOf (Conn name) (item_act s r name item k d)
 of_item s r name (Said (Ok (Open device samples text cyclic))) k d =
     of_only (Conn name) (is_named s device k) _ (of_open (member_asked d (Conn name) (buffers_of r.users name k) samples text) _)
@@ -74,6 +88,8 @@ of_item s r name (Written device (Some target) payload) k d =
     of_only (Conn name) (is_named s device k) _ (of_accepted (Conn name) setting (write_found d (Conn name) target.0 target.1 payload) (λ x who size log apart. refl))
 of_item s r name (Said (Ok (SetTrig device trigger))) k d =
     of_only (Conn name) (is_named s device k) _ (of_accepted (Conn name) (λ t. Retriggering t) (trigger_answer s (outline_of d) trigger) (λ t who size log apart. refl))
+of_item s r name (Said (Ok (Remask device text))) k d =
+    of_only (Conn name) (is_named s device k) _ (of_remask d (Conn name) text d.site.plugged (member_of (Conn name) d.members) refl)
 of_item s r name (Said (Ok (EvOpen device))) k d = of_only (Conn name) (is_named s device k && d.site.plugged) (Holding (Conn name)) (λ who size log apart. refl)
 of_item s r name (Said (Ok (EvRead device))) k d = of_only (Conn name) (is_named s device k && d.site.plugged) (Draining (Conn name)) (λ who size log apart. refl)
 of_item s r name (Said (Ok (EvClose device))) k d = of_only (Conn name) (is_named s device k && d.site.plugged) (Releasing (Conn name)) (λ who size log apart. refl)

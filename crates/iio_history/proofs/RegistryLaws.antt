@@ -6,14 +6,14 @@ use Rattle.iio_text.specs.declared.errors.Errno.{Errno}
 use Rattle.iio_text.specs.declared.errors.Errno.TheVariants.{ENODEV, EBADF}
 use Rattle.iio_mask.specs.Text.{mask_of}
 use Rattle.iio_layout.specs.Shape.{count_of}
-use Rattle.iiod_grammar.specs.Command.{Open, Close, Read, ReadBuf, SetTrig, EvOpen, EvRead, EvClose}
+use Rattle.iiod_grammar.specs.Command.{Open, Close, Read, ReadBuf, SetTrig, Remask, EvOpen, EvRead, EvClose}
 use Rattle.iio_desc.specs.Description.{DeviceRecord}
 use Rattle.iio_device.specs.Site.{is_current}
 use Rattle.iio_history.specs.Who.{Who, Conn, same, is_among}
 use Rattle.iiod_grammar.specs.Stream.{Item, Said, Written}
-use Rattle.iio_history.specs.Event.{Event, Heard, Handled, Sensed, Unplugged, Remasked}
+use Rattle.iio_history.specs.Event.{Event, Heard, Handled, Sensed, Unplugged}
 use Rattle.iio_history.specs.Registry.{Setup, Member, Device, Outline, outline_of, outlines_of, Registry, Entry, entry_of, entries_at, buffers_of, is_member, is_named, member_of, without_members}
-use Rattle.iio_history.specs.Opening.{open_refusals, opened, member_asked, Remask, remasked, trigger_answer}
+use Rattle.iio_history.specs.Opening.{open_refusals, opened, member_asked, Remasked, remasked, trigger_answer}
 use Rattle.iio_history.specs.Act.{Act, Nothing, Joining, Remasking, Leaving, Ending, Reading, Holding, Draining, Releasing, Sensing, Unplugging, Asking, Retriggering, only, accepted, found, write_found, asking, setting, handled_entry, handled_act, item_act, act_of}
 use Rattle.iio_history.specs.Fold.{with_mask, members_after, first_device, device_after, registry_after}
 use Rattle.iio_history.specs.Law.{AreApart}
@@ -70,16 +70,16 @@ name_found who (x ∷ ms) m is = by_who (same who x.who) refl is (name_found who
     by_who true own h rest = let one : x ≡ m = cc in same_is who x.who own ∙ ap (λ (y : Member). y.who) one
     by_who false other h rest = rest h
 
-remasking : Remask → Act
+remasking : Remasked → Act
 remasking x = Remasking x.member x.mask
 
 fits_remasking : (o : Option Errno) (m : Member) (mask : ℕ) (d : Device) → member_of m.who d.members ≡ Some m
-    → Fits (accepted (λ (x : Remask). Remasking x.member x.mask) (unless_refused (record { member = m; mask = mask }) o)) d
+    → Fits (accepted (λ (x : Remasked). Remasking x.member x.mask) (unless_refused (record { member = m; mask = mask }) o)) d
 fits_remasking None m mask d is = is
 fits_remasking (Some e) m mask d is = tt
 
 fits_remask : (d : Device) (who : Who) (text : List ℕ) (b : Bool) (o : Option Member) → member_of who d.members ≡ o
-    → Fits (accepted (λ (x : Remask). Remasking x.member x.mask) (ensure b ENODEV >>= (λ plugged. ok_or o EBADF >>= remasked d text))) d
+    → Fits (accepted (λ (x : Remasked). Remasking x.member x.mask) (ensure b ENODEV >>= (λ plugged. ok_or o EBADF >>= remasked d text))) d
 fits_remask d who text false o is = tt
 fits_remask d who text true None is = tt
 fits_remask d who text true (Some m) is =
@@ -106,6 +106,7 @@ fits_item s r name (Written device (Some target) payload) k d =
     fits_only (is_named s device k) _ d (fits_accepted setting (write_found d (Conn name) target.0 target.1 payload) d (λ x. tt))
 fits_item s r name (Said (Ok (SetTrig device trigger))) k d =
     fits_only (is_named s device k) _ d (fits_accepted (λ t. Retriggering t) (trigger_answer s (outline_of d) trigger) d (λ t. tt))
+fits_item s r name (Said (Ok (Remask device text))) k d = fits_only (is_named s device k) _ d (fits_remask d (Conn name) text d.site.plugged (member_of (Conn name) d.members) refl)
 fits_item s r name (Said (Ok (EvOpen device))) k d = fits_only (is_named s device k && d.site.plugged) (Holding (Conn name)) d tt
 fits_item s r name (Said (Ok (EvRead device))) k d = fits_only (is_named s device k && d.site.plugged) (Draining (Conn name)) d tt
 fits_item s r name (Said (Ok (EvClose device))) k d = fits_only (is_named s device k && d.site.plugged) (Releasing (Conn name)) d tt
@@ -116,7 +117,6 @@ fits s r (Heard name item) k d = fits_item s r name item k d
 fits s r (Handled trigger device) k d = fits_only (device == k) _ d (fits_entry (outline_of d) d (entry_of k (entries_at r.triggers trigger)))
 fits s r (Sensed device moment) k d = fits_only (device == k && d.site.plugged) (Sensing moment) d tt
 fits s r (Unplugged device) k d = fits_only (device == k) Unplugging d tt
-fits s r (Remasked name device text) k d = fits_only (device == k) _ d (fits_remask d (Conn name) text d.site.plugged (member_of (Conn name) d.members) refl)
 fits s r e k d = tt
 
 -- ---- members are apart

@@ -118,6 +118,18 @@ lost_connections : plays adc (codes "# a comment, and a line without a word\n\nA
 unfolding digits
 lost_connections = refl
 
+remask : plays adc (codes "A \"OPEN adc0 1 00000005\\n\"\nfire t0 1000\nfire t0 2000\nA \"REMASK adc0 00000002\\n\"\nA \"READ adc0 BUFFER overruns\\n\"\nA \"READ adc0 BUFFER discarded\\n\"\nfire t0 3000\nA \"READBUF adc0 2\\n\"\nA \"REMASK adc0 00000008\\n\"\nfire t0 4000\nA \"READBUF adc0 2\\n\"\nB \"REMASK adc0 00000001\\n\"\n")
+    ≡ codes "A \"0\\n\"\npoll t0 accepted 1\nhandle t0 adc0 captured\npoll t0 accepted 1\nhandle t0 adc0 captured\nA \"0\\n\"\nA \"1\\n0\\n\"\nA \"1\\n2\\n\"\npoll t0 accepted 1\nhandle t0 adc0 captured\nA \"2\\n00000002\\n \\x00\"\nA \"-22\\n\"\npoll t0 accepted 1\nhandle t0 adc0 captured\nA \"2\\n00000002\\n \\x00\"\nB \"-9\\n\"\n"
+unfolding digits
+remask = refl
+
+-- what was lost before a REMASK isn't counted after it, and what it discarded is until the OPEN; by its form and in its order
+-- it is refused
+remask_begins_anew : plays (codes "trigger t0 2\ndevice y t0\nchannel voltage0 le:u8/8>>0\nchannel voltage1 le:u8/8>>0\nmasks 00000001 00000002\nrow 0 65 66\n") (codes "A \"SET y BUFFERS_COUNT 1\\nOPEN y 1 00000001\\n\"\nfire t0 1\nfire t0 2\nA \"REMASK y 00000002\\nREAD y BUFFER overruns\\nREAD y BUFFER discarded\\n\"\nfire t0 3\nA \"READBUF y 1\\nREMASK y 00000003\\nREMASK y 0000001\\nREMASK y\\nREMASK z 00000001\\nREMASK y 00000000\\n\"\nB \"OPEN y 1 00000001\\n\"\nA \"CLOSE y\\nOPEN y 1 00000001\\nREAD y BUFFER discarded\\n\"\nunplug y\nA \"REMASK y 00000001\\n\"\n")
+    ≡ codes "A \"0\\n0\\n\"\npoll t0 accepted 1\nhandle t0 y captured\npoll t0 accepted 1\nhandle t0 y captured\nA \"0\\n1\\n0\\n1\\n1\\n\"\npoll t0 accepted 1\nhandle t0 y captured\nA \"1\\n00000002\\nB-22\\n-22\\n-22\\n-19\\n-22\\n\"\nB \"-22\\n\"\nA \"0\\n0\\n1\\n0\\n\"\ny unplugged\nA \"-19\\n\"\n"
+unfolding digits
+remask_begins_anew = refl
+
 -- ---- heads
 
 no_input : prints [] ≡ []

@@ -6,11 +6,11 @@ use Rattle.iio_attr.specs.declared.attributes.Attr.{Attr}
 use Rattle.iio_attr.specs.declared.attributes.Attr.TheVariants as attr
 use Rattle.iio_sensor.specs.Driver.{values_of, ask_fails}
 use Rattle.iio_device.specs.Site.{is_current, is_empty}
-use Rattle.iiod_grammar.specs.Command.{Place, Open, Close, Read, ReadBuf, SetTrig, EvOpen, EvRead, EvClose}
+use Rattle.iiod_grammar.specs.Command.{Place, Open, Close, Read, ReadBuf, SetTrig, Remask, EvOpen, EvRead, EvClose}
 use Rattle.iiod_session.specs.Attributes.{Assignment, Named, found as found_by, write_found as write_found_by}
 use Rattle.iio_history.specs.Who.{Who, Conn}
 use Rattle.iiod_grammar.specs.Stream.{Item, Said, Written, End}
-use Rattle.iio_history.specs.Event.{Event, Heard, Dropped, Handled, Sensed, Unplugged, Remasked}
+use Rattle.iio_history.specs.Event.{Event, Heard, Dropped, Handled, Sensed, Unplugged}
 use Rattle.iio_history.specs.Registry.{Setup, Member, Device, Outline, outline_of, Registry, Capture, Entry, is_member, is_named, buffers_of, entries_at, entry_of}
 use Rattle.iio_history.specs.Opening.{open_answer, remask_answer, trigger_answer}
 
@@ -24,7 +24,7 @@ pub data Act : Type 0 where
   Leaving : (gone : List Who) → Act
   -- and their holdings of events
   Ending : (gone : List Who) → Act
-  -- a READBUF of so many bytes
+  -- a READBUF of that many bytes
   Reading : (who : Who) (bytes : ℕ) → Act
   -- an entry that is current is handled: its capture
   Capturing : (capture : Capture) → Act
@@ -96,6 +96,7 @@ item_act s r name (Written device (Some target) payload) k d =
     only (is_named s device k) (accepted setting (write_found d (Conn name) target.0 target.1 payload))
 item_act s r name (Said (Ok (SetTrig device trigger))) k d =
     only (is_named s device k) (accepted (λ t. Retriggering t) (trigger_answer s (outline_of d) trigger))
+item_act s r name (Said (Ok (Remask device text))) k d = only (is_named s device k) (accepted (λ x. Remasking x.member x.mask) (remask_answer d (Conn name) text))
 item_act s r name (Said (Ok (EvOpen device))) k d = only (is_named s device k && d.site.plugged) (Holding (Conn name))
 item_act s r name (Said (Ok (EvRead device))) k d = only (is_named s device k && d.site.plugged) (Draining (Conn name))
 item_act s r name (Said (Ok (EvClose device))) k d = only (is_named s device k && d.site.plugged) (Releasing (Conn name))
@@ -109,7 +110,6 @@ act_of s r (Dropped name) k d = Ending (Conn name ∷ [])
 act_of s r (Handled trigger device) k d = only (device == k) (handled_act (outline_of d) (entry_of k (entries_at r.triggers trigger)))
 act_of s r (Sensed device moment) k d = only (device == k && d.site.plugged) (Sensing moment)
 act_of s r (Unplugged device) k d = only (device == k) Unplugging
-act_of s r (Remasked name device text) k d = only (device == k) (accepted (λ x. Remasking x.member x.mask) (remask_answer d (Conn name) text))
 act_of s r e k d = Nothing
 
 abbrev pub act_at : Setup → Registry → Event → ℕ → Act

@@ -14,7 +14,7 @@ use Rattle.iiod_session.specs.Desk.{Bare, DeskRecord, buffers_of as desk_buffers
 use Rattle.iiod_session.specs.Front.{DeviceFront, Front}
 use Rattle.iiod_session.specs.Machine.{Machine, Member as MachineMember, Station as MachineStation}
 use Rattle.iio_history.specs.Who.{Who, Conn, same}
-use Rattle.iio_history.specs.Event.{Event, Heard, Remasked}
+use Rattle.iio_history.specs.Event.{Event, Heard}
 use Rattle.iio_history.specs.Registry.{Setup, buffers_of}
 use Rattle.iio_history.specs.Told.{Line, Seat, Station, Told, member_of_seat, registry_of}
 use Rattle.iio_history.specs.Machine.{step}
@@ -99,7 +99,7 @@ is_listed dev (d ∷ ds) = d == dev || is_listed dev ds
 
 -- a membership of device k as its connection knows it
 abbrev pub bare_by : ℕ → Seat → Bare
-bare_by k x = record { dev = k; number = x.number; mask = x.member.mask; capacity = x.member.capacity }
+bare_by k x = record { dev = k; number = x.number; mask = x.member.mask; capacity = x.member.capacity; discarded = x.discarded }
 
 abbrev pub seat_in : ℕ → Who → Option Station → Option Bare
 seat_in k who None = None
@@ -176,10 +176,9 @@ pub record IsBench (s : Setup) (m : Told) : Type 0 where
   pub shapes : map shape_of_station m.stations ≡ map shape_of_device s.desc.devices
   pub stations : Every (IsStation (names_of m)) m.stations
 
--- an event that a step can be: one of a connection that is there; none is a REMASK
+-- an event that a step can be: one of a connection that is there
 abbrev pub IsStep : List (List ℕ) → Event → Type 0
 IsStep names (Heard name item) = is_in names name ≡ true
-IsStep names (Remasked name device text) = ⊥
 IsStep names e = Unit {0}
 
 -- whether members can still be numbered

@@ -12,7 +12,7 @@ use Rattle.iiod_session.specs.Acts.{Acts, act, left_desk, left_machine}
 use Rattle.iiod_session.specs.Desk.{DeskRecord}
 use Rattle.iiod_session.specs.Machine.{Machine}
 use Rattle.iiod_session.specs.Run.{FeedTells, State, desk_after, machine_after, texts_of}
-use Rattle.iio_history.specs.Event.{Event, Arrived, Heard, Dropped, Remasked}
+use Rattle.iio_history.specs.Event.{Event, Arrived, Heard, Dropped}
 use Rattle.iio_history.specs.Registry.{Setup, is_live}
 use Rattle.iio_history.specs.Told.{Station, Told, registry_of, told}
 use Rattle.iio_history.specs.Machine.{step}
@@ -54,7 +54,7 @@ LiveIsThere = (m : Told) (name : List ℕ) → is_live name (registry_of m).user
 
 -- ---- numbers of members
 
--- so many members more can be numbered
+-- that many members more can be numbered
 abbrev pub CanJoinMore : ℕ → Station → Type 0
 CanJoinMore n st = st.joinings + n ≤ 2 ^ 64 - 1
 
@@ -92,7 +92,6 @@ ActsTell =
 abbrev pub IsOthers : List ℕ → Event → Type 0
 IsOthers name (Heard speaker item) = bytes_eq speaker name ≡ false
 IsOthers name (Dropped speaker) = bytes_eq speaker name ≡ false
-IsOthers name (Remasked speaker device mask) = bytes_eq speaker name ≡ false
 IsOthers name e = Unit {0}
 
 abbrev pub DesksAreKept : Type 0

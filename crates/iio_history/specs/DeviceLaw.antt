@@ -1,5 +1,5 @@
 -- The law that joins each call of a device, over any queue's end, to the device that the plain state gives.
-use Rattle.std.specs.Prelude.{◌≡◌, ℕ, ℤ, ◌-◌, ◌^◌, ◌≤◌, ◌==◌, true, false, List, [], length, slice_get, Option, Some, option_map, Result, Ok}
+use Rattle.std.specs.Prelude.{◌≡◌, ℕ, ℤ, ◌-◌, ◌^◌, ◌≤◌, ◌==◌, true, false, List, [], length, slice_get, Option, Some, IfSome, option_map, Result, Ok}
 use Rattle.iio_text.specs.declared.values.Fixed.{Fixed}
 use Rattle.iio_attr.specs.declared.attributes.Attr.{Attr}
 use Rattle.iio_attr.specs.declared.attributes.Attr.TheVariants.{Raw}
@@ -9,25 +9,27 @@ use Rattle.iio_trigger.specs.Trigger.{Handed, State, holds_place}
 use Rattle.iio_event.specs.Monitor.{after_close, after_open, after_read, close_answer, open_answer, read_answer}
 use Rattle.iio_device.specs.declared.handling.Handled.{Handled}
 use Rattle.iio_device.specs.declared.membership.Member.{Member as MemberNumber}
+use Rattle.iio_device.specs.declared.membership.Membership.{Membership}
 use Rattle.iio_device.specs.declared.roster.JoinRefused.{JoinRefused}
+use Rattle.iio_device.specs.declared.roster.RemaskRefused.{RemaskRefused}
 use Rattle.iio_device.specs.Active.{active_for}
-use Rattle.iio_device.specs.Device.{DeviceView, Handles, JoinsDevice, LeavesDevice, after_raw, after_sense, after_trigger, after_write, at_site, has_no_place as lacks_place, is_bad_mask, raw_answer, trigger_answer, write_answer}
-use Rattle.iio_device.specs.Members.{masks_of}
+use Rattle.iio_device.specs.Device.{DeviceView, Handles, JoinsDevice, LeavesDevice, RemasksDevice, after_raw, after_sense, after_trigger, after_write, at_site, has_no_place as lacks_place, is_bad_mask, raw_answer, trigger_answer, write_answer}
+use Rattle.iio_device.specs.Members.{masks_of, member_of}
 use Rattle.iio_device.specs.Site.{is_empty, unplugged, with_monitor}
 use Rattle.iio_device.specs.Stored.{attr_value}
 use Rattle.iio_kfifo.specs.Ends.{Offers as WriterOffers, WriterEnd}
 use Rattle.iio_kfifo.specs.Offers.{accepted, lost_in}
 use Rattle.iio_kfifo.specs.Queue.{Offers as QueueOffers, Queue}
-use Rattle.iiod_session.specs.Calls.{closed, ev_close_of, ev_open_of, ev_read_of, has_no_place, is_attached, is_raw, open_of, read_attr_of, set_trigger_of, write_attr_of}
+use Rattle.iiod_session.specs.Calls.{closed, ev_close_of, ev_open_of, ev_read_of, has_no_place, is_attached, is_raw, open_of, read_attr_of, remask_of, set_trigger_of, write_attr_of}
 use Rattle.iiod_session.specs.Front.{Front, device_name, shape_at}
-use Rattle.iiod_session.specs.Machine.{Machine, lost_by, with_site, with_station}
+use Rattle.iiod_session.specs.Machine.{Machine, MemberId, lost_by, with_site, with_station}
 use Rattle.iio_history.specs.Event.{Handled as HandledAt, Sensed as SensedAt, Unplugged}
 use Rattle.iio_history.specs.Registry.{Setup, entries_at, entry_of}
 use Rattle.iio_history.specs.Told.{Told}
 use Rattle.iio_history.specs.Machine.{step}
 use Rattle.iio_history.specs.Bench.{IsBench, front_of, machine_of}
 use Rattle.iio_history.specs.BenchMoves.{entry_made, look_made}
-use Rattle.iio_history.specs.Devices.{AreMet, Does, IsAt, IsJoined, IsMet, entry_by, handled_answer, held_errno, holder_errno, queue_waited, queue_waits, raw_value, station_met, station_of, writer_waited, writer_waits}
+use Rattle.iio_history.specs.Devices.{AreMet, Does, IsAt, IsJoined, IsMet, IsRemasked, entry_by, handled_answer, held_errno, holder_errno, queue_waited, queue_waits, raw_value, station_met, station_of, writer_waited, writer_waits}
 
 module _ {Q : Type 0} where
   -- ---- members
@@ -56,6 +58,18 @@ module _ {Q : Type 0} where
       → LeavesDevice lost number r old new trigger trigger' → IsAt lost capacity waits m dev old
       → (option_map lost r ≡ lost_by number (station_of lost capacity waits old).members) × IsAt lost capacity waits (closed m dev number) dev new
 
+  -- a seat's mask is that of the member of its number, where there is one
+  abbrev pub IsSeatAt : MemberId → DeviceView Q → Type 0
+  IsSeatAt id d = IfSome (member_of id.number d.standing.members) (λ (m : Membership Q). m.mask.bits ≡ id.mask)
+
+  -- an exchange of a mask is a REMASK's: the scans that waited or the same errno, and the same device
+  abbrev pub RemasksAgree : (lost capacity : Q → ℕ) → Type 0
+  RemasksAgree lost capacity =
+      (waits : Q → List (List ℕ)) (front : Front) (m : Machine) (dev : ℕ) (id : MemberId) (mask : Mask) (tail : Q) (r : Result Q (RemaskRefused Q)) (old new : DeviceView Q)
+      → RemasksDevice lost id.number mask tail r old new → IsAt lost capacity waits m dev old → shape_at front dev ≡ old.standing.shape
+      → is_bad_mask old.standing.shape mask.bits ≡ false → IsSeatAt id old → IsNewEnd lost waits tail
+      → IsRemasked lost capacity waits (remask_of front m dev id mask.bits (capacity tail)) m r dev new
+
   -- a device holds a place at its trigger exactly while the plain state has it attached there
   abbrev pub IsPlaced : (lost capacity : Q → ℕ) → (Q → List (List ℕ)) → (trigger : ℕ) → DeviceView Q → State → Type 0
   IsPlaced lost capacity waits t d trigger = holds_place d.number trigger.attached ≡ is_attached t (station_of lost capacity waits d)
@@ -67,6 +81,12 @@ module _ {Q : Type 0} where
       → old.site.trigger ≡ Some t → IsPlaced lost capacity waits t old trigger
       → (JoinsDevice mask tail r old new trigger trigger' → IsPlaced lost capacity waits t new trigger')
       × (LeavesDevice lost number left old new trigger trigger' → IsPlaced lost capacity waits t new trigger')
+
+  -- an exchange of a mask leaves the trigger alone
+  abbrev pub RemasksStay : (lost capacity : Q → ℕ) → Type 0
+  RemasksStay lost capacity =
+      (waits : Q → List (List ℕ)) (t number : ℕ) (mask : Mask) (tail : Q) (r : Result Q (RemaskRefused Q)) (old new : DeviceView Q) (trigger : State)
+      → RemasksDevice lost number mask tail r old new → IsPlaced lost capacity waits t old trigger → IsPlaced lost capacity waits t new trigger
 
   -- ---- captures
 

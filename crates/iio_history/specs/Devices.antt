@@ -23,11 +23,12 @@ use Rattle.iio_device.specs.declared.handling.RawFault.TheVariants as raw
 use Rattle.iio_device.specs.declared.membership.Member.{Member as MemberNumber}
 use Rattle.iio_device.specs.declared.membership.Membership.{Membership}
 use Rattle.iio_device.specs.declared.roster.JoinRefused.{JoinRefused}
+use Rattle.iio_device.specs.declared.roster.RemaskRefused.{RemaskRefused}
 use Rattle.iio_device.specs.Device.{DeviceView}
 use Rattle.iio_device.specs.Site.{is_current}
 use Rattle.iiod_session.specs.Calls.{Outcome}
 use Rattle.iiod_session.specs.Machine.{Machine, Member, Station}
-use Rattle.iiod_session.specs.Opening.{errno_of}
+use Rattle.iiod_session.specs.Opening.{errno_of, remask_errno}
 use Rattle.iio_history.specs.Registry.{Entry}
 
 -- ---- a device
@@ -70,10 +71,15 @@ module _ {Q : Type 0} (lost capacity : Q → ℕ) where
     IsJoined o m (Ok member) dev d = Does o (Ok member.number) dev d
     IsJoined o m (Err refused) dev d = IsRefused o m (errno_of refused.fault) dev d
 
+    -- an exchange of a mask: the answer is how many scans waited in the queue's end that comes back
+    abbrev pub IsRemasked : Outcome ℕ → Machine → Result Q (RemaskRefused Q) → ℕ → DeviceView Q → Type 0
+    IsRemasked o m (Ok before) dev d = Does o (Ok (length (waits before))) dev d
+    IsRemasked o m (Err refused) dev d = IsRefused o m (remask_errno refused.fault) dev d
+
     -- ---- what a capture meets
 
     module _ (waited : Q → Q → List (List ℕ)) where
-      -- an offer after which the first end was the second: where the queue that it met has room the scan stands behind what
+      -- an offer after which the first end was the second: where the queue that it met has room the scan stands after what
       -- waited, and else it is lost and counted
       abbrev pub IsMet : List ℕ → Offered → (old new : Q) → Type 0
       IsMet scan Taken old new = (length (waited old new) < capacity old) × (lost new ≡ lost old) × (waits new ≡ waited old new ++ scan ∷ [])
@@ -105,7 +111,7 @@ queue_waits q = q.scans
 abbrev pub queue_waited : Queue → Queue → List (List ℕ)
 queue_waited old new = old.scans
 
--- the scans that the first end accepted, without so many that were received
+-- the scans that the first end accepted, without those that were received, which are that many
 abbrev pub left_after : ℕ → WriterEnd → List (List ℕ)
 left_after received w = map (λ (s : Sent). s.scan) (drop received (accepted w.knows.offers))
 

@@ -5,6 +5,7 @@ use Rattle.std.specs.Str.{bytes_eq}
 use Rattle.iio_layout.specs.Shape.{ShapeRecord}
 use Rattle.iio_layout.specs.Layout.{scan_size}
 use Rattle.iio_layout.specs.Scan.{scan_of}
+use Rattle.iiod_session.specs.Desk.{more_discarded}
 use Rattle.iio_history.specs.Places.{map_from}
 use Rattle.iio_history.specs.Who.{Who, same, is_among}
 use Rattle.iiod_grammar.specs.Stream.{Scanner, InLine, scanner_after}
@@ -13,7 +14,7 @@ use Rattle.iio_history.specs.Registry.{Setup, User, Registry, Capture, outline_o
 use Rattle.iio_history.specs.Act.{Act, Joining, Remasking, Leaving, Ending, Reading, Capturing, act_of}
 use Rattle.iio_history.specs.Fold.{site_after, triggers_after, user_after, newcomers, clock_after}
 use Rattle.iio_history.specs.Queue.{new_queue, offered, taken_from}
-use Rattle.iio_history.specs.Membership.{joinings_after, more_discarded}
+use Rattle.iio_history.specs.Membership.{joinings_after}
 use Rattle.iio_history.specs.Told.{Seat, Station, Line, Told, captures_after, totals_after, device_of, registry_of, told}
 
 -- a capture is offered to a member, laid out under its own mask

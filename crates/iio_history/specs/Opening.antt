@@ -12,8 +12,8 @@ use Rattle.iio_layout.specs.Layout.{scan_size}
 use Rattle.iio_desc.specs.Description.{find_trigger, place_count}
 use Rattle.iio_device.specs.Active.{is_without_union}
 use Rattle.iio_device.specs.Site.{is_empty}
-use Rattle.iiod_session.specs.declared.limits.TheConstants.{MAX_BYTES}
-use Rattle.iiod_session.specs.Opening.{is_excess, asked_refusals, join_refusals}
+use Rattle.iio_kfifo.specs.declared.limits.TheConstants.{MAX_BYTES}
+use Rattle.iiod_session.specs.Opening.{is_excess, asked_refusals, mask_refusals, join_refusals}
 use Rattle.iio_history.specs.Who.{Who}
 use Rattle.iio_history.specs.Registry.{Setup, Member, Device, Outline, outline_of, outlines_of, Registry, is_member, member_of, without_members, mask_of_member, attached_count}
 
@@ -48,25 +48,21 @@ open_answer s r d who buffers samples text cyclic =
 -- a member under a new mask, beside the masks of the others
 abbrev pub remask_refusals : ShapeRecord → List ℕ → Member → Bool → ℕ → List (Bool × Errno)
 remask_refusals shape others m is_mask mask =
-    (not is_mask, EINVAL)
-    ∷ (not (has_data shape mask), EINVAL)
-    ∷ (nat_lt MAX_BYTES (m.capacity * scan_size shape mask), EINVAL)
-    ∷ (is_without_union shape others mask, EINVAL)
-    ∷ []
+    mask_refusals (not is_mask) (not (has_data shape mask)) (nat_lt MAX_BYTES (m.capacity * scan_size shape mask)) ++ (is_without_union shape others mask, EINVAL) ∷ []
 
 -- a mask is given to a member
-pub record Remask : Type 0 where
+pub record Remasked : Type 0 where
   pub member : Member
   pub mask : ℕ
 
-abbrev pub remasked : Device → List ℕ → Member → Result Remask Errno
+abbrev pub remasked : Device → List ℕ → Member → Result Remasked Errno
 remasked d text m =
     let mask = unwrap_or (mask_of text (count_of d.shape)) 0 in
     unless_refused (record { member = m; mask = mask })
     (first_refusal (remask_refusals d.shape (map mask_of_member (without_members (m.who ∷ []) d.members)) m (is_some (mask_of text (count_of d.shape))) mask))
 
 -- the answer to a REMASK of a device
-abbrev pub remask_answer : Device → Who → List ℕ → Result Remask Errno
+abbrev pub remask_answer : Device → Who → List ℕ → Result Remasked Errno
 remask_answer d who text = do
   plugged ← ensure d.site.plugged ENODEV
   m ← ok_or (member_of who d.members) EBADF

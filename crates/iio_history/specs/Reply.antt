@@ -13,7 +13,7 @@ use Rattle.iio_layout.specs.Shape.{count_of}
 use Rattle.iio_layout.specs.Layout.{scan_size}
 use Rattle.iio_sensor.specs.Driver.{value_of, ask_fails}
 use Rattle.iiod_grammar.specs.declared.command.Refused.TheVariants.{Empty}
-use Rattle.iiod_grammar.specs.Command.{Place, Help, Version, Print, Timeout, Open, Close, Read, ReadBuf, WriteBuf, GetTrig, SetTrig, SetBuffers, EvOpen, EvRead, EvClose}
+use Rattle.iiod_grammar.specs.Command.{Place, Help, Version, Print, Timeout, Open, Close, Read, ReadBuf, WriteBuf, GetTrig, SetTrig, SetBuffers, Remask, EvOpen, EvRead, EvClose}
 use Rattle.iiod_reply.specs.Reply.{Reply, Nothing, Number, Refusal, Value, Raw, Block}
 use Rattle.iio_desc.specs.Description.{find_device, device_name, trigger_name}
 use Rattle.iio_device.specs.Site.{is_empty}
@@ -25,7 +25,7 @@ use Rattle.iio_event.specs.Code.{event_bytes}
 use Rattle.iio_event.specs.Monitor.{is_holder}
 use Rattle.iio_history.specs.Registry.{Setup, outline_of, buffers_of}
 use Rattle.iio_history.specs.Attributes.{value_text}
-use Rattle.iio_history.specs.Opening.{open_answer, trigger_answer}
+use Rattle.iio_history.specs.Opening.{open_answer, remask_answer, trigger_answer}
 use Rattle.iio_history.specs.Act.{found, write_found}
 use Rattle.iio_history.specs.Told.{Seat, Station, Told, device_of, registry_of}
 
@@ -71,7 +71,7 @@ read_buffer st x asked =
       Ok (Block (count_of st.shape) x.member.mask (take (asked / size) x.queue.scans) asked))
 
 abbrev pub buffer_number : Attr → Seat → ℕ
-buffer_number a x = queue_number a x.member.capacity (length x.queue.scans) x.queue.lost
+buffer_number a x = queue_number a x.member.capacity (length x.queue.scans) x.queue.lost x.discarded
 
 abbrev pub buffer_value : Attr → Option Seat → Result Reply Errno
 buffer_value a seat = do
@@ -144,6 +144,10 @@ reply s m name (Said (Ok (SetTrig device trigger))) = replied (do
 reply s m name (Said (Ok (SetBuffers device n))) = replied (do
   x ← there s m device
   set ← ensure (is_buffers_count n) EINVAL
+  Ok zero_reply)
+reply s m name (Said (Ok (Remask device text))) = replied (do
+  x ← known s m device
+  remask ← remask_answer (device_of x.station) (Conn name) text
   Ok zero_reply)
 reply s m name (Said (Ok (EvOpen device))) = replied (do
   x ← there s m device

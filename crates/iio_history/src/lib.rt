@@ -5,7 +5,7 @@ ghost use Rattle.iio_history.specs.Law.{StepIsTold, MachineIsTold, QueuesArePriv
 ghost use Rattle.iio_history.specs.Numbered.{NumberedAreSteps};
 ghost use Rattle.iio_history.specs.BenchLaw.{FirstIsBench, BenchIsKept, ToldIsBench, SizesAreSome, NamesStay, ArrivedIsThere, LiveIsThere, RoomLasts, ItemsAreActs, ActsTell, DesksAreKept, NewIsDesk, ArrivalIsNothing, EndsAreLeft, FeedsAreActs, ScriptFeedsTell, FeedsKeepDesks};
 ghost use Rattle.iio_history.specs.BenchMoves.{UnpluggingIs, ClockIs, PollIs, LookIs, HandlingIs, TriggersAre, MovesPrint};
-ghost use Rattle.iio_history.specs.DeviceLaw.{JoinsAgree, LeavesAgree, HandlingsAgree, WritesAgree, TriggersAgree, SamplesAgree, ReadsAgree, LooksAgree, UnpluggingsAgree, PlacesAgree, HoldingsAgree, EventsAgree, ReleasesAgree, EndsAgree, ToldLooksAgree, ToldHandlingsAgree, QueuesAreMet, QueuesStand, RingsAreMet};
+ghost use Rattle.iio_history.specs.DeviceLaw.{JoinsAgree, LeavesAgree, RemasksAgree, RemasksStay, HandlingsAgree, WritesAgree, TriggersAgree, SamplesAgree, ReadsAgree, LooksAgree, UnpluggingsAgree, PlacesAgree, HoldingsAgree, EventsAgree, ReleasesAgree, EndsAgree, ToldLooksAgree, ToldHandlingsAgree, QueuesAreMet, QueuesStand, RingsAreMet};
 
 mod limits;
 
@@ -63,6 +63,8 @@ pub fn move_law()
 pub fn device_law<Q: Tail>()
     ensures joins { JoinsAgree Q.lost Q.capacity }
     ensures leaves { LeavesAgree Q.lost Q.capacity }
+    ensures remasks { RemasksAgree Q.lost Q.capacity }
+    ensures stay { RemasksStay Q.lost Q.capacity }
     ensures places { PlacesAgree Q.lost Q.capacity }
     ensures handlings { HandlingsAgree Q.taken Q.lost Q.size Q.capacity Q.offer_gives }
     ensures writes { WritesAgree Q.lost Q.capacity }

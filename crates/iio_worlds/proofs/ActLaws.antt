@@ -12,16 +12,16 @@ use Rattle.iio_layout.specs.Active.{has_data}
 use Rattle.iio_layout.specs.Layout.{scan_size}
 use Rattle.iio_sensor.specs.Driver.{ask_fails, values_of}
 use Rattle.iio_desc.specs.Description.{place_count}
-use Rattle.iiod_grammar.specs.Command.{Place, Open, Close, Read, ReadBuf, SetTrig, EvOpen, EvRead, EvClose}
+use Rattle.iiod_grammar.specs.Command.{Place, Open, Close, Read, ReadBuf, SetTrig, Remask, EvOpen, EvRead, EvClose}
 use Rattle.iio_device.specs.Active.{is_without_union}
 use Rattle.iio_device.specs.Site.{is_empty}
 use Rattle.iio_history.specs.Who.{Who, Conn}
 use Rattle.iiod_grammar.specs.Stream.{Item, Said, Written, End}
-use Rattle.iio_history.specs.Event.{Event, Arrived, Heard, Dropped, Polled, Handled, Sensed, Clock, Unplugged, Remasked}
+use Rattle.iio_history.specs.Event.{Event, Arrived, Heard, Dropped, Polled, Handled, Sensed, Clock, Unplugged}
 use Rattle.iio_history.specs.Registry.{Setup, Member, Device, Outline, outline_of, outlines_of, Registry, Entry, User, mask_of_member, is_member, member_of, without_members, first_buffers, buffers_of, is_attached, is_at, attached_count, entries_from, entries_at, entry_of, is_named}
 use Rattle.iiod_session.specs.Attributes.{Named, named_at, is_of_buffer}
 use Rattle.iiod_session.specs.Opening.{is_excess, asked_refusals, join_refusals}
-use Rattle.iio_history.specs.Opening.{has_no_place, open_answer, Remask, remasked, remask_answer, remask_refusals, trigger_named, trigger_answer}
+use Rattle.iio_history.specs.Opening.{has_no_place, open_answer, Remasked, remasked, remask_answer, remask_refusals, trigger_named, trigger_answer}
 use Rattle.iio_history.specs.Act.{Act, Nothing, Joining, Remasking, Failing, Capturing, Retriggering, Asking, only, accepted, found, write_found, setting, is_raw, asking, handled_act, item_act, act_of}
 use Rattle.iio_history.proofs.RegistryLaws.{name_found}
 use Rattle.iio_worlds.specs.Bystanders.{is_parting, has_other}
@@ -126,7 +126,7 @@ pub trigger_same : (w : Who) (s : Setup) (d : Device) (name : Option (List ℕ))
 trigger_same w s d name even =
     ap (λ b. ensure d.site.plugged ENODEV >>= (λ plugged. trigger_named s name >>= (λ trigger. ensure b EBUSY >>= (λ free. Ok trigger)))) (sym (masks_even w d.members even))
 
-abbrev remask_by : ShapeRecord → List ℕ → List ℕ → Member → Result Remask Errno
+abbrev remask_by : ShapeRecord → List ℕ → List ℕ → Member → Result Remasked Errno
 remask_by shape text others m =
     let mask = unwrap_or (mask_of text (count_of shape)) 0 in
     unless_refused (record { member = m; mask = mask }) (first_refusal (remask_refusals shape others m (is_some (mask_of text (count_of shape))) mask))
@@ -141,7 +141,7 @@ remasked_same w d text (Some m) is none =
     subst (λ v. without_members (v ∷ []) (own_members w d.members) ≡ []) who (none_left w (own_members w d.members) (alone_own w d.members)) in
     ap (λ ms. remask_by d.shape text (masks_of ms) m) (before ∙ sym after)
 
-remask_same : (w : Who) (d : Device) (text : List ℕ) → has_other w d.members ≡ false → remask_answer d w text ≡ remask_answer (own_device w d) w text
+pub remask_same : (w : Who) (d : Device) (text : List ℕ) → has_other w d.members ≡ false → remask_answer d w text ≡ remask_answer (own_device w d) w text
 remask_same w d text none =
     ap (λ x. ensure d.site.plugged ENODEV >>= (λ plugged. x)) (remasked_same w d text (member_of w d.members) refl none)
     ∙ ap (λ o. ensure d.site.plugged ENODEV >>= (λ plugged. ok_or o EBADF >>= remasked (own_device w d) text)) (sym (membership_own w d.members))
@@ -161,42 +161,48 @@ abbrev pub IsOwn : List ℕ → Event → Type 0
 IsOwn a (Arrived name bytes) = name ≡ a
 IsOwn a (Heard name item) = name ≡ a
 IsOwn a (Dropped name) = name ≡ a
-IsOwn a (Remasked name device text) = name ≡ a
 IsOwn a e = Unit {0}
 
 -- what holds of the connection's own events and of those of no connection
-pub of_own : (a : List ℕ) (P : Event → Type 0) → ((bytes : List ℕ) → P (Arrived a bytes)) → ((item : Item) → P (Heard a item)) → P (Dropped a) → ((device : ℕ) (text : List ℕ) → P (Remasked a device text))
+pub of_own : (a : List ℕ) (P : Event → Type 0) → ((bytes : List ℕ) → P (Arrived a bytes)) → ((item : Item) → P (Heard a item)) → P (Dropped a)
     → ((trigger : ℕ) (moment : ℤ) → P (Polled trigger moment)) → ((trigger device : ℕ) → P (Handled trigger device)) → ((device : ℕ) (moment : ℤ) → P (Sensed device moment))
     → ((moment : ℤ) → P (Clock moment)) → ((device : ℕ) → P (Unplugged device)) → (e : Event) → IsOwn a e → P e
-of_own a P arrived heard dropped remasks polls handles senses clocks unplugs (Arrived name bytes) is = subst (λ n. P (Arrived n bytes)) (sym is) (arrived bytes)
-of_own a P arrived heard dropped remasks polls handles senses clocks unplugs (Heard name item) is = subst (λ n. P (Heard n item)) (sym is) (heard item)
-of_own a P arrived heard dropped remasks polls handles senses clocks unplugs (Dropped name) is = subst (λ n. P (Dropped n)) (sym is) dropped
-of_own a P arrived heard dropped remasks polls handles senses clocks unplugs (Remasked name device text) is = subst (λ n. P (Remasked n device text)) (sym is) (remasks device text)
-of_own a P arrived heard dropped remasks polls handles senses clocks unplugs (Polled trigger moment) is = polls trigger moment
-of_own a P arrived heard dropped remasks polls handles senses clocks unplugs (Handled trigger device) is = handles trigger device
-of_own a P arrived heard dropped remasks polls handles senses clocks unplugs (Sensed device moment) is = senses device moment
-of_own a P arrived heard dropped remasks polls handles senses clocks unplugs (Clock moment) is = clocks moment
-of_own a P arrived heard dropped remasks polls handles senses clocks unplugs (Unplugged device) is = unplugs device
+of_own a P arrived heard dropped polls handles senses clocks unplugs (Arrived name bytes) is = subst (λ n. P (Arrived n bytes)) (sym is) (arrived bytes)
+of_own a P arrived heard dropped polls handles senses clocks unplugs (Heard name item) is = subst (λ n. P (Heard n item)) (sym is) (heard item)
+of_own a P arrived heard dropped polls handles senses clocks unplugs (Dropped name) is = subst (λ n. P (Dropped n)) (sym is) dropped
+of_own a P arrived heard dropped polls handles senses clocks unplugs (Polled trigger moment) is = polls trigger moment
+of_own a P arrived heard dropped polls handles senses clocks unplugs (Handled trigger device) is = handles trigger device
+of_own a P arrived heard dropped polls handles senses clocks unplugs (Sensed device moment) is = senses device moment
+of_own a P arrived heard dropped polls handles senses clocks unplugs (Clock moment) is = clocks moment
+of_own a P arrived heard dropped polls handles senses clocks unplugs (Unplugged device) is = unplugs device
 
 only_same : (b : Bool) (x y : Act) → (b ≡ true → x ≡ y) → only b x ≡ only b y
 only_same true x y h = h refl
 only_same false x y h = refl
 
+yes : (b c : Bool) → b ≡ true → c ≡ true → (b && c) ≡ true
+yes b c x y = cc
+
+same_name : (xs : List ℕ) → bytes_eq xs xs ≡ true
+same_name xs = Rattle.iio_history.proofs.WhoLaws.same_self (Conn xs)
+
 item_alike : (s : Setup) (a : List ℕ) (r : Registry) (item : Item) (k : ℕ) (d : Device) → AllEven (Conn a) r.devices → Even (Conn a) d.members
-    → item_act s r a item k d ≡ item_act s (own_registry a r) a item k (own_device (Conn a) d)
-item_alike s a r (Said (Ok (Open device samples text cyclic))) k d all even =
+    → (is_parting s a (Heard a item) k ≡ true → has_other (Conn a) d.members ≡ false) → item_act s r a item k d ≡ item_act s (own_registry a r) a item k (own_device (Conn a) d)
+item_alike s a r (Said (Ok (Open device samples text cyclic))) k d all even apart =
     ap (λ x. only (is_named s device k) (accepted (λ m. Joining m) x)) (open_same s a r d k samples text cyclic all even)
-item_alike s a r (Said (Ok (Close device))) k d all even = refl
-item_alike s a r (Said (Ok (ReadBuf device bytes))) k d all even = refl
-item_alike s a r (Said (Ok (Read device place attribute))) k d all even = ap (only (is_named s device k)) (read_same (Conn a) d place attribute even)
-item_alike s a r (Written device (Some target) payload) k d all even =
+item_alike s a r (Said (Ok (Close device))) k d all even apart = refl
+item_alike s a r (Said (Ok (ReadBuf device bytes))) k d all even apart = refl
+item_alike s a r (Said (Ok (Read device place attribute))) k d all even apart = ap (only (is_named s device k)) (read_same (Conn a) d place attribute even)
+item_alike s a r (Written device (Some target) payload) k d all even apart =
     ap (λ x. only (is_named s device k) (accepted setting x)) (write_same (Conn a) d target.0 target.1 payload)
-item_alike s a r (Said (Ok (SetTrig device trigger))) k d all even = ap (λ x. only (is_named s device k) (accepted (λ t. Retriggering t) x)) (trigger_same (Conn a) s d trigger even)
-item_alike s a r (Said (Ok (EvOpen device))) k d all even = refl
-item_alike s a r (Said (Ok (EvRead device))) k d all even = refl
-item_alike s a r (Said (Ok (EvClose device))) k d all even = refl
-item_alike s a r (End refusal) k d all even = refl
-item_alike s a r item k d all even = refl
+item_alike s a r (Said (Ok (SetTrig device trigger))) k d all even apart = ap (λ x. only (is_named s device k) (accepted (λ t. Retriggering t) x)) (trigger_same (Conn a) s d trigger even)
+item_alike s a r (Said (Ok (Remask device text))) k d all even apart = only_same (is_named s device k) _ _
+    (λ named. ap (accepted (λ x. Remasking x.member x.mask)) (remask_same (Conn a) d text (apart (yes (bytes_eq a a) (is_named s device k) (same_name a) named))))
+item_alike s a r (Said (Ok (EvOpen device))) k d all even apart = refl
+item_alike s a r (Said (Ok (EvRead device))) k d all even apart = refl
+item_alike s a r (Said (Ok (EvClose device))) k d all even apart = refl
+item_alike s a r (End refusal) k d all even apart = refl
+item_alike s a r item k d all even apart = refl
 
 abbrev ActAlike : Setup → List ℕ → Registry → ℕ → Device → Event → Type 0
 ActAlike s a r k d e = (is_parting s a e k ≡ true → has_other (Conn a) d.members ≡ false) → act_of s r e k d ≡ act_of s (own_registry a r) e k (own_device (Conn a) d)
@@ -204,18 +210,11 @@ ActAlike s a r k d e = (is_parting s a e k ≡ true → has_other (Conn a) d.mem
 pub act_alike : (s : Setup) (a : List ℕ) (r : Registry) (e : Event) (k : ℕ) (d : Device) → IsOwn a e → AllEven (Conn a) r.devices → Even (Conn a) d.members → ActAlike s a r k d e
 act_alike s a r e k d is all even = of_own a (ActAlike s a r k d)
     (λ bytes apart. refl)
-    (λ item apart. item_alike s a r item k d all even)
+    (λ item apart. item_alike s a r item k d all even apart)
     (λ apart. refl)
-    (λ device text apart. only_same (device == k) _ _ (λ here. ap (accepted (λ x. Remasking x.member x.mask)) (remask_same (Conn a) d text (apart (yes (bytes_eq a a) (device == k) (same_name a) here)))))
     (λ trigger moment apart. refl)
     (λ trigger device apart. ap (only (device == k)) (handled_same (Conn a) d (entry_of k (entries_at r.triggers trigger)) even))
     (λ device moment apart. refl)
     (λ moment apart. refl)
     (λ device apart. refl)
     e is
-  where
-    yes : (b c : Bool) → b ≡ true → c ≡ true → (b && c) ≡ true
-    yes b c x y = cc
-
-    same_name : (xs : List ℕ) → bytes_eq xs xs ≡ true
-    same_name xs = Rattle.iio_history.proofs.WhoLaws.same_self (Conn xs)

@@ -7,7 +7,7 @@ use Rattle.std.proofs.lemmas.Bool.Decides.{nat_tests}
 use Rattle.iio_desc.specs.Description.{Description}
 use Rattle.iio_desc.specs.Description as desc_spec
 use Rattle.iio_device.specs.Site.{is_empty}
-use Rattle.iiod_grammar.specs.Command.{Close}
+use Rattle.iiod_grammar.specs.Command.{Close, Remask}
 use Rattle.iiod_grammar.specs.Stream.{Item, Said, End, items_from}
 use Rattle.iiod_session.specs.Desk.{Bare, DeskRecord}
 use Rattle.iio_history.specs.Who.{Who, Conn, same}
@@ -25,6 +25,7 @@ use Rattle.iio_worlds.proofs.StanceLaws.{AllThere, others_are_there, say_same, s
 
 part_same : (x y : Opens) (item : Item) → ((device : List ℕ) → x.others device ≡ y.others device) → x.none ≡ y.none → may_part x item ≡ may_part y item
 part_same x y (Said (Ok (Close device))) others none = ap not (others device)
+part_same x y (Said (Ok (Remask device text))) others none = ap not (others device)
 part_same x y (End refusal) others none = none
 part_same x y item others none = refl
 

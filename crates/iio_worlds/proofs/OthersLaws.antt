@@ -7,17 +7,17 @@ use Rattle.std.proofs.lemmas.Bool.{true≢false}
 use Rattle.iio_base.specs.Refusals.{ensure, ◌>>=◌, unless_refused}
 use Rattle.iio_text.specs.declared.errors.Errno.{Errno}
 use Rattle.iio_text.specs.declared.errors.Errno.TheVariants.{EBADF, ENODEV}
-use Rattle.iiod_grammar.specs.Command.{Open, Close, Read, ReadBuf, SetTrig, SetBuffers, EvOpen, EvRead, EvClose}
+use Rattle.iiod_grammar.specs.Command.{Open, Close, Read, ReadBuf, SetTrig, Remask, SetBuffers, EvOpen, EvRead, EvClose}
 use Rattle.iio_desc.specs.Description.{find_device}
 use Rattle.iio_device.specs.Site.{is_empty}
 use Rattle.iio_history.specs.Places.{map_from}
 use Rattle.iio_history.specs.Who.{Who, Conn, same, is_among}
 use Rattle.iiod_grammar.specs.Stream.{Item, Said, Written, End, scanner_after}
-use Rattle.iio_history.specs.Event.{Event, Arrived, Heard, Dropped, Remasked}
+use Rattle.iio_history.specs.Event.{Event, Arrived, Heard, Dropped}
 use Rattle.iio_history.specs.Monitor.{held_among}
 use Rattle.iio_history.specs.Registry.{Setup, Member, Device, Outline, outline_of, outlines_of, Registry, User, is_member, is_at, is_named, member_of, mask_of_member, buffers_of, user_named}
 use Rattle.iiod_session.specs.Attributes.{Named}
-use Rattle.iio_history.specs.Opening.{member_asked, Remask, remasked}
+use Rattle.iio_history.specs.Opening.{member_asked, Remasked, remasked}
 use Rattle.iio_history.specs.Act.{Act, Joining, Remasking, Leaving, Ending, Reading, Asking, only, accepted, found, asking, is_raw, item_act, act_of}
 use Rattle.iio_history.specs.Fold.{with_count, new_user, newcomers, triggers_after, clock_after}
 use Rattle.iio_history.specs.Told.{Station, Line, Told, device_of, registry_of}
@@ -35,7 +35,6 @@ abbrev pub IsForeign : List ℕ → Event → Type 0
 IsForeign a (Arrived name bytes) = bytes_eq name a ≡ false
 IsForeign a (Heard name item) = bytes_eq name a ≡ false
 IsForeign a (Dropped name) = bytes_eq name a ≡ false
-IsForeign a (Remasked name device text) = bytes_eq name a ≡ false
 IsForeign a e = ⊥
 
 -- no other holds a device's events
@@ -97,7 +96,7 @@ by_ending : (w : Who) (name : List ℕ) (o : Outline) → same w (Conn name) ≡
 by_ending w name o apart free = (apart_alone w name apart, free_alone w name o.site.monitor.holder apart free)
 
 by_refusal : (w : Who) (m : Member) (mask : ℕ) (o : Outline) (refusal : Option Errno) → same m.who w ≡ false
-    → Bystanding w (accepted (λ (x : Remask). Remasking x.member x.mask) (unless_refused (record { member = m; mask = mask }) refusal)) o
+    → Bystanding w (accepted (λ (x : Remasked). Remasking x.member x.mask) (unless_refused (record { member = m; mask = mask }) refusal)) o
 by_refusal w m mask o None apart = apart
 by_refusal w m mask o (Some e) apart = tt
 
@@ -128,6 +127,8 @@ by_item s a r name (Said (Ok (SetTrig device trigger))) k d apart rule here free
 by_item s a r name (Said (Ok (EvOpen device))) k d apart rule here free = absurd (no_item s r a name (Said (Ok (EvOpen device))) refl apart rule)
 by_item s a r name (Said (Ok (EvRead device))) k d apart rule here free = absurd (no_item s r a name (Said (Ok (EvRead device))) refl apart rule)
 by_item s a r name (Said (Ok (EvClose device))) k d apart rule here free = absurd (no_item s r a name (Said (Ok (EvClose device))) refl apart rule)
+by_item s a r name (Said (Ok (Remask device text))) k d apart rule here free =
+    by_only (Conn a) (is_named s device k) _ (outline_of d) (λ at. by_remask (Conn a) (Conn name) text d (outline_of d) d.site.plugged (member_of (Conn name) d.members) refl apart)
 by_item s a r name (End refusal) k d apart rule here free = by_ending (Conn a) name (outline_of d) (same_sym (Conn a) (Conn name) ∙ apart) free
 by_item s a r name item k d apart rule here free = tt
 
@@ -136,8 +137,6 @@ pub bystanding : (s : Setup) (a : List ℕ) (r : Registry) (e : Event) (k : ℕ)
 bystanding s a r (Arrived name bytes) k d apart rule here free = tt
 bystanding s a r (Heard name item) k d apart rule here free = by_item s a r name item k d apart rule here free
 bystanding s a r (Dropped name) k d apart rule here free = by_ending (Conn a) name (outline_of d) (same_sym (Conn a) (Conn name) ∙ apart) free
-bystanding s a r (Remasked name device text) k d apart rule here free =
-    by_only (Conn a) (device == k) _ (outline_of d) (λ at. by_remask (Conn a) (Conn name) text d (outline_of d) d.site.plugged (member_of (Conn name) d.members) refl apart)
 bystanding s a r e k d apart rule here free = absurd apart
 
 -- ---- lines
@@ -166,7 +165,6 @@ line_kept s a r (Heard name (Said (Ok (SetBuffers device n)))) l apart is =
 line_kept s a r (Heard name (End refusal)) l apart is = ended_kept a name l apart is
 line_kept s a r (Dropped name) l apart is = ended_kept a name l apart is
 line_kept s a r (Heard name item) l apart is = refl
-line_kept s a r (Remasked name device text) l apart is = refl
 line_kept s a r e l apart is = absurd apart
 
 newcomers_gone : (s : Setup) (a : List ℕ) (e : Event) (us : List User) → IsForeign a e → own_lines a (map (new_line e) (newcomers s e us)) ≡ []
@@ -209,7 +207,6 @@ rest_kept : (m : Told) (a : List ℕ) (e : Event) → IsForeign a e → (clock_a
 rest_kept m a (Arrived name bytes) apart = (refl, refl)
 rest_kept m a (Heard name item) apart = (refl, refl)
 rest_kept m a (Dropped name) apart = (refl, refl)
-rest_kept m a (Remasked name device text) apart = (refl, refl)
 rest_kept m a e apart = absurd apart
 
 pub step_kept : (s : Setup) (a : List ℕ) (m : Told) (e : Event) → IsForeign a e → others_are_modest s (registry_of m) a e ≡ true → AllFree (Conn a) (registry_of m).devices → own a (step s m e) ≡ own a m

@@ -12,7 +12,7 @@ use Rattle.iio_attr.specs.declared.attributes.Attr.TheVariants as attr
 use Rattle.iio_layout.specs.Shape.{ShapeRecord}
 use Rattle.iio_sensor.specs.Driver.{value_of, ask_fails, after_ask}
 use Rattle.iio_desc.specs.Description.{DeviceRecord}
-use Rattle.iiod_grammar.specs.Command.{Open, Close, Read, ReadBuf, SetTrig, EvOpen, EvRead, EvClose}
+use Rattle.iiod_grammar.specs.Command.{Open, Close, Read, ReadBuf, SetTrig, Remask, EvOpen, EvRead, EvClose}
 use Rattle.iio_device.specs.Sensing.{Sensed as Sensing_, channel_sensed, channels_sensed, begun, is_watched}
 use Rattle.iio_device.specs.Site.{Site, attached, is_current, is_empty, site_written, new_site}
 use Rattle.iio_history.specs.Who.{Who, Conn, same, is_among}
@@ -169,6 +169,8 @@ own_item s a r (Written device (Some target) payload) k d apart =
     own_only (Conn a) (is_named s device k) _ d.members (λ named. own_answer (Conn a) setting (write_found d (Conn a) target.0 target.1 payload) d.members (λ x. tt))
 own_item s a r (Said (Ok (SetTrig device trigger))) k d apart =
     own_only (Conn a) (is_named s device k) _ d.members (λ named. own_answer (Conn a) (λ t. Retriggering t) (trigger_answer s (outline_of d) trigger) d.members (λ t. tt))
+own_item s a r (Said (Ok (Remask device text))) k d apart =
+    own_only (Conn a) (is_named s device k) _ d.members (λ named. own_answer (Conn a) (λ x. Remasking x.member x.mask) (remask_answer d (Conn a) text) d.members (λ x. tt))
 own_item s a r (Said (Ok (EvOpen device))) k d apart = own_only (Conn a) (is_named s device k && d.site.plugged) (Holding (Conn a)) d.members (λ named. refl)
 own_item s a r (Said (Ok (EvRead device))) k d apart = own_only (Conn a) (is_named s device k && d.site.plugged) (Draining (Conn a)) d.members (λ named. tt)
 own_item s a r (Said (Ok (EvClose device))) k d apart = own_only (Conn a) (is_named s device k && d.site.plugged) (Releasing (Conn a)) d.members (λ named. tt)
@@ -183,7 +185,6 @@ own_act s a r e k d is = of_own a (IsOwnAct s a r k d)
     (λ bytes apart. tt)
     (λ item apart. own_item s a r item k d apart)
     (λ apart. (refl, apart (same_name a)))
-    (λ device text apart. own_only (Conn a) (device == k) _ d.members (λ here. own_answer (Conn a) (λ x. Remasking x.member x.mask) (remask_answer d (Conn a) text) d.members (λ x. tt)))
     (λ trigger moment apart. tt)
     (λ trigger device apart. own_only (Conn a) (device == k) _ d.members (λ here. own_handled (Conn a) (outline_of d) (entry_of k (entries_at r.triggers trigger)) d.members))
     (λ device moment apart. own_only (Conn a) (device == k && d.site.plugged) (Sensing moment) d.members (λ here. tt))

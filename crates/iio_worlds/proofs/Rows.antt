@@ -107,3 +107,19 @@ retriggering = b (codes "SETTRIG a") ∷ a (codes "OPEN a 1 00000001") ∷ []
 retriggering_differs : (first_offence one A [] retriggering ≡ Some 0) × (transcript_kept one A [] retriggering ≡ codes "A \"-22\\n\"\n") × (transcript one [] (without_others A retriggering) ≡ codes "A \"0\\n\"\n")
 unfolding digits
 retriggering_differs = (refl, refl, refl)
+
+-- A exchanges its mask beside B: the refusal for the union depends on B's
+abbrev remasking : List Step
+remasking = a (codes "OPEN a 1 00000001") ∷ b (codes "OPEN a 1 00000001") ∷ a (codes "REMASK a 00000002") ∷ []
+
+remasking_differs : (first_offence listed A [] remasking ≡ Some 2) × (transcript_kept listed A [] remasking ≡ codes "A \"0\\n\"\nA \"-22\\n\"\n") × (transcript listed [] (without_others A remasking) ≡ codes "A \"0\\n\"\nA \"0\\n\"\n")
+unfolding digits
+remasking_differs = (refl, refl, refl)
+
+-- B may exchange its own beside A
+abbrev remasked : List Step
+remasked = a (codes "OPEN a 1 00000001") ∷ b (codes "OPEN a 1 00000001") ∷ b (codes "REMASK a 00000002") ∷ fire 1 ∷ a (codes "READBUF a 1") ∷ []
+
+remasked_meets : (only_bystanders one A (with_steps one [] remasked) ≡ true) × (transcript_kept one A [] remasked ≡ transcript one [] (without_others A remasked))
+unfolding digits
+remasked_meets = (refl, refl)

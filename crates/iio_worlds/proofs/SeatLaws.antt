@@ -9,7 +9,7 @@ use Rattle.iio_history.specs.Registry.{Outline}
 use Rattle.iio_history.specs.Monitor.{held_among}
 use Rattle.iio_history.specs.Act.{Act, Nothing, Joining, Remasking, Leaving, Ending, Reading, Capturing}
 use Rattle.iio_history.specs.Queue.{new_queue, taken_from}
-use Rattle.iio_history.specs.Membership.{more_discarded}
+use Rattle.iiod_session.specs.Desk.{more_discarded}
 use Rattle.iio_history.specs.Told.{Seat}
 use Rattle.iio_history.specs.Machine.{offered_seat, read_seat, remasked_seat, without_seats, seats_after}
 use Rattle.iio_history.proofs.WhoLaws.{same_is}

@@ -43,7 +43,7 @@ closing_prints : (solo A adc (codes "A \"OPEN adc0 1 00000005\\n\"\nB \"OPEN adc
 unfolding digits
 closing_prints = refl
 
--- a bad line behind the step that offends
+-- a bad line after the step that offends
 bad_line_behind : (solo A adc (codes "A \"OPEN adc0 1 00000005\\n\"\nB \"EVOPEN adc0\\n\"\nfires t0 1000\n")).printed ≡ codes "refused 11 count\n"
 unfolding digits
 bad_line_behind = refl

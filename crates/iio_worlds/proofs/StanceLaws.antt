@@ -5,7 +5,7 @@ use Rattle.std.proofs.lemmas.Slice.Eq.{bytes_eq-Decides}
 use Rattle.std.proofs.lemmas.Bool.{and_from, or_left, or_right, not_from_false, true≢false}
 use Rattle.std.proofs.lemmas.Bool.Decides.{nat_tests}
 use Rattle.iio_desc.specs.Description.{find_device}
-use Rattle.iiod_grammar.specs.Command.{Open, Close, Read, ReadBuf, GetTrig, SetBuffers}
+use Rattle.iiod_grammar.specs.Command.{Open, Close, Read, ReadBuf, GetTrig, SetBuffers, Remask}
 use Rattle.iiod_grammar.specs.Stream.{Item, Said, End, items_from}
 use Rattle.iiod_session.specs.Desk.{DeskRecord}
 use Rattle.iio_history.specs.Who.{Who, Conn, same}
@@ -66,6 +66,8 @@ at_all k f (d ∷ ds) = ap (λ b. not (f d) && b) (at_all (suc k) f ds)
 own_part : (s : Setup) (a name : List ℕ) (item : Item) (r : Registry) → bytes_eq name a ≡ true → all_from (is_met s a (Heard name item)) 0 r.devices ≡ may_part (opens_of s.desc (stance_of a r)) item
 own_part s a name (Said (Ok (Close device))) r is =
     ap (λ b. all_from (λ k d. not ((b && is_at (find_device s.desc device) k) && has_others a d)) 0 r.devices) is ∙ at_named (has_others a) r.devices (find_device s.desc device)
+own_part s a name (Said (Ok (Remask device text))) r is =
+    ap (λ b. all_from (λ k d. not ((b && is_at (find_device s.desc device) k) && has_others a d)) 0 r.devices) is ∙ at_named (has_others a) r.devices (find_device s.desc device)
 own_part s a name (End refusal) r is = ap (λ b. all_from (λ k d. not (b && has_others a d)) 0 r.devices) is ∙ at_all 0 (has_others a) r.devices
 own_part s a name item r is = never 0 (λ i. false) (has_others a) r.devices (λ j. refl)
 
@@ -83,6 +85,7 @@ say_same f g (Said (Ok (ReadBuf device bytes))) same = same device
 say_same f g (Said (Ok (Read device place attribute))) same = same device
 say_same f g (Said (Ok (GetTrig device))) same = same device
 say_same f g (Said (Ok (SetBuffers device n))) same = same device
+say_same f g (Said (Ok (Remask device text))) same = same device
 say_same f g item same = refl
 
 and_true : (b : Bool) → (b && true) ≡ b

@@ -6,13 +6,13 @@ use Rattle.std.proofs.lemmas.Bool.{false_from_ne_true, true≢false}
 use Rattle.iio_base.specs.Refusals.{unless_refused}
 use Rattle.iio_text.specs.declared.errors.Errno.{Errno}
 use Rattle.iio_desc.specs.Description.{find_device}
-use Rattle.iiod_grammar.specs.Command.{Open, Close, Read, ReadBuf, GetTrig, SetTrig, SetBuffers, EvOpen, EvRead, EvClose}
+use Rattle.iiod_grammar.specs.Command.{Open, Close, Read, ReadBuf, GetTrig, SetTrig, SetBuffers, Remask, EvOpen, EvRead, EvClose}
 use Rattle.iiod_grammar.specs.Stream.{Item, Said, Written, End}
 use Rattle.iio_history.specs.Places.{map_from}
 use Rattle.iio_history.specs.Who.{Who, Conn, same}
-use Rattle.iio_history.specs.Event.{Event, Arrived, Heard, Dropped, Remasked}
+use Rattle.iio_history.specs.Event.{Event, Arrived, Heard, Dropped}
 use Rattle.iio_history.specs.Registry.{Setup, Member, Device, Registry, outline_of, buffers_of, is_member, is_named, without_members}
-use Rattle.iio_history.specs.Opening.{member_asked, trigger_answer}
+use Rattle.iio_history.specs.Opening.{member_asked, remask_answer, trigger_answer}
 use Rattle.iio_history.specs.Act.{Act, Joining, Remasking, Leaving, Ending, Reading, Asking, Retriggering, Holding, Draining, Releasing, only, accepted, asking, found, write_found, setting, item_act, act_of}
 use Rattle.iio_history.specs.Fold.{with_mask, members_after, device_after, registry_after, registry_next}
 use Rattle.iio_history.specs.Transcript.{and_then}
@@ -30,7 +30,6 @@ speaks : List ℕ → Event → Bool
 speaks a (Arrived name bytes) = bytes_eq name a
 speaks a (Heard name item) = bytes_eq name a
 speaks a (Dropped name) = bytes_eq name a
-speaks a (Remasked name device text) = bytes_eq name a
 speaks a e = true
 
 own_by : (a : List ℕ) (e : Event) → speaks a e ≡ true → IsOwn a e
@@ -38,7 +37,6 @@ unfolding speaks
 own_by a (Arrived name bytes) is = (bytes_eq-Decides name a).0 is
 own_by a (Heard name item) is = (bytes_eq-Decides name a).0 is
 own_by a (Dropped name) is = (bytes_eq-Decides name a).0 is
-own_by a (Remasked name device text) is = (bytes_eq-Decides name a).0 is
 own_by a e is = tt
 
 foreign_by : (a : List ℕ) (e : Event) → speaks a e ≡ false → IsForeign a e
@@ -46,7 +44,6 @@ unfolding speaks
 foreign_by a (Arrived name bytes) is = is
 foreign_by a (Heard name item) is = is
 foreign_by a (Dropped name) is = is
-foreign_by a (Remasked name device text) is = is
 foreign_by a e is = absurd (true≢false is)
 
 pub quiet_all : (s : Setup) (a : List ℕ) (h : List Event) → OnlyBystanders s a h → IsQuiet a (registry_after s h)
@@ -109,6 +106,7 @@ by_item s r name (Written device (Some target) payload) k d =
     by_only (Conn name) (is_named s device k) _ (by_accepted (Conn name) setting (write_found d (Conn name) target.0 target.1 payload) (λ x. tt))
 by_item s r name (Said (Ok (SetTrig device trigger))) k d =
     by_only (Conn name) (is_named s device k) _ (by_accepted (Conn name) (λ t. Retriggering t) (trigger_answer s (outline_of d) trigger) (λ t. tt))
+by_item s r name (Said (Ok (Remask device text))) k d = by_only (Conn name) (is_named s device k) _ (by_accepted (Conn name) (λ x. Remasking x.member x.mask) (remask_answer d (Conn name) text) (λ x. tt))
 by_item s r name (Said (Ok (EvOpen device))) k d = by_only (Conn name) (is_named s device k && d.site.plugged) (Holding (Conn name)) tt
 by_item s r name (Said (Ok (EvRead device))) k d = by_only (Conn name) (is_named s device k && d.site.plugged) (Draining (Conn name)) tt
 by_item s r name (Said (Ok (EvClose device))) k d = by_only (Conn name) (is_named s device k && d.site.plugged) (Releasing (Conn name)) tt
@@ -216,6 +214,7 @@ modest_same s r q a (Said (Ok (ReadBuf device bytes))) alike = open_same s r q a
 modest_same s r q a (Said (Ok (Read device place attribute))) alike = open_same s r q a device alike
 modest_same s r q a (Said (Ok (GetTrig device))) alike = open_same s r q a device alike
 modest_same s r q a (Said (Ok (SetBuffers device n))) alike = open_same s r q a device alike
+modest_same s r q a (Said (Ok (Remask device text))) alike = open_same s r q a device alike
 modest_same s r q a item alike = refl
 
 met_is : (s : Setup) (a : List ℕ) (e : Event) (k : ℕ) (ds : List Device) → all_from (is_met s a e) k ds ≡ all_from (λ j b. not (is_parting s a e j && b)) k (map (others_of a) ds)
@@ -228,6 +227,7 @@ met_same s r q a e alike = met_is s a e 0 r.devices ∙ ap (all_from (λ j b. no
 -- another's item parts nothing
 never_parts : (s : Setup) (a name : List ℕ) (item : Item) (k : ℕ) → bytes_eq name a ≡ false → is_parting s a (Heard name item) k ≡ false
 never_parts s a name (Said (Ok (Close device))) k apart = ap (λ b. b && is_named s device k) apart
+never_parts s a name (Said (Ok (Remask device text))) k apart = ap (λ b. b && is_named s device k) apart
 never_parts s a name (End refusal) k apart = apart
 never_parts s a name item k apart = refl
 

@@ -84,7 +84,7 @@ lines_same s a r e (l ∷ ls) = ap (λ k. k ∷ map (line_after s r e) ls) (line
 newcomers_alike : (s : Setup) (a : List ℕ) (us : List User) (e : Event) → IsOwn a e → newcomers s e us ≡ newcomers s e (own_users a us)
 newcomers_alike s a us e is = of_own a (λ e. newcomers s e us ≡ newcomers s e (own_users a us))
     (λ bytes. ap (λ o. cond (is_some o) [] (new_user s a ∷ [])) (sym (user_own a us)))
-    (λ item. refl) refl (λ device text. refl) (λ trigger moment. refl) (λ trigger device. refl) (λ device moment. refl) (λ moment. refl) (λ device. refl)
+    (λ item. refl) refl (λ trigger moment. refl) (λ trigger device. refl) (λ device moment. refl) (λ moment. refl) (λ device. refl)
     e is
 
 lines_alike : (s : Setup) (a : List ℕ) (r : Registry) (e : Event) (ls : List Line) → IsOwn a e

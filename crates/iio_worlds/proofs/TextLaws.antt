@@ -9,7 +9,7 @@ use Rattle.iio_attr.specs.declared.attributes.Attr.{Attr}
 use Rattle.iio_attr.specs.declared.attributes.Attr.TheVariants as attr
 use Rattle.iio_sensor.specs.Driver.{value_of, ask_fails, next_count}
 use Rattle.iiod_grammar.specs.declared.command.Refused.TheVariants.{Empty}
-use Rattle.iiod_grammar.specs.Command.{Place, Open, Close, Read, ReadBuf, WriteBuf, GetTrig, SetTrig, SetBuffers, EvOpen, EvRead, EvClose}
+use Rattle.iiod_grammar.specs.Command.{Place, Open, Close, Read, ReadBuf, WriteBuf, GetTrig, SetTrig, SetBuffers, Remask, EvOpen, EvRead, EvClose}
 use Rattle.iiod_reply.specs.Reply.{Reply, Number, Value, Raw, text_of}
 use Rattle.iio_desc.specs.Description.{find_device, trigger_name, device_name}
 use Rattle.iio_device.specs.Site.{is_empty}
@@ -18,18 +18,20 @@ use Rattle.iiod_grammar.specs.Stream.{Item, Said, Written, End, InLine, items_fr
 use Rattle.iio_history.specs.Event.{Event, Arrived, Heard, Polled, Handled}
 use Rattle.iio_event.specs.Code.{event_bytes}
 use Rattle.iio_event.specs.Monitor.{is_holder}
-use Rattle.iio_history.specs.Registry.{Setup, Entry, user_named, has_ended, is_live, buffers_of, outline_of, outlines_of, entries_from, entries_at, entry_of}
+use Rattle.iio_history.specs.Registry.{Setup, Entry, is_at, is_named, user_named, has_ended, is_live, buffers_of, outline_of, outlines_of, entries_from, entries_at, entry_of}
 use Rattle.iiod_session.specs.Acts.{is_buffers_count, zero_reply}
 use Rattle.iiod_session.specs.Attributes.{Named, is_of_buffer}
-use Rattle.iio_history.specs.Opening.{open_answer, trigger_answer}
+use Rattle.iio_history.specs.Opening.{open_answer, remask_answer, trigger_answer}
 use Rattle.iio_history.specs.Act.{found, write_found, handled_act}
 use Rattle.iio_history.specs.Told.{Seat, Station, Told, device_of, member_of_seat, registry_of}
 use Rattle.iio_history.specs.Reply.{replied, Known, known, there, seat_of, read_buffer, buffer_number, buffer_value, raw_value, attribute_value, read_value, trigger_value, reply}
 use Rattle.iio_history.specs.Transcript.{Step, Feed, Fire, Poll, Handle, Sense, SetClock, Drop, Unplug, begun_by, poll_entries, events_of_step, printed, missed_at, act_word, handled_word, sensed_words, sense_words, unplug_word, event_text}
 use Rattle.iio_worlds.proofs.Alone.{plain_seat, own_seats, own_station, own_registry, own, Even, empty_map, get_map, members_own, device_own, registry_own, user_own, line_own, seat_own}
+use Rattle.iio_history.proofs.WhoLaws.{same_self}
+use Rattle.iio_history.proofs.BenchLists.{itself}
 use Rattle.iio_worlds.proofs.SiteLaws.{sensed_plain}
-use Rattle.iio_worlds.proofs.ActLaws.{AllEven, entries_same, IsOwn, of_own, open_same, found_same, write_same, trigger_same, handled_same}
-use Rattle.iio_worlds.proofs.StepLaws.{there as at_device}
+use Rattle.iio_worlds.proofs.ActLaws.{AllEven, entries_same, IsOwn, of_own, open_same, found_same, write_same, trigger_same, remask_same, handled_same}
+use Rattle.iio_worlds.proofs.StepLaws.{AreUnparted, there as at_device}
 
 -- ---- at a device
 
@@ -58,6 +60,23 @@ known_same : (s : Setup) (a : List ℕ) (m : Told) (device : List ℕ) (f f' : A
     → ((k : ℕ) (st : Station) → slice_get m.stations k ≡ Some st → f (record { number = k; station = st }) ≡ f' (record { number = k; station = own_station (Conn a) st }))
     → (known s m device >>= f) ≡ (known s (own a m) device >>= f')
 known_same s a m device f f' all = number_same a m (find_device s.desc device) f f' all
+
+abbrev found_at : Told → Option ℕ → Result Known Errno
+found_at m o = ok_or o ENODEV >>= (λ k. ok_or (slice_get m.stations k) ENODEV >>= as_known k)
+
+-- ... of that name
+named_same : (s : Setup) (a : List ℕ) (m : Told) (device : List ℕ) (f f' : Answer)
+    → ((k : ℕ) (st : Station) → is_named s device k ≡ true → slice_get m.stations k ≡ Some st → f (record { number = k; station = st }) ≡ f' (record { number = k; station = own_station (Conn a) st }))
+    → (known s m device >>= f) ≡ (known s (own a m) device >>= f')
+named_same s a m device f f' all = by (find_device s.desc device) refl
+  where
+    by : (o : Option ℕ) → find_device s.desc device ≡ o → (known s m device >>= f) ≡ (known s (own a m) device >>= f')
+    by None is = ap (λ x. found_at m x >>= f) is ∙ sym (ap (λ x. found_at (own a m) x >>= f') is)
+    by (Some k) is =
+        let named : is_named s device k ≡ true = ap (λ x. is_at x k) is ∙ itself k in
+        ap (λ x. found_at m x >>= f) is
+        ∙ place_same (Conn a) k (slice_get m.stations k) f f' (λ st here. all k st named here) ∙ ap (λ o. ok_or o ENODEV >>= as_known k >>= f') (own_place a m k)
+        ∙ sym (ap (λ x. found_at (own a m) x >>= f') is)
 
 -- where it is plugged
 only_there : Answer → Answer
@@ -126,6 +145,7 @@ read_same w s clock k st place attribute even =
     number_of : (a : Attr) (x : Seat) → Rattle.std.specs.Prelude.◌≡◌ {A = Result Reply Errno} (Ok (Value (decimal (buffer_number a x)))) (Ok (Value (decimal (buffer_number a (plain_seat x)))))
     number_of attr.Overruns x = refl
     number_of attr.DataAvailable x = refl
+    number_of attr.Discarded x = refl
     number_of a x = refl
 
 -- ---- the reply
@@ -133,8 +153,8 @@ read_same w s clock k st place attribute even =
 at_station : (m : Told) (w : Who) → AllEven w (registry_of m).devices → (k : ℕ) (st : Station) → slice_get m.stations k ≡ Some st → Even w (map member_of_seat st.seats)
 at_station m w even k st is = even k (device_of st) (at_device m k st is)
 
-pub reply_alike : (s : Setup) (a : List ℕ) (m : Told) (item : Item) → AllEven (Conn a) (registry_of m).devices → reply s m a item ≡ reply s (own a m) a item
-reply_alike s a m (Said (Ok (Open device samples text cyclic))) even =
+pub reply_alike : (s : Setup) (a : List ℕ) (m : Told) (item : Item) → AllEven (Conn a) (registry_of m).devices → AreUnparted s a (Heard a item) (registry_of m).devices → reply s m a item ≡ reply s (own a m) a item
+reply_alike s a m (Said (Ok (Open device samples text cyclic))) even part =
     let w = Conn a in
     let answer : Told → Known → Result Reply Errno =
     λ m x. open_answer s (registry_of m) (device_of x.station) w (buffers_of (registry_of m).users a x.number) samples text cyclic >>= (λ member. Ok zero_reply) in
@@ -143,42 +163,48 @@ reply_alike s a m (Said (Ok (Open device samples text cyclic))) even =
     (open_same s a (registry_of m) (device_of st) k samples text cyclic even (at_station m w even k st is)
     ∙ ap (λ d. open_answer s (own_registry a (registry_of m)) d w (buffers_of (own_registry a (registry_of m)).users a k) samples text cyclic) (sym (device_own w st))
     ∙ ap (λ r. open_answer s r (device_of (own_station w st)) w (buffers_of r.users a k) samples text cyclic) (sym (registry_own a m)))))
-reply_alike s a m (Said (Ok (Close device))) even =
+reply_alike s a m (Said (Ok (Close device))) even part =
     let answer : Answer = λ x. ok_or (seat_of (Conn a) x.station.seats) EBADF >>= (λ seat. Ok zero_reply) in
     ap replied (known_same s a m device answer answer (λ k st is. seat_same (Conn a) st.seats (λ x. Ok zero_reply) (λ x. Ok zero_reply) (λ x. refl)))
-reply_alike s a m (Said (Ok (ReadBuf device bytes))) even =
+reply_alike s a m (Said (Ok (ReadBuf device bytes))) even part =
     let answer : Answer = λ x. ok_or (seat_of (Conn a) x.station.seats) EBADF >>= (λ seat. read_buffer x.station seat bytes) in
     ap replied (known_same s a m device answer answer (λ k st is. seat_same (Conn a) st.seats (λ x. read_buffer st x bytes) (λ x. read_buffer (own_station (Conn a) st) x bytes) (λ x. refl)))
-reply_alike s a m (Said (Ok (Read device place attribute))) even =
+reply_alike s a m (Said (Ok (Read device place attribute))) even part =
     let answer : Answer = λ x. read_value s m.clock x (Conn a) place attribute in
     ap replied (known_same s a m device answer answer (λ k st is. read_same (Conn a) s m.clock k st place attribute (at_station m (Conn a) even k st is)))
-reply_alike s a m (Written device (Some target) payload) even =
+reply_alike s a m (Written device (Some target) payload) even part =
     let answer : Answer = λ x. write_found (device_of x.station) (Conn a) target.0 target.1 payload >>= (λ setting. Ok (Number (pos (length payload)))) in
     ap replied (known_same s a m device answer answer (λ k st is.
     ap (λ r. r >>= (λ setting. Ok (Number (pos (length payload)))))
     (write_same (Conn a) (device_of st) target.0 target.1 payload ∙ ap (λ d. write_found d (Conn a) target.0 target.1 payload) (sym (device_own (Conn a) st)))))
-reply_alike s a m (Said (Ok (WriteBuf device bytes))) even = ap replied (there_same s a m device (λ x. Err ENOSYS) (λ x. Err ENOSYS) (λ k st is. refl))
-reply_alike s a m (Said (Ok (GetTrig device))) even =
+reply_alike s a m (Said (Ok (WriteBuf device bytes))) even part = ap replied (there_same s a m device (λ x. Err ENOSYS) (λ x. Err ENOSYS) (λ k st is. refl))
+reply_alike s a m (Said (Ok (GetTrig device))) even part =
     ap replied (there_same s a m device (λ x. Ok (trigger_value s x.station.site.trigger)) (λ x. Ok (trigger_value s x.station.site.trigger)) (λ k st is. refl))
-reply_alike s a m (Said (Ok (SetTrig device trigger))) even =
+reply_alike s a m (Said (Ok (SetTrig device trigger))) even part =
     let answer : Answer = λ x. trigger_answer s (outline_of (device_of x.station)) trigger >>= (λ set. Ok zero_reply) in
     ap replied (known_same s a m device answer answer (λ k st is.
     ap (λ r. r >>= (λ set. Ok zero_reply))
     (trigger_same (Conn a) s (device_of st) trigger (at_station m (Conn a) even k st is) ∙ ap (λ d. trigger_answer s (outline_of d) trigger) (sym (device_own (Conn a) st)))))
-reply_alike s a m (Said (Ok (SetBuffers device n))) even =
+reply_alike s a m (Said (Ok (SetBuffers device n))) even part =
     let answer : Answer = λ x. ensure (is_buffers_count n) EINVAL >>= (λ set. Ok zero_reply) in ap replied (there_same s a m device answer answer (λ k st is. refl))
-reply_alike s a m (Said (Ok (EvOpen device))) even =
+reply_alike s a m (Said (Ok (Remask device text))) even part =
+    let answer : Answer = λ x. remask_answer (device_of x.station) (Conn a) text >>= (λ remask. Ok zero_reply) in
+    ap replied (named_same s a m device answer answer (λ k st named is.
+    ap (λ r. r >>= (λ remask. Ok zero_reply))
+    (remask_same (Conn a) (device_of st) text (part k (device_of st) (at_device m k st is) (ap (λ b. b && is_named s device k) (same_self (Conn a)) ∙ named))
+    ∙ ap (λ d. remask_answer d (Conn a) text) (sym (device_own (Conn a) st)))))
+reply_alike s a m (Said (Ok (EvOpen device))) even part =
     let answer : Answer = λ x. ensure (is_none x.station.site.monitor.holder) EBUSY >>= (λ free. Ok zero_reply) in ap replied (there_same s a m device answer answer (λ k st is. refl))
-reply_alike s a m (Said (Ok (EvRead device))) even =
+reply_alike s a m (Said (Ok (EvRead device))) even part =
     let answer : Answer = λ x. ensure (is_holder same (Conn a) x.station.site.monitor) EBADF >>= (λ holder. ok_or (slice_get x.station.site.monitor.events 0) EAGAIN >>= (λ event. Ok (Raw (event_bytes event)))) in
     ap replied (there_same s a m device answer answer (λ k st is. refl))
-reply_alike s a m (Said (Ok (EvClose device))) even =
+reply_alike s a m (Said (Ok (EvClose device))) even part =
     let answer : Answer = λ x. ensure (is_holder same (Conn a) x.station.site.monitor) EBADF >>= (λ holder. Ok zero_reply) in ap replied (there_same s a m device answer answer (λ k st is. refl))
-reply_alike s a m (Said (Err Empty)) even = refl
-reply_alike s a m (Said (Err refused)) even = refl
-reply_alike s a m (End (Some e)) even = refl
-reply_alike s a m (Written device None payload) even = refl
-reply_alike s a m item even = refl
+reply_alike s a m (Said (Err Empty)) even part = refl
+reply_alike s a m (Said (Err refused)) even part = refl
+reply_alike s a m (End (Some e)) even part = refl
+reply_alike s a m (Written device None payload) even part = refl
+reply_alike s a m item even part = refl
 
 -- ---- polls, connections and devices
 
@@ -214,22 +240,21 @@ unplugged_by w (Some st) = refl
 
 -- ---- events
 
-pub text_alike : (s : Setup) (a : List ℕ) (m : Told) (e : Event) → IsOwn a e → AllEven (Conn a) (registry_of m).devices → event_text s m e ≡ event_text s (own a m) e
-text_alike s a m e is even = of_own a (λ e. event_text s m e ≡ event_text s (own a m) e)
-    (λ bytes. refl)
-    (λ item. ap text_of (reply_alike s a m item even))
-    (ap (λ b. printed (a ∷ cond b (codes "dropped") (codes "closed") ∷ [])) (live_alike a m))
-    (λ device text. refl)
-    (λ trigger moment.
+pub text_alike : (s : Setup) (a : List ℕ) (m : Told) (e : Event) → IsOwn a e → AllEven (Conn a) (registry_of m).devices → AreUnparted s a e (registry_of m).devices → event_text s m e ≡ event_text s (own a m) e
+text_alike s a m e is even = of_own a (λ e. AreUnparted s a e (registry_of m).devices → event_text s m e ≡ event_text s (own a m) e)
+    (λ bytes part. refl)
+    (λ item part. ap text_of (reply_alike s a m item even part))
+    (λ part. ap (λ b. printed (a ∷ cond b (codes "dropped") (codes "closed") ∷ [])) (live_alike a m))
+    (λ trigger moment part.
     ap (λ es. printed (codes "poll" ∷ trigger_name s.desc trigger ∷ cond (is_empty (entries_at m.triggers trigger)) (codes "accepted" ∷ decimal (length es) ∷ []) (codes "missed" ∷ decimal (next_count (missed_at m.triggers trigger)) ∷ [])))
     (entries_alike a m trigger moment even))
-    (λ trigger device.
+    (λ trigger device part.
     let e = entry_of device (entries_at m.triggers trigger) in
     ap (λ word. printed (codes "handle" ∷ trigger_name s.desc trigger ∷ device_name s.desc device ∷ word ∷ []))
     (handled_by (Conn a) (slice_get m.stations device) e (λ st here. at_station m (Conn a) even device st here) ∙ ap (λ o. handled_word o e) (own_place a m device)))
-    (λ device moment. ap (λ words. printed (device_name s.desc device ∷ words)) (sensed_by (Conn a) (slice_get m.stations device) moment ∙ ap (λ o. sense_words o moment) (own_place a m device)))
-    (λ moment. refl)
-    (λ device. ap (λ word. printed (device_name s.desc device ∷ word ∷ [])) (unplugged_by (Conn a) (slice_get m.stations device) ∙ ap unplug_word (own_place a m device)))
+    (λ device moment part. ap (λ words. printed (device_name s.desc device ∷ words)) (sensed_by (Conn a) (slice_get m.stations device) moment ∙ ap (λ o. sense_words o moment) (own_place a m device)))
+    (λ moment part. refl)
+    (λ device part. ap (λ word. printed (device_name s.desc device ∷ word ∷ [])) (unplugged_by (Conn a) (slice_get m.stations device) ∙ ap unplug_word (own_place a m device)))
     e is
 
 -- ---- steps

@@ -77,10 +77,12 @@ alike_foreign s a h g e is only alike =
           ∙ step_kept s a (told s h) e is (of_told s h (λ r. others_are_modest s r a e ≡ true) met.0) (of_told s h (λ r. AllFree (Conn a) r.devices) alike.0.1) ∙ alike.2,
     )
 
-text_same : (s : Setup) (a : List ℕ) (h g : List Event) (e : Event) → IsOwn a e → AreAlike s a h g → event_text s (told s h) e ≡ event_text s (told s g) e
-text_same s a h g e is alike =
-    text_alike s a (told s h) e is (of_told s h (λ r. AllEven (Conn a) r.devices) alike.0.0) ∙ ap (λ m. event_text s m e) alike.2
-    ∙ sym (text_alike s a (told s g) e is (of_told s g (λ r. AllEven (Conn a) r.devices) (alone_all a (registry_after s g) alike.1)))
+text_same : (s : Setup) (a : List ℕ) (h g : List Event) (e : Event) → IsOwn a e → OnlyBystanders s a (e ∷ h) → AreAlike s a h g → event_text s (told s h) e ≡ event_text s (told s g) e
+text_same s a h g e is only alike =
+    let met = rules_met s a (registry_after s h) e only.0 alike.0.0 in
+    text_alike s a (told s h) e is (of_told s h (λ r. AllEven (Conn a) r.devices) alike.0.0) (of_told s h (λ r. AreUnparted s a e r.devices) met.1) ∙ ap (λ m. event_text s m e) alike.2
+    ∙ sym (text_alike s a (told s g) e is (of_told s g (λ r. AllEven (Conn a) r.devices) (alone_all a (registry_after s g) alike.1))
+    (of_told s g (λ r. AreUnparted s a e r.devices) (λ k d here part. alike.1 k d here)))
 
 -- ---- several events
 
@@ -97,7 +99,7 @@ own_events : (s : Setup) (a : List ℕ) (es : List Event) (h g : List Event) →
 own_events s a [] h g are only alike = (refl, alike)
 own_events s a (e ∷ es) h g are only alike =
     let rest = own_events s a es (e ∷ h) (e ∷ g) are.1 only (alike_own s a h g e are.0 (before_events s a es (e ∷ h) only) alike) in
-    (ap (λ text. text ++ texts_after s (e ∷ h) es) (text_same s a h g e are.0 alike) ∙ ap (λ text. event_text s (told s g) e ++ text) rest.0, rest.1)
+    (ap (λ text. text ++ texts_after s (e ∷ h) es) (text_same s a h g e are.0 (before_events s a es (e ∷ h) only) alike) ∙ ap (λ text. event_text s (told s g) e ++ text) rest.0, rest.1)
 
 others_events : (s : Setup) (a : List ℕ) (es : List Event) (h g : List Event) → AllForeign a es → OnlyBystanders s a (and_then h es) → AreAlike s a h g → AreAlike s a (and_then h es) g
 others_events s a [] h g are only alike = alike

@@ -3,11 +3,11 @@
 use Rattle.std.specs.Prelude.{ℕ, suc, ◌==◌, ◌&&◌, ◌||◌, not, Bool, true, false, List, [], ◌∷◌, Some, None, slice_get, Ok, Err}
 use Rattle.std.specs.Str.{bytes_eq}
 use Rattle.iio_text.specs.declared.errors.Errno.TheVariants.{EFBIG}
-use Rattle.iiod_grammar.specs.Command.{Help, Exit, Version, Print, Timeout, Open, Close, Read, ReadBuf, GetTrig, SetBuffers}
+use Rattle.iiod_grammar.specs.Command.{Help, Exit, Version, Print, Timeout, Open, Close, Read, ReadBuf, GetTrig, SetBuffers, Remask}
 use Rattle.iio_desc.specs.Description.{find_device}
 use Rattle.iio_history.specs.Who.{Who, Conn, same}
 use Rattle.iiod_grammar.specs.Stream.{Item, Said, End}
-use Rattle.iio_history.specs.Event.{Event, Heard, Dropped, Remasked}
+use Rattle.iio_history.specs.Event.{Event, Heard, Dropped}
 use Rattle.iio_history.specs.Registry.{Setup, Member, Device, Registry, is_member, is_named}
 use Rattle.iio_history.specs.Fold.{registry_after}
 
@@ -36,6 +36,7 @@ may_say is_so (Said (Ok (ReadBuf device bytes))) = is_so device
 may_say is_so (Said (Ok (Read device place attribute))) = is_so device
 may_say is_so (Said (Ok (GetTrig device))) = is_so device
 may_say is_so (Said (Ok (SetBuffers device n))) = is_so device
+may_say is_so (Said (Ok (Remask device text))) = is_so device
 may_say is_so item = false
 
 -- beside `a` it may name the devices of which `a` is a member
@@ -45,15 +46,14 @@ is_modest s r a item = may_say (has_open s r a) item
 -- the first rule
 abbrev pub others_are_modest : Setup → Registry → List ℕ → Event → Bool
 others_are_modest s r a (Heard name item) = bytes_eq name a || is_modest s r a item
-others_are_modest s r a (Remasked name device text) = bytes_eq name a || has_open_at r a device
 others_are_modest s r a e = true
 
 -- whether the event ends what `a` has of device k, or remasks it
 abbrev pub is_parting : Setup → List ℕ → Event → ℕ → Bool
 is_parting s a (Heard name (Said (Ok (Close device)))) k = bytes_eq name a && is_named s device k
+is_parting s a (Heard name (Said (Ok (Remask device text)))) k = bytes_eq name a && is_named s device k
 is_parting s a (Heard name (End refusal)) k = bytes_eq name a
 is_parting s a (Dropped name) k = bytes_eq name a
-is_parting s a (Remasked name device text) k = bytes_eq name a && device == k
 is_parting s a e k = false
 
 -- whether another connection is a member

@@ -1,7 +1,7 @@
 -- What the two rules ask of the devices, as plain data, and what they say of a step by it. No history is in it.
 use Rattle.std.specs.Prelude.{◌≡◌, ℕ, ◌&&◌, ◌||◌, not, Bool, true, false, List, [], ◌∷◌, map, Option, Some, None, is_some, slice_get, Ok, if◌then◌else◌}
 use Rattle.std.specs.Str.{bytes_eq}
-use Rattle.iiod_grammar.specs.Command.{Close}
+use Rattle.iiod_grammar.specs.Command.{Close, Remask}
 use Rattle.iiod_grammar.specs.Stream.{Item, Said, End, items_from}
 use Rattle.iio_desc.specs.Description.{Description, find_device}
 use Rattle.iiod_session.specs.Desk.{DeskRecord}
@@ -43,6 +43,7 @@ pub record Opens : Type 0 where
 -- what the connection itself may say
 abbrev pub may_part : Opens → Item → Bool
 may_part x (Said (Ok (Close device))) = not (x.others device)
+may_part x (Said (Ok (Remask device text))) = not (x.others device)
 may_part x (End refusal) = x.none
 may_part x item = true
 

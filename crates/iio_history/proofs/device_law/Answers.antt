@@ -1,6 +1,7 @@
 use Rattle.iio_history.proofs.DeviceHandlings.{handlings_agree}
 use Rattle.iio_history.proofs.DeviceLaws.{events_agree, holdings_agree, joins_agree, leaves_agree, looks_agree, places_agree, reads_agree, releases_agree, samples_agree, triggers_agree, unpluggings_agree, writes_agree}
 use Rattle.iio_history.proofs.DeviceMoves.{ends_agree, told_handlings_agree, told_looks_agree}
+use Rattle.iio_history.proofs.DeviceRemasks.{remasks_agree, remasks_stay}
 use Rattle.iio_history.proofs.device_law.Goals as goal
 
 pub returns-clause-joins : goal.returns-clause-joins
@@ -8,6 +9,12 @@ returns-clause-joins g c = joins_agree _ _
 
 pub returns-clause-leaves : goal.returns-clause-leaves
 returns-clause-leaves g c = leaves_agree _ _
+
+pub returns-clause-remasks : goal.returns-clause-remasks
+returns-clause-remasks g c = remasks_agree _ _
+
+pub returns-clause-stay : goal.returns-clause-stay
+returns-clause-stay g c = remasks_stay _ _
 
 pub returns-clause-handlings : goal.returns-clause-handlings
 returns-clause-handlings g c = handlings_agree _ _ _ _ _
