@@ -129,7 +129,7 @@ id_says (suc (suc (suc (suc (suc (suc zero)))))) h = refl
 id_says (suc (suc (suc (suc (suc (suc (suc zero))))))) h = refl
 id_says (suc (suc (suc (suc (suc (suc (suc (suc k)))))))) h = absurd (omega arith)
 
--- none of the channels has a number behind theirs
+-- none of the channels has a number after theirs
 no_id : (from i : ℕ) (formats : List Format) → from + length formats ≤ i → list_any (λ (c : Channel). same_id (id_at c) (Voltage, Number i)) (channels_from from formats) ≡ false
 no_id from i [] h = refl
 no_id from i (f ∷ fs) h =
@@ -175,7 +175,7 @@ channel_is_line i type h word short =
           ∙ ap (λ ws. codes "channel" ∷ ws) (word_then (codes "voltage" ++ decimal i) type id ∙ ap (λ ws. (codes "voltage" ++ decimal i) ∷ ws) (word_last type word));
     }
 
--- so many channels were read
+-- that many channels were read
 pub record HasChannels (drivers i : ℕ) (text : List ℕ) : Type 0 where
   pub formats : List Format
   pub count : length formats ≡ i
@@ -227,7 +227,7 @@ stamp_said drivers formats some few = rw (some, few) refl
 pub int_decimal : (n : ℕ) → n < 2 ^ 63 → int_of (decimal n) ≡ Some (pos n)
 int_decimal n h = int_of-signed_decimal (pos n) (omega (arith, ints))
 
--- so many values stand in a text, each behind a space
+-- that many values stand in a text, each after a space
 pub record HasValues (n : ℕ) (text : List ℕ) : Type 0 where
   pub values : List ℕ
   pub count : length values ≡ n
@@ -280,7 +280,7 @@ row_said : (drivers : ℕ) (formats : List Format) (moments values : List ℤ) (
     → after_line (so_far drivers (device formats (Some Little) moments values)) line ≡ Ok (so_far drivers (device formats (Some Little) (moments ++ m ∷ []) (values ++ xs)))
 row_said drivers formats moments values line t vs m xs words some width is risen ints few = rw (words, some, width, is, risen, ints, few) refl
 
--- so many rows were read, each 1,000 moments behind the one before
+-- that many rows were read, each 1,000 moments after the one before
 pub record HasRows (drivers i : ℕ) (formats : List Format) (text : List ℕ) : Type 0 where
   pub moments : List ℤ
   pub values : List ℤ
@@ -373,7 +373,7 @@ rows_none drivers formats text eight short reads = record {
 
 -- ---- the whole description
 
--- a text is a description with the trigger, whatever stands behind it
+-- a text is a description with the trigger, whatever stands after it
 pub record Opens (drivers : ℕ) (text : List ℕ) : Type 0 where
   pub desc : Description
   pub first : ℕ

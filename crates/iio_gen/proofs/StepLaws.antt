@@ -95,7 +95,7 @@ feed_keeps (suc (suc (suc (suc c)))) bytes h names few = absurd (omega arith)
 abbrev pub behind : List Step → Script → Script
 behind steps script = record { steps = steps ++ script.steps; ending = script.ending }
 
--- the lines of a text are so many steps, whatever stands behind them
+-- the lines of a text are that many steps, whatever stands after them
 pub record Plays (desc : Description) (first count : ℕ) (text : List ℕ) : Type 0 where
   pub names : List (List ℕ)
   pub few : IsFew names

@@ -38,7 +38,7 @@ channel_line i = do
   kind ← draw TYPES
   given (line (codes "channel voltage" ++ (decimal i ++ (codes " " ++ slice_index_or types kind []))))
 
--- a value of a row, behind a space
+-- a value of a row, after a space
 abbrev pub value_word : ℕ → Drawn (List ℕ)
 value_word channel = do
   value ← draw VALUES

@@ -8,12 +8,12 @@ use Rattle.iio_history.specs.Script.{Finished, script_from}
 use Rattle.iio_gen.specs.declared.steps.TheConstants.{STEPS}
 use Rattle.iio_gen.specs.Input.{made}
 
--- an input whose description may use so many drivers is played to its end, and has so many steps
+-- an input whose description may use that many drivers is played to its end, and has that many steps
 pub record IsPlayable (drivers steps : ℕ) (input : List ℕ) : Type 0 where
   pub desc : Description
   pub first : ℕ
   pub lines : List (List ℕ)
-  -- no line of the description is refused; behind it stand these lines, the first of which has that number
+  -- no line of the description is refused; after it stand these lines, the first of which has that number
   pub described : head_of drivers input ≡ Described desc first lines
   -- none of them is refused
   pub finished : (script_from desc Finished [] first lines).ending ≡ Finished

@@ -56,7 +56,7 @@ fn push_channels(draws: &mut Generator, out: &mut Vec<u8>) -> Result<(), Mem>
     Ok(())
 }
 
-// A value of a row, behind a space.
+// A value of a row, after a space.
 fn push_value(draws: &mut Generator, channel: u64, out: &mut Vec<u8>) -> Result<(), Mem>
     ensures { OnOk result (Appends (value_word channel) draws.old.state draws.new.state out.old.items out.new.items) }
 {

@@ -20,7 +20,7 @@ sends_part (Some xs) after kept part = (
   },
 )
 
--- more behind what was written before
+-- more after what was written before
 pub sends_more : (first before after : Option (List ℕ)) (sent kept rest : List ℕ) → IfSome first (λ xs. before ≡ Some (xs ++ sent)) → (sends : Sends before after kept rest)
     → IfSome first (λ xs. after ≡ Some (xs ++ (sent ++ sends.sent)))
 sends_more None before after sent kept rest h sends = tt

@@ -147,7 +147,7 @@ takes_at_most input front h left is follows =
       rest = all.none_left ∙ ap Some (sym (drop_all (length input) input (omega arith)));
     }) follows
 
--- ---- how far behind the line that fails
+-- ---- how far after the line that fails
 
 until_front : (front : List (List ℕ)) (line : List ℕ) (more : List (List ℕ)) → bytes_until (suc (length front)) (front ++ line ∷ more) ≡ ended_size front + (min (length line) MAX_LINE_BYTES + 1)
 until_front [] line more = omega arith

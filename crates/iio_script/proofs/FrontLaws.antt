@@ -16,7 +16,7 @@ end_count (b ∷ bs) = cond (is_line_end b) (suc (end_count bs)) (end_count bs)
 abbrev pub ended_lines : List ℕ → List (List ℕ)
 ended_lines text = take (end_count text) (lines_of text)
 
--- ---- a text with more behind it
+-- ---- a text with more after it
 
 -- a byte on the first line of lines that begin with others
 onto_front : (b n : ℕ) (lines rest : List (List ℕ)) → n ≤ length lines

@@ -153,7 +153,7 @@ filled input front h left left' bytes' n going read follows =
     of_going input front (record h { bytes = bytes'; ended = nat_eq n 0 }) left' going
     (filled_front input front h left left' bytes' n goes (subst (λ (l : Option (List ℕ)). IfSome l (λ xs. ReadsPiece xs h.bytes bytes' n left')) goes.left_is read))
 
--- behind bytes that were given and are still there
+-- after bytes that were given and are still there
 pub piece_behind : (before after : List ℕ) (begin n : ℕ) (left left' : Option (List ℕ)) → begin ≤ length before → IfSome left (λ xs. ReadsPiece xs before after n left')
     → IfSome left (λ xs. ReadsPiece xs (drop begin before) (drop begin after) n left')
 piece_behind before after begin n None left' few read = tt

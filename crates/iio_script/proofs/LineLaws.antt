@@ -11,7 +11,7 @@ use Rattle.iio_script.specs.LineReader.{IsFront, IsPlain, ended_size}
 
 -- ---- a text without an LF
 
--- its first byte, and those behind
+-- its first byte, and those after it
 plain_head : (t : Bool) (rest : Bool) → (t || rest) ≡ false → (t ≡ false) × (rest ≡ false)
 plain_head true rest h = absurd (false≢true (sym h))
 plain_head false rest h = (refl, h)

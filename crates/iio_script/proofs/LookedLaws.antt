@@ -103,7 +103,7 @@ long_told front more plain long = by_fits (fits_line (cut_line (front ++ more)))
     by_fits true fits = long_ended front more plain long fits (parted more)
     by_fits false fits = long_lines front more plain long
 
--- behind a front
+-- after a front
 pub record LongBehind (front : List (List ℕ)) (lines : List (List ℕ)) : Type 0 where
   pub line : List ℕ
   pub more : List (List ℕ)

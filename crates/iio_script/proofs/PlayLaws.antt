@@ -1,4 +1,4 @@
--- The lines of a script, one after another: what was printed so far, and what the lines behind print.
+-- The lines of a script, one after another: what was printed so far, and what the lines after them print.
 use Rattle.std.proofs.Common.{◌≡◌, ℕ, ◌+◌, ◌||◌, Bool, true, false, cond, List, [], ◌∷◌, ◌++◌, length, Some, None, Ok, Err, nat_lt, refl, sym, ap, ◌∙◌, subst, arith, append_assoc, append-nil}
 use Rattle.std.specs.Str.{bytes_eq}
 use Rattle.std.proofs.lemmas.List.{length-append}

@@ -38,7 +38,7 @@ line_of h = take h.looked h.bytes
 abbrev pub IsPlain : List ℕ → Type 0
 IsPlain text = list_any is_line_end text ≡ false
 
--- at most a piece was taken behind what was looked at, and no more than one byte past the limit in all
+-- at most a piece was taken after what was looked at, and no more than one byte past the limit in all
 pub record IsHand (h : Hand) : Type 0 where
   pub looked : h.looked ≤ length h.bytes
   pub plain : IsPlain (line_of h)
@@ -47,7 +47,7 @@ pub record IsHand (h : Hand) : Type 0 where
   pub given : h.given ≤ input_limit
   pub within : taken_of h ≤ input_limit + 1
 
--- a read put the next bytes behind those taken before; none come at the end alone
+-- a read put the next bytes after those taken before; none come at the end alone
 pub record ReadsPiece (left before after : List ℕ) (count : ℕ) (remaining : Option (List ℕ)) : Type 0 where
   pub enough : count ≤ length left
   pub bytes : after ≡ before ++ take count left
@@ -92,7 +92,7 @@ pub record IsCut (h : Hand) : Type 0 where
   pub more : taken_of h ≡ input_limit + 1
   pub short : input_limit ≤ h.given + MAX_LINE_BYTES
 
--- no line is left: the last one was given, or no byte stands behind the one before
+-- no line is left: the last one was given, or no byte stands after the one before
 pub record IsSpent (h : Hand) : Type 0 where
   pub ended : h.ended ≡ true
   pub none : h.bytes ≡ []
@@ -125,13 +125,13 @@ abbrev pub ended_size : List (List ℕ) → ℕ
 ended_size [] = 0
 ended_size (line ∷ lines) = length line + 1 + ended_size lines
 
--- a front part of a text that LF ends, or an empty one, and its lines: so they are whatever stands behind
+-- a front part of a text that LF ends, or an empty one, and its lines: so they are whatever follows
 pub record IsFront (bytes : List ℕ) (front : List (List ℕ)) : Type 0 where
   pub lines : (more : List ℕ) → lines_of (bytes ++ more) ≡ front ++ lines_of more
   pub ended : (more : List ℕ) → ended_part (bytes ++ more) ≡ bytes ++ ended_part more
   pub size : ended_size front ≡ length bytes
 
--- of the input these lines were given, and the bytes in hand are the next; the source has those behind
+-- of the input these lines were given, and the bytes in hand are the next; the source has those after them
 pub record FollowsFront (input : List ℕ) (front : List (List ℕ)) (h : Hand) (left : Option (List ℕ)) : Type 0 where
   pub bytes : List ℕ
   pub rest : List ℕ
@@ -167,7 +167,7 @@ bytes_until zero (line ∷ lines) = 0
 bytes_until (suc zero) (line ∷ lines) = min (length line) MAX_LINE_BYTES + 1
 bytes_until (suc (suc n)) (line ∷ lines) = length line + 1 + bytes_until (suc n) lines
 
--- a front part was taken, and at most a piece behind the byte at which the line of that number fails
+-- a front part was taken, and at most a piece after the byte at which the line of that number fails
 pub record TakesNear (line : ℕ) (left : List ℕ) (remaining : Option (List ℕ)) : Type 0 where
   pub count : ℕ
   pub enough : count ≤ length left

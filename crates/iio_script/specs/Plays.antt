@@ -27,7 +27,7 @@ text_after s h script = transcript s h script.steps ++ ending_text script.ending
 
 module _ {X : Type 0} {V : X → Type 0} (driver : Plug X V → Driver) where
   -- the lines `given`, from that number on, were played and printed that text; the next line has number n. So whatever lines
-  -- stand behind
+  -- follow
   pub record Plays (s : Setup) (x : System X V) (text : List ℕ) (first n : ℕ) (given : List (List ℕ)) : Type 0 where
     pub done : List Event
     pub names : List (List ℕ)

@@ -17,7 +17,7 @@ use Rattle.iio_script.specs.declared.stop.Stop.TheVariants.{Refused, Mem}
 abbrev pub summary_of_script : Setup → Script → Summary
 summary_of_script s script = summary_of s (with_steps s [] script.steps)
 
--- and those behind a description; nothing is counted without one
+-- and those after a description; nothing is counted without one
 abbrev pub summary_of_head : List Driver → Bool → Head → Summary
 summary_of_head drivers overlong (Described desc first lines) =
     summary_of_script (record { desc = desc; drivers = drivers }) (script_from desc (last_ending overlong) [] first lines)

@@ -11,14 +11,14 @@ use Rattle.iio_script.specs.LineReader.{Follows, Hand, TakesNear, piece_size}
 use Rattle.iio_script.specs.declared.opening.Opening.{Opening}
 use Rattle.iio_script.specs.declared.opening.Opening.TheVariants as read
 
--- what it says, where these lines stand behind it, and that line is the next
+-- what it says, where these lines stand after it, and that line is the next
 abbrev pub told : ℕ → List (List ℕ) → Opening → Head
 told next more (read.Described desc first) = Described desc first more
 told next more (read.Alone desc) = Described desc next []
 told next more (read.Refused line why) = Faulty (Line line why)
 told next more read.Cut = Cut
 
--- the description is well formed with so many drivers
+-- the description is well formed with that many drivers
 abbrev pub IsSoundOpening : ℕ → Opening → Type 0
 IsSoundOpening drivers (read.Described desc first) = IsWellFormed drivers desc
 IsSoundOpening drivers (read.Alone desc) = IsWellFormed drivers desc
@@ -40,7 +40,7 @@ abbrev pub IsUnended : Opening → Type 0
 IsUnended (read.Described desc first) = ⊥
 IsUnended opening = Unit {0}
 
--- a line ended the description: whatever stands behind the lines that were given is its script
+-- a line ended the description: whatever stands after the lines that were given is its script
 pub record EndsAt (drivers : ℕ) (desc : Description) (first : ℕ) (input : List ℕ) (h : Hand) (left : Option (List ℕ)) : Type 0 where
   pub front : List (List ℕ)
   pub follows : Follows input front h left
@@ -60,14 +60,14 @@ pub record RefusesAt (drivers : ℕ) (opening : Opening) (line : ℕ) (input : L
   pub head : head_of drivers input ≡ told 0 [] opening
   pub near : TakesNear line input left
 
--- what was read of an input whose description may use so many drivers
+-- what was read of an input whose description may use that many drivers
 abbrev pub Opens : ℕ → Opening → (input : List ℕ) → Hand → (left : Option (List ℕ)) → Type 0
 Opens drivers (read.Described desc first) input h left = EndsAt drivers desc first input h left
 Opens drivers (read.Alone desc) input h left = EndsAlone drivers desc input
 Opens drivers (read.Refused line why) input h left = RefusesAt drivers (read.Refused line why) line input left
 Opens drivers read.Cut input h left = head_of drivers input ≡ Cut
 
--- the lines behind a description have numbers within what was taken
+-- the lines after a description have numbers within what was taken
 abbrev pub StartsAt : Opening → Hand → Type 0
 StartsAt (read.Described desc first) h = first ≤ h.given + 1
 StartsAt opening h = Unit {0}

@@ -64,7 +64,7 @@ fn end_after(reader: DescReader) -> Result<Opening, ReadEnd>
 }
 
 /// Reads the description at the head of the input that a source has left, which may use as many drivers as are handed in.
-/// The line behind it is the reader's next.
+/// The line after it is the reader's next.
 pub fn open<S: Source>(
     alloc: Global,
     lines: &mut LineReader,

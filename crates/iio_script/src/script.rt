@@ -184,7 +184,7 @@ pub(crate) fn play_steps<S: Source, K: Sink>(
     }
 }
 
-// The script behind a description, from a line on.
+// The script after a description, from a line on.
 fn play_described<S: Source, K: Sink>(
     alloc: Global,
     desc: Desc,
@@ -229,7 +229,7 @@ fn play_described<S: Source, K: Sink>(
     }
 }
 
-// Plays the input that a source has left, with so many drivers.
+// Plays the input that a source has left, with that many drivers.
 fn play_input<S: Source, K: Sink>(
     alloc: Global,
     input: &mut S,
@@ -260,7 +260,7 @@ fn play_input<S: Source, K: Sink>(
 /// Plays the input that a source has left, and writes what it prints to a sink: a description, and then the steps of a
 /// script, up to the first line that is refused. A device of a driver's number samples the driver of that number among
 /// those that are handed in, any other its recorded rows. Lines are played as they come, and what they print is written
-/// before more is read: a failed read loses nothing of the lines before, and a refusal leaves what stands behind in the
+/// before more is read: a failed read loses nothing of the lines before, and a refusal leaves what follows in the
 /// source, but for a piece of 65,536 bytes.
 pub fn play<S: Source, K: Sink>(
     alloc: Global,
@@ -273,7 +273,7 @@ pub fn play<S: Source, K: Sink>(
     ensures status { IfSome (S.left input.old) (λ left. HasStatus (outcome_of (map (λ d. ⟦<Plug as Sensor>⟧.driver (Given d)) drivers.items) left) result) }
     ensures words { result ≡ Status.Usage → ⊥ }
     ensures taken { IfSome (S.left input.old) (λ left. TakesAtMost left (input_limit + 1) (S.left input.new)) }
-    // Where a line is refused, at most a piece was taken behind the byte at which it failed.
+    // Where a line is refused, at most a piece was taken after the byte at which it failed.
     ensures near { IfSome (S.left input.old) (λ left. TakesFor result left (S.left input.new)) }
     // Where a read failed, what the whole lines before it print was written.
     ensures whole_lines { result ≡ Status.ReadFault → IfSome (S.left input.old) (λ left. IfSome (K.written output.old) (λ written.

@@ -5,10 +5,10 @@ pub mod BenchLemmas
 pub mod JoinLemmas
 pub mod TriggerLemmas
 pub mod IioLemmas
-pub mod SizeLemmas
 pub mod HostLemmas
 pub mod TakeLemmas
 pub mod OpenLemmas
+pub mod RemaskLemmas
 pub mod FiringLemmas
 pub mod HandleLemmas
 pub mod FirstLemmas

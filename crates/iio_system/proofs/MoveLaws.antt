@@ -22,7 +22,7 @@ use Rattle.iiod_session.specs.Calls.{is_attached}
 use Rattle.iiod_session.specs.Front.{DeviceFront, Front, device_name, shape_at, trigger_name}
 use Rattle.iiod_session.specs.Machine.{Machine, Station, is_plugged, no_station, station_at, with_station}
 use Rattle.iiod_session.specs.Seat.{SeatRecord}
-use Rattle.iio_history.specs.Event.{Event, Arrived, Clock, Dropped, Handled, Heard, Polled, Remasked, Sensed, Unplugged}
+use Rattle.iio_history.specs.Event.{Event, Arrived, Clock, Dropped, Handled, Heard, Polled, Sensed, Unplugged}
 use Rattle.iio_history.specs.Registry.{Entry, Registry, Setup, Trigger, User, entries_at, entry_of as told_entry, without_entry as told_without}
 use Rattle.iio_history.specs.Fold.{handled as told_handled, newcomers}
 use Rattle.iio_history.specs.Told.{Line, Told, registry_of}
@@ -67,12 +67,10 @@ is_move e is = tt
 is_others : (name : List ℕ) (e : Event) → IsOfBench e → IsOthers name e
 is_others name (Heard speaker item) is = absurd is
 is_others name (Dropped speaker) is = absurd is
-is_others name (Remasked speaker device mask) is = absurd is
 is_others name e is = tt
 
 is_step : (names : List (List ℕ)) (e : Event) → IsOfBench e → IsStep names e
 is_step names (Heard speaker item) is = absurd is
-is_step names (Remasked speaker device mask) is = absurd is
 is_step names e is = tt
 
 none_new : (s : Setup) (e : Event) (us : List User) → IsOfBench e → newcomers s e us ≡ []

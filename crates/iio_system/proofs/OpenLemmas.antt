@@ -22,7 +22,7 @@ use Rattle.iio_device.specs.Device.{DeviceView, LeavesDevice, device_joined}
 use Rattle.iio_device.specs.Members.{without as without_of}
 use Rattle.iio_device.specs.Site.{Site, attached, is_empty, no_driver}
 use Rattle.std.proofs.lemmas.Bool.Decides.{nat_tests}
-use Rattle.iiod_session.specs.declared.limits.TheConstants.{MAX_BYTES}
+use Rattle.iio_kfifo.specs.declared.limits.TheConstants.{MAX_BYTES}
 use Rattle.iiod_session.specs.declared.iio.No.{No}
 use Rattle.iiod_session.specs.Front.{shape_at}
 use Rattle.iiod_session.specs.Machine.{Machine, Station, with_station}

@@ -1,4 +1,4 @@
--- Lines that are put together in room behind what was printed.
+-- Lines that are put together in room after what was printed.
 use borrow.Rule.Slice.PartMut.{mid_of, put_mid, post_of}
 use lib.Lanes.{chunk, put_chunk}
 use Rattle.std.proofs.Common.{◌≡◌, ◌+◌, ◌-◌, ◌++◌, ◌≤◌, ◌∙◌, ℕ, List, length, take, drop, ap, sym, arith}
@@ -6,7 +6,7 @@ use Rattle.std.proofs.Math.Seq.{take-append-add, take-append_seam}
 use Rattle.std.proofs.lemmas.List.{append_assoc, length-append, length-drop, length-take-le, take-append-drop, take-append-le, take-take, take_all}
 use Rattle.std.proofs.lemmas.Simd.{put_chunk_is}
 
--- of a text that was put behind the first bytes, its first bytes
+-- of a text that was put after the first bytes, its first bytes
 pub shorter : (before after text name : List ℕ) (at end : ℕ) → at ≤ length before → end ≤ length after → at + length name ≤ end → take end after ≡ take at before ++ text → take (length name) text ≡ name
     → take (at + length name) after ≡ take at before ++ name
 shorter before after text name at end fits there most put is =
@@ -20,14 +20,14 @@ shorter before after text name at end fits there most put is =
     ∙ take-append-add front text (length name)
     ∙ ap (λ xs. front ++ xs) is
 
--- what was printed stands, and the line behind it
+-- what was printed stands, and the line after it
 pub line_stands : (old more room after final line : List ℕ) (start n end : ℕ) → start ≡ length old → room ≡ take (start + n) old ++ more → take end after ≡ take start room ++ line → final ≡ take end after → final ≡ old ++ line
 line_stands old more room after final line start n end long is put cut =
     let all : take (start + n) old ≡ old = take_all (start + n) old (omega (arith, long)) in
     let kept : take start room ≡ old = ap (λ xs. take start xs) (is ∙ ap (λ xs. xs ++ more) all) ∙ ap (λ k. take k (old ++ more)) long ∙ take-append_seam old more in
     cut ∙ put ∙ ap (λ xs. xs ++ line) kept
 
--- the first bytes of a block that stands at the begin of a room, whatever comes behind it
+-- the first bytes of a block that stands at the begin of a room, whatever comes after it
 block_first : (room block after tail : List ℕ) (n k : ℕ) → n ≤ length room → n ≤ length block → k ≤ n → take k ((put_chunk 0 room (chunk 0 n block) ++ after) ++ tail) ≡ take k block
 block_first room block after tail n k fits whole most =
     let lanes = take n block in

@@ -60,7 +60,7 @@ TakesAt id Scan scan old new =
 TakesAt id Empty scan old new = (scans_in id old.members ≡ []) × (old.site.plugged ≡ true) × (new ≡ old)
 TakesAt id Gone scan old new = (scans_in id old.members ≡ []) × (old.site.plugged ≡ false) × (new ≡ old)
 
--- the oldest scans of a member's queue are taken, up to so many, and stand behind what stood before
+-- the oldest scans of a member's queue are taken, up to that many, and stand after what stood before
 abbrev pub TakesScansAt : MemberId → (most : ℕ) → Took → (before after : List ℕ) → (old new : Station) → Type 0
 TakesScansAt id most Scan before after old new =
     (0 < length (take most (scans_in id old.members)))

@@ -14,3 +14,4 @@ pub mod Feeding
 pub mod Standing
 pub mod Moves
 pub mod Tally
+pub mod Remasking

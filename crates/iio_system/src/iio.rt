@@ -9,13 +9,14 @@ ghost use Rattle.iio_system.specs.Station.{front_by};
 use crate::bench::Bench;
 use crate::calls;
 use crate::joining::{host, join, no_of};
+use crate::remasking::remask;
 use crate::seat::Seat;
 use iio_attr::{Attr, Name, Value};
 use iio_desc::TriggerDesc;
 use iio_device::{Device, Fitted, IioDev, Member, Plug};
 use iio_event::EventData;
 use iio_kfifo::Kfifo;
-use iio_layout::Shape;
+use iio_layout::{Shape, scan_size};
 use iio_mask::Mask;
 use iio_sensor::Sensor;
 use iio_text::Fixed;
@@ -94,6 +95,19 @@ impl Iio for Bench {
                 mask,
                 capacity,
             ),
+        }
+    }
+
+    fn remask(&mut self, dev: u32, seat: &mut Seat, mask: Mask) -> Result<u64, No> {
+        let device = &mut self.devices[dev as usize];
+        let size = scan_size(device.shape(), mask);
+        match remask(self.alloc, device, seat, mask, size) {
+            Err(no) => Err(no),
+            Ok(waited) => {
+                seat.mask = mask;
+                seat.size = size;
+                Ok(waited)
+            }
         }
     }
 

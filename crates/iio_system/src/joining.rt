@@ -5,7 +5,7 @@ ghost use Rattle.iio_base.specs.Refusals.{first_refusal};
 ghost use Rattle.iio_layout.specs.Active.{has_data};
 ghost use Rattle.iio_layout.specs.Layout.{scan_size};
 ghost use Rattle.iio_layout.specs.Shape.{count_of};
-ghost use Rattle.iiod_session.specs.declared.limits.TheConstants.{MAX_BYTES};
+ghost use Rattle.iio_kfifo.specs.declared.limits.TheConstants.{MAX_BYTES};
 ghost use Rattle.iio_device.specs.Device.{join_faults};
 ghost use Rattle.iio_system.specs.Faults.{Hosts, JoinsBy, no_of};
 ghost use Rattle.iio_system.specs.Places.{is_hosted};
@@ -14,7 +14,7 @@ ghost use Rattle.iio_system.specs.Station.{station_by, view_by};
 use crate::seat::Seat;
 use iio_device::{Device, JoinFault, JoinRefused, Plug};
 use iio_kfifo::Kfifo;
-use iio_layout::{Shape, scan_size};
+use iio_layout::scan_size;
 use iio_mask::Mask;
 use iio_sensor::Sensor;
 use iio_text::Errno;
@@ -32,16 +32,6 @@ pub(crate) fn no_of(fault: JoinFault) -> No
         JoinFault::NoPlace => No::Errno(Errno::ENOSPC),
         JoinFault::Mem => No::Mem,
     }
-}
-
-// The bytes of a scan under a mask with a data channel.
-fn data_scan_size(shape: &Shape, mask: Mask) -> u32
-    requires below { mask.bits < 2 ^ count_of shape.now }
-    requires channel { has_data shape.now mask.bits ≡ true }
-    ensures value { result ≡ scan_size shape.now mask.bits }
-    ensures some { 1 ≤ result }
-{
-    scan_size(shape, mask)
 }
 
 // The same, where the trigger is there.
@@ -116,7 +106,7 @@ pub(crate) fn join(
     requires bytes { capacity * scan_size device.old.core.roster.shape mask.bits ≤ MAX_BYTES }
     ensures { JoinsBy mask capacity result (view_by ⟦<Plug as Sensor>⟧.driver device.old) (view_by ⟦<Plug as Sensor>⟧.driver device.new) trigger.old trigger.new }
 {
-    let size = data_scan_size(device.shape(), mask);
+    let size = scan_size(device.shape(), mask);
     let Ok(tail) = Kfifo::new(alloc, capacity, size) else {
         return Err(No::Mem);
     };

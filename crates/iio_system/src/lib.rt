@@ -12,6 +12,7 @@ mod joining;
 mod lines;
 mod moves;
 mod quoted;
+mod remasking;
 mod seat;
 mod step;
 mod steps;

@@ -7,7 +7,7 @@ use Rattle.iio_script.proofs.HandLaws.{passed}
 use Rattle.iio_script.proofs.line_reader.LineReader.pass.Goals as goal
 use Rattle.iio_script.proofs.line_reader.LineReader.pass.Goals.{then-end-len, else-end-len}
 
--- the bytes behind an LF
+-- the bytes after an LF
 behind : (bytes : List ℕ) (begin looked begin' : ℕ) → begin' ≡ begin + looked + 1 → drop begin' bytes ≡ drop (looked + 1) (drop begin bytes)
 behind bytes begin looked begin' is = ap (λ n. drop n bytes) (omega (arith, is)) ∙ sym (drop-drop (looked + 1) begin bytes)
 

@@ -1,0 +1,146 @@
+-- REMASK at a bench.
+use Rattle.std.proofs.Common.{◌≡◌, ℕ, true, false, List, [], ◌∷◌, map, length, set, slice_get, Option, Some, None, IfSome, Result, Ok, Err, refl, sym, ap, subst, ◌∙◌, arith}
+use Rattle.std.specs.Prelude.{◌==◌, is_none, option_and_then, ℤ}
+use Rattle.std.specs.Option.{option_map_or}
+use Rattle.std.proofs.lemmas.Bool.Decides.{nat_tests}
+use Rattle.iio_base.specs.Refusals.{first_refusal, unless_refused}
+use Rattle.iio_text.specs.declared.errors.Errno.{Errno}
+use Rattle.iio_text.specs.declared.errors.Errno.TheVariants.{EBADF, ENODEV}
+use Rattle.iio_mask.specs.declared.Mask.{Mask}
+use Rattle.iio_desc.specs.declared.description.TriggerDesc.{TriggerDesc}
+use Rattle.iio_kfifo.specs.Queue.{Queue}
+use Rattle.iio_kfifo.specs.declared.tail.Tail.{Ghosts}
+use Rattle.iio_sensor.specs.Driver.{Driver}
+use Rattle.iio_trigger.specs.Trigger.{State}
+use Rattle.iio_device.specs.declared.device.Fitted.{Fitted}
+use Rattle.iio_device.specs.declared.iio_dev.IioDev.{IioDev}
+use Rattle.iio_device.specs.declared.membership.Membership.{Membership}
+use Rattle.iio_device.specs.declared.plug.Plug.{Plug}
+use Rattle.iio_device.specs.declared.roster.RemaskFault.{RemaskFault}
+use Rattle.iio_device.specs.declared.roster.RemaskFault.TheVariants as fault
+use Rattle.iio_device.specs.declared.roster.RemaskRefused.{RemaskRefused}
+use Rattle.iio_device.specs.Device.{DeviceView, RemasksDevice, is_bad_mask, remask_faults}
+use Rattle.iio_device.specs.Members.{member_of as membership_of}
+use Rattle.iio_device.specs.Site.{is_empty, no_driver}
+use Rattle.iiod_session.specs.declared.iio.No.{No}
+use Rattle.iiod_session.specs.declared.iio.No.TheVariants.{Errno as NoErrno}
+use Rattle.iiod_session.specs.Calls.{remask_of, remask_refusals, remasked, with_mask}
+use Rattle.iiod_session.specs.Machine.{Member, MemberId, Station, member_in, queue_of, scans_in}
+use Rattle.iiod_session.specs.Opening.{remask_errno}
+use Rattle.iiod_session.specs.Seat.{Answers}
+use Rattle.iio_history.specs.Devices.{queue_waits}
+use Rattle.iio_history.proofs.DeviceRemasks.{refusals_are, remasked_is, waited_is}
+use Rattle.iio_system.specs.Acting.{Acts, KeepsCaptures, has_member}
+use Rattle.iio_system.specs.Places.{IsBench}
+use Rattle.iio_system.specs.Remasking.{remask_answer, remask_no}
+use Rattle.iio_system.specs.Station.{front_by, member_of, station_by, station_of, stations_by}
+use Rattle.iio_system.proofs.BenchLemmas.{KeepsPlace, acts_kept}
+use Rattle.iio_system.proofs.IioLemmas.{IsUnder, keeps_along, sound_kept, told_absent}
+use Rattle.iio_system.proofs.ToldLemmas.{fronts_by, machine_by, shape_is, told_acts}
+
+abbrev lost_of : Queue → ℕ
+lost_of q = q.lost
+
+abbrev bound_of : Queue → ℕ
+bound_of q = q.capacity
+
+-- ---- what it keeps
+
+pub remasks_keep : (n : ℕ) (mask : Mask) (tail : Queue) (r : Result Queue (RemaskRefused Queue)) (v v' : DeviceView Queue) → RemasksDevice lost_of n mask tail r v v' → KeepsCaptures v v'
+remasks_keep n mask tail (Ok q) v v' j = keeps_along v _ v' (record { device = record { name = refl; number = refl; shape = refl }; captures = refl }) j.2
+remasks_keep n mask tail (Err x) v v' j = keeps_along v _ v' (record { device = record { name = refl; number = refl; shape = refl }; captures = refl }) j.2
+
+empty_map : {A B : Type 0} (f : A → B) (xs : List A) → is_empty (map f xs) ≡ is_empty xs
+empty_map f [] = refl
+empty_map f (x ∷ xs) = refl
+
+pub remasked_kept : (n mask scans : ℕ) (st : Station) → KeepsPlace st (remasked n mask scans st)
+remasked_kept n mask scans st =
+    let same = empty_map (with_mask n mask scans) st.members in
+    record {
+      attached = λ t. rw same refl;
+      attachment = refl;
+      hosted = λ k h. rw same h;
+    }
+
+-- ---- refusals
+
+module _ (id : MemberId) (mask : Mask) (scans : ℕ) (v v' : DeviceView Queue) where
+  abbrev answer : Result ℕ Errno
+  answer = remask_answer v.standing.shape (station_of v) id mask.bits
+
+  refused_by : (e : Errno) → answer ≡ Err e → station_of v' ≡ station_of v → Acts (remasked id.number mask.bits scans) answer (Err (NoErrno e)) (station_of v) (station_of v')
+  refused_by e is same = rw is (refl, same)
+
+  pub gone : v.site.plugged ≡ false → v' ≡ v → Acts (remasked id.number mask.bits scans) answer (Err (NoErrno ENODEV)) (station_of v) (station_of v')
+  gone e same = refused_by ENODEV (rw e refl) (ap station_of same)
+
+  pub dead : v.site.plugged ≡ true → has_member id v.standing.members ≡ false → v' ≡ v → Acts (remasked id.number mask.bits scans) answer (Err (NoErrno EBADF)) (station_of v) (station_of v')
+  dead e none same =
+      let absent : is_none (member_in id (map member_of v.standing.members)) ≡ true = none_by (member_in id (map member_of v.standing.members)) (told_absent (λ (x : Member). true) false id v.standing.members none) in
+      refused_by EBADF (rw (e, absent) refl) (ap station_of same)
+    where
+      none_by : (o : Option Member) → option_map_or (λ (x : Member). true) o false ≡ false → is_none o ≡ true
+      none_by None h = refl
+      none_by (Some x) h = absurd (cc)
+
+  abbrev Knows : Type 0
+  Knows = IfSome (membership_of id.number v.standing.members) (λ (m : Membership Queue). m.mask.bits ≡ id.mask)
+
+  pub knows_by : IsUnder id (membership_of id.number v.standing.members) → Knows
+  knows_by under = by (membership_of id.number v.standing.members) under
+    where
+      by : (o : Option (Membership Queue)) → IsUnder id o → IfSome o (λ (m : Membership Queue). m.mask.bits ≡ id.mask)
+      by None u = tt
+      by (Some m) u = grind (arith, u, nat_tests)
+
+  refusals : (r : Option RemaskFault) → is_bad_mask v.standing.shape mask.bits ≡ false → Knows → first_refusal (remask_faults v id.number mask.bits) ≡ r
+      → first_refusal (remask_refusals v.standing.shape (station_of v) id mask.bits) ≡ option_and_then remask_errno r
+  refusals r good knows e = refusals_are lost_of bound_of queue_waits id mask.bits v r good knows e
+
+  pub faulty : (f : RemaskFault) (said : No) → is_bad_mask v.standing.shape mask.bits ≡ false → Knows → Err f ≡ unless_refused (tt {0}) (first_refusal (remask_faults v id.number mask.bits)) → said ≡ remask_no f → v' ≡ v
+      → Acts (remasked id.number mask.bits scans) answer (Err said) (station_of v) (station_of v')
+  faulty f said good knows e is same =
+      subst (λ (x : No). Acts (remasked id.number mask.bits scans) answer (Err x) (station_of v) (station_of v')) (sym is) (by f (refusals (Some f) good knows (stated (first_refusal (remask_faults v id.number mask.bits)) f e)))
+    where
+      stated : (o : Option RemaskFault) (f : RemaskFault) → Err f ≡ unless_refused (tt {0}) o → o ≡ Some f
+      stated None f e = absurd (cc)
+      stated (Some x) f e = let is : f ≡ x = cc in ap (λ (y : RemaskFault). Some y) (sym is)
+
+      by : (f : RemaskFault) → first_refusal (remask_refusals v.standing.shape (station_of v) id mask.bits) ≡ remask_errno f
+          → Acts (remasked id.number mask.bits scans) answer (Err (remask_no f)) (station_of v) (station_of v')
+      by fault.Gone r = refused_by _ (ap (λ (o : Option Errno). unless_refused (length (scans_in id (station_of v).members)) o) r) (ap station_of same)
+      by fault.NotLive r = refused_by _ (ap (λ (o : Option Errno). unless_refused (length (scans_in id (station_of v).members)) o) r) (ap station_of same)
+      by fault.BadMask r = refused_by _ (ap (λ (o : Option Errno). unless_refused (length (scans_in id (station_of v).members)) o) r) (ap station_of same)
+      by fault.NoUnion r = refused_by _ (ap (λ (o : Option Errno). unless_refused (length (scans_in id (station_of v).members)) o) r) (ap station_of same)
+      by fault.Mem r = ap station_of same
+
+  -- it is done
+  pub done : (tail before : Queue) (n : ℕ) → is_bad_mask v.standing.shape mask.bits ≡ false → Knows → tail.scans ≡ [] → tail.lost ≡ 0 → tail.capacity ≡ scans → n ≡ length before.scans
+      → RemasksDevice lost_of id.number mask tail (Ok before) v v' → Acts (remasked id.number mask.bits scans) answer (Ok n) (station_of v) (station_of v')
+  done tail before n good knows none unlost bounded is j =
+      let passed : answer ≡ Ok (length (scans_in id (station_of v).members))
+      = ap (λ (o : Option Errno). unless_refused (length (scans_in id (station_of v).members)) o) (refusals None good knows j.0) in
+      let waited : scans_in id (station_of v).members ≡ before.scans = waited_is lost_of bound_of queue_waits id before v.standing.members knows j.1 in
+      let after : remasked id.number mask.bits tail.capacity (station_of v) ≡ station_of v'
+      = remasked_is lost_of bound_of queue_waits id mask tail before v v' j (record { none = none; unlost = unlost }) in
+      rw passed (
+        ap (λ (q : List (List ℕ)). (let r : Result ℕ Errno = Ok (length q) in r)) waited ∙ ap (λ (k : ℕ). (let r : Result ℕ Errno = Ok k in r)) (sym is),
+        sym after ∙ ap (λ (k : ℕ). remasked id.number mask.bits k (station_of v)) bounded,
+      )
+
+-- ---- the bench
+
+module _ {X : Type 0} {V : X → Type 0} {g : Ghosts Queue} (drive : Plug X V → Driver) (context : List ℕ) (triggers : List TriggerDesc) (states : List State) (ds : List (Fitted (IioDev Queue g) X V)) (clock : ℤ) (k : ℕ) (d d' : Fitted (IioDev Queue g) X V)
+    (sound : IsBench triggers states (stations_by (λ p. no_driver) ds)) (at : slice_get ds k ≡ Some d) (id : MemberId) (mask scans : ℕ) (r : Result ℕ No)
+    (acts : Acts (remasked id.number mask scans) (remask_answer d.core.roster.shape (station_by drive d) id mask) r (station_by drive d) (station_by drive d')) where
+  pub sound_remask : IsBench triggers states (stations_by (λ p. no_driver) (set ds k d'))
+  sound_remask =
+      sound_kept drive triggers states ds k d d' sound at
+      (acts_kept (remasked id.number mask scans) (station_by drive d) (station_by drive d') (remask_answer d.core.roster.shape (station_by drive d) id mask) r (λ x e. remasked_kept id.number mask scans (station_by drive d)) acts)
+
+  pub told_remask : Answers (remask_of (fronts_by front_by context triggers ds) (machine_by (station_by drive) clock ds) k id mask scans) (machine_by (station_by drive) clock ds) r (Some (machine_by (station_by drive) clock (set ds k d')))
+  unfolding remask_of queue_of
+  told_remask =
+      rw (shape_is front_by context triggers ds k d at)
+      (told_acts (station_by drive) clock ds k d d' at (remasked id.number mask scans) (λ st. remask_answer d.core.roster.shape st id mask) r acts)
