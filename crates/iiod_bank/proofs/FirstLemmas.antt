@@ -81,7 +81,7 @@ one_more : (k : ℕ) (x : State) → replicate (suc k) x ≡ replicate k x ++ x 
 one_more zero x = refl
 one_more (suc k) x = ap (λ (xs : List State). x ∷ xs) (one_more k x)
 
--- one trigger more, behind so many
+-- one trigger more, after that many
 pub trigger_more : (made : List State) (n k : ℕ) (x : State) (states states' : List State) → n ≤ k → states ≡ made ++ replicate (k - n) x → states' ≡ states ++ x ∷ [] → states' ≡ made ++ replicate (k + 1 - n) x
 trigger_more made n k x states states' low is pushed =
     let one : k + 1 - n ≡ suc (k - n) = omega arith in

@@ -3,4 +3,3 @@ mod JobLemmas
 mod OwnLaws
 mod UnplugLaws
 mod FirstLemmas
-mod SizeLemmas

@@ -21,15 +21,18 @@ use Rattle.iio_device.specs.declared.handling.RawFault.TheVariants as raw
 use Rattle.iio_device.specs.declared.membership.Membership.{Membership}
 use Rattle.iio_device.specs.declared.roster.JoinFault.{JoinFault}
 use Rattle.iio_device.specs.declared.roster.JoinFault.TheVariants as fault
-use Rattle.iio_device.specs.Device.{DeviceView, LeavesDevice, after_raw, after_trigger, after_write, at_site, device_joined, join_faults, raw_answer, trigger_answer, trigger_joined, write_answer}
+use Rattle.iio_device.specs.declared.roster.RemaskFault.{RemaskFault}
+use Rattle.iio_device.specs.declared.roster.RemaskFault.TheVariants as remask
+use Rattle.iio_device.specs.Device.{DeviceView, LeavesDevice, RemasksDevice, after_raw, after_trigger, after_write, at_site, device_joined, join_faults, raw_answer, remask_faults, trigger_answer, trigger_joined, write_answer}
 use Rattle.iio_device.specs.Members.{first_number, member_of}
 use Rattle.iio_device.specs.Site.{unplugged, with_monitor}
 use Rattle.iio_device.specs.Stored.{attr_value}
-use Rattle.iiod_session.specs.Opening.{errno_of}
+use Rattle.iiod_session.specs.Opening.{errno_of, remask_errno}
 use Rattle.iiod_session.specs.declared.iio.No.{No}
 use Rattle.iiod_session.specs.declared.iio.No.TheVariants.{Errno as NoErrno, Mem as NoMem}
 use Rattle.iio_kfifo.specs.Ends.{WriterEnd}
 use Rattle.iiod_bank.specs.declared.opening.Opened.{Opened}
+use Rattle.iiod_bank.specs.declared.remasking.Remasked.{Remasked}
 use Rattle.iiod_bank.specs.Received.{IsFresh}
 
 -- a refusal by an errno
@@ -57,7 +60,7 @@ pub record MayOpenAt (mask size : ℕ) (shape : ShapeRecord) : Type 0 where
 abbrev pub open_refusal : ℕ → DeviceView WriterEnd → Option State → Option Errno
 open_refusal mask a s = option_and_then errno_of (first_refusal (join_faults a mask s))
 
--- a new queue's end for so many scans of that size, to which nothing was offered
+-- a new queue's end for that many scans of that size, to which nothing was offered
 pub record IsNewEnd (taken lost size capacity : WriterEnd → ℕ) (bytes scans : ℕ) (w : WriterEnd) : Type 0 where
   pub taken_none : taken w ≡ 0
   pub lost_none : lost w ≡ 0
@@ -89,6 +92,34 @@ LeaveMakes lost number a (Some s) o b (Some t) = LeavesDevice lost number o a b 
 LeaveMakes lost number a None o b None = (o ≡ None) × (member_of number a.standing.members ≡ None) × (b ≡ a)
 LeaveMakes lost number a (Some s) o b None = ⊥
 LeaveMakes lost number a None o b (Some t) = ⊥
+
+-- ---- REMASK
+
+-- what a fault of another mask is answered with
+abbrev pub remask_no : RemaskFault → No
+remask_no remask.Gone = NoErrno ENODEV
+remask_no remask.NotLive = NoErrno EBADF
+remask_no remask.BadMask = NoErrno EINVAL
+remask_no remask.NoUnion = NoErrno EINVAL
+remask_no remask.Mem = NoMem
+
+-- the errno of the refusal, where there is one
+abbrev pub remask_refusal : (number mask : ℕ) → DeviceView WriterEnd → Option Errno
+remask_refusal number mask a = option_and_then remask_errno (first_refusal (remask_faults a number mask))
+
+module _ (taken lost size capacity : WriterEnd → ℕ) where
+  -- the member of that number begins anew under that mask: its two ends are those of one new ring, and its writer of before comes
+  -- back
+  pub record Exchanged (number : ℕ) (mask : Mask) (scans bytes : ℕ) (a : DeviceView WriterEnd) (o : Remasked) (b : DeviceView WriterEnd) : Type 0 where
+    pub reader : IsFresh bytes o.reader
+    pub tail : WriterEnd
+    pub end : IsNewEnd taken lost size capacity bytes scans tail
+    pub remasks : RemasksDevice lost number mask tail (Ok o.before) a b
+
+  abbrev pub RemaskMakes : ℕ → Mask → (scans bytes : ℕ) → DeviceView WriterEnd → Result Remasked No → DeviceView WriterEnd → Type 0
+  RemaskMakes number mask scans bytes a (Ok o) b = Exchanged number mask scans bytes a o b
+  RemaskMakes number mask scans bytes a (Err (NoErrno e)) b = (remask_refusal number mask.bits a ≡ Some e) × (b ≡ a)
+  RemaskMakes number mask scans bytes a (Err NoMem) b = (remask_refusal number mask.bits a ≡ None) × (b ≡ a)
 
 -- ---- attributes
 
@@ -168,7 +199,7 @@ module _ (lost : WriterEnd → ℕ) where
     pub first : first_number a.standing.members ≡ Some number
     pub left : LeavesDevice lost number (Some tail) a b s t
 
-  -- so many members leave, one after another, the first one first
+  -- that many members leave, one after another, the first one first
   abbrev pub Left : ℕ → DeviceView WriterEnd → State → DeviceView WriterEnd → State → Type 0
   Left zero a s b t = (b ≡ a) × (t ≡ s)
   Left (suc k) a s b t = (c : DeviceView WriterEnd) × (u : State) × Left k a s c u × FirstLeaves c u b t

@@ -8,6 +8,7 @@ mod first;
 mod front;
 mod opening;
 mod own;
+mod remasking;
 mod trigger_jobs;
 mod unplug;
 
@@ -16,7 +17,8 @@ pub use bank::{Alone, Bank, DeviceJob, TriggerJob, Work};
 pub use events::{EvCloseWork, EvOpenWork, EvReadWork, HandleWork};
 pub use first::{Parts, parts_of};
 pub use front::{Face, HubFront};
-pub use opening::{LeaveJob, OpenJob, Opened, data_scan_size, open_at};
+pub use opening::{LeaveJob, OpenJob, Opened, open_at};
 pub use own::OwnBank;
+pub use remasking::{RemaskWork, Remasked};
 pub use trigger_jobs::{DoneJob, DueJob, PollJob};
 pub use unplug::UnplugJob;

@@ -2,9 +2,7 @@
 
 ghost use Rattle.std.specs.Prelude.{◌≡◌, ◌==◌, ◌*◌, ◌^◌, ◌≤◌, ◌<◌, nat_lt, true, Some, None, is_some};
 ghost use Rattle.iio_layout.specs.Layout.{scan_size};
-ghost use Rattle.iio_layout.specs.Shape.{count_of};
-ghost use Rattle.iio_layout.specs.Active.{has_data};
-ghost use Rattle.iiod_session.specs.declared.limits.TheConstants.{MAX_BYTES};
+ghost use Rattle.iio_kfifo.specs.declared.limits.TheConstants.{MAX_BYTES};
 ghost use Rattle.iiod_bank.specs.Jobs.{LeaveMakes, MayOpenAt, OpenMakes, no_of};
 ghost use Rattle.iiod_bank.specs.Lent.{Kept, lent_by};
 
@@ -45,8 +43,8 @@ fn is_below(mask: Mask, channels: u32) -> bool
     channels == 64 || mask.bits < 1 << channels
 }
 
-// Whether the scans of a mask have that size at a device of that shape.
-fn is_sized(shape: &Shape, mask: Mask, size: u32) -> bool
+/// Whether the scans of a mask have that size at a device of that shape.
+pub(crate) fn is_sized(shape: &Shape, mask: Mask, size: u32) -> bool
     ensures may { result ≡ true → MayOpenAt mask.bits size shape.now }
     ensures exactly { MayOpenAt mask.bits size shape.now → result ≡ true }
 {
@@ -54,16 +52,6 @@ fn is_sized(shape: &Shape, mask: Mask, size: u32) -> bool
         return false;
     }
     scan_size(shape, mask) == size
-}
-
-/// The bytes of a scan under a mask with a data channel.
-pub fn data_scan_size(shape: &Shape, mask: Mask) -> u32
-    requires below { mask.bits < 2 ^ count_of shape.now }
-    requires channel { has_data shape.now mask.bits ≡ true }
-    ensures value { result ≡ scan_size shape.now mask.bits }
-    ensures some { 1 ≤ result }
-{
-    scan_size(shape, mask)
 }
 
 /// A member more at a device and its trigger, with a ring for `capacity` scans of `size` bytes, which is that of the mask's
@@ -124,7 +112,7 @@ pub struct OpenJob {
 }
 
 impl OpenJob {
-    /// OPEN of a mask, for so many scans, which have that size.
+    /// OPEN of a mask, for that many scans, which have that size.
     pub fn new(alloc: Global, mask: Mask, capacity: u32, size: u32) -> OpenJob
         requires some { 1 ≤ capacity }
         requires bytes { 1 ≤ size }

@@ -1,4 +1,3 @@
-pub mod SendLaws
 pub mod TalkLaws
 pub mod LinkLaws
 pub mod Whole

@@ -1,6 +1,8 @@
 -- A part makes few items whole.
-use Rattle.std.proofs.Common.{◌≡◌, ℕ, suc, ◌+◌, ◌≤◌, ◌==◌, nat_lt, Bool, true, false, List, [], ◌∷◌, ◌++◌, length, take, Option, Some, Result, Ok, refl, sym, subst, arith, if◌then◌else◌}
+use Rattle.std.proofs.Common.{◌≡◌, ℕ, suc, ◌+◌, ◌<◌, ◌≤◌, ◌==◌, nat_lt, Bool, true, false, List, [], ◌∷◌, ◌++◌, length, take, Option, Some, Result, Ok, refl, sym, subst, arith, if◌then◌else◌}
 use Rattle.std.proofs.lemmas.List.{length-append}
+use Rattle.std.specs.List.{position_or_len}
+use Rattle.iio_text.specs.Lines.{is_line_end}
 use Rattle.iio_text.specs.declared.errors.Errno.TheVariants.{E2BIG, EFBIG}
 use Rattle.iiod_grammar.specs.Command.{Command, Exit, Target, Write, command_of}
 use Rattle.iiod_grammar.specs.declared.command.Refused.{Refused}
@@ -8,6 +10,25 @@ use Rattle.iiod_grammar.specs.declared.lines.TheConstants.{MAX_LINE, MAX_PAYLOAD
 use Rattle.iiod_grammar.specs.Stream.{AtEnd, InLine, InPayload, Item, Scanned, Scanner, Written, after_byte, after_line, after_said, ended_by, items_from, no_item, one_item, payload_after}
 use Rattle.iiod_connection.specs.Parts.{PartsAreShort, part_length}
 use Rattle.iiod_connection.proofs.TalkLaws.{append_nil}
+
+-- a part ends after its first LF, or with the bytes
+pub part_by_line : (bytes : List ℕ) → (position_or_len is_line_end bytes < length bytes → part_length bytes ≡ position_or_len is_line_end bytes + 1)
+    × (length bytes ≤ position_or_len is_line_end bytes → part_length bytes ≡ length bytes)
+part_by_line [] = (λ h. absurd (omega (arith, h)), λ h. refl)
+part_by_line (b ∷ bs) = by (b == 10) refl (part_by_line bs)
+  where
+    by : (c : Bool) → (b == 10) ≡ c
+        → (position_or_len is_line_end bs < length bs → part_length bs ≡ position_or_len is_line_end bs + 1) × (length bs ≤ position_or_len is_line_end bs → part_length bs ≡ length bs)
+        → (position_or_len is_line_end (b ∷ bs) < length (b ∷ bs) → part_length (b ∷ bs) ≡ position_or_len is_line_end (b ∷ bs) + 1)
+        × (length (b ∷ bs) ≤ position_or_len is_line_end (b ∷ bs) → part_length (b ∷ bs) ≡ length (b ∷ bs))
+    by true e h =
+        let p : position_or_len is_line_end (b ∷ bs) ≡ 0 = rw e refl in
+        let n : part_length (b ∷ bs) ≡ 1 = rw e refl in
+        (λ l. omega (arith, p, n), λ l. absurd (omega (arith, p, l)))
+    by false e h =
+        let p : position_or_len is_line_end (b ∷ bs) ≡ 1 + position_or_len is_line_end bs = rw e refl in
+        let n : part_length (b ∷ bs) ≡ suc (part_length bs) = rw e refl in
+        (λ l. omega (arith, p, n, h.0 (omega (arith, p, l))), λ l. omega (arith, p, n, h.1 (omega (arith, p, l))))
 
 abbrev weight : Scanner → ℕ
 weight (InLine begun) = 1

@@ -1,7 +1,6 @@
 //! One connection of the server: what comes over a link is fed to a session, and what that answers is sent.
 #![tactic(auto)]
 
-mod sending;
 mod serve;
 mod session_end;
 

@@ -9,9 +9,9 @@ ghost use Rattle.iiod_connection.specs.Place.{Place, place_of};
 ghost use Rattle.iiod_connection.specs.SessionEnd.{EndFaults, Ends, IsServed};
 ghost use Rattle.iiod_connection.specs.Talks.{Faults, IsLast, SendsOnce, StandsBy, Talks, Turns};
 
-use crate::sending::send_whole;
 use crate::session_end::SessionEnd;
-use iio_io::{Gate, Link, Point};
+use iio_io::{Gate, Link, Point, send_whole};
+use iio_text::line_len;
 use iiod_grammar::cut_anywhere;
 use iiod_session::{Bells, Going, Manner, Session};
 use std::alloc::Global;
@@ -176,14 +176,8 @@ fn part_end(bytes: &[u8], from: usize) -> usize
     ensures within { result ≤ length bytes.now }
     ensures part { result ≡ from + part_length (drop from bytes.now) }
 {
-    let mut at = from;
-    while at < bytes.len() {
-        at += 1;
-        if bytes[at - 1] == b'\n' {
-            break;
-        }
-    }
-    at
+    let lf = from + line_len(&bytes[from..]);
+    if lf < bytes.len() { lf + 1 } else { lf }
 }
 
 // What was heard is fed part by part, and each part is settled before the next one is fed.

@@ -1,4 +1,5 @@
 mod HandleLaws
 mod OpenLaws
+mod RemaskLaws
 mod SeatLaws
 mod TickLaws

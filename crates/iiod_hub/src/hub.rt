@@ -4,10 +4,11 @@ ghost use Rattle.std.specs.Prelude.{◌≡◌, ◌+◌, ◌*◌, ◌≤◌, ◌<
 ghost use Rattle.iio_desc.specs.WellFormed.{IsWellFormed};
 ghost use Rattle.iio_desc.specs.declared.limits.TheConstants.{MAX_TRIGGERS};
 ghost use Rattle.iiod_session.specs.Front.{first_front};
-ghost use Rattle.iiod_session.specs.Seat.{IsNew, IsOfDevice, MayOpen};
+ghost use Rattle.iiod_session.specs.Seat.{IsNew, IsOfDevice, MayOpen, Remasks};
 ghost use Rattle.iiod_bank.specs.FrontOf.{front_of};
 ghost use Rattle.iiod_hub.specs.Link.{HasMoment, KeepsSeat, RefusedBySome, seen_of};
 ghost use Rattle.iiod_hub.specs.Reads.{HubReads};
+ghost use Rattle.iiod_hub.specs.Remasking.{RemaskRefusedBySome};
 ghost use Rattle.iiod_bank.specs.Received.{size_of};
 
 use crate::bell::bells_of;
@@ -107,6 +108,25 @@ impl Hub {
         self.link(rt, alloc).open(dev, mask, capacity)
     }
 
+    /// The member of a seat begins anew under another mask, as [`Iio::remask`] of a `HubLink`: how many scans waited in its
+    /// ring of before.
+    pub fn remask<R: Wait>(
+        &self,
+        rt: &R,
+        alloc: Global,
+        seat: &mut HubSeat,
+        mask: Mask,
+    ) -> Result<u64, No>
+        requires may_open { MayOpen (front_of self.now.front) seat.old.dev mask.bits seat.old.capacity }
+        requires owned { IsOfDevice (front_of self.now.front) seat.old.dev (seen_of seat.old) }
+        ensures seat { Remasks (front_of self.now.front) seat.old.dev mask.bits result (seen_of seat.old) (seen_of seat.new) }
+        ensures dev { seat.new.dev ≡ seat.old.dev }
+        ensures refused { RemaskRefusedBySome seat.old.dev seat.old.member.number mask result }
+    {
+        let dev = seat.dev;
+        self.link(rt, alloc).remask(dev, seat, mask)
+    }
+
     /// The member of a seat leaves its device, and the reading ends.
     pub fn close<R: Wait>(&self, rt: &R, alloc: Global, seat: HubSeat) -> Ended
         requires { seat.dev < length (front_of self.now.front).devices }
@@ -116,7 +136,7 @@ impl Hub {
     }
 
     /// Takes the oldest scans that wait for a seat, up to `want` of them, and appends their bytes to `out`, which has room for
-    /// so many. It takes no lock, and never waits.
+    /// that many. It takes no lock, and never waits.
     pub fn read(&self, seat: &mut HubSeat, want: u32, out: &mut Vec<u8>) -> Result<u32, ReadEnd>
         requires some { 1 ≤ want }
         requires room { length out.old.items + want * size_of seat.old.reader ≤ vec_capacity out.old }

@@ -7,10 +7,11 @@ ghost use Rattle.iio_desc.specs.declared.limits.TheConstants.{MAX_TRIGGERS};
 ghost use Rattle.iio_trigger.specs.Trigger.{Polls};
 ghost use Rattle.iiod_session.specs.Front.{find_device, find_trigger, shape_at, size_at, trigger_name};
 ghost use Rattle.iiod_session.specs.Reading.{TakesScans};
-ghost use Rattle.iiod_session.specs.Seat.{IsNew, IsOfDevice, MayOpen, after_take};
+ghost use Rattle.iiod_session.specs.Seat.{IsNew, IsOfDevice, MayOpen, Remasks, after_take};
 ghost use Rattle.iiod_session.specs.Target.{MayRead, MayWrite};
 ghost use Rattle.iiod_bank.specs.Jobs.{EvCloseMakes, EvOpenMakes, EvReadMakes, LeaveMakes, LostMakes, ReadMakes, SetTriggerMakes, UnplugMakes, WriteMakes};
 ghost use Rattle.iiod_hub.specs.Link.{BankHandles, BankOpens, RefusedBySome, Swept, seen_of};
+ghost use Rattle.iiod_hub.specs.Remasking.{BankRemasks, RemaskRefusedBySome};
 ghost use Rattle.iiod_bank.specs.Received.{SawClosed, SawOpen, received_of, size_of};
 ghost use Rattle.iiod_bank.specs.Told.{Moves, Only, Ran, RanAt, Told, is_plugged_at, trigger_number_at};
 
@@ -19,14 +20,14 @@ use iio_attr::{Attr, Value};
 use iio_device::Handled;
 use iio_event::EventData;
 use iio_kfifo::{Ended, Reader, Tail, Writer};
-use iio_layout::Shape;
+use iio_layout::{Shape, scan_size};
 use iio_mask::Mask;
 use iio_text::Fixed;
 use iio_trigger::{Due, Polled};
 use iiod_bank::{
     Alone, Bank, DeviceJob, DoneJob, DueJob, EvCloseWork, EvOpenWork, EvReadWork, HandleWork,
-    HubFront, LeaveJob, LostWork, OpenJob, Opened, PollJob, ReadWork, TriggerJob, TriggerWork,
-    UnplugJob, Work, WriteWork, data_scan_size,
+    HubFront, LeaveJob, LostWork, OpenJob, Opened, PollJob, ReadWork, RemaskWork, Remasked,
+    TriggerJob, TriggerWork, UnplugJob, Work, WriteWork,
 };
 use iiod_session::{Counts, Iio, No, Took};
 use std::alloc::Global;
@@ -99,7 +100,7 @@ impl<B: Bank> Iio for HubLink<B> {
         ensures bank { Moves (B.told self.old.bank) (B.told self.new.bank) (λ b c.
             BankOpens ⟦<Writer as Tail>⟧.taken ⟦<Writer as Tail>⟧.lost ⟦<Writer as Tail>⟧.size ⟦<Writer as Tail>⟧.capacity (B.front self.old.bank) dev mask capacity b result c) }
     {
-        let size = data_scan_size(self.bank.front().shape(dev), mask);
+        let size = scan_size(self.bank.front().shape(dev), mask);
         let job = OpenJob::new(self.alloc, mask, capacity, size);
         match self.bank.device(dev, job) {
             Err(no) => Err(no),
@@ -112,6 +113,27 @@ impl<B: Bank> Iio for HubLink<B> {
                 empties: 0,
                 gone: false,
             }),
+        }
+    }
+
+    fn remask(&mut self, dev: u32, seat: &mut HubSeat, mask: Mask) -> Result<u64, No>
+        requires may_open { MayOpen (B.front self.old.bank) dev mask.bits seat.old.capacity }
+        requires owned { IsOfDevice (B.front self.old.bank) dev (seen_of seat.old) }
+        ensures kept { B.front self.new.bank ≡ B.front self.old.bank }
+        ensures seat { Remasks (B.front self.old.bank) dev mask.bits result (seen_of seat.old) (seen_of seat.new) }
+        ensures dev { seat.new.dev ≡ seat.old.dev }
+        ensures refused { RemaskRefusedBySome dev seat.old.member.number mask result }
+        ensures bank { Moves (B.told self.old.bank) (B.told self.new.bank) (λ b c.
+            BankRemasks ⟦<Writer as Tail>⟧.taken ⟦<Writer as Tail>⟧.lost ⟦<Writer as Tail>⟧.size ⟦<Writer as Tail>⟧.capacity (B.front self.old.bank) dev mask b seat.old result seat.new c) }
+    {
+        let size = scan_size(self.shape(dev), mask);
+        let work = RemaskWork::new(self.alloc, seat.member, mask, seat.capacity, size);
+        match self.bank.device(dev, Alone { work }) {
+            Err(no) => Err(no),
+            Ok(Remasked { before, reader }) => {
+                before.close();
+                Ok(seat.begin_anew(mask, reader))
+            }
         }
     }
 

@@ -14,6 +14,7 @@ use iio_device::Member;
 use iio_kfifo::{Ended, Reader};
 use iio_mask::Mask;
 use iiod_session::Took;
+use std::mem::replace;
 
 /// Why a read gives no scan.
 #[derive(Clone, Copy, Debug, PartialEq, Eq)]
@@ -51,6 +52,20 @@ impl HubSeat {
         if gone { Took::Gone } else { Took::Empty }
     }
 
+    /// The seat takes from another ring from now on, whose scans are of that mask, and what it tells begins anew. The reading of the
+    /// ring of before ends; the answer is how many scans waited there.
+    pub(crate) fn begin_anew(&mut self, mask: Mask, reader: Reader) -> u64
+        ensures { self.new ≡ record self.old { mask = mask; reader = reader; empties = 0; gone = false } }
+    {
+        self.mask = mask;
+        self.empties = 0;
+        self.gone = false;
+        let mut before = replace(&mut self.reader, reader);
+        let waiting = before.waiting();
+        before.end();
+        waiting
+    }
+
     /// Takes the oldest scan that waits into `out`. It takes no lock. `Empty` comes only where a look of this call showed the
     /// ring not closed, `Gone` only where one showed it closed.
     pub fn take(&mut self, out: &mut [u8]) -> Took
@@ -67,7 +82,7 @@ impl HubSeat {
         self.nothing(closed)
     }
 
-    /// Takes the oldest scans that wait, up to `most` of them, and appends their bytes to `out`, which has room for so many.
+    /// Takes the oldest scans that wait, up to `most` of them, and appends their bytes to `out`, which has room for that many.
     /// It takes no lock. There are fewer only where a look of this call found nothing left. `dev` is the device's number.
     pub fn take_scans(&mut self, _dev: u32, most: u32, out: &mut Vec<u8>) -> Took
         requires some { 1 ≤ most }
@@ -90,7 +105,7 @@ impl HubSeat {
         Took::Scan
     }
 
-    /// Takes the oldest scans that wait, up to `want` of them, and appends their bytes to `out`, which has room for so many. It
+    /// Takes the oldest scans that wait, up to `want` of them, and appends their bytes to `out`, which has room for that many. It
     /// takes no lock.
     pub fn read(&mut self, want: u32, out: &mut Vec<u8>) -> Result<u32, ReadEnd>
         requires some { 1 ≤ want }

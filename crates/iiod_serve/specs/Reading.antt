@@ -14,11 +14,11 @@ read_head (Faulty (Line n why)) = only_ending (Refused n why)
 read_head (Faulty Mem) = only_ending Finished
 read_head Cut = only_ending TooLong
 
--- what the description of an input, which may use so many drivers, prints where it is to be served
+-- what the description of an input, which may use that many drivers, prints where it is to be served
 abbrev pub served_of : (drivers : ℕ) (input : List ℕ) → Outcome
 served_of drivers input = read_head (head_of drivers input)
 
--- a head is that description, whatever stands behind it
+-- a head is that description, whatever stands after it
 abbrev pub Says : Description → Head → Type 0
 Says desc (Described said first lines) = desc ≡ said
 Says desc head = ⊥

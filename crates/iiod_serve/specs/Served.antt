@@ -48,7 +48,7 @@ of_run run.TooLong = TooLong
 abbrev pub no_address_line : List ℕ
 no_address_line = codes "no address" ++ 10 ∷ []
 
--- what is written, where a description has this outcome: that; and behind one that is read, where the door can't be opened,
+-- what is written, where a description has this outcome: that; and after one that is read, where the door can't be opened,
 -- the line that says so, or a front part of it where a write failed
 abbrev pub ServesLines : Outcome → (before : List ℕ) → ServeStatus → Option (List ℕ) → Type 0
 ServesLines outcome before NoAddress after = (outcome.ending ≡ Finished) × (after ≡ Some (before ++ no_address_line))

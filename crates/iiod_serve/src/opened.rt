@@ -18,7 +18,7 @@ use std::thread::Threads;
 
 const NO_ADDRESS: &[u8] = b"no address\n";
 
-// The tickers of so many triggers, each of which is polled each `period` milliseconds.
+// The tickers of that many triggers, each of which is polled each `period` milliseconds.
 fn tickers_of<D: Listen>(
     alloc: Global,
     door: &D,
@@ -48,7 +48,7 @@ fn end_unopened<K: Sink>(output: &mut K) -> ServeStatus
     }
 }
 
-// The server behind a door that was opened.
+// The server at a door that was opened.
 fn serve_opened<R: Threads + Wait + Sync, D: Listen, G: Gate + Sync>(
     rt: &R,
     alloc: Global,

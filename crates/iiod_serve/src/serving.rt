@@ -20,7 +20,7 @@ use std::alloc::Global;
 use std::sync::Wait;
 use std::thread::Threads;
 
-// Serves the description of an input, with so many drivers.
+// Serves the description of an input, with that many drivers.
 fn serve_input<R: Threads + Wait + Sync, S: Source, K: Sink, D: Listen, G: Gate + Sync>(
     rt: &R,
     alloc: Global,
@@ -76,7 +76,7 @@ pub fn serve<R: Threads + Wait + Sync, S: Source, K: Sink, D: Listen, G: Gate + 
     ensures complete { (address : List ℕ) (period : ℕ) → IsServe words.now address period → S.faults input.old ≡ S.faults input.new → K.faults output.old ≡ K.faults output.new
         → D.faults door.old ≡ D.faults door.new → IfSome (S.left input.old) (λ left. EndsServed (served_of (length drivers.items) left) result) }
     ensures taken { (address : List ℕ) (period : ℕ) → IsServe words.now address period → IfSome (S.left input.old) (λ left. TakesBlocks left (S.left input.new)) }
-    // Where a line of the description is refused, at most 65,536 bytes were taken behind the byte at which it failed.
+    // Where a line of the description is refused, at most 65,536 bytes were taken after the byte at which it failed.
     ensures near { (address : List ℕ) (period : ℕ) → IsServe words.now address period → IfSome (S.left input.old) (λ left. TakesFor (as_run result) left (S.left input.new)) }
     ensures nothing { (address : List ℕ) (period : ℕ) → IsServe words.now address period → result ≡ ServeStatus.ReadFault → output.new ≡ output.old }
     ensures words { (address : List ℕ) (period : ℕ) → IsServe words.now address period → result ≡ ServeStatus.Usage → ⊥ }

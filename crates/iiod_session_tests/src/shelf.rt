@@ -11,12 +11,13 @@ use iio_attr::{Attr, Value};
 use iio_base::Mem;
 use iio_desc::Desc;
 use iio_event::EventData;
-use iio_layout::Shape;
+use iio_layout::{Shape, scan_size};
 use iio_mask::Mask;
 use iio_text::Fixed;
-use iiod_bank::{HubFront, Parts, data_scan_size, parts_of};
+use iiod_bank::{HubFront, Parts, parts_of};
 use iiod_session::{Counts, Iio, No, Took};
 use std::alloc::Global;
+use std::mem::replace;
 
 /// A seat, which keeps the list of the scans that it gave.
 #[derive(Drop)]
@@ -45,7 +46,7 @@ pub struct Shelf {
     pub(crate) front: HubFront,
     /// The scans that wait, the oldest first. One of another size than the seat's waits for another seat.
     pub scans: Vec<Vec<u8>>,
-    /// What each seat that was closed had given, in the order of their closing.
+    /// What each seat that was closed, or got another mask, had given by then, in this order.
     pub closed: Vec<Vec<Vec<u8>>>,
 }
 
@@ -120,7 +121,7 @@ impl Iio for Shelf {
     }
 
     fn open(&mut self, dev: u32, mask: Mask, capacity: u32) -> Result<ShelfSeat, No> {
-        let size = data_scan_size(self.front.shape(dev), mask);
+        let size = scan_size(self.front.shape(dev), mask);
         Ok(ShelfSeat {
             mask,
             capacity,
@@ -128,6 +129,15 @@ impl Iio for Shelf {
             given: Vec::new(self.alloc),
             empties: 0,
         })
+    }
+
+    fn remask(&mut self, dev: u32, seat: &mut ShelfSeat, mask: Mask) -> Result<u64, No> {
+        seat.size = scan_size(self.front.shape(dev), mask);
+        seat.mask = mask;
+        seat.empties = 0;
+        let given = replace(&mut seat.given, Vec::new(self.alloc));
+        let _ = self.closed.push(given);
+        Ok(self.scans.len() as u64)
     }
 
     fn close(&mut self, _dev: u32, seat: ShelfSeat) {

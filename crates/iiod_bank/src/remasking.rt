@@ -1,0 +1,123 @@
+//! REMASK at a device.
+
+ghost use Rattle.std.specs.Prelude.{◌≡◌, ◌*◌, ◌≤◌, true};
+ghost use Rattle.iio_kfifo.specs.declared.limits.TheConstants.{MAX_BYTES};
+ghost use Rattle.iiod_bank.specs.Jobs.{MayOpenAt, RemaskMakes, remask_no};
+ghost use Rattle.iiod_bank.specs.Lent.{Kept, lent_by};
+
+use crate::bank::Work;
+use crate::opening::is_sized;
+use iio_device::{Device, Member, Plug, RemaskFault, RemaskRefused};
+use iio_kfifo::{Reader, Tail, Writer, ring};
+use iio_layout::Shape;
+use iio_mask::Mask;
+use iio_sensor::Sensor;
+use iio_text::Errno;
+use iiod_session::No;
+use std::alloc::Global;
+
+/// What a member has left of its ring of before, and the end of its new one at which scans are taken.
+pub struct Remasked {
+    pub before: Writer,
+    pub reader: Reader,
+}
+
+// What a fault of another mask is answered with.
+fn no_of(fault: RemaskFault) -> No
+    ensures { result ≡ remask_no fault }
+{
+    match fault {
+        RemaskFault::Gone => No::Errno(Errno::ENODEV),
+        RemaskFault::NotLive => No::Errno(Errno::EBADF),
+        RemaskFault::BadMask | RemaskFault::NoUnion => No::Errno(Errno::EINVAL),
+        RemaskFault::Mem => No::Mem,
+    }
+}
+
+// The member begins anew under that mask, with a ring for `capacity` scans of `size` bytes, which is that of the mask's scans.
+// Refused as by `Device::may_remask`, and then for want of memory; a refusal changes nothing.
+fn remask_at(
+    alloc: Global,
+    device: &mut Device<Writer>,
+    member: &Member,
+    mask: Mask,
+    capacity: u32,
+    size: u32,
+) -> Result<Remasked, No>
+    requires may { MayOpenAt mask.bits size device.old.core.roster.shape }
+    requires some { 1 ≤ capacity }
+    requires bytes { 1 ≤ size }
+    requires fits { capacity * size ≤ MAX_BYTES }
+    ensures { RemaskMakes ⟦<Writer as Tail>⟧.taken ⟦<Writer as Tail>⟧.lost ⟦<Writer as Tail>⟧.size ⟦<Writer as Tail>⟧.capacity member.now.number mask capacity size
+        (lent_by ⟦<Plug as Sensor>⟧.driver device.old) result (lent_by ⟦<Plug as Sensor>⟧.driver device.new) }
+{
+    if let Err(fault) = device.may_remask(member, mask) {
+        return Err(no_of(fault));
+    }
+    let Ok((writer, reader)) = ring(alloc, capacity, size) else {
+        return Err(No::Mem);
+    };
+    match device.remask(member, mask, writer) {
+        Ok(before) => Ok(Remasked { before, reader }),
+        Err(RemaskRefused { fault: _, tail: _ }) => {
+            reader.end();
+            Err(No::Mem)
+        }
+    }
+}
+
+/// REMASK.
+#[derive(Drop)]
+pub struct RemaskWork {
+    pub alloc: Global,
+    pub member: Member,
+    pub mask: Mask,
+    pub capacity: u32,
+    pub size: u32,
+    ghost some: { 1 ≤ capacity },
+    ghost bytes: { 1 ≤ size },
+    ghost fits: { capacity * size ≤ MAX_BYTES },
+}
+
+impl RemaskWork {
+    /// That member's REMASK to a mask, for that many scans, which have that size.
+    pub fn new(alloc: Global, member: Member, mask: Mask, capacity: u32, size: u32) -> RemaskWork
+        requires some { 1 ≤ capacity }
+        requires bytes { 1 ≤ size }
+        requires fits { capacity * size ≤ MAX_BYTES }
+        ensures { (result.member ≡ member) × (result.mask ≡ mask) × (result.capacity ≡ capacity) × (result.size ≡ size) }
+    {
+        RemaskWork {
+            alloc,
+            member,
+            mask,
+            capacity,
+            size,
+        }
+    }
+}
+
+impl Work for RemaskWork {
+    ghost use Rattle.iiod_bank.specs.Jobs.{MayOpenAt, RemaskMakes};
+
+    type Out = Result<Remasked, No>;
+
+    ghost may = { λ w shape. MayOpenAt w.mask.bits w.size shape };
+
+    ghost does = { λ w a o b. RemaskMakes ⟦<Writer as Tail>⟧.taken ⟦<Writer as Tail>⟧.lost ⟦<Writer as Tail>⟧.size ⟦<Writer as Tail>⟧.capacity w.member.number w.mask w.capacity w.size a o b };
+
+    fn fits(&self, shape: &Shape) -> bool {
+        is_sized(shape, self.mask, self.size)
+    }
+
+    fn run(self, device: &mut Device<Writer>) -> Result<Remasked, No> {
+        remask_at(
+            self.alloc,
+            device,
+            &self.member,
+            self.mask,
+            self.capacity,
+            self.size,
+        )
+    }
+}
