@@ -41,7 +41,7 @@ plain_says line said byte r a b c says e lf few h k is = by r (subst (λ xs. Say
     by : (r : Result ⊤ ClientEnd) → SaysPlain line r → Hears Plain [] r a c
     by (Ok done) s = (line_text line, (ap line_text s, refl), heard)
     by (Err Done) s = absurd s
-    by (Err (Refused n)) s = (line_text line, (line, s, refl), heard)
+    by (Err (Refused n)) s = (line_text line, record { line = line; is_line = record { few = few; no_lf = lf }; number = s; text_is = refl }, heard)
     by (Err LinkFault) s = absurd s
     by (Err WriteFault) s = absurd s
     by (Err Memory) s = absurd s

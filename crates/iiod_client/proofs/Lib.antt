@@ -4,3 +4,5 @@ pub mod HearingLaws
 pub mod PrintedLaws
 pub mod ClientLaws
 pub mod Machine
+pub mod AwaitedLaws
+pub mod EndLaws

@@ -42,7 +42,7 @@ zero_length line n e some f =
     let same : 0 ≡ n = cc in
     omega (arith, some, same)
 
-zero_refusal : (line : List ℕ) (n : ℕ) → refusal_of line ≡ Some n → line ≡ zero_line → ⊥
+pub zero_refusal : (line : List ℕ) (n : ℕ) → refusal_of line ≡ Some n → line ≡ zero_line → ⊥
 zero_refusal line n e f =
     let g : refusal_of zero_line ≡ Some n = subst (λ xs. refusal_of xs ≡ Some n) f e in cc
 
@@ -122,7 +122,7 @@ det_block q body (Refused n) r a b = absurd a
 
 -- ---- the machine
 
--- at a place of an answer, with the bytes of a line and the data so far; or behind an answer's end
+-- at a place of an answer, with the bytes of a line and the data so far; or after an answer's end
 data M : Type 0 where
   At : (place : Place) (line body : List ℕ) → M
   Beyond : M
@@ -398,7 +398,7 @@ abbrev state_in : Option (State × List ℕ) → State
 state_in None = state.Malformed
 state_in (Some p) = p.0
 
--- behind an end there is nothing
+-- after an end there is nothing
 end_step : (q : Asked) (x u : M) (b : ℕ) (s : State) (k : List ℕ) → says x ≡ told s k → IsEnd s → Step q x b u → u ≡ Beyond
 end_step q (At Length line body) u b s k e is step = let same : state.More ≡ s = ap state_in e in absurd (subst IsEnd (sym same) is)
 end_step q (At (Mask n) line body) u b s k e is step = let same : state.More ≡ s = ap state_in e in absurd (subst IsEnd (sym same) is)

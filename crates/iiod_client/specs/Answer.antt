@@ -6,7 +6,7 @@ use Rattle.iio_text.specs.Numbers.{number_of}
 use Rattle.iio_mask.specs.Text.{IsMaskText}
 use Rattle.iiod_client.specs.Line.{line_text, zero_line, refusal_of, IsBegunLine, IsLongLine}
 
--- what a READBUF asks for: so many bytes, under a mask of so many channels whose scans have that size
+-- what a READBUF asks for: that many bytes, under a mask of that many channels whose scans have that size
 pub record Asked : Type 0 where
   pub bytes : ℕ
   pub mask : ℕ
@@ -27,7 +27,7 @@ pub record IsBlock (block : Block) : Type 0 where
 abbrev pub block_text : Block → List ℕ
 block_text block = line_text block.line ++ block.bytes
 
--- the text of blocks: in the first one the mask's line stands behind the length line
+-- the text of blocks: in the first one the mask's line stands after the length line
 abbrev pub blocks_text : (mask : List ℕ) → (first : Block) → (later : List Block) → List ℕ
 blocks_text mask first later = line_text first.line ++ (line_text mask ++ (first.bytes ++ flat_map block_text later))
 
@@ -81,14 +81,14 @@ pub record IsRefusal (q : Asked) (n : ℕ) (text : List ℕ) : Type 0 where
 
 -- ---- what is no answer, whatever follows
 
--- a line that can't stand behind these bytes in the place of a length line: neither a length of a block that fits, nor a
+-- a line that can't stand after these bytes in the place of a length line: neither a length of a block that fits, nor a
 -- closing 0, nor a refusal
 pub record IsWrongLine (q : Asked) (body line : List ℕ) : Type 0 where
   pub no_length : (n : ℕ) → number_of line ≡ Some n → 1 ≤ n → length body + n ≤ q.bytes → ⊥
   pub no_closing : line ≡ zero_line → 1 ≤ length body → AreScans q body → ⊥
   pub no_refusal : (n : ℕ) → refusal_of line ≡ Some n → AreScans q body → ⊥
 
--- behind these bytes such a line stands
+-- after these bytes such a line stands
 pub record HasWrongLine (q : Asked) (text : List ℕ) : Type 0 where
   pub blocks : List ℕ
   pub body : List ℕ
@@ -106,7 +106,7 @@ pub record IsFirstLength (q : Asked) (n : ℕ) (line : List ℕ) : Type 0 where
   pub some : 1 ≤ n
   pub within : n ≤ q.bytes
 
--- behind the first length line another line stands than the mask's
+-- after the first length line another line stands than the mask's
 pub record HasWrongMask (q : Asked) (text : List ℕ) : Type 0 where
   pub n : ℕ
   pub first : List ℕ

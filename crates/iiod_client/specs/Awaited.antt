@@ -1,4 +1,5 @@
--- The two kinds of answers that a client awaits: a plain one, to OPEN and CLOSE, and that to READBUF. (libiio 0.25's iiod.)
+-- What a client awaits after a line: a plain answer, to OPEN and CLOSE, that to READBUF, or nothing, after EXIT. (libiio
+-- 0.25's iiod.)
 use Rattle.std.specs.Prelude.{◌≡◌, ◌⊎◌, ℕ, List, [], Some, None}
 use Rattle.iiod_client.specs.Line.{line_text, zero_line, refusal_of, IsBegunLine, IsLongLine}
 use Rattle.iiod_client.specs.Answer.{Asked, IsAnswer, IsRefusal, IsMalformed}
@@ -7,16 +8,26 @@ use Rattle.iiod_client.specs.Standing.{IsPartial}
 pub data Awaited : Type 0 where
   Plain : Awaited
   Scans : (q : Asked) → Awaited
+  Nothing : Awaited
 
 -- the text is the awaited answer, with these data bytes: a plain one is the line `0`
 abbrev pub IsAccepted : Awaited → (text body : List ℕ) → Type 0
 IsAccepted Plain text body = (text ≡ line_text zero_line) × (body ≡ [])
 IsAccepted (Scans q) text body = IsAnswer q text body
+IsAccepted Nothing text body = ⊥
+
+-- a plain answer that is the negative number -n
+pub record IsPlainRefusal (n : ℕ) (text : List ℕ) : Type 0 where
+  pub line : List ℕ
+  pub is_line : IsBegunLine line
+  pub number : refusal_of line ≡ Some n
+  pub text_is : text ≡ line_text line
 
 -- it is a refusal by -n in its place
 abbrev pub IsRefused : Awaited → ℕ → List ℕ → Type 0
-IsRefused Plain n text = (line : List ℕ) × (refusal_of line ≡ Some n) × (text ≡ line_text line)
+IsRefused Plain n text = IsPlainRefusal n text
 IsRefused (Scans q) n text = IsRefusal q n text
+IsRefused Nothing n text = ⊥
 
 -- a line that is no plain answer
 pub record IsWrongPlain (text : List ℕ) : Type 0 where
@@ -30,8 +41,10 @@ pub record IsWrongPlain (text : List ℕ) : Type 0 where
 abbrev pub IsWrong : Awaited → List ℕ → Type 0
 IsWrong Plain text = IsWrongPlain text ⊎ IsLongLine text
 IsWrong (Scans q) text = IsMalformed q text
+IsWrong Nothing text = ⊥
 
 -- more is awaited
 abbrev pub IsUnfinished : Awaited → List ℕ → Type 0
 IsUnfinished Plain text = IsBegunLine text
 IsUnfinished (Scans q) text = (body : List ℕ) × IsPartial q text body
+IsUnfinished Nothing text = ⊥

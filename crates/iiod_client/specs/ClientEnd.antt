@@ -7,7 +7,7 @@ use Rattle.iiod_client.specs.Ask.{Wanted}
 use Rattle.iiod_client.specs.Awaited.{IsRefused, IsWrong, IsUnfinished}
 use Rattle.iiod_client.specs.Point.{Point, Goes, Stops, IsAtEnd}
 use Rattle.iiod_client.specs.Printed.{refused_line}
-use Rattle.iiod_client.specs.Talk.{Read, Stage, Leaving, IsStage, heard_at, sent_at, printed_at, awaits}
+use Rattle.iiod_client.specs.Talk.{Read, Stage, Leaving, IsStage, IsLeaving, heard_at, sent_at, printed_at, awaits}
 
 -- all that was wanted came, was confirmed and printed
 pub record IsWhole (w : Wanted) (a b : Point) : Type 0 where
@@ -70,3 +70,34 @@ abbrev pub Faults : ClientEnd → (link link' output output' : ℕ) → Type 0
 Faults LinkFault link link' output output' = Rose link link' × (output' ≡ output)
 Faults WriteFault link link' output output' = (link' ≡ link) × Rose output output'
 Faults end link link' output output' = (link' ≡ link) × (output' ≡ output)
+
+-- ---- the end that the answers over a link come to
+
+-- at a stage, the bytes that follow end a reading so: nothing is awaited any more; or they begin with a refusal, or with what
+-- is no answer; or they end within the answer
+abbrev pub EndsAt : Wanted → Stage → (following : List ℕ) → ClientEnd → Type 0
+EndsAt w stage following Done = IsLeaving stage
+EndsAt w stage following (Refused n) = (text : List ℕ) × (more : List ℕ) × (following ≡ text ++ more) × IsRefused (awaits w stage) n text
+EndsAt w stage following Malformed = (text : List ℕ) × (more : List ℕ) × (following ≡ text ++ more) × IsWrong (awaits w stage) text
+EndsAt w stage following Cut = IsUnfinished (awaits w stage) following
+EndsAt w stage following end = ⊥
+
+-- the end that the bytes of a link come to: they begin with the answers to all lines before a stage's, and what follows ends
+-- the reading there. At `Done` they begin with `0`, whole answers until all scans that are wanted came, and `0`
+pub record ComesTo (w : Wanted) (bytes : List ℕ) (end : ClientEnd) : Type 0 where
+  pub stage : Stage
+  pub is_stage : IsStage w stage
+  pub following : List ℕ
+  pub bytes_are : bytes ≡ heard_at stage ++ following
+  pub ends : EndsAt w stage following end
+
+-- the ends at which a call failed or memory ran out
+abbrev pub IsFailure : ClientEnd → Type 0
+IsFailure LinkFault = Unit {0}
+IsFailure WriteFault = Unit {0}
+IsFailure Memory = Unit {0}
+IsFailure end = ⊥
+
+-- how a reading ended over a link that gives these bytes: as they come to, unless a call failed or memory ran out
+abbrev pub EndsBy : Wanted → (bytes : List ℕ) → ClientEnd → Type 0
+EndsBy w bytes end = (due : ClientEnd) → ComesTo w bytes due → (end ≡ due) ⊎ IsFailure end

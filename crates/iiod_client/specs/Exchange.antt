@@ -50,7 +50,7 @@ SaysPlain line (Err (Refused n)) = refusal_of line ≡ Some n
 SaysPlain line (Err Malformed) = (line ≡ zero_line → ⊥) × (refusal_of line ≡ None)
 SaysPlain line (Err end) = ⊥
 
--- scans were asked for where so many came, and so many were printed
+-- scans were asked for where that many came, and that many were printed
 abbrev pub Reads : Wanted → (got : ℕ) → Result ℕ ClientEnd → (a b : Point) → Type 0
 Reads w got (Ok more) a b =
     (text : List ℕ) × (body : List ℕ) × IsAnswer (question w got) text body × (more ≡ length body / size_for w)

@@ -26,7 +26,7 @@ pub record InLength (q : Asked) (line body text : List ℕ) : Type 0 where
   pub begun : IsBegunLine line
   pub text_is : text ≡ blocks ++ line
 
--- behind the first length line, in the mask's line
+-- after the first length line, in the mask's line
 pub record InMask (q : Asked) (n : ℕ) (line body text : List ℕ) : Type 0 where
   pub first : List ℕ
   pub is_first : IsFirstLength q n first
@@ -34,7 +34,7 @@ pub record InMask (q : Asked) (n : ℕ) (line body text : List ℕ) : Type 0 whe
   pub none : body ≡ []
   pub text_is : text ≡ line_text first ++ line
 
--- in the bytes of a block: any so many bytes make it whole
+-- in the bytes of a block: that many bytes, whatever they are, make it whole
 pub record InData (q : Asked) (missing : ℕ) (body text : List ℕ) : Type 0 where
   pub some : 1 ≤ missing
   pub within : length body + missing ≤ q.bytes
@@ -115,7 +115,7 @@ told_body s body = []
 abbrev pub reading_of : State → List ℕ → Option (State × List ℕ)
 reading_of s body = Some (s, told_body s body)
 
--- a text that is ended says nothing else, and no text that goes on behind it says anything
+-- a text that is ended says nothing else, and no text that goes on after it says anything
 abbrev pub OneReading : Type 0
 OneReading = (q : Asked) (s t : State) (text more body other : List ℕ) → IsEnd s → Reads q s text body → Reads q t (text ++ more) other
     → (more ≡ []) × (reading_of t other ≡ reading_of s body)

@@ -8,7 +8,7 @@ use Rattle.iiod_client.specs.Standing.{AnswerRecord}
 use Rattle.iiod_client.specs.Line.{zero_line, refusal_of}
 use Rattle.iiod_client.specs.Answer.{Asked, AreScans, IsWrongLine}
 
--- a line in the place of a length line, behind these bytes
+-- a line in the place of a length line, after these bytes
 abbrev pub AfterLength : Asked → (body line : List ℕ) → Place → Type 0
 AfterLength q body line Length = ⊥
 AfterLength q body line (Mask n) = (number_of line ≡ Some n) × (1 ≤ n) × (n ≤ q.bytes) × (body ≡ [])
@@ -17,20 +17,20 @@ AfterLength q body line Done = (line ≡ zero_line) × (1 ≤ length body) × Ar
 AfterLength q body line (Refused n) = (refusal_of line ≡ Some n) × AreScans q body
 AfterLength q body line Malformed = IsWrongLine q body line
 
--- a line in the place of the mask's, behind a length line of n
+-- a line in the place of the mask's, after a length line of n
 abbrev pub AfterMask : Asked → (n : ℕ) → (line : List ℕ) → Place → Type 0
 AfterMask q n line (Data missing) = (missing ≡ n) × IsMaskText q.channels line q.mask
 AfterMask q n line Malformed = IsMaskText q.channels line q.mask → ⊥
 AfterMask q n line place = ⊥
 
--- the end of a block, behind these bytes
+-- the end of a block, after these bytes
 abbrev pub AfterBlock : Asked → (body : List ℕ) → Place → Type 0
 AfterBlock q body Length = length body < q.bytes
 AfterBlock q body Done = (length body ≡ q.bytes) × AreScans q body
 AfterBlock q body Malformed = (length body ≡ q.bytes) × (AreScans q body → ⊥)
 AfterBlock q body place = ⊥
 
--- bytes of a block, of which so many are left, to these bytes
+-- bytes of a block, of which that many are left, to these bytes
 abbrev pub AfterBytes : Asked → (left : ℕ) → (body : List ℕ) → Place → Type 0
 AfterBytes q left body (Data missing) = (missing ≡ left) × (1 ≤ left) × (length body + left ≤ q.bytes)
 AfterBytes q left body place = (left ≡ 0) × AfterBlock q body place

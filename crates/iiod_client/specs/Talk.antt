@@ -3,7 +3,7 @@ use Rattle.std.specs.Prelude.{◌≡◌, ℕ, ◌+◌, ◌/◌, ◌<◌, List, [
 use Rattle.iiod_client.specs.Line.{line_text, zero_line}
 use Rattle.iiod_client.specs.Answer.{IsAnswer}
 use Rattle.iiod_client.specs.Ask.{Wanted, batch, question, size_for, open_line, readbuf_line, close_line, exit_line}
-use Rattle.iiod_client.specs.Awaited.{Awaited, Plain, Scans}
+use Rattle.iiod_client.specs.Awaited.{Awaited, Plain, Scans, Nothing}
 use Rattle.iiod_client.specs.Printed.{scan_lines}
 
 -- an answer to READBUF that came whole
@@ -54,6 +54,11 @@ IsStage w (Reading reads) = AreReads w reads × (got_by w reads < w.scans)
 IsStage w (Closing reads) = AreReads w reads × (got_by w reads ≡ w.scans)
 IsStage w (Leaving reads) = AreReads w reads × (got_by w reads ≡ w.scans)
 
+-- all answers came
+abbrev pub IsLeaving : Stage → Type 0
+IsLeaving (Leaving reads) = Unit {0}
+IsLeaving stage = ⊥
+
 -- what was heard before the line's answer
 abbrev pub heard_at : Stage → List ℕ
 heard_at Opening = []
@@ -86,9 +91,9 @@ printed_at w (Reading reads) = printed_for w reads
 printed_at w (Closing reads) = printed_for w reads
 printed_at w (Leaving reads) = printed_for w reads
 
--- the answer that is awaited for it; EXIT has none
+-- the answer that is awaited for it
 abbrev pub awaits : Wanted → Stage → Awaited
 awaits w Opening = Plain
 awaits w (Reading reads) = Scans (question w (got_by w reads))
 awaits w (Closing reads) = Plain
-awaits w (Leaving reads) = Plain
+awaits w (Leaving reads) = Nothing

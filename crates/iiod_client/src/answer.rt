@@ -23,7 +23,7 @@ pub enum State {
     More,
     /// A whole answer.
     Done,
-    /// A refusal by this negative number, in place of an answer or behind blocks of it.
+    /// A refusal by this negative number, in place of an answer or after blocks of it.
     Refused(u32),
     /// No answer begins so.
     Malformed,
@@ -34,15 +34,15 @@ pub enum State {
 pub enum Place {
     /// In a line in the place of a length line.
     Length,
-    /// In the mask's line, behind the length line of the first block.
+    /// In the mask's line, after the length line of the first block.
     Mask(u32),
-    /// In the bytes of a block, of which so many are still to come.
+    /// In the bytes of a block, of which that many are still to come.
     Data(u32),
     /// At the end of an answer.
     Done,
     /// At the end of a refusal.
     Refused(u32),
-    /// Behind the byte that no answer has there.
+    /// After the byte that no answer has there.
     Malformed,
 }
 
@@ -71,7 +71,7 @@ impl Model for Answer {
 }
 
 impl Answer {
-    /// An answer of which nothing came, to a READBUF that asks for so many bytes under a mask of so many channels, whose
+    /// An answer of which nothing came, to a READBUF that asks for that many bytes under a mask of that many channels, whose
     /// scans have that size. The room for its bytes is taken here, and no later call takes memory.
     pub fn new(
         alloc: Global,
@@ -200,7 +200,7 @@ impl Answer {
         self.line.clear();
     }
 
-    // The place behind the line that ends.
+    // The place after the line that ends.
     fn after_line(&self) -> Place
         requires more { state_of self.now.place ≡ State.More }
         requires line { (missing : ℕ) → self.now.place ≡ Place.Data missing → ⊥ }
@@ -239,7 +239,7 @@ fn fitting_length(line: &[u8], room: u32) -> Option<u32>
     }
 }
 
-// What a line in the place of a length line does, behind these data bytes.
+// What a line in the place of a length line does, after these data bytes.
 fn after_length(line: &[u8], asked: u32, body: &[u8], size: u32) -> Place
     requires size { 1 ≤ size }
     requires open { length body.now < asked }
@@ -264,7 +264,7 @@ fn after_length(line: &[u8], asked: u32, body: &[u8], size: u32) -> Place
     }
 }
 
-// What a line in the place of the mask's does, behind a length line of `n`.
+// What a line in the place of the mask's does, after a length line of `n`.
 fn after_mask(line: &[u8], mask: Mask, channels: u32, n: u32) -> Place
     requires some { 1 ≤ channels }
     requires few { channels ≤ 64 }
@@ -281,7 +281,7 @@ fn after_mask(line: &[u8], mask: Mask, channels: u32, n: u32) -> Place
     }
 }
 
-// What bytes of a block do, of which so many are left, where these are the data bytes.
+// What bytes of a block do, of which that many are left, where these are the data bytes.
 fn after_bytes(left: u32, asked: u32, body: &[u8], size: u32) -> Place
     requires size { 1 ≤ size }
     requires within { length body.now + left ≤ asked }
@@ -309,7 +309,7 @@ fn after_block(asked: u32, body: &[u8], size: u32) -> Place
     Place::Malformed
 }
 
-/// The law that a text has one reading: a text that is ended says nothing else, and none that goes on behind it says
+/// The law that a text has one reading: a text that is ended says nothing else, and none that goes on after it says
 /// anything. So `feed` answers an end exactly at the last byte of an answer, of a refusal, or of what begins neither. The call
 /// does nothing.
 #[tactic(auto, using(crate::proofs::Machine::one_reading))]

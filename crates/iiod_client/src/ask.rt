@@ -3,7 +3,7 @@
 use iio_layout::Shape;
 use iio_mask::Mask;
 
-/// What is wanted of a device: so many scans under a mask, for which the server shall keep so many samples.
+/// What is wanted of a device: a number of scans under a mask, and how many samples the server shall keep meanwhile.
 #[derive(Clone, Copy)]
 pub struct Ask<'a> {
     /// The device's name.

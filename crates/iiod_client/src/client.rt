@@ -1,11 +1,11 @@
 //! The reading of a device.
 
-ghost use Rattle.std.specs.Prelude.{◌≡◌, ◌⊎◌, ℕ, ◌+◌, ◌*◌, ◌^◌, ◌<◌, ◌≤◌, ◌++◌, [], List, Option, None, length, OnOk, OnErr, IfOk, IfErr};
+ghost use Rattle.std.specs.Prelude.{◌≡◌, ◌⊎◌, ℕ, ◌+◌, ◌*◌, ◌^◌, ◌<◌, ◌≤◌, ◌++◌, [], List, Option, None, length, OnOk, OnErr, IfOk, IfErr, IfSome};
 ghost use Rattle.iio_layout.specs.Layout.{scan_size};
 ghost use Rattle.iio_layout.specs.Shape.{count_of};
 ghost use Rattle.iiod_client.specs.Ask.{IsAsk, Wanted, batch, open_line, question, size_for, wanted_by};
 ghost use Rattle.iiod_client.specs.Awaited.{Plain, Scans};
-ghost use Rattle.iiod_client.specs.ClientEnd.{Ends, Faults};
+ghost use Rattle.iiod_client.specs.ClientEnd.{Ends, EndsBy, Faults};
 ghost use Rattle.iiod_client.specs.Exchange.{Breaks, BreaksOf, Exchanges, FaultsOf, ReadsAll, Reads, Refuses};
 ghost use Rattle.iiod_client.specs.Point.{Point, Goes, Wrote, WroteFront, point};
 ghost use Rattle.iiod_client.specs.Printed.{refused_line, scan_line, scan_lines};
@@ -20,7 +20,7 @@ use crate::incoming::Incoming;
 use crate::printing::{put_refused, put_scan};
 use crate::requests::{put_close, put_exit, put_open, put_readbuf};
 use iio_base::Mem;
-use iio_io::{Link, Sink, write_whole};
+use iio_io::{Link, Sink, send_whole, write_whole};
 use iio_layout::{Shape, scan_size};
 use iio_mask::Mask;
 use std::alloc::Global;
@@ -36,14 +36,10 @@ fn send_all<L: Link>(link: &mut L, bytes: &[u8]) -> Result<(), ClientEnd>
     ensures fails { IfErr result (λ e. e ≡ ClientEnd.LinkFault) }
     ensures faults { FaultsOf result (L.faults link.old) (L.faults link.new) 0 0 }
 {
-    let mut done = 0;
-    while done < bytes.len() {
-        match link.send(&bytes[done..]) {
-            Ok(count) => done += count,
-            Err(_) => return Err(ClientEnd::LinkFault),
-        }
+    match send_whole(link, bytes) {
+        Ok(()) => Ok(()),
+        Err(_) => Err(ClientEnd::LinkFault),
     }
-    Ok(())
 }
 
 // Prints all of `bytes`. Where a write fails, a front part was printed.
@@ -135,7 +131,7 @@ fn print_scans<K: Sink>(
     Ok(())
 }
 
-// The bytes that are asked for where so many scans came.
+// The bytes that are asked for where that many scans came.
 fn batch_of(ask: &Ask<'_>, got: u32, size: u32) -> u32
     requires ask { IsAsk (wanted_by ask.now) }
     requires size { size ≡ size_for (wanted_by ask.now) }
@@ -160,7 +156,7 @@ fn size_of(ask: &Ask<'_>) -> u32
     scan_size(ask.shape, ask.mask)
 }
 
-// An answer to what is asked for where so many scans came, of which nothing came.
+// An answer to what is asked for where that many scans came, of which nothing came.
 fn new_batch(alloc: Global, ask: &Ask<'_>, got: u32) -> Result<Answer, Mem>
     requires ask { IsAsk (wanted_by ask.now) }
     requires more { got < ask.now.scans }
@@ -172,7 +168,7 @@ fn new_batch(alloc: Global, ask: &Ask<'_>, got: u32) -> Result<Answer, Mem>
     Answer::new(alloc, bytes, ask.mask, ask.shape.count(), size)
 }
 
-// Asks for further scans where so many came, and prints them; how many they are.
+// Asks for further scans where that many came, and prints them; how many they are.
 fn read_batch<L: Link, K: Sink>(
     alloc: Global,
     link: &mut L,
@@ -316,10 +312,12 @@ pub fn read_device<L: Link, K: Sink>(
     output: &mut K,
 ) -> ClientEnd
     requires { IsAsk (wanted_by ask.now) }
-    // What was heard, sent and printed; `pending` was received, and stands behind what was heard.
+    // What was heard, sent and printed; `pending` was received, and stands after what was heard.
     ensures ends { (pending : List ℕ) × Ends (wanted_by ask.now) result
         (point (L.left link.old) [] (L.written link.old) (K.written output.old)) (point (L.left link.new) pending (L.written link.new) (K.written output.new)) }
     ensures faults { Faults result (L.faults link.old) (L.faults link.new) (K.faults output.old) (K.faults output.new) }
+    // Over a link that tells its bytes, every end comes exactly where they come to it, unless a call fails or memory runs out.
+    ensures exact { IfSome (L.left link.old) (λ bytes. EndsBy (wanted_by ask.now) bytes result) }
 {
     let mut incoming = Incoming::new();
     let mut line = Vec::new(alloc);

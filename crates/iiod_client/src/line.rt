@@ -8,7 +8,7 @@ use iio_text::read_number;
 /// The most bytes of a line before its LF.
 pub const MAX_LINE: usize = 32;
 
-/// The number n of a negative number line -n: one to ten digits behind a `-`, not 0. None for every other line.
+/// The number n of a negative number line -n: one to ten digits after a `-`, not 0. None for every other line.
 pub fn read_refusal(line: &[u8]) -> Option<u32>
     ensures { result ≡ refusal_of line.now }
 {

@@ -257,7 +257,7 @@ const ROWS: [Row; 14] = [
         printed: b"1000fffd voltage0=1 accel_x=-3\n",
         end: ClientEnd::Done,
     },
-    // Bytes behind the last answer aren't looked at.
+    // Bytes after the last answer aren't looked at.
     Row {
         mask: "00000005",
         scans: 3,

@@ -4,14 +4,11 @@
 use iio_io::{StdSink, StdSource, TcpDoor, TcpLink};
 use iio_script::Mem;
 use iiod_program::{end_of, exit_code};
-use iiod_readdev::readdev;
+use iiod_readdev::{exit_of, is_readdev};
 use std::env;
 use std::io::ErrorKind;
 use std::process::ExitCode;
 use std::sync::atomic::AtomicBool;
-
-// How many drivers a description may name, as many as `end_of` hands in.
-const DRIVERS: u32 = 4;
 
 // The words after the program's name. Words that aren't UTF-8 are no command, as no words are.
 fn words_of(rt: &HostRuntime) -> Result<Vec<String>, Mem> {
@@ -27,34 +24,23 @@ fn words_of(rt: &HostRuntime) -> Result<Vec<String>, Mem> {
     }
 }
 
-// Whether the first word is `readdev`.
-fn is_readdev(words: &[String]) -> bool {
-    match words {
-        [word, ..] => word.as_str() == "readdev",
-        [] => false,
-    }
-}
-
-// The exit code of a device that is read.
-fn read_code(rt: HostRuntime, words: &[String]) -> ExitCode {
-    let mut input = StdSource::new(rt.stdin());
-    let mut output = StdSink::new(rt.stdout());
-    let mut link = TcpLink::new(rt);
-    let alloc = rt.alloc();
-    let status = readdev(alloc, words, DRIVERS, &mut input, &mut output, &mut link);
-    ExitCode::from(status.code())
-}
-
 fn main(rt: HostRuntime) -> ExitCode {
     let words = match words_of(&rt) {
         Ok(words) => words,
         Err(Mem) => return exit_code(Err(Mem)),
     };
-    if is_readdev(words.as_slice()) {
-        return read_code(rt, words.as_slice());
-    }
     let mut input = StdSource::new(rt.stdin());
     let mut output = StdSink::new(rt.stdout());
+    if is_readdev(words.as_slice()) {
+        let mut link = TcpLink::new(rt);
+        return exit_of(
+            rt.alloc(),
+            words.as_slice(),
+            &mut input,
+            &mut output,
+            &mut link,
+        );
+    }
     let stop = AtomicBool::new(false);
     let mut door = TcpDoor::new(rt, &stop);
     exit_code(end_of(

@@ -2,3 +2,4 @@ pub mod WordLaws
 pub mod WantedLaws
 pub mod ReadLaws
 pub mod RunLaws
+pub mod DueLaws

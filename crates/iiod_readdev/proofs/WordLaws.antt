@@ -3,8 +3,8 @@ use Rattle.std.proofs.Common.{◌≡◌, ◌<◌, ◌≤◌, ◌∙◌, ℕ, Boo
 use Rattle.std.proofs.lemmas.Bool.{false≢true}
 use Rattle.std.proofs.lemmas.Slice.Eq.{bytes_eq-Decides}
 use Rattle.std.specs.Str.{bytes_eq}
-use Rattle.std.specs.Prelude.{map, String, string_bytes}
-use Rattle.iiod_readdev.specs.Words.{IsReaddev, ReaddevWords, amount_of}
+use Rattle.std.specs.Prelude.{◌↔◌, codes, map, IsTrue, String, string_bytes}
+use Rattle.iiod_readdev.specs.Words.{BeginsReaddev, IsReaddev, ReaddevWords, amount_of}
 
 not_false : (b : Bool) → not b ≡ false → b ≡ true
 not_false true h = refl
@@ -60,3 +60,13 @@ one_meaning words a b x y =
     let scans : x.scans ≡ y.scans = nth_same 5 _ _ all in
     same_words a b address device (amounts_same x.samples y.samples a.samples b.samples samples x.is_samples y.is_samples) mask
     (amounts_same x.scans y.scans a.scans b.scans scans x.is_scans y.is_scans)
+
+-- ---- the first word
+
+pub begins : {A : Type 0} (words : List (String A)) (word : String A) (r : Bool) → 1 ≤ length words → word ≡ slice_index_or words 0 word → r ≡ bytes_eq (string_bytes word) (codes "readdev")
+    → IsTrue r ↔ BeginsReaddev words
+begins [] word r some is test = absurd (omega arith)
+begins (x ∷ xs) word r some is test = (
+  (λ (t : r ≡ true). (map string_bytes xs, ap (λ w. string_bytes w ∷ map string_bytes xs) (sym is) ∙ ap (λ bs. bs ∷ map string_bytes xs) ((bytes_eq-Decides (string_bytes word) (codes "readdev")).0 (sym test ∙ t)))),
+  (λ b. test ∙ (bytes_eq-Decides (string_bytes word) (codes "readdev")).1 (ap string_bytes is ∙ nth_same 0 _ _ b.1)),
+)

@@ -1,9 +1,10 @@
 -- What `readdev` makes of an input, and what it then prints and sends. (This project's own; the reading over the link is
 -- that of `iiod_client`.)
-use Rattle.std.specs.Prelude.{◌≡◌, ◌⊎◌, ℕ, suc, List, [], ◌∷◌, ◌++◌, codes, Option, IfSome, Result, Ok, Err}
+use Rattle.std.specs.Prelude.{◌≡◌, ◌⊎◌, ℕ, suc, List, [], ◌∷◌, ◌++◌, codes, Option, Some, IfSome, Result, Ok, Err}
 use Rattle.iio_text.specs.declared.refusals.Why.{Why}
+use Rattle.iio_desc.specs.declared.reader.DescFault.TheVariants.{Line, Mem}
 use Rattle.iio_desc.specs.Description.{Description}
-use Rattle.iio_history.specs.Outcome.{Head, Outcome, head_of, only_ending}
+use Rattle.iio_history.specs.Outcome.{Cut, Described, Faulty, Head, Outcome, head_of, only_ending}
 use Rattle.iio_history.specs.Script.{Refused}
 use Rattle.iio_script.specs.Ends.{HasStatus, Writes}
 use Rattle.iio_script.specs.LineReader.{TakesNear}
@@ -13,7 +14,7 @@ use Rattle.iiod_serve.specs.Reading.{IsStop, Says, served_of}
 use Rattle.iiod_serve.specs.Usage.{IsUsage, PrintsUsage}
 use Rattle.iiod_client.specs.declared.client_end.ClientEnd.{ClientEnd}
 use Rattle.iiod_client.specs.Ask.{Wanted}
-use Rattle.iiod_client.specs.ClientEnd.{Ends}
+use Rattle.iiod_client.specs.ClientEnd.{ComesTo, Ends}
 use Rattle.iiod_client.specs.Point.{Point, Wrote, WroteFront}
 use Rattle.iiod_readdev.specs.declared.read_status.ReadStatus.{ReadStatus}
 use Rattle.iiod_readdev.specs.declared.read_status.ReadStatus.TheVariants as status
@@ -65,7 +66,7 @@ pub record ReadsDescribed (head : Head) (said : ReaddevWords) (end : ReadStatus)
   pub says : Says desc head
   pub reads : ReadsFrom (wanted_of desc said) end a b
 
--- what is made of the words at an input, whose description may use so many drivers
+-- what is made of the words at an input, whose description may use that many drivers
 abbrev pub ReadsInput : (drivers : ℕ) → ReaddevWords → (input : List ℕ) → ReadStatus → (a b : Point) → Type 0
 ReadsInput drivers said input end a b = EndsAsRun (served_of drivers input) end a b ⊎ ReadsDescribed (head_of drivers input) said end a b
 
@@ -88,3 +89,40 @@ IsDescribed status.ReadFault = ⊥
 IsDescribed status.TooLong = ⊥
 IsDescribed (status.Refused (suc n) why) = ⊥
 IsDescribed end = Unit {0}
+
+-- ---- the status that an input and the answers over a link come to
+
+-- what is wanted of a description comes to this status, over a link with these bytes left, where it tells them: the words are
+-- refused at line 0, or the bytes come to the end of a reading
+abbrev pub WantedComesTo : Result Wanted Why → (left : Option (List ℕ)) → ReadStatus → Type 0
+WantedComesTo (Err why) left due = due ≡ status.Refused 0 why
+WantedComesTo (Ok w) left due = (bytes : List ℕ) × (left ≡ Some bytes) × (end : ClientEnd) × (due ≡ of_client end) × ComesTo w bytes end
+
+-- the head of an input comes to it: a line of the description is refused, or it is too long, or it is a description
+abbrev pub HeadComesTo : Head → ReaddevWords → (left : Option (List ℕ)) → ReadStatus → Type 0
+HeadComesTo (Described desc first lines) said left due = WantedComesTo (wanted_of desc said) left due
+HeadComesTo (Faulty (Line n why)) said left due = due ≡ status.Refused n why
+HeadComesTo (Faulty Mem) said left due = ⊥
+HeadComesTo Cut said left due = due ≡ status.TooLong
+
+-- the statuses at which a call failed or memory ran out
+abbrev pub IsFailure : ReadStatus → Type 0
+IsFailure status.ReadFault = Unit {0}
+IsFailure status.WriteFault = Unit {0}
+IsFailure status.Memory = Unit {0}
+IsFailure status.NoAddress = Unit {0}
+IsFailure status.LinkFault = Unit {0}
+IsFailure end = ⊥
+
+-- it ended as was due, unless a call failed or memory ran out
+abbrev pub IsDueOr : (due end : ReadStatus) → Type 0
+IsDueOr due end = (end ≡ due) ⊎ IsFailure end
+
+-- how the words ended at an input, whose description may use that many drivers, over a link with these bytes left
+abbrev pub EndsBy : (drivers : ℕ) → ReaddevWords → (input : List ℕ) → (left : Option (List ℕ)) → ReadStatus → Type 0
+EndsBy drivers said input left end = (due : ReadStatus) → HeadComesTo (head_of drivers input) said left due → IsDueOr due end
+
+-- what the words did at an input, whose description may use that many drivers
+pub record DoesReaddev (drivers : ℕ) (said : ReaddevWords) (input : List ℕ) (end : ReadStatus) (a b : Point) : Type 0 where
+  pub reads : ReadsInput drivers said input end a b
+  pub exact : EndsBy drivers said input a.left end

@@ -30,3 +30,7 @@ pub record IsReaddev {A : Type 0} (words : List (String A)) (said : ReaddevWords
 -- other words, or none
 abbrev pub IsNoReaddev : {A : Type 0} → List (String A) → Type 0
 IsNoReaddev words = (said : ReaddevWords) → IsReaddev words said → ⊥
+
+-- the first word is `readdev`, whatever the others are
+abbrev pub BeginsReaddev : {A : Type 0} → List (String A) → Type 0
+BeginsReaddev words = (others : List (List ℕ)) × (map string_bytes words ≡ codes "readdev" ∷ others)

@@ -1,11 +1,12 @@
 //! A device that is read over a link which is begun for it.
 
-ghost use Rattle.std.specs.Prelude.{◌≡◌, ◌⊎◌, ℕ, [], List, Option};
+ghost use Rattle.std.specs.Prelude.{◌≡◌, ◌⊎◌, ℕ, [], List, Option, Ok};
 ghost use Rattle.iio_base.specs.Faults.{Rose};
 ghost use Rattle.iiod_client.specs.Ask.{IsAsk, wanted_by};
 ghost use Rattle.iiod_client.specs.Point.{point};
 ghost use Rattle.iiod_readdev.specs.Counts.{ShowsCounts};
-ghost use Rattle.iiod_readdev.specs.Reading.{EndsRead, EndsUndialled, IsDescribed};
+ghost use Rattle.iiod_readdev.specs.Reading.{EndsRead, EndsUndialled, IsDescribed, IsDueOr, IsFailure, WantedComesTo};
+ghost use Rattle.iiod_readdev.specs.declared.read_status.ReadStatus.{ReadStatus as Status};
 
 use crate::read_status::ReadStatus;
 use iio_io::{Dial, Sink, write_whole};
@@ -20,6 +21,7 @@ fn end_undialled<K: Sink>(output: &mut K) -> ReadStatus
         EndsUndialled result (point left [] sent (K.written output.old)) (point left' [] sent' (K.written output.new)) }
     ensures counts { (input : ℕ) (link : ℕ) (link' : ℕ) → Rose link link' → ShowsCounts result input input link link' (K.faults output.old) (K.faults output.new) }
     ensures described { IsDescribed result }
+    ensures failure { IsFailure result }
 {
     match write_whole(output, NO_ADDRESS) {
         Ok(()) => ReadStatus::NoAddress,
@@ -42,6 +44,7 @@ pub(crate) fn dial_and_read<K: Sink, L: Dial>(
         (point (L.left link.old) [] (L.written link.old) (K.written output.old)) (point (L.left link.new) pending (L.written link.new) (K.written output.new))) }
     ensures counts { (input : ℕ) → ShowsCounts result input input (L.faults link.old) (L.faults link.new) (K.faults output.old) (K.faults output.new) }
     ensures described { IsDescribed result }
+    ensures exact { (due : Status) → WantedComesTo (Ok (wanted_by ask.now)) (L.left link.old) due → IsDueOr due result }
 {
     if link.dial(address).is_err() {
         return end_undialled(output);

@@ -2,6 +2,7 @@
 #![tactic(auto)]
 
 mod dialled;
+mod exit;
 mod read_status;
 mod reading;
 #[cfg(test)]
@@ -9,5 +10,6 @@ mod tests;
 mod wanted;
 mod words;
 
+pub use exit::{exit_of, is_readdev};
 pub use read_status::ReadStatus;
 pub use reading::readdev;

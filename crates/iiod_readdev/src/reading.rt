@@ -4,7 +4,8 @@ ghost use Rattle.std.specs.Prelude.{◌≡◌, ℕ, ◌≤◌, [], List, IfSome}
 ghost use Rattle.iio_script.specs.LineReader.{TakesBlocks};
 ghost use Rattle.iiod_client.specs.Point.{point};
 ghost use Rattle.iiod_readdev.specs.Counts.{ShowsCounts};
-ghost use Rattle.iiod_readdev.specs.Reading.{IsDescribed, NamesCommands, ReadsFrom, ReadsInput, TakesForLine};
+ghost use Rattle.iiod_readdev.specs.Reading.{EndsBy, IsDescribed, IsDueOr, NamesCommands, ReadsFrom, ReadsInput, TakesForLine, WantedComesTo};
+ghost use Rattle.iiod_readdev.specs.declared.read_status.ReadStatus.{ReadStatus as Status};
 ghost use Rattle.iiod_readdev.specs.Wanted.{wanted_of};
 ghost use Rattle.iiod_readdev.specs.Words.{IsNoReaddev, IsReaddev, ReaddevWords, words_of};
 
@@ -32,6 +33,7 @@ fn read_described<K: Sink, L: Dial>(
         (point (L.left link.old) [] (L.written link.old) (K.written output.old)) (point (L.left link.new) pending (L.written link.new) (K.written output.new)) }
     ensures counts { (input : ℕ) → ShowsCounts result input input (L.faults link.old) (L.faults link.new) (K.faults output.old) (K.faults output.new) }
     ensures described { IsDescribed result }
+    ensures exact { (due : Status) → WantedComesTo (wanted_of desc.now (words_of words.now)) (L.left link.old) due → IsDueOr due result }
 {
     match ask_of(desc, words) {
         Ok(ask) => dial_and_read(alloc, &ask, words.address, output, link),
@@ -40,7 +42,7 @@ fn read_described<K: Sink, L: Dial>(
 }
 
 /// Does what the words `readdev ADDRESS DEVICE SAMPLES MASK SCANS` say: reads the description at the head of the input, which
-/// may use so many drivers, begins the connection at the address, and reads SCANS scans of the device under the mask over
+/// may use that many drivers, begins the connection at the address, and reads SCANS scans of the device under the mask over
 /// it, as `read_device` does; the server is to keep SAMPLES samples. Both numbers are decimal and at least 1.
 ///
 /// A description that is refused, or that is longer than is looked at, is told as `layout` tells it. The device and then
@@ -55,11 +57,11 @@ pub fn readdev<S: Source, K: Sink, L: Dial>(
     output: &mut K,
     link: &mut L,
 ) -> ReadStatus
-    // What was sent and printed, and why; `pending` was received, and stands behind what was heard.
+    // What was sent and printed, and why; `pending` was received, and stands after what was heard.
     ensures reads { (said : ReaddevWords) → IsReaddev words.now said → IfSome (S.left input.old) (λ left. (pending : List ℕ) × ReadsInput drivers said left result
         (point (L.left link.old) [] (L.written link.old) (K.written output.old)) (point (L.left link.new) pending (L.written link.new) (K.written output.new))) }
     ensures taken { (said : ReaddevWords) → IsReaddev words.now said → IfSome (S.left input.old) (λ left. TakesBlocks left (S.left input.new)) }
-    // Where a line of the description is refused, at most 65,536 bytes were taken behind the byte at which it failed.
+    // Where a line of the description is refused, at most 65,536 bytes were taken after the byte at which it failed.
     ensures near { (said : ReaddevWords) → IsReaddev words.now said → IfSome (S.left input.old) (λ left. TakesForLine result left (S.left input.new)) }
     ensures nothing { (said : ReaddevWords) → IsReaddev words.now said → result ≡ ReadStatus.ReadFault → output.new ≡ output.old }
     ensures words { (said : ReaddevWords) → IsReaddev words.now said → result ≡ ReadStatus.Usage → ⊥ }
@@ -67,6 +69,9 @@ pub fn readdev<S: Source, K: Sink, L: Dial>(
     ensures unread { IsNoReaddev words.now → input.new ≡ input.old }
     ensures undialled { IsNoReaddev words.now → link.new ≡ link.old }
     ensures counts { ShowsCounts result (S.faults input.old) (S.faults input.new) (L.faults link.old) (L.faults link.new) (K.faults output.old) (K.faults output.new) }
+    // Every status comes exactly where the input, and over a link that tells its bytes these, come to it, unless a call fails or
+    // memory runs out.
+    ensures exact { (said : ReaddevWords) → IsReaddev words.now said → IfSome (S.left input.old) (λ left. EndsBy drivers said left (L.left link.old) result) }
 {
     let Some(words) = read_words(words) else {
         return ReadStatus::of_run(print_usage(output));

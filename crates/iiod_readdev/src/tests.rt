@@ -1,10 +1,10 @@
 //! `readdev` over sources, sinks and links in memory. Expected texts by hand.
 
-use crate::{ReadStatus, readdev};
+use crate::{ReadStatus, exit_of, is_readdev, readdev};
 use iio_io::{MemLink, MemSink, MemSource, TcpLink};
 use iio_text::Why;
 use std::alloc::Global;
-use std::process::Abort;
+use std::process::{Abort, ExitCode};
 use std::test::Fail;
 
 const DESCRIPTION: &str = "trigger t0 2
@@ -316,6 +316,24 @@ fn no_address(rt: HostRuntime) -> Result<(), Fail> {
         assert_eq!(rt; output.written(), printed.as_bytes());
         assert_eq!(rt; (status, status.code()), told);
         assert_eq!(rt; link.faults(), 1);
+    }
+    Ok(())
+}
+
+#[test]
+fn a_reading_ends_with_the_code_of_its_status(rt: HostRuntime) -> Result<(), Fail> {
+    let alloc = rt.alloc();
+    for (given, code) in [(READ.given, 0u8), (b"-16\n".as_slice(), 11)] {
+        let words = owned(alloc, READ.words)?;
+        let text = DESCRIPTION.as_bytes().to_vec(alloc)?;
+        let mut input = MemSource::new(text, 100, Vec::new(alloc));
+        let mut output = MemSink::new(alloc, 100, Vec::new(alloc))?;
+        let source = MemSource::new(given.to_vec(alloc)?, 100, Vec::new(alloc));
+        let mut link = MemLink::new(source, MemSink::new(alloc, 100, Vec::new(alloc))?);
+        let ended = exit_of(alloc, words.as_slice(), &mut input, &mut output, &mut link);
+        assert_eq!(rt; ended, ExitCode::from(code));
+        assert_eq!(rt; is_readdev(words.as_slice()), true);
+        assert_eq!(rt; is_readdev(&words.as_slice()[1..]), false);
     }
     Ok(())
 }

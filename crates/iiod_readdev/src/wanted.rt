@@ -9,23 +9,10 @@ ghost use Rattle.iiod_readdev.specs.Words.{words_of};
 
 use crate::words::Words;
 use iio_desc::Desc;
-use iio_layout::Shape;
+use iio_layout::{Shape, has_data};
 use iio_mask::Mask;
 use iio_text::Why;
 use iiod_client::Ask;
-
-// Whether a mask has a data channel.
-#[tactic(auto, using(crate::proofs::WantedLaws::has_below_at))]
-fn has_data(shape: &Shape, mask: Mask) -> bool
-    ensures { result ≡ has_data shape.now mask.bits }
-{
-    for c in 0..shape.inputs() {
-        if mask.contains(c) {
-            return true;
-        }
-    }
-    false
-}
 
 // The mask that a text says of a device, where it has a data channel.
 fn read_mask(shape: &Shape, text: &[u8]) -> Option<Mask>
