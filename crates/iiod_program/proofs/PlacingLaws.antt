@@ -36,7 +36,7 @@ said_other f has n before out other so_far =
     ∙ ap (λ said. before ++ said) (sym (flat_map-selected_more f has n ∙ ap (λ t. flat_map f (filter has (range_with_len 0 n)) ++ cond t (f n) []) other
     ∙ append-nil (flat_map f (filter has (range_with_len 0 n)))))
 
--- the parts of a line, one behind another
+-- the parts of a line, one after another
 pub line_parts : (before a b c d e f g h name place size type : List ℕ) → a ≡ before ++ name → b ≡ a ++ 32 ∷ [] → c ≡ b ++ place → d ≡ c ++ 32 ∷ []
     → e ≡ d ++ size → f ≡ e ++ 32 ∷ [] → g ≡ f ++ type → h ≡ g ++ 10 ∷ []
     → h ≡ before ++ (name ++ (32 ∷ (place ++ (32 ∷ (size ++ (32 ∷ (type ++ 10 ∷ [])))))))

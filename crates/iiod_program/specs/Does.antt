@@ -27,14 +27,14 @@ module _ {S K : Type 0} (left : S → Option (List ℕ)) (reads : S → ℕ) (wr
     pub status : IfSome (left source) (λ xs. HasStatus (outcome_of drivers xs) end)
     pub words : end ≡ Usage → ⊥
     pub taken : IfSome (left source) (λ xs. TakesAtMost xs (input_limit + 1) (left source'))
-    -- where a line is refused, at most 65,536 bytes were taken behind the byte at which it failed
+    -- where a line is refused, at most 65,536 bytes were taken after the byte at which it failed
     pub near : IfSome (left source) (λ xs. TakesFor end xs (left source'))
     -- where a read failed, exactly what the whole lines before it print was written
     pub whole_lines : end ≡ ReadFault → IfSome (left source) (λ xs. IfSome (written sink) (λ ys. WritesLines drivers xs ys (left source') (written sink')))
     -- however it ends, at most 65,536 bytes were taken since all was written that the whole lines before them print
     pub answered : IfSome (left source) (λ xs. IfSome (written sink) (λ ys. WritesFirst drivers xs ys (left source') (written sink')))
 
-  -- the layout of a device of the input's description, which may use so many drivers, under a mask
+  -- the layout of a device of the input's description, which may use that many drivers, under a mask
   pub record PrintsLayout (drivers : ℕ) (device mask : List ℕ) (end : Status) (source source' : S) (sink sink' : K) : Type 0 where
     pub lines : IfSome (left source) (λ xs. IfSome (written sink) (λ ys. Writes (layout_of drivers xs device mask) ys end (written sink')))
     pub complete : reads source ≡ reads source' → writes sink ≡ writes sink'
@@ -42,7 +42,7 @@ module _ {S K : Type 0} (left : S → Option (List ℕ)) (reads : S → ℕ) (wr
     pub status : IfSome (left source) (λ xs. HasStatus (layout_of drivers xs device mask) end)
     pub words : end ≡ Usage → ⊥
     pub taken : IfSome (left source) (λ xs. TakesBlocks xs (left source'))
-    -- where a line of the description is refused, at most 65,536 bytes were taken behind the byte at which it failed
+    -- where a line of the description is refused, at most 65,536 bytes were taken after the byte at which it failed
     pub near : IfSome (left source) (λ xs. TakesForLine end xs (left source'))
     pub nothing : end ≡ ReadFault → sink' ≡ sink
 

@@ -32,13 +32,13 @@ laid_under shape mask = elim (mask_of mask (count_of shape)) [
 abbrev pub laid_out : Description → List ℕ → List ℕ → Outcome
 laid_out desc device mask = elim (device_named desc device) [ None ↦ only_ending (Refused 0 Device) | Some d ↦ laid_under d.shape mask ]
 
--- what is printed for an input by its head; the lines behind the description aren't looked at
+-- what is printed for an input by its head; the lines after the description aren't looked at
 abbrev pub laid : (device mask : List ℕ) → Head → Outcome
 laid device mask (Described desc first lines) = laid_out desc device mask
 laid device mask (Faulty (Line n why)) = only_ending (Refused n why)
 laid device mask (Faulty Mem) = only_ending Finished
 laid device mask Cut = only_ending TooLong
 
--- what an input prints for a device and a mask, and its end; its description may use so many drivers
+-- what an input prints for a device and a mask, and its end; its description may use that many drivers
 abbrev pub layout_of : (drivers : ℕ) (input device mask : List ℕ) → Outcome
 layout_of drivers input device mask = laid device mask (head_of drivers input)

@@ -9,7 +9,7 @@ use Rattle.iio_layout.specs.Id.{id_text}
 use Rattle.iio_layout.specs.Shape.{ShapeRecord, formats_of, count_of}
 use Rattle.iio_layout.specs.Layout.{format_at, size_at, place_of, scan_size}
 
--- the ID of channel c; behind the data channels it is the timestamp's
+-- the ID of channel c; after the data channels it is the timestamp's
 abbrev pub channel_name : ShapeRecord → ℕ → List ℕ
 channel_name shape c =
     elim (slice_get shape.channels c) [ None ↦ codes "timestamp" | Some channel ↦ id_text channel.kind channel.suffix ]
@@ -21,7 +21,7 @@ channel_line shape mask c =
     ++ (32 ∷ (decimal (place_of shape mask c)
     ++ (32 ∷ (decimal (size_at (formats_of shape) c) ++ (32 ∷ (type_text (format_at (formats_of shape) c) ++ 10 ∷ []))))))
 
--- the selected channels among the first so many, in order
+-- the selected ones of that many channels, from the first on, in order
 abbrev pub selected : ℕ → ℕ → List ℕ
 selected mask channels = filter (λ c. has mask c) (range_with_len 0 channels)
 

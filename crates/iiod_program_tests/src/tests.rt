@@ -15,6 +15,7 @@ mod masks;
 mod playing;
 mod queues;
 mod reading;
+mod remasking;
 mod scans;
 mod serving;
 mod steps;
@@ -47,6 +48,7 @@ fn answers_with_ample_memory(rt: HostRuntime) -> Result<(), Fail> {
         events::ROWS,
         masks::ROWS,
         queues::ROWS,
+        remasking::ROWS,
         scans::ROWS,
         streams::ROWS,
         triggers::ROWS,

@@ -5,6 +5,7 @@ mod doubles;
 mod hubs;
 mod playback;
 mod reading;
+mod remasking;
 mod serving;
 
 ghost use Rattle.std.specs.Prelude.{IfOk};

@@ -8,7 +8,7 @@ use std::test::Fail;
 
 const HEAD: &str = "trigger t0 8\ndevice adc0 t0\nchannel voltage0 le:u12/16>>4\n";
 
-/// Lines of a description behind others, and how they are refused: for each line of the table, each of its checks in order.
+/// Lines of a description after others, and how they are refused: for each line of the table, each of its checks in order.
 const REFUSED: &[(&str, &str, &str)] = &[
     ("", "context \"a\\x7\"\n\tx\n", "refused 1 text\n"),
     ("# \t\n\n  \n", "frobnicate\n", "refused 4 word\n"),
@@ -165,7 +165,7 @@ fn refused_lines(rt: HostRuntime) -> Result<(), Fail> {
     Ok(())
 }
 
-/// A first text, how often a numbered line follows, the line before and behind its number, a further line, and how that is
+/// A first text, how often a numbered line follows, the line before and after its number, a further line, and how that is
 /// refused, if it is: triggers, devices, channels.
 const FULL: &[(&str, u32, &str, &str, &str, &str)] = &[
     ("", 16, "trigger t", " 1\n", "", ""),

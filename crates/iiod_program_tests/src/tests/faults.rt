@@ -10,7 +10,7 @@ use std::alloc::Global;
 use std::process::Abort;
 use std::test::Fail;
 
-/// The steps behind the description of six lines and the line that ends it.
+/// The steps after the description of six lines and the line that ends it.
 const STEPS: &str = r#"%%
 A "OPEN adc0 1 00000005\n"
 fire t0 1000
@@ -39,13 +39,13 @@ fn ended_lines(text: &[u8]) -> usize {
     lines
 }
 
-// What the lines of the script print of which so many end.
+// What the script's first lines print, that many of them.
 fn printed_by(alloc: Global, head: usize, lines: usize) -> Result<Vec<u8>, Fail> {
     let steps = lines.saturating_sub(head).min(PRINTED.len());
     joined(alloc, &PRINTED[..steps])
 }
 
-// What the word `play` does with a text that comes in pieces of so many bytes, where these reads and writes fail.
+// What the word `play` does with a text that comes in pieces of that many bytes, where these reads and writes fail.
 pub(crate) fn check_faults(
     rt: &impl Abort,
     alloc: Global,
@@ -70,7 +70,7 @@ pub(crate) fn check_faults(
     Ok(())
 }
 
-// One byte a read: each read fails in turn, up to the one behind the last byte, and what the whole lines before it print was
+// One byte a read: each read fails in turn, up to the one after the last byte, and what the whole lines before it print was
 // written. Then each write fails in turn: there is one for each line that prints.
 #[test]
 fn every_read_and_write_fails(rt: HostRuntime) -> Result<(), Fail> {

@@ -25,7 +25,7 @@ fn pieces_make_no_difference(rt: HostRuntime) -> Result<(), Fail> {
     Ok(())
 }
 
-// How much is taken of an input whose second line is refused, from a source that gives so many bytes a read.
+// How much is taken of an input whose second line is refused, from a source that gives that many bytes a read.
 fn check_left(rt: &impl Abort, alloc: Global, piece: usize, taken: usize) -> Result<(), Fail>
     requires { 1 ≤ piece }
 {
@@ -42,7 +42,7 @@ fn check_left(rt: &impl Abort, alloc: Global, piece: usize, taken: usize) -> Res
     Ok(())
 }
 
-// A refused line leaves what stands behind it in the source, but for the piece that it came in.
+// A refused line leaves what stands after it in the source, but for the piece that it came in.
 #[test]
 fn refused_lines_leave_the_rest(rt: HostRuntime) -> Result<(), Fail> {
     check_left(&rt, rt.alloc(), 1, 8)?;
@@ -50,7 +50,7 @@ fn refused_lines_leave_the_rest(rt: HostRuntime) -> Result<(), Fail> {
     check_left(&rt, rt.alloc(), 100_000, 65_536)
 }
 
-// So many LFs, and whether they are too many.
+// That many LFs, and whether they are too many.
 fn check_line_ends(
     rt: &impl Abort,
     alloc: Global,

@@ -137,7 +137,7 @@ fn layouts_are_refused(rt: HostRuntime) -> Result<(), Fail> {
     Ok(())
 }
 
-// One byte a read: each read up to the end line fails in turn. Nothing is read behind it.
+// One byte a read: each read up to the end line fails in turn. Nothing is read after it.
 #[test]
 fn failing_reads_end_the_layout(rt: HostRuntime) -> Result<(), Fail> {
     let alloc = rt.alloc();
@@ -181,7 +181,7 @@ fn failing_writes_end_the_layout(rt: HostRuntime) -> Result<(), Fail> {
     Ok(())
 }
 
-// A description with so many rows, and 200,000 empty lines behind the one that ends it.
+// A description with that many rows, and 200,000 empty lines after the one that ends it.
 fn ended_early(alloc: Global, rows: u32) -> Result<Vec<u8>, Fail> {
     let mut text = ADC0.to_vec(alloc)?;
     for row in 0..rows {
@@ -193,7 +193,7 @@ fn ended_early(alloc: Global, rows: u32) -> Result<Vec<u8>, Fail> {
     Ok(text)
 }
 
-// How much `layout` takes of it, from a source that gives so many bytes a read.
+// How much `layout` takes of it, from a source that gives that many bytes a read.
 fn check_taken(
     rt: &impl Abort,
     alloc: Global,
@@ -219,7 +219,7 @@ fn check_taken(
     Ok(())
 }
 
-// Blocks of 65,536 bytes are read, and none behind the one with the end line.
+// Blocks of 65,536 bytes are read, and none after the one with the end line.
 #[test]
 fn layouts_leave_what_stands_behind(rt: HostRuntime) -> Result<(), Fail> {
     let alloc = rt.alloc();

@@ -11,7 +11,7 @@ use std::process::Abort;
 use std::str;
 use std::test::Fail;
 
-// A device on t0 with so many channels of one type, and its row.
+// A device on t0 with that many channels of one type, and its row.
 pub(crate) fn wide(
     alloc: Global,
     name: &str,

@@ -13,7 +13,7 @@ const LOOSE: &str = "trigger t0 2\ndevice loose -\nchannel temp le:s16/16>>0\nro
 
 const CAPTURED: &str = "poll t0 accepted 1\nhandle t0 adc0 captured\n";
 
-/// A description, a script behind it, and what the script prints: its first lines, the lines of one capture where there is
+/// A description, a script after it, and what the script prints: its first lines, the lines of one capture where there is
 /// one, and its last line.
 const PLAYED: &[(&str, &str, &str, bool, &str)] = &[
     (

@@ -84,7 +84,7 @@ fn opened(rt: &impl Abort, alloc: Global, bench: &mut Bench) -> Result<Session<S
     Ok(session)
 }
 
-// What stands behind a READBUF that waits is kept. Once a scan came, a feed of no bytes is enough.
+// What stands after a READBUF that waits is kept. Once a scan came, a feed of no bytes is enough.
 #[test]
 fn waits_and_goes_on(rt: HostRuntime) -> Result<(), Fail> {
     let alloc = rt.alloc();
@@ -126,7 +126,7 @@ fn waits_and_goes_on(rt: HostRuntime) -> Result<(), Fail> {
     Ok(())
 }
 
-// A READBUF that waits at a device that goes away is answered, and so is what stands behind it.
+// A READBUF that waits at a device that goes away is answered, and so is what stands after it.
 #[test]
 fn unplugged_while_it_waits(rt: HostRuntime) -> Result<(), Fail> {
     let alloc = rt.alloc();

@@ -157,7 +157,7 @@ impl<'a, R: Clock> Link for Asking<'a, R> {
 /// The answer to a READBUF of one scan of voltage0 and accel_x.
 pub const BLOCK: &[u8] = b"4\n00000005\n\x10\0\xff\xfd";
 
-/// A link that opens the device, reads one scan once there is one, and closes the device, so many times over; or gives up
+/// A link that opens the device, reads one scan once there is one, and closes the device, that many times over; or gives up
 /// after `TURNS` pieces. It tells whether it came to its end, and whether a scan was another than the row's.
 #[derive(Drop)]
 pub struct Rounds<'a, R> {

@@ -4,10 +4,14 @@ use super::doubles::Texts;
 use super::{described, hub_of, link_of};
 use iio_device::Handled;
 use iio_io::{ListTicker, OpenGate};
+use iio_kfifo::Ended;
+use iio_layout::{has_data, scan_size};
+use iio_mask::Mask;
+use iio_text::Errno;
 use iio_trigger::Polled;
 use iiod_bank::{Bank, OwnBank};
 use iiod_hub::{HubLink, SessionEnd, serve_connection, tick};
-use iiod_session::{Going, Manner, Session};
+use iiod_session::{Going, Manner, No, Session};
 use std::test::Fail;
 
 const FIRST: &[u8] =
@@ -125,5 +129,63 @@ fn unplugged_under_a_reader(rt: HostRuntime) -> Result<(), Fail> {
     assert!(rt; unplugged);
     assert!(rt; !again);
     assert_eq!(rt; said.as_slice(), b"0\n-19\n-19\n0\n".as_slice());
+    Ok(())
+}
+
+// A member of a running hub exchanges its mask: what waited is counted and gone, and the next scan is one of the new mask.
+#[test]
+fn a_member_of_a_hub_exchanges_its_mask(rt: HostRuntime) -> Result<(), Fail> {
+    let alloc = rt.alloc();
+    let hub = hub_of(alloc)?;
+    let mut bytes = Vec::with_capacity(alloc, 2)?;
+    assert!(rt; hub.front.count() > 0);
+    let shape = hub.front.shape(0);
+    let (wide, narrow) = (Mask { bits: 5 }, Mask { bits: 2 });
+    assert!(rt; shape.count() == 4);
+    assert!(rt; has_data(shape, wide) && has_data(shape, narrow));
+    assert!(rt; scan_size(shape, wide) == 4 && scan_size(shape, narrow) == 2);
+    let Ok(mut seat) = hub.open(&rt, alloc, 0, wide, 2) else {
+        return Err(Fail::from("refused"));
+    };
+    for t in [1000i64, 2000, 3000] {
+        hub.poll(&rt, alloc, 0, t);
+        hub.handle(&rt, alloc, 0, 0);
+    }
+    let Ok(discarded) = hub.remask(&rt, alloc, &mut seat, narrow) else {
+        hub.close(&rt, alloc, seat);
+        return Err(Fail::from("no new mask"));
+    };
+    hub.poll(&rt, alloc, 0, 4000);
+    let handled = hub.handle(&rt, alloc, 0, 0);
+    let read = hub.read(&mut seat, 1, &mut bytes);
+    assert!(rt; seat.dev == 0);
+    let ended = hub.close(&rt, alloc, seat);
+    assert_eq!(rt; discarded, 2);
+    assert_eq!(rt; handled, Some(Handled::Captured(1)));
+    assert_eq!(rt; (read, bytes.as_slice()), (Ok(1), b"\x20\0".as_slice()));
+    assert_eq!(rt; ended, Ended::Whole(1));
+    Ok(())
+}
+
+// Beside an unplugged device another mask is refused, and the seat stays.
+#[test]
+fn an_unplugged_device_of_a_hub_keeps_a_mask(rt: HostRuntime) -> Result<(), Fail> {
+    let alloc = rt.alloc();
+    let hub = hub_of(alloc)?;
+    assert!(rt; hub.front.count() > 0);
+    let shape = hub.front.shape(0);
+    let (wide, narrow) = (Mask { bits: 5 }, Mask { bits: 2 });
+    assert!(rt; shape.count() == 4);
+    assert!(rt; has_data(shape, wide) && has_data(shape, narrow));
+    assert!(rt; scan_size(shape, wide) == 4 && scan_size(shape, narrow) == 2);
+    let Ok(mut seat) = hub.open(&rt, alloc, 0, wide, 2) else {
+        return Err(Fail::from("refused"));
+    };
+    hub.unplug(&rt, alloc, 0);
+    let refused = hub.remask(&rt, alloc, &mut seat, narrow);
+    let mask = seat.mask;
+    hub.close(&rt, alloc, seat);
+    assert_eq!(rt; refused, Err(No::Errno(Errno::ENODEV)));
+    assert_eq!(rt; mask, wide);
     Ok(())
 }
