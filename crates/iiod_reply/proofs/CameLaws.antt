@@ -23,21 +23,15 @@ no_longer came most less small = decimal_by_steps (λ m ds. (n : ℕ) → n ≤ 
       | inr many ↦ omega (arith, ap length (decimal_step n many s), length-append (decimal (n / 10)) ((48 + n % 10) ∷ []), length-append ds ((48 + m % 10) ∷ []), h (n / 10) (omega arith) (omega arith))
     ]
 
--- how many digits a number has: one, or one more than its tenth
-pub length_one : (n : ℕ) → n < 10 → length (decimal n) ≡ 1
-length_one n few = decimal_by_steps (λ m ds. m < 10 → length ds ≡ 1) (λ m l h. refl) (λ m ds l h few. absurd (omega arith)) n (omega arith) few
-
-pub length_more : (n : ℕ) → 10 ≤ n → n < 2 ^ 64 → length (decimal n) ≡ length (decimal (n / 10)) + 1
-length_more n many small = ap length (decimal_step n many small) ∙ length-append (decimal (n / 10)) ((48 + n % 10) ∷ [])
-
+-- how many digits a number has, at most
 pub length_most : (n : ℕ) → n < 2 ^ 64 → length (decimal n) ≤ 20
 length_most n small = length-decimal-le 20 n (omega arith) (omega (arith, small)) small
 
--- a mask's text has so many digits
+-- a mask's text has as many digits as `digit_count` says
 pub length_mask : (channels bits : ℕ) → length (mask_text channels bits) ≡ digit_count channels
 length_mask channels bits = cond_both (nat_le channels 32) w32 w64 (λ w. length (digits_of (to_be_bytes w bits)) ≡ 2 * byte_len w) (λ _. refl) (λ _. refl)
 
--- ... and a head so many bytes
+-- ... and a head as many bytes as `head_length` says
 pub length_head : (channels mask came : ℕ) → length (head_text channels mask came) ≡ head_length channels came
 length_head channels mask came =
     let line = mask_text channels mask ++ 10 ∷ [] in

@@ -21,7 +21,7 @@ pub data Reply : Type 0 where
   Value : (bytes : List ℕ) → Reply
   -- bytes with no line after them: of EVREAD
   Raw : (bytes : List ℕ) → Reply
-  -- READBUF's scans under the member's own mask, of that many channels, where that many bytes were asked for
+  -- READBUF's scans under the member's own mask, with the number of channels, and how many bytes were asked for
   Block : (channels mask : ℕ) (scans : List (List ℕ)) (asked : ℕ) → Reply
   -- out of memory, which a server alone answers
   NoMemory : Reply
@@ -76,7 +76,7 @@ abbrev pub Appends : List ℕ → List ℕ → Result ⊤ Mem → List ℕ → T
 Appends text old (Ok done) new = new ≡ old ++ text
 Appends text old (Err mem) new = new ≡ old
 
--- so many bytes stand at the end of what was there, whatever they are, or there was no memory and what was there stays
+-- `n` bytes were appended, whatever they are; or there was no memory, and what was there stays
 abbrev pub AppendsRoom : ℕ → List ℕ → Result ⊤ Mem → List ℕ → Type 0
 AppendsRoom n old (Ok done) new = (room : List ℕ) × (length room ≡ n) × (new ≡ old ++ room)
 AppendsRoom n old (Err mem) new = new ≡ old

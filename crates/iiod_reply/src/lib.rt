@@ -80,8 +80,8 @@ pub fn block(
     Ok(())
 }
 
-/// Appends room for the head of a block in which at most that many bytes of scans come: as many bytes as that head has. What
-/// they are means nothing. After `Mem`, `out` is unchanged.
+/// Appends room for the head of a block of at most `most` bytes of scans: as many bytes as that head has. What they are means
+/// nothing. After `Mem`, `out` is unchanged.
 pub fn block_room(channels: u32, most: usize, out: &mut Vec<u8>) -> Result<(), Mem>
     ensures room { AppendsRoom (head_length channels most) out.old.items result out.new.items }
     ensures fits { length out.old.items + head_length channels most ≤ vec_capacity out.old → IsOk result }
@@ -91,9 +91,9 @@ pub fn block_room(channels: u32, most: usize, out: &mut Vec<u8>) -> Result<(), M
     Ok(())
 }
 
-/// Puts the head of a block in which `came` bytes of scans came into the room that begins at `start`, which is that of the
-/// head for `most` bytes: their number, LF, the mask's text for that many channels, LF. What stands after the room stays, and
-/// moves up where the head is shorter. It takes no memory.
+/// Puts the head of a block in which `came` bytes of scans came into the room that begins at `start`, which is that of the head
+/// for `most` bytes: their number, LF, the mask's text for `channels` channels, LF. What stands after the room stays, and moves
+/// up where the head is shorter. It takes no memory.
 pub fn block_head(
     mask: Mask,
     channels: u32,
@@ -144,21 +144,15 @@ fn closing(came: usize, asked: u32) -> &'static [u8]
 }
 
 // How many digits a number has.
-#[tactic(auto, using(crate::proofs::CameLaws::length_more, crate::proofs::CameLaws::length_one, crate::proofs::CameLaws::length_most))]
+#[tactic(auto, using(crate::proofs::CameLaws::length_most))]
 fn decimal_length(n: usize) -> usize
     ensures value { result ≡ length (decimal n) }
     ensures within { result ≤ 20 }
 {
-    let mut length = 1;
-    let mut rest = n;
-    while rest >= 10 {
-        rest /= 10;
-        length += 1;
-    }
-    length
+    Buffer::new().format(n).len()
 }
 
-// How many bytes the head of a block has, where that many bytes of scans come.
+// How many bytes the head of a block has, where `came` bytes of scans come.
 fn head_length(channels: u32, came: usize) -> usize
     ensures value { result ≡ head_length channels came }
     ensures within { result ≤ MOST_HEAD }
@@ -205,7 +199,7 @@ fn overwrite(out: &mut Vec<u8>, at: usize, bytes: &[u8])
     out[at..at + bytes.len()].copy_from_slice(bytes);
 }
 
-// Takes that many bytes out from `at` on.
+// Takes `count` bytes out from `at` on.
 fn remove(out: &mut Vec<u8>, at: usize, count: usize)
     requires { at + count ≤ length out.old.items }
     ensures items { out.new.items ≡ take at out.old.items ++ drop (at + count) out.old.items }
