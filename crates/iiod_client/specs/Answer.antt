@@ -6,7 +6,7 @@ use Rattle.iio_text.specs.Numbers.{number_of}
 use Rattle.iio_mask.specs.Text.{IsMaskText}
 use Rattle.iiod_client.specs.Line.{line_text, zero_line, refusal_of, IsBegunLine, IsLongLine}
 
--- what a READBUF asks for: that many bytes, under a mask of that many channels whose scans have that size
+-- what a READBUF asks for: how many bytes, under which mask of how many channels, with scans of which size
 pub record Asked : Type 0 where
   pub bytes : ℕ
   pub mask : ℕ

@@ -34,7 +34,7 @@ pub record IsAsk (w : Wanted) : Type 0 where
 abbrev pub size_for : Wanted → ℕ
 size_for w = scan_size w.shape w.mask
 
--- the bytes that are asked for where that many scans came
+-- the bytes that are asked for where `got` scans came before
 abbrev pub batch : Wanted → (got : ℕ) → ℕ
 batch w got = size_for w * min MOST_SCANS (w.scans - got)
 

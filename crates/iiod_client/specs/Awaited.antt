@@ -1,4 +1,4 @@
--- What a client awaits after a line: a plain answer, to OPEN and CLOSE, that to READBUF, or nothing, after EXIT. (libiio
+-- What a client awaits after a line: a plain answer after OPEN and CLOSE, the answer to READBUF, nothing after EXIT. (libiio
 -- 0.25's iiod.)
 use Rattle.std.specs.Prelude.{◌≡◌, ◌⊎◌, ℕ, List, [], Some, None}
 use Rattle.iiod_client.specs.Line.{line_text, zero_line, refusal_of, IsBegunLine, IsLongLine}

@@ -46,7 +46,7 @@ pub record EndsEarly (w : Wanted) (a b : Point) : Type 0 where
   pub is_stage : IsStage w stage
   pub goes : Stops a (heard_at stage) (sent_at w stage) (printed_at w stage) b
 
--- the same at the printing of a refusal
+-- a call failed or memory ran out at the printing of a refusal
 pub record EndsRefusing (w : Wanted) (a b : Point) : Type 0 where
   pub stage : Stage
   pub is_stage : IsStage w stage

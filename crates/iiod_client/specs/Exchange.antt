@@ -11,7 +11,7 @@ use Rattle.iiod_client.specs.ClientEnd.{IsWhole, EndsRefused, EndsMalformed, End
 use Rattle.iiod_client.specs.Printed.{scan_lines}
 use Rattle.iiod_client.specs.Talk.{Read, Closing, IsStage, heard_of, sent_for, printed_for}
 
--- a line was sent, and its answer came not
+-- a line was sent, and its answer didn't come
 abbrev pub Fails : Awaited → (line : List ℕ) → ClientEnd → (a b : Point) → Type 0
 Fails w line Done a b = ⊥
 Fails w line (Refused n) a b = (text : List ℕ) × IsRefused w n text × Goes a text line [] b
@@ -50,7 +50,7 @@ SaysPlain line (Err (Refused n)) = refusal_of line ≡ Some n
 SaysPlain line (Err Malformed) = (line ≡ zero_line → ⊥) × (refusal_of line ≡ None)
 SaysPlain line (Err end) = ⊥
 
--- scans were asked for where that many came, and that many were printed
+-- after `got` scans further ones were asked for, and those of the answer, `more` of them, were printed; or why that failed
 abbrev pub Reads : Wanted → (got : ℕ) → Result ℕ ClientEnd → (a b : Point) → Type 0
 Reads w got (Ok more) a b =
     (text : List ℕ) × (body : List ℕ) × IsAnswer (question w got) text body × (more ≡ length body / size_for w)

@@ -20,7 +20,7 @@ name_of None = codes "timestamp"
 abbrev pub channel_name : ShapeRecord → ℕ → List ℕ
 channel_name shape c = name_of (slice_get shape.channels c)
 
--- that many elements of a channel's bytes, from the first on, in decimal, with `,` between
+-- the first n elements of a channel's bytes, in decimal, with `,` between
 abbrev pub elements_text : Format → List ℕ → ℕ → List ℕ
 elements_text f bytes zero = []
 elements_text f bytes (suc zero) = signed_decimal (value_at f bytes 0)
@@ -36,7 +36,7 @@ field_text shape mask scan c =
     let f = format_at (formats_of shape) c in
     32 ∷ (channel_name shape c ++ 61 ∷ elements_text f (channel_in shape mask scan c) f.repeat)
 
--- the selected ones of that many channels, from the first on, in order
+-- the channels of a mask among the first `channels`, in order
 abbrev pub selected : (mask : ℕ) → (channels : ℕ) → List ℕ
 selected mask channels = filter (λ c. has mask c) (range_with_len 0 channels)
 
@@ -44,7 +44,7 @@ selected mask channels = filter (λ c. has mask c) (range_with_len 0 channels)
 abbrev pub scan_line : ShapeRecord → (mask : ℕ) → (scan : List ℕ) → List ℕ
 scan_line shape mask scan = encode_lower scan ++ (flat_map (field_text shape mask scan) (selected mask (count_of shape)) ++ 10 ∷ [])
 
--- the lines of that many scans that stand one after another
+-- the lines of the first n scans in these bytes
 abbrev pub lines_below : ShapeRecord → (mask : ℕ) → List ℕ → ℕ → List ℕ
 lines_below shape mask body zero = []
 lines_below shape mask body (suc k) =

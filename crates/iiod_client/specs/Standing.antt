@@ -18,7 +18,7 @@ pub record AnswerRecord : Type 0 where
 abbrev pub new_answer : Asked → AnswerRecord
 new_answer q = record { asked = q; place = Length; line = []; body = [] }
 
--- after blocks, or at the begin, in a line in the place of a length line
+-- after blocks, or at the beginning, in a line in the place of a length line
 pub record InLength (q : Asked) (line body text : List ℕ) : Type 0 where
   pub blocks : List ℕ
   pub begins : Begins q blocks body
@@ -34,7 +34,7 @@ pub record InMask (q : Asked) (n : ℕ) (line body text : List ℕ) : Type 0 whe
   pub none : body ≡ []
   pub text_is : text ≡ line_text first ++ line
 
--- in the bytes of a block: that many bytes, whatever they are, make it whole
+-- in the bytes of a block, of which `missing` are still to come, whatever they are
 pub record InData (q : Asked) (missing : ℕ) (body text : List ℕ) : Type 0 where
   pub some : 1 ≤ missing
   pub within : length body + missing ≤ q.bytes
@@ -52,7 +52,7 @@ StandsAt Malformed q line body text = IsMalformed q text
 abbrev pub Stands : AnswerRecord → List ℕ → Type 0
 Stands x text = StandsAt x.place x.asked x.line x.body text
 
--- the begin of an answer: what came of it is whole in no way yet
+-- the beginning of an answer: what came isn't whole in any way yet
 abbrev pub IsPartial : Asked → (text body : List ℕ) → Type 0
 IsPartial q text body =
     ((line : List ℕ) × InLength q line body text) ⊎ (((n : ℕ) × (line : List ℕ) × InMask q n line body text) ⊎ ((missing : ℕ) × InData q missing body text))

@@ -30,7 +30,7 @@ AfterBlock q body Done = (length body ≡ q.bytes) × AreScans q body
 AfterBlock q body Malformed = (length body ≡ q.bytes) × (AreScans q body → ⊥)
 AfterBlock q body place = ⊥
 
--- bytes of a block, of which that many are left, to these bytes
+-- after some bytes of a block, of which `left` are still to come; `body` are the data bytes so far
 abbrev pub AfterBytes : Asked → (left : ℕ) → (body : List ℕ) → Place → Type 0
 AfterBytes q left body (Data missing) = (missing ≡ left) × (1 ≤ left) × (length body + left ≤ q.bytes)
 AfterBytes q left body place = (left ≡ 0) × AfterBlock q body place

@@ -1,6 +1,7 @@
 -- How an answer is seen, and what the code keeps true of it.
 use Rattle.std.specs.Prelude.{◌≤◌, vec_capacity}
 use Rattle.iiod_client.specs.declared.answer.Answer.TheInside.{Inside}
+use Rattle.iiod_client.specs.declared.answer.TheConstants.{MAX_ASKED}
 use Rattle.iiod_client.specs.Answer.{Asked}
 use Rattle.iiod_client.specs.Standing.{AnswerRecord, IsSoundPlace}
 
@@ -12,7 +13,7 @@ record_of a = record { asked = asked_of a; place = a.place; line = a.line.items;
 
 pub record IsSound (a : Inside) : Type 0 where
   pub room : a.asked ≤ vec_capacity a.body
-  pub most : a.asked ≤ 65536
+  pub most : a.asked ≤ MAX_ASKED
   pub some : 1 ≤ a.channels
   pub few : a.channels ≤ 64
   pub size : 1 ≤ a.size

@@ -19,7 +19,7 @@ pub const MAX_ASKED: u32 = 65_536;
 /// What the bytes of an answer so far are.
 #[derive(Clone, Copy, Debug, PartialEq, Eq)]
 pub enum State {
-    /// The begin of an answer.
+    /// The beginning of an answer.
     More,
     /// A whole answer.
     Done,
@@ -36,7 +36,7 @@ pub enum Place {
     Length,
     /// In the mask's line, after the length line of the first block.
     Mask(u32),
-    /// In the bytes of a block, of which that many are still to come.
+    /// In the bytes of a block, with how many of them are still to come.
     Data(u32),
     /// At the end of an answer.
     Done,
@@ -71,8 +71,8 @@ impl Model for Answer {
 }
 
 impl Answer {
-    /// An answer of which nothing came, to a READBUF that asks for that many bytes under a mask of that many channels, whose
-    /// scans have that size. The room for its bytes is taken here, and no later call takes memory.
+    /// An answer of which nothing came, to a READBUF that asks for `asked` bytes under a mask of `channels` channels, whose
+    /// scans have `size` bytes. The room for its bytes is taken here, and no later call takes memory.
     pub fn new(
         alloc: Global,
         asked: u32,
@@ -281,7 +281,7 @@ fn after_mask(line: &[u8], mask: Mask, channels: u32, n: u32) -> Place
     }
 }
 
-// What bytes of a block do, of which that many are left, where these are the data bytes.
+// The place after some bytes of a block, of which `left` are still to come; `body` are the data bytes so far.
 fn after_bytes(left: u32, asked: u32, body: &[u8], size: u32) -> Place
     requires size { 1 ≤ size }
     requires within { length body.now + left ≤ asked }

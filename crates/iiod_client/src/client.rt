@@ -131,7 +131,7 @@ fn print_scans<K: Sink>(
     Ok(())
 }
 
-// The bytes that are asked for where that many scans came.
+// The bytes that are asked for where `got` scans came before.
 fn batch_of(ask: &Ask<'_>, got: u32, size: u32) -> u32
     requires ask { IsAsk (wanted_by ask.now) }
     requires size { size ≡ size_for (wanted_by ask.now) }
@@ -156,7 +156,7 @@ fn size_of(ask: &Ask<'_>) -> u32
     scan_size(ask.shape, ask.mask)
 }
 
-// An answer to what is asked for where that many scans came, of which nothing came.
+// An answer to what is asked for where `got` scans came before; nothing of it came yet.
 fn new_batch(alloc: Global, ask: &Ask<'_>, got: u32) -> Result<Answer, Mem>
     requires ask { IsAsk (wanted_by ask.now) }
     requires more { got < ask.now.scans }
@@ -168,7 +168,7 @@ fn new_batch(alloc: Global, ask: &Ask<'_>, got: u32) -> Result<Answer, Mem>
     Answer::new(alloc, bytes, ask.mask, ask.shape.count(), size)
 }
 
-// Asks for further scans where that many came, and prints them; how many they are.
+// Asks for further scans where `got` came before, prints them, and says how many they are.
 fn read_batch<L: Link, K: Sink>(
     alloc: Global,
     link: &mut L,
@@ -316,7 +316,7 @@ pub fn read_device<L: Link, K: Sink>(
     ensures ends { (pending : List ℕ) × Ends (wanted_by ask.now) result
         (point (L.left link.old) [] (L.written link.old) (K.written output.old)) (point (L.left link.new) pending (L.written link.new) (K.written output.new)) }
     ensures faults { Faults result (L.faults link.old) (L.faults link.new) (K.faults output.old) (K.faults output.new) }
-    // Over a link that tells its bytes, every end comes exactly where they come to it, unless a call fails or memory runs out.
+    // Over a link that tells its bytes the end is the one that they come to, unless a call fails or memory runs out.
     ensures exact { IfSome (L.left link.old) (λ bytes. EndsBy (wanted_by ask.now) bytes result) }
 {
     let mut incoming = Incoming::new();

@@ -48,7 +48,7 @@ impl Incoming {
         &self.piece[self.from..self.until]
     }
 
-    /// That many more of them were looked at.
+    /// `count` more of them were looked at.
     pub(crate) fn skip(&mut self, count: usize)
         requires { count ≤ length self.old }
         ensures { self.new ≡ drop count self.old }

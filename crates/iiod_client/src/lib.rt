@@ -7,6 +7,7 @@ mod client;
 mod client_end;
 mod hearing;
 mod incoming;
+mod limits;
 mod line;
 mod printing;
 mod requests;
@@ -16,6 +17,7 @@ pub use ask::Ask;
 pub use client::{MOST_SCANS, read_device};
 pub use client_end::ClientEnd;
 pub use iio_base::Mem;
+pub use limits::limits_are_these;
 
 #[cfg(test)]
 mod tests;

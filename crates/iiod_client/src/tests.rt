@@ -205,7 +205,7 @@ fn ask_under<'a>(shape: &'a Shape, mask: Mask, scans: u32) -> Ask<'a>
     }
 }
 
-// The same under the mask that a text says.
+// What is wanted of adc0 under the mask that a text says.
 fn ask<'a>(rt: &impl Abort, shape: &'a Shape, mask: &str, scans: u32) -> Result<Ask<'a>, Fail>
     requires { 1 ≤ scans }
     ensures { IfOk result (λ ask. IsAsk (wanted_by ask)) }
