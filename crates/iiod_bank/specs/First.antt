@@ -8,7 +8,7 @@ use Rattle.iio_trigger.specs.Trigger.{State}
 use Rattle.iio_probe.specs.Devices.{first_devices}
 use Rattle.iiod_bank.specs.Told.{Told}
 
--- a trigger with that many places, none of which is taken
+-- a trigger with `places` places, none of which is taken
 abbrev pub idle_trigger : ℕ → State
 idle_trigger places = record { places = places; attached = []; outstanding = []; missed = 0 }
 

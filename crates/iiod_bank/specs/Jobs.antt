@@ -60,7 +60,7 @@ pub record MayOpenAt (mask size : ℕ) (shape : ShapeRecord) : Type 0 where
 abbrev pub open_refusal : ℕ → DeviceView WriterEnd → Option State → Option Errno
 open_refusal mask a s = option_and_then errno_of (first_refusal (join_faults a mask s))
 
--- a new queue's end for that many scans of that size, to which nothing was offered
+-- a new queue's end for `scans` scans of `bytes` bytes, to which nothing was offered
 pub record IsNewEnd (taken lost size capacity : WriterEnd → ℕ) (bytes scans : ℕ) (w : WriterEnd) : Type 0 where
   pub taken_none : taken w ≡ 0
   pub lost_none : lost w ≡ 0
@@ -77,6 +77,7 @@ module _ (taken lost size capacity : WriterEnd → ℕ) where
     pub reader : IsFresh bytes o.reader
     pub tail : WriterEnd
     pub end : IsNewEnd taken lost size capacity bytes scans tail
+    pub one_ring : tail.ring ≡ o.reader.ring
     pub joins : b ≡ device_joined mask tail a
 
   abbrev pub OpenMakes : Mask → (scans bytes : ℕ) → DeviceView WriterEnd → Option State → Result Opened No → DeviceView WriterEnd → Option State → Type 0
@@ -108,14 +109,16 @@ abbrev pub remask_refusal : (number mask : ℕ) → DeviceView WriterEnd → Opt
 remask_refusal number mask a = option_and_then remask_errno (first_refusal (remask_faults a number mask))
 
 module _ (taken lost size capacity : WriterEnd → ℕ) where
-  -- the member of that number begins anew under that mask: its two ends are those of one new ring, and its writer of before comes
+  -- the member of that number begins anew under that mask; its two ends are those of one new ring, and its old writer comes
   -- back
   pub record Exchanged (number : ℕ) (mask : Mask) (scans bytes : ℕ) (a : DeviceView WriterEnd) (o : Remasked) (b : DeviceView WriterEnd) : Type 0 where
     pub reader : IsFresh bytes o.reader
     pub tail : WriterEnd
     pub end : IsNewEnd taken lost size capacity bytes scans tail
+    pub one_ring : tail.ring ≡ o.reader.ring
     pub remasks : RemasksDevice lost number mask tail (Ok o.before) a b
 
+  -- what the job makes of the device, by its answer
   abbrev pub RemaskMakes : ℕ → Mask → (scans bytes : ℕ) → DeviceView WriterEnd → Result Remasked No → DeviceView WriterEnd → Type 0
   RemaskMakes number mask scans bytes a (Ok o) b = Exchanged number mask scans bytes a o b
   RemaskMakes number mask scans bytes a (Err (NoErrno e)) b = (remask_refusal number mask.bits a ≡ Some e) × (b ≡ a)
@@ -123,7 +126,7 @@ module _ (taken lost size capacity : WriterEnd → ℕ) where
 
 -- ---- attributes
 
--- where a channel's may be read and written
+-- the channel, where one is given, is one of the shape
 abbrev pub HasChannel : Option ℕ → ShapeRecord → Type 0
 HasChannel channel shape = IfSome channel (λ c. c < length shape.channels)
 
@@ -199,7 +202,7 @@ module _ (lost : WriterEnd → ℕ) where
     pub first : first_number a.standing.members ≡ Some number
     pub left : LeavesDevice lost number (Some tail) a b s t
 
-  -- that many members leave, one after another, the first one first
+  -- the first n members leave, one after another
   abbrev pub Left : ℕ → DeviceView WriterEnd → State → DeviceView WriterEnd → State → Type 0
   Left zero a s b t = (b ≡ a) × (t ≡ s)
   Left (suc k) a s b t = (c : DeviceView WriterEnd) × (u : State) × Left k a s c u × FirstLeaves c u b t

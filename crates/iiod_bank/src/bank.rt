@@ -72,7 +72,7 @@ pub trait Work: Drop {
         ensures kept { Kept (lent_by ⟦<Plug as Sensor>⟧.driver device.old) (lent_by ⟦<Plug as Sensor>⟧.driver device.new) };
 }
 
-/// The same as a job, which leaves the trigger alone.
+/// A `Work` as a job, which leaves the trigger alone.
 #[derive(Drop)]
 pub struct Alone<W> {
     pub work: W,

@@ -112,7 +112,7 @@ pub struct OpenJob {
 }
 
 impl OpenJob {
-    /// OPEN of a mask, for that many scans, which have that size.
+    /// An OPEN of `mask`, with a ring for `capacity` scans of `size` bytes.
     pub fn new(alloc: Global, mask: Mask, capacity: u32, size: u32) -> OpenJob
         requires some { 1 ≤ capacity }
         requires bytes { 1 ≤ size }

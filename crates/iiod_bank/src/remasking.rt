@@ -16,7 +16,7 @@ use iio_text::Errno;
 use iiod_session::No;
 use std::alloc::Global;
 
-/// What a member has left of its ring of before, and the end of its new one at which scans are taken.
+/// What a REMASK's job gives: the writing end of the member's old ring, and the reading end of its new one.
 pub struct Remasked {
     pub before: Writer,
     pub reader: Reader,
@@ -80,7 +80,7 @@ pub struct RemaskWork {
 }
 
 impl RemaskWork {
-    /// That member's REMASK to a mask, for that many scans, which have that size.
+    /// A REMASK of `member` to `mask`, with a new ring for `capacity` scans of `size` bytes.
     pub fn new(alloc: Global, member: Member, mask: Mask, capacity: u32, size: u32) -> RemaskWork
         requires some { 1 ≤ capacity }
         requires bytes { 1 ≤ size }
