@@ -37,6 +37,7 @@ is_short want (Err end) = true
 
 -- what a read leaves of its seat beside the reader; a take that found nothing is counted
 pub record KeepsSeat (want : ℕ) (result : Result ℕ ReadEnd) (old new : HubSeat) : Type 0 where
+  pub dev : new.dev ≡ old.dev
   pub member : new.member ≡ old.member
   pub mask : new.mask ≡ old.mask
   pub capacity : new.capacity ≡ old.capacity

@@ -11,8 +11,8 @@ use Rattle.iiod_bank.specs.Jobs.{RemaskMakes, remask_refusal}
 use Rattle.iiod_bank.specs.Told.{Only, Ran, Told}
 use Rattle.iiod_hub.specs.declared.seat.HubSeat.{HubSeat}
 
--- the answer and the seat after it, by what the job answered: where it was done, the seat takes from the new ring; where it was
--- refused, the seat stays
+-- the seat after a REMASK, by what the job answered: where it was done, the seat takes from the new ring, and of the number
+-- that is answered nothing is said; where it was refused, that is the answer, and the seat stays
 abbrev pub SeatAfter : Mask → Result Remasked No → (old : HubSeat) → Result ℕ No → (new : HubSeat) → Type 0
 SeatAfter mask (Ok o) old (Ok n) new = new ≡ record old { mask = mask; reader = o.reader; empties = 0; gone = false }
 SeatAfter mask (Err e) old result new = (result ≡ Err e) × (new ≡ old)

@@ -46,7 +46,7 @@ impl Bell {
     }
 }
 
-/// That many bells, none of which was rung yet.
+/// `count` bells, none of which was rung yet.
 pub fn bells_of(alloc: Global, count: usize) -> Result<Vec<Bell>, Mem>
     ensures { IfOk result (λ v. length v.items ≡ count) }
 {

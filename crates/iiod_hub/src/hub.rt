@@ -108,8 +108,8 @@ impl Hub {
         self.link(rt, alloc).open(dev, mask, capacity)
     }
 
-    /// The member of a seat begins anew under another mask, as [`Iio::remask`] of a `HubLink`: how many scans waited in its
-    /// ring of before.
+    /// The member of a seat begins anew under another mask, as [`Iio::remask`] of a `HubLink`. The answer is how many scans its
+    /// reader found waiting in the old ring; no clause says so.
     pub fn remask<R: Wait>(
         &self,
         rt: &R,
@@ -135,8 +135,8 @@ impl Hub {
         self.link(rt, alloc).end_seat(dev, seat)
     }
 
-    /// Takes the oldest scans that wait for a seat, up to `want` of them, and appends their bytes to `out`, which has room for
-    /// that many. It takes no lock, and never waits.
+    /// Takes the oldest scans that wait for a seat, at most `want`, and appends their bytes to `out`, which has room for `want`
+    /// scans. It takes no lock, and never waits.
     pub fn read(&self, seat: &mut HubSeat, want: u32, out: &mut Vec<u8>) -> Result<u32, ReadEnd>
         requires some { 1 ≤ want }
         requires room { length out.old.items + want * size_of seat.old.reader ≤ vec_capacity out.old }

@@ -52,8 +52,8 @@ impl HubSeat {
         if gone { Took::Gone } else { Took::Empty }
     }
 
-    /// The seat takes from another ring from now on, whose scans are of that mask, and what it tells begins anew. The reading of the
-    /// ring of before ends; the answer is how many scans waited there.
+    /// The seat takes from another ring, whose scans are of that mask, and what it tells begins anew. The reading of the old
+    /// ring ends; the answer is how many scans were found waiting there.
     pub(crate) fn begin_anew(&mut self, mask: Mask, reader: Reader) -> u64
         ensures { self.new ≡ record self.old { mask = mask; reader = reader; empties = 0; gone = false } }
     {
@@ -82,8 +82,8 @@ impl HubSeat {
         self.nothing(closed)
     }
 
-    /// Takes the oldest scans that wait, up to `most` of them, and appends their bytes to `out`, which has room for that many.
-    /// It takes no lock. There are fewer only where a look of this call found nothing left. `dev` is the device's number.
+    /// Takes the oldest scans that wait, at most `most`, and appends their bytes to `out`, which has room for `most` scans. It
+    /// takes no lock. There are fewer only where a look of this call found nothing left. `dev` is the device's number.
     pub fn take_scans(&mut self, _dev: u32, most: u32, out: &mut Vec<u8>) -> Took
         requires some { 1 ≤ most }
         requires room { length out.old.items + most * size_of self.old.reader ≤ vec_capacity out.old }
@@ -105,14 +105,13 @@ impl HubSeat {
         Took::Scan
     }
 
-    /// Takes the oldest scans that wait, up to `want` of them, and appends their bytes to `out`, which has room for that many. It
+    /// Takes the oldest scans that wait, at most `want`, and appends their bytes to `out`, which has room for `want` scans. It
     /// takes no lock.
     pub fn read(&mut self, want: u32, out: &mut Vec<u8>) -> Result<u32, ReadEnd>
         requires some { 1 ≤ want }
         requires room { length out.old.items + want * size_of self.old.reader ≤ vec_capacity out.old }
         ensures reads { HubReads want self.old.reader.knows self.new.reader.knows out.old.items out.new.items result }
         ensures room { vec_capacity out.old ≤ vec_capacity out.new }
-        ensures dev { self.new.dev ≡ self.old.dev }
         ensures kept { KeepsSeat want result self.old self.new }
     {
         let closed = self.reader.closed();
