@@ -8,6 +8,7 @@ use Rattle.iio_history.specs.Script as script
 use Rattle.iio_script.specs.declared.status.Status.{Status}
 use Rattle.iio_script.specs.declared.status.Status.TheVariants as run
 use Rattle.iio_script.specs.Ends.{HasStatus}
+use Rattle.iio_script.specs.LineReader.{TakesBlocks}
 use Rattle.iio_script.specs.Plays.{Prints, WritesText}
 use Rattle.iiod_serve.specs.Reading.{IsStop, Says, read_head, served_of}
 use Rattle.iiod_serve.proofs.HeadLaws.{status_by}
@@ -19,7 +20,7 @@ use Rattle.iiod_client.specs.Point.{point}
 use Rattle.iiod_readdev.specs.declared.read_status.ReadStatus.{ReadStatus}
 use Rattle.iiod_readdev.specs.declared.read_status.ReadStatus.TheVariants as status
 use Rattle.iiod_readdev.specs.ReadStatus.{of_client, of_run}
-use Rattle.iiod_readdev.specs.Reading.{DoesReaddev, EndsBy, HeadComesTo, IsDueOr, IsFailure, ReadsInput, WantedComesTo}
+use Rattle.iiod_readdev.specs.Reading.{DoesReaddev, EndsBy, HeadComesTo, IsDueOr, IsFailure, ReadsInput, TakesForLine, WantedComesTo}
 use Rattle.iiod_readdev.specs.Wanted.{wanted_of}
 use Rattle.iiod_readdev.specs.Words.{ReaddevWords}
 
@@ -113,8 +114,9 @@ described_due drivers said found desc result (Some xs) left meant says exact = �
 
 -- ---- what the words did
 
-pub does : (drivers : ℕ) (said : ReaddevWords) (end : ReadStatus) (input left : Option (List ℕ)) (s o : Option (List ℕ)) (m t p : Option (List ℕ))
+pub does : (drivers : ℕ) (said : ReaddevWords) (end : ReadStatus) (input remaining left : Option (List ℕ)) (s o : Option (List ℕ)) (m t p : Option (List ℕ))
     → IfSome input (λ xs. (pending : List ℕ) × ReadsInput drivers said xs end (point left [] s o) (point m pending t p)) → IfSome input (λ xs. EndsBy drivers said xs left end)
-    → IfSome input (λ xs. (pending : List ℕ) × DoesReaddev drivers said xs end (point left [] s o) (point m pending t p))
-does drivers said end None left s o m t p reads exact = tt
-does drivers said end (Some xs) left s o m t p reads exact = (reads.0, record { reads = reads.1; exact = exact })
+    → IfSome input (λ xs. TakesBlocks xs remaining) → IfSome input (λ xs. TakesForLine end xs remaining)
+    → IfSome input (λ xs. (pending : List ℕ) × DoesReaddev drivers said xs remaining end (point left [] s o) (point m pending t p))
+does drivers said end None remaining left s o m t p reads exact taken near = tt
+does drivers said end (Some xs) remaining left s o m t p reads exact taken near = (reads.0, record { reads = reads.1; exact = exact; taken = taken; near = near })

@@ -3,3 +3,4 @@ pub mod ReadStatus
 pub mod Wanted
 pub mod Reading
 pub mod Counts
+pub mod Exit

@@ -7,7 +7,7 @@ use Rattle.iio_desc.specs.Description.{Description}
 use Rattle.iio_history.specs.Outcome.{Cut, Described, Faulty, Head, Outcome, head_of, only_ending}
 use Rattle.iio_history.specs.Script.{Refused}
 use Rattle.iio_script.specs.Ends.{HasStatus, Writes}
-use Rattle.iio_script.specs.LineReader.{TakesNear}
+use Rattle.iio_script.specs.LineReader.{TakesBlocks, TakesNear}
 use Rattle.iio_script.specs.declared.status.Status.{Status}
 use Rattle.iio_script.specs.declared.status.Status.TheVariants as run_status
 use Rattle.iiod_serve.specs.Reading.{IsStop, Says, served_of}
@@ -66,7 +66,7 @@ pub record ReadsDescribed (head : Head) (said : ReaddevWords) (end : ReadStatus)
   pub says : Says desc head
   pub reads : ReadsFrom (wanted_of desc said) end a b
 
--- what is made of the words at an input, whose description may use that many drivers
+-- what is made of the words at an input, whose description may use `drivers` drivers
 abbrev pub ReadsInput : (drivers : ℕ) → ReaddevWords → (input : List ℕ) → ReadStatus → (a b : Point) → Type 0
 ReadsInput drivers said input end a b = EndsAsRun (served_of drivers input) end a b ⊎ ReadsDescribed (head_of drivers input) said end a b
 
@@ -118,11 +118,13 @@ IsFailure end = ⊥
 abbrev pub IsDueOr : (due end : ReadStatus) → Type 0
 IsDueOr due end = (end ≡ due) ⊎ IsFailure end
 
--- how the words ended at an input, whose description may use that many drivers, over a link with these bytes left
+-- how the words ended at an input, whose description may use `drivers` drivers, over a link with these bytes left
 abbrev pub EndsBy : (drivers : ℕ) → ReaddevWords → (input : List ℕ) → (left : Option (List ℕ)) → ReadStatus → Type 0
 EndsBy drivers said input left end = (due : ReadStatus) → HeadComesTo (head_of drivers input) said left due → IsDueOr due end
 
--- what the words did at an input, whose description may use that many drivers
-pub record DoesReaddev (drivers : ℕ) (said : ReaddevWords) (input : List ℕ) (end : ReadStatus) (a b : Point) : Type 0 where
+-- what the words did at an input, of which `remaining` is left and whose description may use that many drivers
+pub record DoesReaddev (drivers : ℕ) (said : ReaddevWords) (input : List ℕ) (remaining : Option (List ℕ)) (end : ReadStatus) (a b : Point) : Type 0 where
   pub reads : ReadsInput drivers said input end a b
   pub exact : EndsBy drivers said input a.left end
+  pub taken : TakesBlocks input remaining
+  pub near : TakesForLine end input remaining

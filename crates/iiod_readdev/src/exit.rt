@@ -1,13 +1,11 @@
 //! The words that begin with `readdev`, with the program's drivers, and the code that the process ends with.
 
-ghost use Rattle.std.specs.Prelude.{◌≡◌, ◌↔◌, ℕ, [], List, IfSome, IsTrue};
+ghost use Rattle.std.specs.Prelude.{◌≡◌, ◌↔◌, [], IsTrue};
 ghost use Rattle.std.specs.Process.{exit_status};
 ghost use Rattle.iiod_client.specs.Point.{point};
-ghost use Rattle.iiod_readdev.specs.Counts.{ShowsCounts};
-ghost use Rattle.iiod_readdev.specs.Reading.{DoesReaddev, NamesCommands};
+ghost use Rattle.iiod_readdev.specs.Exit.{EndsWithCode};
 ghost use Rattle.iiod_readdev.specs.ReadStatus.{read_code};
-ghost use Rattle.iiod_readdev.specs.Words.{BeginsReaddev, IsNoReaddev, IsReaddev, ReaddevWords};
-ghost use Rattle.iiod_readdev.specs.declared.read_status.ReadStatus.{ReadStatus as Status};
+ghost use Rattle.iiod_readdev.specs.Words.{BeginsReaddev, IsNoReaddev};
 
 use crate::read_status::ReadStatus;
 use crate::reading::readdev;
@@ -44,11 +42,22 @@ pub fn exit_of<S: Source, K: Sink, L: Dial>(
     output: &mut K,
     link: &mut L,
 ) -> ExitCode
-    ensures code { (status : Status) × (exit_status result ≡ read_code status)
-        × ((said : ReaddevWords) → IsReaddev words.now said → IfSome (S.left input.old) (λ left. (pending : List ℕ) × DoesReaddev 4 said left status
-        (point (L.left link.old) [] (L.written link.old) (K.written output.old)) (point (L.left link.new) pending (L.written link.new) (K.written output.new))))
-        × (IsNoReaddev words.now → NamesCommands status (K.written output.old) (K.written output.new))
-        × ShowsCounts status (S.faults input.old) (S.faults input.new) (L.faults link.old) (L.faults link.new) (K.faults output.old) (K.faults output.new) }
+    ensures code { EndsWithCode 4 words.now (exit_status result)
+        (record {
+          input = S.left input.old;
+          over = point (L.left link.old) [] (L.written link.old) (K.written output.old);
+          input_faults = S.faults input.old;
+          link_faults = L.faults link.old;
+          output_faults = K.faults output.old;
+        })
+        (record {
+          input = S.left input.new;
+          over = point (L.left link.new) [] (L.written link.new) (K.written output.new);
+          input_faults = S.faults input.new;
+          link_faults = L.faults link.new;
+          output_faults = K.faults output.new;
+        })
+        output.old output.new }
     ensures unread { IsNoReaddev words.now → input.new ≡ input.old }
     ensures undialled { IsNoReaddev words.now → link.new ≡ link.old }
 {

@@ -42,13 +42,13 @@ fn read_described<K: Sink, L: Dial>(
 }
 
 /// Does what the words `readdev ADDRESS DEVICE SAMPLES MASK SCANS` say: reads the description at the head of the input, which
-/// may use that many drivers, begins the connection at the address, and reads SCANS scans of the device under the mask over
-/// it, as `read_device` does; the server is to keep SAMPLES samples. Both numbers are decimal and at least 1.
+/// may use `drivers` drivers, begins the connection at the address, and reads SCANS scans of the device under the mask over it,
+/// as `read_device` does; the server is to keep SAMPLES samples. Both numbers are decimal and at least 1.
 ///
-/// A description that is refused, or that is longer than is looked at, is told as `layout` tells it. The device and then
-/// the mask are refused at line 0: `Device` where the description has none of the name, `Mask` where the text is no mask of
-/// it, or has no data channel. The link isn't touched then. Where the connection can't be begun, `no address` is printed.
-/// Other words print the line that names the commands, and leave the input and the link alone.
+/// A description that is refused, or that is longer than is looked at, is reported as by `layout`. The device and then the mask
+/// are refused at line 0: `Device` where the description has none of the name, `Mask` where the text is no mask of it, or has
+/// no data channel. The link isn't touched then. Where the connection can't be begun, `no address` is printed. Other words
+/// print the line that names the commands, and leave the input and the link alone.
 pub fn readdev<S: Source, K: Sink, L: Dial>(
     alloc: Global,
     words: &[String],
@@ -69,8 +69,8 @@ pub fn readdev<S: Source, K: Sink, L: Dial>(
     ensures unread { IsNoReaddev words.now → input.new ≡ input.old }
     ensures undialled { IsNoReaddev words.now → link.new ≡ link.old }
     ensures counts { ShowsCounts result (S.faults input.old) (S.faults input.new) (L.faults link.old) (L.faults link.new) (K.faults output.old) (K.faults output.new) }
-    // Every status comes exactly where the input, and over a link that tells its bytes these, come to it, unless a call fails or
-    // memory runs out.
+    // The status is the one that the input comes to, and over a link that tells its bytes these, unless a call fails or memory
+    // runs out.
     ensures exact { (said : ReaddevWords) → IsReaddev words.now said → IfSome (S.left input.old) (λ left. EndsBy drivers said left (L.left link.old) result) }
 {
     let Some(words) = read_words(words) else {
