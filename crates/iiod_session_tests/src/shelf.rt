@@ -46,7 +46,7 @@ pub struct Shelf {
     pub(crate) front: HubFront,
     /// The scans that wait, the oldest first. One of another size than the seat's waits for another seat.
     pub scans: Vec<Vec<u8>>,
-    /// What each seat that was closed, or got another mask, had given by then, in this order.
+    /// What each seat had given when it was closed or got another mask, in the order in which that happened.
     pub closed: Vec<Vec<Vec<u8>>>,
 }
 

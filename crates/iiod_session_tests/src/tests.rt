@@ -56,7 +56,7 @@ const EXCHANGES: [Exchange<'static>; 5] = [
     ),
 ];
 
-// Feeds a piece, after which these answers are there, and the connection stands so.
+// Feeds a piece: these answers come, and the connection then stands as `going` says.
 fn hear(
     rt: &impl Abort,
     alloc: Global,
@@ -88,6 +88,33 @@ fn lists(alloc: Global, closed: &[Vec<Vec<u8>>]) -> Result<Vec<u8>, Fail> {
         text.push(b'\n')?;
     }
     Ok(text)
+}
+
+// A seat that gets another mask: what it gives from then on is a list of its own.
+const REMASKED: [Exchange<'static>; 2] = [
+    (
+        b"OPEN adc0 2 00000003\nREADBUF adc0 2\nREMASK adc0 00000002\n",
+        b"0\n2\n00000003\naA0\n",
+    ),
+    (
+        b"READBUF adc0 2\nREAD adc0 BUFFER discarded\n",
+        b"2\n00000002\nxy1\n2\n",
+    ),
+];
+
+// The data after a REMASK are the scans that the seat gave since then, under its new mask.
+#[test]
+fn a_remask_begins_the_data_anew(rt: HostRuntime) -> Result<(), Fail> {
+    let alloc = rt.alloc();
+    let scans: [&[u8]; 3] = [b"aA", b"x", b"y"];
+    let mut shelf = shelf_of(alloc, &scans)?;
+    let mut a = Session::new(alloc, 3, Manner::Server)?;
+    hear(&rt, alloc, &mut a, &mut shelf, REMASKED[0], Going::On)?;
+    hear(&rt, alloc, &mut a, &mut shelf, REMASKED[1], Going::On)?;
+    a.end(&mut shelf);
+    let lists = lists(alloc, &shelf.closed)?;
+    assert_eq!(rt; lists.as_slice(), b"aA \nx y \n".as_slice());
+    Ok(())
 }
 
 // The data of each seat's READBUFs are the scans that it gave, and its mask and capacity are those of its OPEN.

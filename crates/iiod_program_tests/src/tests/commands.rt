@@ -249,6 +249,14 @@ const COMMANDS: &[(&str, [&str; 5])] = &[
     (r"EVOPEN d\n", ["0", "0", "0", "-19", "-19"]),
     (r"EVREAD d\n", ["-9", "-9", "-9", "-19", "-19"]),
     (r"EVCLOSE d\n", ["-9", "-9", "-9", "-19", "-19"]),
+    (r"REMASK d 00000002\n", ["-9", "0", "-9", "-19", "-19"]),
+    (r"REMASK d 0000000g\n", ["-9", "-22", "-9", "-19", "-19"]),
+    (r"REMASK d 00000008\n", ["-9", "-22", "-9", "-19", "-19"]),
+    (r"REMASK d 00000004\n", ["-9", "-22", "-9", "-19", "-19"]),
+    (
+        r"READ d BUFFER discarded\n",
+        ["-9", r"1\n0", "-9", r"1\n0", "-19"],
+    ),
 ];
 
 /// Lines that are answered the same in each of these states: no device is named, or an unknown one, or the form is wrong.
@@ -276,6 +284,7 @@ const PLAIN: &[(&str, &str)] = &[
     (r"EVOPEN t\n", r"-19\n"),
     (r"EVREAD t\n", r"-19\n"),
     (r"EVCLOSE t\n", r"-19\n"),
+    (r"REMASK t 00000001\n", r"-19\n"),
     (r"help\n", r"-22\n"),
     (r"ZPRINT\n", r"-22\n"),
     (r"HELP d\n", r"-22\n"),
@@ -321,9 +330,12 @@ const PLAIN: &[(&str, &str)] = &[
     (r"SET d buffers_count 1\n", r"-22\n"),
     (r"EVOPEN\n", r"-22\n"),
     (r"EVREAD d d\n", r"-22\n"),
+    (r"REMASK\n", r"-22\n"),
+    (r"REMASK d\n", r"-22\n"),
+    (r"REMASK d 00000001 x\n", r"-22\n"),
 ];
 
-// In each of the states, which is made anew for each line.
+// In each of the states, which is made again for each line.
 #[test]
 fn commands_in_each_state(rt: HostRuntime) -> Result<(), Fail> {
     let alloc = rt.alloc();

@@ -39,13 +39,13 @@ fn ended_lines(text: &[u8]) -> usize {
     lines
 }
 
-// What the script's first lines print, that many of them.
+// What the first `lines` lines of a text print, where steps come after the first `head` lines.
 fn printed_by(alloc: Global, head: usize, lines: usize) -> Result<Vec<u8>, Fail> {
     let steps = lines.saturating_sub(head).min(PRINTED.len());
     joined(alloc, &PRINTED[..steps])
 }
 
-// What the word `play` does with a text that comes in pieces of that many bytes, where these reads and writes fail.
+// What the word `play` does with a text that comes in pieces of `piece` bytes, where these reads and writes fail.
 pub(crate) fn check_faults(
     rt: &impl Abort,
     alloc: Global,

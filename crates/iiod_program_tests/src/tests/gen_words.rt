@@ -1,4 +1,5 @@
-//! The words `gen N`, and what is counted in a text. The expected lines of `gen` are those of another program that makes and plays the same inputs.
+//! The words `gen N`, and what is counted in a text. The expected lines of `gen` are those of another program that makes and
+//! plays the same inputs.
 
 use crate::tests::playing::run_words;
 use iio_io::{MemSink, MemSource, read_whole};

@@ -25,7 +25,7 @@ fn pieces_make_no_difference(rt: HostRuntime) -> Result<(), Fail> {
     Ok(())
 }
 
-// How much is taken of an input whose second line is refused, from a source that gives that many bytes a read.
+// How much is taken of an input whose second line is refused, from a source that gives `piece` bytes a read.
 fn check_left(rt: &impl Abort, alloc: Global, piece: usize, taken: usize) -> Result<(), Fail>
     requires { 1 ≤ piece }
 {
@@ -50,7 +50,7 @@ fn refused_lines_leave_the_rest(rt: HostRuntime) -> Result<(), Fail> {
     check_left(&rt, rt.alloc(), 100_000, 65_536)
 }
 
-// That many LFs, and whether they are too many.
+// `count` LFs, and whether they are too many.
 fn check_line_ends(
     rt: &impl Abort,
     alloc: Global,

@@ -181,7 +181,7 @@ fn failing_writes_end_the_layout(rt: HostRuntime) -> Result<(), Fail> {
     Ok(())
 }
 
-// A description with that many rows, and 200,000 empty lines after the one that ends it.
+// A description with `rows` rows, and 200,000 empty lines after the line that ends it.
 fn ended_early(alloc: Global, rows: u32) -> Result<Vec<u8>, Fail> {
     let mut text = ADC0.to_vec(alloc)?;
     for row in 0..rows {
@@ -193,7 +193,7 @@ fn ended_early(alloc: Global, rows: u32) -> Result<Vec<u8>, Fail> {
     Ok(text)
 }
 
-// How much `layout` takes of it, from a source that gives that many bytes a read.
+// How much `layout` takes of a description with `rows` rows, from a source that gives `piece` bytes a read.
 fn check_taken(
     rt: &impl Abort,
     alloc: Global,
@@ -221,7 +221,7 @@ fn check_taken(
 
 // Blocks of 65,536 bytes are read, and none after the one with the end line.
 #[test]
-fn layouts_leave_what_stands_behind(rt: HostRuntime) -> Result<(), Fail> {
+fn layouts_leave_the_rest(rt: HostRuntime) -> Result<(), Fail> {
     let alloc = rt.alloc();
     check_taken(&rt, alloc, 0, 1, 130)?;
     check_taken(&rt, alloc, 0, 65_536, 65_536)?;

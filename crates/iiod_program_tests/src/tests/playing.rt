@@ -11,7 +11,7 @@ use std::process::Abort;
 use std::str;
 use std::test::Fail;
 
-// A device on t0 with that many channels of one type, and its row.
+// A device on t0 with `count` channels of one type, and its row.
 pub(crate) fn wide(
     alloc: Global,
     name: &str,
@@ -63,8 +63,8 @@ pub(crate) fn joined(alloc: Global, texts: &[&str]) -> Result<Vec<u8>, Fail> {
     Ok(bytes)
 }
 
-// That a text was printed. `name` tells the row that fails, and the number of the first line that differs; both are counted
-// from 1.
+// That a text was printed. If it wasn't, the message has the row's `name` and the number of the first line that differs,
+// counted from 1.
 fn check_printed(rt: &impl Abort, name: &str, printed: &[u8], wanted: &[u8]) {
     if let (Ok(printed), Ok(wanted)) = (str::from_utf8(printed), str::from_utf8(wanted)) {
         for (before, (line, expected)) in printed.lines().zip(wanted.lines()).enumerate() {
@@ -87,7 +87,7 @@ pub(crate) fn check_rows(
     Ok(())
 }
 
-/// What the word `play` prints for a text, and the number that it ends with; `name` tells a row that fails.
+/// What the word `play` prints for a text, and the number that it ends with; `name` is in the message of a failure.
 pub(crate) fn check_play(
     rt: &impl Abort,
     alloc: Global,
@@ -104,7 +104,8 @@ pub(crate) fn check_play(
     Ok(())
 }
 
-/// The same with one driver: a ramp whose asks of these numbers fail.
+/// What the word `play` prints for a text with one driver, a ramp whose asks of these numbers fail; `name` is in the message of
+/// a failure.
 pub(crate) fn check_driven(
     rt: &impl Abort,
     alloc: Global,

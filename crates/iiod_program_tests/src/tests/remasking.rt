@@ -103,7 +103,7 @@ A "0\n0\n1\n0\n"
 "#,
     ),
     (
-        "listed_masks_serve_the_old_union_alone",
+        "no_listed_mask_for_the_new_union",
         NARROW,
         r#"A "OPEN adc0 1 00000001\n"
 fire t0 1000

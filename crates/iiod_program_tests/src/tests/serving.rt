@@ -44,7 +44,7 @@ fn fire(rt: &impl Abort, bench: &mut Bench, t: i64)
     assert_eq!(rt; bench.handle(0, 0), Some(Handled::Captured(1)));
 }
 
-// Feeds bytes, after which the answers are these, and the connection stands so.
+// Feeds bytes: these answers come, and the connection then stands as `going` says.
 fn hear(
     rt: &impl Abort,
     alloc: Global,

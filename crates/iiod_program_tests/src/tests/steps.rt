@@ -141,7 +141,7 @@ const LINES: &[(&str, &str, &str, u8)] = &[
     ("fire", "", "refused 6 count\n", 1),
 ];
 
-// Two parts of a line with spaces between, of that many bytes in all.
+// Two parts of a line with spaces between, of `len` bytes in all.
 fn check_line(
     rt: &impl Abort,
     alloc: Global,

@@ -4,7 +4,7 @@ use crate::tests::devices::{ADC, COUNTED};
 use crate::tests::playing::check_rows;
 use std::test::Fail;
 
-/// The same converter, and a second trigger.
+/// A converter on the first of two triggers.
 const TWO_TRIGGERS: &str = "trigger t0 2
 trigger t1 2
 device adc0 t0

@@ -8,7 +8,7 @@ use iiod_hub::{SessionEnd, serve_connection};
 use std::alloc::Global;
 use std::test::Fail;
 
-// A link on which these bytes come, in pieces, and to which that many bytes can be sent. The listed receives fail.
+// A link on which these bytes come in pieces, and to which `room` bytes can be sent. The listed receives fail.
 fn faulty_link(
     alloc: Global,
     comes: &[u8],

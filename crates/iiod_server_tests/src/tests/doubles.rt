@@ -157,8 +157,8 @@ impl<'a, R: Clock> Link for Asking<'a, R> {
 /// The answer to a READBUF of one scan of voltage0 and accel_x.
 pub const BLOCK: &[u8] = b"4\n00000005\n\x10\0\xff\xfd";
 
-/// A link that opens the device, reads one scan once there is one, and closes the device, that many times over; or gives up
-/// after `TURNS` pieces. It tells whether it came to its end, and whether a scan was another than the row's.
+/// A link that opens the device, reads one scan once there is one, and closes the device, and goes `left` such rounds; or gives
+/// up after `TURNS` pieces. It tells whether it came to its end, and whether a scan was another than the row's.
 #[derive(Drop)]
 pub struct Rounds<'a, R> {
     pub rt: R,
@@ -394,9 +394,8 @@ fn played_scan(answer: &[u8]) -> Option<(i64, i64)> {
     Some((value as i64, i64::from_le_bytes(moment)))
 }
 
-/// A link that opens the device, reads that many scans one by one, each once there is one, and then stops the ticker; or gives
-/// up after `TURNS` pieces. It counts the scans that are of the row of their moment, at a whole millisecond above the one
-/// before.
+/// A link that opens the device, reads `left` scans one by one, each once there is one, and then stops the ticker; or gives up
+/// after `TURNS` pieces. It counts the scans that are of the row of their moment, at a whole millisecond above the one before.
 #[derive(Drop)]
 pub struct Playing<'a, R> {
     pub rt: R,

@@ -41,7 +41,7 @@ fn played(alloc: Global) -> Result<Desc, Fail>
     Ok(reader.finish()?)
 }
 
-// The door with one connection that reads that many scans.
+// The door with one connection that reads `SCANS` scans.
 fn playing_door<'a, R: Clock>(
     alloc: Global,
     rt: R,

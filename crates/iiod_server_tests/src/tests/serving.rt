@@ -113,7 +113,7 @@ fn one_connection_too_many_is_unheard(rt: HostRuntime) -> Result<(), Fail> {
     Ok(())
 }
 
-// The door with one connection that goes that many rounds.
+// The door with one connection that goes 20 rounds.
 fn rounds_door<'a, R: Clock>(
     alloc: Global,
     rt: R,
