@@ -8,7 +8,7 @@ abbrev pub ◌>>=◌ : {A B E : Type 0} → Result A E → (A → Result B E) �
 Ok x >>= f = f x
 Err refusal >>= f = Err refusal
 
--- the same, where what came before gave nothing that is wanted
+-- what follows where nothing was refused, and the value before it isn't wanted
 abbrev pub ◌>>◌ : {A B E : Type 0} → Result A E → Result B E → Result B E
 Ok x >> next = next
 Err refusal >> next = Err refusal

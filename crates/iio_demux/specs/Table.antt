@@ -88,7 +88,7 @@ AreMerged [] = Unit {0}
 AreMerged (entry ∷ []) = Unit {0}
 AreMerged (entry ∷ next ∷ later) = (continues entry next ≡ false) × AreMerged (next ∷ later)
 
--- so it is in every table
+-- what holds of every table
 pub record IsCopyTable (table : CopyTable) : Type 0 where
   pub ordered : AreInOrder table.active_size table.buffer_size 0 table.entries
   pub merged : AreMerged table.entries

@@ -33,8 +33,7 @@ impl Entry {
             && next.to.checked_sub(self.to) == Some(self.length)
     }
 
-    // Copies the entry's bytes, and answers where they end. From byte `start` on, which is no byte after them, all bytes
-    // are zero.
+    // Copies the entry's bytes, and answers where they end. `start` isn't after them, and all bytes from it on are zero.
     fn copy(self, start: usize, scan: &[u8], out: &mut [u8]) -> usize
         requires start { start ≤ self.to }
         requires from { self.from + self.length ≤ length scan.now }
@@ -168,7 +167,8 @@ struct Sizes {
     buffer: u32,
 }
 
-// The size of a scan whose last channel ends there, and whose largest has that size: 0 where there is none.
+// The size of a scan whose last channel ends at byte `end` and whose largest has `largest` bytes. Without a channel both are 0,
+// and so is the size.
 fn padded_size(end: u32, largest: u32) -> u32
     requires end { end < 2 ^ 31 }
     requires few { largest ≤ MAX_CHANNEL_SIZE }

@@ -77,8 +77,8 @@ TakesOf number (Some given) out out' old new =
     × Takes number given out out' old.seats new.seats
     × (new ≡ record old { seats = new.seats })
 
--- the same, by the captures since the first member joined, the newest first: with the capture that fills a window the mean of
--- the window's captures is offered, and with no other
+-- one capture more, by the captures since the first member joined, the newest first: with the capture that fills a window the
+-- mean of the window's captures is offered, and with no other
 abbrev pub MeansOf : List ℕ → Option ℕ → AverageRecord → AverageRecord → List (List ℤ) → Type 0
 MeansOf scan result old new captures =
     IsWindowOf old.size new.window (values_in old.shape scan ∷ captures)

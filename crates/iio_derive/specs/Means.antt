@@ -8,12 +8,12 @@ sums_of [] = []
 sums_of (c ∷ []) = c
 sums_of (c ∷ x ∷ cs) = added c (sums_of (x ∷ cs))
 
--- the mean of that many captures: each sum divided by their number and rounded towards zero
+-- the mean of `size` captures: each sum divided by `size` and rounded towards zero
 abbrev pub mean_of : (size : ℕ) → List (List ℤ) → List ℤ
 mean_of size captures = means_of size (sums_of captures)
 
--- what one capture more of the base makes, after those since the first member joined, the newest first: with each one that
--- makes their number a multiple of the window the mean of the window's captures, of which it is the last
+-- what one capture more of the base makes, after those since the first member joined, the newest first: where their number is
+-- then a multiple of `size`, the mean of the last `size` captures, this one among them
 abbrev pub mean_with : (size : ℕ) → (capture : List ℤ) → List (List ℤ) → Option (List ℤ)
 mean_with size c cs = if suc (length cs) % size == 0 then Some (mean_of size (c ∷ take (size - 1) cs)) else None
 

@@ -20,5 +20,6 @@ pub record ReadsBack (shape : ShapeRecord) (captured : List ℤ) (t : ℤ) : Typ
   pub moment : (endian : Endian) → shape.stamp ≡ Some endian → IsInRange (stamp_format endian) t
       → moment_in shape (scan_of shape (full_mask shape) captured t) ≡ t
 
+-- what reading a scan of all channels gives back, for every shape, capture and moment
 abbrev pub ReadingLaw : Type 0
 ReadingLaw = (shape : ShapeRecord) (values : List ℤ) (t : ℤ) → IsCapture shape values → ReadsBack shape values t

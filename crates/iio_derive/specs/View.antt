@@ -7,7 +7,7 @@ use Rattle.iio_derive.specs.Members.{member_at}
 use Rattle.iio_derive.specs.Sized.{IsSized}
 use Rattle.iio_derive.specs.Window.{Window, full_mask, no_window}
 
--- a sum of that many values of 64 bits
+-- a sum of `count` values of 64 bits
 pub record IsSum (count : ℕ) (sum : ℤ) : Type 0 where
   pub low : neg_ℤ (pos (count * 2 ^ 63)) ≤ℤ sum
   pub high : sum ≤ℤ pos (count * (2 ^ 63 - 1))

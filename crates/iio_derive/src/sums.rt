@@ -4,7 +4,7 @@ ghost use Rattle.std.specs.Prelude.{◌≡◌, ◌+◌, ◌≤◌, ◌<◌, ◌+
 ghost use Rattle.iio_derive.specs.Window.{added, means_of, sums_by};
 ghost use Rattle.iio_derive.specs.View.{IsSum};
 
-// The sum of that many values with one more.
+// The sum of `count` values with one more.
 fn sum_with(count: u32, sum: i128, value: i64) -> i128
     requires few { count ≤ 1000 }
     requires sum { IsSum count sum }
@@ -14,7 +14,7 @@ fn sum_with(count: u32, sum: i128, value: i64) -> i128
     i128::from(value) + sum
 }
 
-// The mean of that many values, rounded towards zero.
+// The mean of `size` values, rounded towards zero.
 fn mean_of(size: u32, sum: i128) -> i64
     requires some { 1 ≤ size }
     requires few { size ≤ 1000 }
@@ -43,7 +43,7 @@ fn put_first(sums: &mut [i128], values: &[i64])
     }
 }
 
-// Adds the values of one capture more to the sums of that many.
+// Adds the values of one capture more to the sums of `count` captures.
 fn add_more(count: u32, sums: &mut [i128], values: &[i64])
     requires few { count ≤ 1000 }
     requires same { length sums.old ≡ length values.now }
@@ -56,7 +56,7 @@ fn add_more(count: u32, sums: &mut [i128], values: &[i64])
     }
 }
 
-// The sums of that many captures, with the values of one more.
+// The sums of `count` captures, with the values of one more.
 pub(crate) fn add_values(count: u32, sums: &mut [i128], values: &[i64])
     requires few { count ≤ 1000 }
     requires same { length sums.old ≡ length values.now }
@@ -71,7 +71,7 @@ pub(crate) fn add_values(count: u32, sums: &mut [i128], values: &[i64])
     }
 }
 
-// Puts the means of that many values in the place of the values.
+// Puts the means of `size` captures in the place of the values.
 pub(crate) fn put_means(size: u32, sums: &[i128], values: &mut [i64])
     requires some { 1 ≤ size }
     requires few { size ≤ 1000 }

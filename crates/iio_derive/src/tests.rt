@@ -32,7 +32,7 @@ fn device(alloc: Global, types: [&str; 3], window: u32, size: usize) -> Result<A
     Ok(Average::new(alloc, shape, window)?)
 }
 
-// A member joins, whose scans have that size; at most one scan waits. No queue was made more offers than `most`.
+// A member joins, whose scans have `size` bytes; at most one scan waits. At most `most` offers were made to any queue.
 fn join(
     rt: &impl Abort,
     device: &mut Average,
@@ -52,7 +52,7 @@ fn join(
     Ok(device.join(mask, 1)?)
 }
 
-// A capture of these values is added; no queue was made more offers than `most`.
+// A capture of these values is added; before it at most `most` offers were made to any queue.
 fn add(
     rt: &impl Abort,
     device: &mut Average,

@@ -17,7 +17,7 @@ pub record Reading : Type 0 where
 abbrev pub Reader : Type 0
 Reader = Result Reading DescFault
 
--- before the first line, of a description that may use that many drivers
+-- before the first line, of a description that may use `drivers` drivers
 abbrev pub new_reader : ℕ → Reader
 new_reader drivers = Ok (record { lines = 0; desc = new_desc drivers })
 
@@ -44,7 +44,7 @@ finished reader = do
   reading ← reader
   at_line (reading.lines + 1) (line.desc_of reading.desc)
 
--- the same at a line that ends it
+-- the description, at a line that ends it
 abbrev pub ended_by : Reader → List ℕ → Result Description DescFault
 ended_by reader text = do
   reading ← reader

@@ -80,7 +80,7 @@ stamp_line device words = do
 abbrev pub listable : ℕ → ℕ → Option ℕ
 listable channels bits = if nat_lt 0 bits && nat_lt bits (2 ^ channels) then Some bits else None
 
--- the mask that a word says, of that many data channels, and that many with the timestamp
+-- the mask that a word says, of `channels` data channels, which are `count` channels with the timestamp
 abbrev pub listed_of : ℕ → ℕ → List ℕ → Option ℕ
 listed_of channels count word = option_and_then (λ bits. listable channels bits) (mask_of word count)
 
@@ -123,13 +123,13 @@ row_of moments (t ∷ vs) = do
   values ← ok_or (ints_of vs) Number
   Ok (moment, values)
 
--- the same of a row with that many values
+-- the moment of a row, and its `width` values
 abbrev pub counted_row : ℕ → List ℤ → List (List ℕ) → Result (ℤ × List ℤ) Why
 counted_row width moments words = do
   ensure (length words == width + 1) Count
   row_of moments words
 
--- `row T v ..`; that many rows have the devices before
+-- `row T v ..`; the devices before have `earlier` rows
 abbrev pub row_line : ℕ → PartialDevice → List (List ℕ) → Result PartialDevice Why
 row_line earlier device words = do
   ensure (has_channels device && is_none device.driver) Order
@@ -143,7 +143,7 @@ row_line earlier device words = do
 abbrev pub drives : ℕ → DeviceRecord → Bool
 drives k device = option_map_or (λ driver. driver == k) device.driver false
 
--- whether a driver is handed in, of that many, and no device above has it
+-- whether driver `k` is one of `drivers` that are handed in, and no device above has it
 abbrev pub is_free : ℕ → List DeviceRecord → ℕ → Bool
 is_free drivers devices k = nat_lt k drivers && not (list_any (drives k) devices)
 
@@ -155,7 +155,7 @@ free_driver drivers devices (negsuc k) = None
 abbrev pub driver_of : ℕ → List DeviceRecord → List ℕ → Option ℕ
 driver_of drivers devices word = option_and_then (λ k. free_driver drivers devices k) (int_of word)
 
--- `driver K`, of that many handed-in drivers, after these devices
+-- `driver K`, of `drivers` handed-in drivers, after these devices
 abbrev pub driver_line : ℕ → List DeviceRecord → PartialDevice → List (List ℕ) → Result PartialDevice Why
 driver_line drivers devices device words = do
   ensure (has_channels device && may_drive device) Order

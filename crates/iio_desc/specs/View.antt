@@ -47,8 +47,8 @@ partial_desc b = record {
   current = b.current;
 }
 
--- the device whose lines are being read is on one of that many triggers, or on none, has a driver that is handed in and
--- that no device before has, or none, and that many rows are no more than there may be with its own
+-- the device whose lines are being read: it is on one of the triggers or on none; its driver, where it has one, is handed in
+-- and no device before has it; and its rows and those of the devices before are no more than there may be
 pub record FitsCurrent (triggers drivers earlier : ℕ) (devices : List DeviceRecord) (device : PartialDevice) : Type 0 where
   pub attached : IfSome device.trigger (λ t. t < triggers)
   pub driven : IfSome device.driver (λ k. is_free drivers devices k ≡ true)

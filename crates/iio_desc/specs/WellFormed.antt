@@ -15,13 +15,13 @@ use Rattle.iio_desc.specs.DeviceLines.{drives}
 abbrev pub HasPlaces : TriggerDesc → Type 0
 HasPlaces t = (0 < t.places) × (t.places ≤ MAX_PLACES)
 
--- a write of an attribute of the device or of one of that many channels
+-- a write of an attribute of the device, or of one of its `channels` channels
 pub record IsWrite (channels : ℕ) (a : AttrDesc) : Type 0 where
   pub channel : IfSome a.channel (λ c. c < channels)
   pub writable : is_writable a.attr ≡ true
 
--- a device among that many triggers and handed-in drivers: it is on one of the triggers or on none, it has one of the
--- drivers or none, its rows can be played back and are as wide as its channels, and its attributes can be written
+-- a device, with `triggers` triggers and `drivers` handed-in drivers: it is on one of the triggers or on none, it has one of
+-- the drivers or none, its rows can be played back and are as wide as its channels, and its attributes can be written
 pub record IsWellFormedDevice (triggers drivers : ℕ) (device : DeviceRecord) : Type 0 where
   pub attached : IfSome device.trigger (λ t. t < triggers)
   pub driven : IfSome device.driver (λ k. k < drivers)

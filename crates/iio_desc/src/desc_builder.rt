@@ -139,7 +139,7 @@ fn read_quoted(alloc: Global, text: &[u8]) -> Result<Vec<u8>, LineFault>
 }
 
 impl DescBuilder {
-    /// Before the first line, with that many handed-in drivers.
+    /// Before the first line, with `drivers` handed-in drivers.
     pub(crate) fn new(alloc: Global, drivers: u32) -> DescBuilder
         ensures { result ≡ new_desc drivers }
     {
@@ -367,7 +367,7 @@ impl DescBuilder {
         })
     }
 
-    /// The same at a line that ends it, without its LF.
+    /// The description at a line that ends it, without its LF.
     pub(crate) fn end(self, line: &[u8]) -> Result<Desc, LineFault>
         ensures desc { Gives result (desc_at_end self line.now) }
         ensures sound { IfOk result (IsWellFormed self.drivers) }

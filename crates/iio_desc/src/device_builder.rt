@@ -71,7 +71,7 @@ fn channel_number(channels: &[Channel], id: (Kind, Suffix)) -> Option<usize>
         .position(|c| same_id((c.kind, c.suffix), id))
 }
 
-// The same of an ID as it is spelled.
+// The number of the channel whose ID is spelled so.
 fn find_channel(channels: &[Channel], id: &[u8]) -> Option<usize>
     ensures value { result ≡ option_and_then (λ id. position (λ channel. same_id (id_at channel) id) channels.now) (id_of id.now) }
     ensures within { IfSome result (λ c. c < length channels.now) }
@@ -120,7 +120,7 @@ fn is_listable(bits: u64, channels: u32) -> bool
     bits > 0 && (channels == 64 || bits < 1 << channels)
 }
 
-// A mask that can be listed, of that many data channels, and that many with the timestamp.
+// A mask that can be listed, of `channels` data channels, which are `count` channels with the timestamp.
 fn read_mask(word: &[u8], channels: u32, count: u32) -> Option<Mask>
     requires some { 1 ≤ channels }
     requires within { channels ≤ count }
@@ -198,8 +198,8 @@ fn read_row(moments: &[i64], values: &mut Vec<i64>, words: &[u8]) -> Result<i64,
     Ok(moment)
 }
 
-// The same of a row with that many values. Words that are read are counted by it, so that they are counted alone only
-// where another check fails. An Err leaves the values that were there.
+// The moment of a row with `width` values, which are put after those that are there. The words are counted by the values that
+// are read, and by themselves only where another check fails. An Err leaves the values that were there.
 fn push_row(
     moments: &[i64],
     values: &mut Vec<i64>,
@@ -234,7 +234,7 @@ fn is_used(k: u32, devices: &[DeviceDesc]) -> bool
     devices.iter().any(|d| drives(k, d))
 }
 
-// Whether a driver is handed in, of that many, and no device has it.
+// Whether driver `k` is one of `drivers` that are handed in, and no device has it.
 fn is_free(drivers: u32, devices: &[DeviceDesc], k: u32) -> bool
     ensures { result ≡ is_free drivers devices.now k }
 {
@@ -430,7 +430,7 @@ impl DeviceBuilder {
         Ok(())
     }
 
-    /// `row T v ..`; that many rows have the devices before.
+    /// `row T v ..`; the devices before have `earlier` rows.
     pub(crate) fn row_line(&mut self, earlier: usize, words: &[u8]) -> Result<(), LineFault>
         requires { earlier + length self.old.moments ≤ MAX_ROWS }
         ensures line { Becomes result self.old self.new (row_line earlier self.old (words_of is_space words.now)) }
@@ -451,7 +451,7 @@ impl DeviceBuilder {
         Ok(())
     }
 
-    /// `driver K`, of that many handed-in drivers, after these devices.
+    /// `driver K`, of `drivers` handed-in drivers, after these devices.
     pub(crate) fn driver_line(
         &mut self,
         drivers: u32,

@@ -155,8 +155,9 @@ impl DescReader {
         }
     }
 
-    /// The same at a line that ends the description, without its LF: it is `long` and `text` as any line, then `order`
-    /// where the description may not end yet, then `count` where a further word stands in it.
+    /// The description at a line that ends it, without its LF. The line is refused as `long` or `text` as any line is, then as
+    /// `order` where the description may not end yet, then as `count` where a further word stands in it. After a fault it is
+    /// that fault.
     pub fn end(self, line: &[u8]) -> Result<Desc, DescFault>
         ensures ok { IfOk result (λ desc. ended_by self line.now ≡ Ok desc) }
         ensures err { IfErr result (λ fault. Locates fault (ended_by self line.now)) }
@@ -181,8 +182,7 @@ impl DescReader {
 /// Reads the description that a text says, which may use as many drivers as are handed in. LF ends a line, and a last
 /// line without LF counts where it isn't empty.
 ///
-/// A line whose first word is `%%` has no other meaning here than to be refused: it is for who reads on after a
-/// description.
+/// A line whose first word is `%%` is refused here: it means something only where more is read after the description.
 pub fn read_desc(alloc: Global, text: &[u8], drivers: u32) -> Result<Desc, DescFault>
     requires { length (lines_of text.now) ≤ 2 ^ 32 - 2 }
     ensures ok { IfOk result (λ desc. read_of drivers text.now ≡ Ok desc) }

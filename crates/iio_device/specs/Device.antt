@@ -54,7 +54,7 @@ pub record DeviceView (Q : Type 0) : Type 0 where
   pub site : Site ℕ
 
 module _ {Q P : Type 0} {g : Ghosts Q} (driver : P → Driver) where
-  -- of what the core keeps, and what samples
+  -- what stands at a device, of what the core keeps and what samples
   abbrev pub site_of : IioDev Q g → Option P → Site ℕ
   site_of core plug = site_with (is_some plug) core.trigger core.attachment (driver_in driver plug) core.stored
 
@@ -140,8 +140,8 @@ module _ {Q : Type 0} where
       ∷ (is_without_union d.standing.shape (masks_of (without number d.standing.members)) mask, remask.NoUnion)
       ∷ []
 
-  -- the member of that number begins anew under another mask, with another queue's end. Its end of before comes back, and what
-  -- that lost is counted. A refusal gives the new end back and changes nothing
+  -- the member of that number begins anew under another mask, with another queue's end. Its old queue's end comes back, and
+  -- what that lost is counted. A refusal gives the new end back and changes nothing
   abbrev pub RemasksDevice : (lost : Q → ℕ) → ℕ → Mask → Q → Result Q (RemaskRefused Q) → (old new : DeviceView Q) → Type 0
   RemasksDevice lost number mask tail (Ok before) old new =
       (first_refusal (remask_faults old number mask.bits) ≡ None)

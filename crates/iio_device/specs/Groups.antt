@@ -21,7 +21,7 @@ pub record IsGroup (shape : ShapeRecord) (active : ℕ) (g : GroupRecord) : Type
   pub table : g.table ≡ table_of shape active g.mask
   pub room : length g.scan ≡ scan_size shape g.mask
 
--- the table is made anew, for another active mask
+-- the table is made again, for another active mask
 abbrev pub remade : ShapeRecord → ℕ → GroupRecord → GroupRecord
 remade shape active g = record g { table = table_of shape active g.mask }
 

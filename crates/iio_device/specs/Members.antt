@@ -57,7 +57,7 @@ pub record Drains (given : Bool) (out out' : List ℕ) (old new : Membership Que
   pub same : new ≡ record old { tail = new.tail }
   pub moved : MatchBool given (GivesFirst old.tail out' new.tail) ((old.tail.scans ≡ []) × (new.tail ≡ old.tail) × (out' ≡ out))
 
--- the oldest scans of a member's queue are moved out, at most that many
+-- the oldest scans of a member's queue are moved out, at most `most`
 pub record DrainsScans (most count : ℕ) (before after : List ℕ) (old new : Membership Queue) : Type 0 where
   pub same : new ≡ record old { tail = new.tail }
   pub moved : GivesScans most count before after old.tail new.tail

@@ -28,7 +28,7 @@ module _ {Q : Type 0} where
       ∷ (is_without_union s.shape (masks_of (without number s.members)) mask, NoUnion)
       ∷ [])
 
-  -- a member begins anew, under another mask and with another queue's end, after so many captures
+  -- a member begins anew, under another mask and with another queue's end, after `captures` captures
   abbrev pub begun_anew : Mask → ℕ → Q → Membership Q → Membership Q
   begun_anew mask captures tail m = record m { mask = mask; joined = captures; tail = tail }
 
@@ -42,8 +42,8 @@ module _ {Q : Type 0} where
   after_remask number mask tail s =
       record s { active = active_under number mask.bits s; members = remasked number mask s.captures tail s.members }
 
-  -- the member of that number begins anew under another mask, and its queue's end of before comes back; or that is refused,
-  -- the new end comes back, and nothing changes
+  -- the member of that number begins anew under another mask, and its old queue's end comes back; or that is refused, the new
+  -- end comes back, and nothing changes
   abbrev pub Remasks : ℕ → Mask → Q → Result Q (RemaskRefused Q) → Standing Q → Standing Q → Type 0
   Remasks number mask tail (Ok before) old new =
       (remask_fault number mask.bits old ≡ None)

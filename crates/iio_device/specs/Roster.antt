@@ -96,7 +96,8 @@ module _ {Q : Type 0} where
 abbrev pub is_size_of : ℕ → ℕ → Standing Queue → Bool
 is_size_of number size s = option_map_or (λ (m : Membership Queue). size == scan_size s.shape m.mask.bits) (member_of number s.members) false
 
--- a scan is moved out of the queue of the member of that number; where there is none, or the room is of another size, nothing is
+-- a scan is moved out of the queue of the member of that number; without such a member, or with room of another size, nothing
+-- changes
 abbrev pub Takes : ℕ → Option Bool → (out out' : List ℕ) → Standing Queue → Standing Queue → Type 0
 Takes number None out out' old new = (is_size_of number (length out) old ≡ false) × (new ≡ old) × (out' ≡ out)
 Takes number (Some given) out out' old new =
@@ -104,8 +105,8 @@ Takes number (Some given) out out' old new =
     × (new ≡ record old { members = new.members })
     × ChangesOne number (Drains given out out') old.members new.members
 
--- the oldest scans are moved out of the queue of the member of that number and that mask, at most that many; where there is
--- none, nothing is
+-- the oldest scans, at most `most`, are moved out of the queue of the member of that number and that mask; without such a
+-- member nothing changes
 abbrev pub TakesScans : (number mask most : ℕ) → Option ℕ → (before after : List ℕ) → Standing Queue → Standing Queue → Type 0
 TakesScans number mask most None before after old new = (is_live_under number mask old.members ≡ false) × (new ≡ old) × (after ≡ before)
 TakesScans number mask most (Some count) before after old new =
@@ -118,7 +119,7 @@ abbrev pub with_group : Option GroupRecord → List GroupRecord → List GroupRe
 with_group None groups = groups
 with_group (Some g) groups = groups ++ g ∷ []
 
--- the tables are made anew, where there is an active mask
+-- the tables are made again, where there is an active mask
 abbrev pub remade_for : ShapeRecord → Option Mask → List GroupRecord → List GroupRecord
 remade_for shape None groups = groups
 remade_for shape (Some active) groups = map (remade shape active.bits) groups

@@ -12,7 +12,7 @@ use Rattle.iio_device.specs.Site.{Site}
 abbrev pub is_watched : Watched → Bool
 is_watched w = w.rising.enabled || w.falling.enabled
 
--- how far it came: it ends at the first ask that fails
+-- how far a look came: it ends at the first ask that fails
 pub record Sensed (Who : Type 0) : Type 0 where
   pub driver : Driver
   pub monitor : MonitorRecord Who

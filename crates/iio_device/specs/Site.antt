@@ -119,7 +119,7 @@ module _ {Who : Type 0} where
 abbrev pub no_driver : Driver
 no_driver = record { sample = λ shape c k t. pos 0; bias = λ c. pos 0; asked = 0; last = None; fails = []; faults = 0 }
 
--- it takes its driver with it
+-- an unplugged device: its driver is gone too
 abbrev pub unplugged : {Who : Type 0} → Site Who → Site Who
 unplugged site = record site { plugged = false; driver = no_driver }
 

@@ -28,8 +28,8 @@ abbrev pub HasRoom : ShapeRecord → List ℕ → Type 0
 HasRoom shape room = MAX_CHANNEL_SIZE * count_of shape ≤ length room
 
 module _ {Q : Type 0} (taken lost size : Q → ℕ) where
-  -- a member: its number was given out, its mask is one of the shape and has a data channel, the captures since its joining
-  -- are the scans taken in and those lost, and its queue is of its mask's scans
+  -- a member: its number was given out, its mask is one of the shape and has a data channel, the captures since it joined or
+  -- last got another mask are the scans taken in and those lost, and its queue is of its mask's scans
   pub record IsMember (shape : ShapeRecord) (captures next : ℕ) (m : Membership Q) : Type 0 where
     pub numbered : m.number < next
     pub below : m.mask.bits < 2 ^ count_of shape

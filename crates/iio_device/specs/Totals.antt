@@ -10,7 +10,7 @@ no_totals = record { scans = 0; bytes = 0; lost = 0 }
 abbrev pub with_scan : List ℕ → Totals → Totals
 with_scan scan t = record t { scans = t.scans + 1; bytes = t.bytes + sum scan }
 
--- that many scans were taken, which have these bytes
+-- `count` scans were taken, which have these bytes
 abbrev pub with_bytes : ℕ → List ℕ → Totals → Totals
 with_bytes count bytes t = record t { scans = t.scans + count; bytes = t.bytes + sum bytes }
 
@@ -24,11 +24,11 @@ abbrev pub with_taken : Option Bool → (scan : List ℕ) → Totals → Totals
 with_taken (Some true) scan t = with_scan scan t
 with_taken taken scan t = t
 
--- a member left whose queue had lost that many
+-- a queue ended that had lost `lost` scans
 abbrev pub with_lost : ℕ → Totals → Totals
 with_lost lost t = record t { lost = t.lost + lost }
 
--- a member left, where there was one
+-- a queue ended, where there was one
 abbrev pub with_left : Option ℕ → Totals → Totals
 with_left None t = t
 with_left (Some lost) t = with_lost lost t

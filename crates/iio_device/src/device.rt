@@ -114,7 +114,8 @@ impl<Q: Tail> Fitted<IioDev<Q>> {
         self.core.roster.len()
     }
 
-    /// How many masks its members have, where those that are equal count once. That many scans are laid out at a capture.
+    /// How many masks its members have, where equal ones count once. At a capture a scan is laid out for each of them but the
+    /// active one, whose scan the sensor gives.
     pub fn groups(&self) -> u32
         ensures { result ≡ mask_count self.now.core.roster.members.items }
     {
@@ -136,8 +137,8 @@ impl<Q: Tail> Fitted<IioDev<Q>> {
         self.core.roster.is_live_under(member.number, mask)
     }
 
-    /// How many scans were lost because a queue was full, of all members and of those that have left. It stays at 2^64 - 1
-    /// when it gets there.
+    /// How many scans were lost because a queue was full, of all queues that members have or had. It stays at 2^64 - 1 when it
+    /// gets there.
     pub fn overruns(&self) -> u64
         ensures { result ≡ min (self.now.core.totals.lost + sum_by (λ (m : Membership Q). Q.lost m.tail) self.now.core.roster.members.items) (2 ^ 64 - 1) }
     {
@@ -157,8 +158,8 @@ impl<Q: Tail> Fitted<IioDev<Q>> {
 }
 
 impl Fitted<IioDev<Kfifo>> {
-    /// Moves the member's oldest scan into `out`, and says whether there was one; it counts in the device's totals. None exactly where the member isn't live
-    /// or `out` hasn't the size of its scans, and then nothing changes.
+    /// Moves the member's oldest scan into `out`, and says whether there was one; it counts in the device's totals. None
+    /// exactly where the member isn't live or `out` hasn't the size of its scans, and then nothing changes.
     pub fn take(&mut self, member: &Member, out: &mut [u8]) -> Option<bool>
         requires { ⊤ }
         ensures taken { Takes member.now.number result out.old out.new (view_of ⟦<Plug as Sensor>⟧.driver self.old.core self.old.plug).standing (view_of ⟦<Plug as Sensor>⟧.driver self.new.core self.new.plug).standing }

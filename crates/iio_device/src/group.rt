@@ -45,7 +45,7 @@ impl Group {
         Ok(Group { mask, table, scan })
     }
 
-    /// Makes the table anew, for another active mask.
+    /// Makes the table again, for another active mask.
     fn remake(&mut self, shape: &Shape, active: Mask)
         requires below { active.bits < 2 ^ count_of shape.now }
         requires within { is_within self.old.mask active.bits ≡ true }
@@ -92,7 +92,7 @@ impl Group {
     }
 }
 
-/// Makes each group's table anew, for another active mask.
+/// Makes each group's table again, for another active mask.
 pub(crate) fn remake_all(groups: &mut Vec<Group>, shape: &Shape, active: Mask)
     requires below { active.bits < 2 ^ count_of shape.now }
     requires within { All (λ (g : GroupRecord). is_within g.mask active.bits ≡ true) groups.old.items }

@@ -91,9 +91,9 @@ impl<Q: Tail> Fitted<IioDev<Q>> {
             || self.core.roster.next == u64::MAX
     }
 
-    /// A member joins under that mask, with its queue's end: the next capture is its first. Refused as by `may_join`,
-    /// and then `Mem`; a refusal gives the queue's end back and changes nothing. All memory that the member needs
-    /// until it leaves or has another mask is taken here.
+    /// A member joins under that mask, with its queue's end: the next capture is its first. Refused as by `may_join`, and then
+    /// `Mem`; a refusal gives the queue's end back and changes nothing. All memory that the member needs until it leaves or
+    /// gets another mask is taken here.
     pub fn join(
         &mut self,
         mask: Mask,

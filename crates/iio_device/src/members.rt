@@ -95,7 +95,7 @@ pub(crate) fn position_of<Q>(members: &[Membership<Q>], number: u64) -> Option<u
     walk_to(members, number)
 }
 
-/// The member at that place begins anew, under another mask and with another queue's end. Its end of before comes back.
+/// The member at that place begins anew, under another mask and with another queue's end. Its old end comes back.
 pub(crate) fn begin_anew_at<Q: Tail>(
     members: &mut Vec<Membership<Q>>,
     at: usize,

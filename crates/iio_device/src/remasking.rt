@@ -1,4 +1,4 @@
-//! Members that exchange their masks.
+//! The exchange of a member's mask for another one.
 
 ghost use Rattle.std.specs.Prelude.{◌≡◌, ◌+◌};
 ghost use Rattle.iio_base.specs.Refusals.{first_refusal, unless_refused};
@@ -38,9 +38,9 @@ impl<Q: Tail> Fitted<IioDev<Q>> {
     }
 
     /// A member begins anew under another mask, with another queue's end: the next capture is the first that this takes or
-    /// loses. The member keeps its number and its place among the members. Its queue's end of before comes back, and what
-    /// that lost counts in the device's totals. Refused as by `may_remask`, and then `Mem`; a refusal gives the new end back and
-    /// changes nothing. All memory that the exchange needs is taken before anything changes.
+    /// loses. The member keeps its number and its place among the members. Its old queue's end comes back, and what that lost
+    /// counts in the device's totals. Refused as by `may_remask`, and then `Mem`; a refusal gives the new end back and changes
+    /// nothing. All memory that the exchange needs is taken before anything changes.
     pub fn remask(&mut self, member: &Member, mask: Mask, tail: Q) -> Result<Q, RemaskRefused<Q>>
         requires size { Q.size tail ≡ scan_size self.old.core.roster.shape mask.bits }
         requires fresh { Q.taken tail + Q.lost tail ≡ 0 }

@@ -93,7 +93,7 @@ pub enum RemaskFault {
     Mem,
 }
 
-/// Another mask that was refused. It gives the new queue's end back.
+/// A refused exchange of a mask. It gives the new queue's end back.
 pub struct RemaskRefused<Q> {
     pub fault: RemaskFault,
     pub tail: Q,
@@ -131,7 +131,7 @@ fn keep_wanted<Q>(groups: &mut Vec<Group>, members: &[Membership<Q>])
     groups.retain(|group| is_wanted(members, group.mask()));
 }
 
-// Makes the tables anew, where there is an active mask and it isn't the one that they are made for.
+// Makes the tables again, where there is an active mask and it isn't the one that they are made for.
 fn remake_for(groups: &mut Vec<Group>, shape: &Shape, before: Option<Mask>, active: Option<Mask>)
     requires below { IfSome active (λ m. m.bits < 2 ^ count_of shape.now) }
     requires within { IfSome active (λ m. All (λ (g : GroupRecord). is_within g.mask m.bits ≡ true) groups.old.items) }
@@ -155,7 +155,7 @@ fn asked_size(shape: &Shape, active: Option<Mask>) -> u32
     scan_size(shape, active.unwrap_or(Mask { bits: 0 }))
 }
 
-// The same, where it is known for the mask before.
+// The bytes of a scan under the mask that the sensor is asked under, where a scan under the mask before has `size` bytes.
 fn asked_size_after(shape: &Shape, before: Option<Mask>, size: u32, active: Option<Mask>) -> u32
     requires below { IfSome active (λ m. m.bits < 2 ^ count_of shape.now) }
     requires size { IsSize shape.now before size }
@@ -346,7 +346,7 @@ impl<Q: Tail> Roster<Q> {
         )
     }
 
-    // The active mask with that member under that mask, and what `grow_groups` makes for it; or why there is to be none.
+    // The active mask with that member under that mask, and what `grow_groups` makes for it; or why the exchange is refused.
     fn prepare_remask(
         &mut self,
         number: u64,
@@ -371,7 +371,7 @@ impl<Q: Tail> Roster<Q> {
         }
     }
 
-    /// The member of that number begins anew under another mask, with another queue's end, and its end of before comes back. Where
+    /// The member of that number begins anew under another mask, with another queue's end, and its old end comes back. Where
     /// that is refused, the new end comes back, and nothing changes.
     pub(crate) fn remask(&mut self, number: u64, mask: Mask, tail: Q) -> Result<Q, RemaskRefused<Q>>
         requires own { mask.bits < 2 ^ count_of self.old.shape }

@@ -7,21 +7,22 @@ ghost use Rattle.iio_device.specs.Totals.{no_totals, with_bytes, with_lost, with
 use iio_base::Sum;
 use std::simd::prelude::*;
 
-/// What the queues of a device gave to its members, and what those of members that have left had lost.
+/// What the queues of a device gave to its members, and what those that ended had lost: a queue ends where its member leaves or
+/// gets another mask.
 #[derive(Drop)]
 pub struct Totals {
     /// How many scans were taken from them.
     pub scans: Sum,
     /// The sum of all bytes of these scans.
     pub bytes: Sum,
-    /// How many scans were lost because a queue was full, until its member left.
+    /// How many scans were lost because a queue was full, of the queues that ended.
     pub lost: Sum,
 }
 
-// That many bytes are added at once, in 16 bits.
+// How many bytes are added at once, in 16 bits.
 const LANES: usize = 64;
 
-// The sum of that many bytes.
+// The sum of `LANES` bytes.
 #[inline]
 fn lane_sum(bytes: &[u8]) -> u16
     requires { length bytes.now ≡ LANES }
@@ -69,7 +70,7 @@ impl Totals {
         }
     }
 
-    /// That many scans were taken, which have these bytes.
+    /// `count` scans were taken, which have these bytes.
     pub(crate) fn give(&mut self, count: u32, bytes: &[u8])
         ensures { self.new ≡ with_bytes count bytes.now self.old }
     {
@@ -87,7 +88,7 @@ impl Totals {
         }
     }
 
-    /// A member left whose queue had lost that many.
+    /// A queue ended that had lost `lost` scans.
     pub(crate) fn lose(&mut self, lost: u64)
         ensures { self.new ≡ with_lost lost self.old }
     {

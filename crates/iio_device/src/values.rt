@@ -76,8 +76,8 @@ fn write_channel<P: Sensor>(stored: &mut Stored, plug: &mut P, c: u32, attr: Att
     }
 }
 
-/// Sets an attribute of the device, or of the channel of that number. An attribute that can't be written, or not there,
-/// changes nothing.
+/// Sets an attribute of the device, or of the channel of that number. An attribute that can't be written or isn't there changes
+/// nothing.
 pub(crate) fn write<P: Sensor>(
     stored: &mut Stored,
     plug: &mut P,

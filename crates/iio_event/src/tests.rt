@@ -101,7 +101,7 @@ fn crossings(rt: HostRuntime) -> Result<(), Fail> {
     monitor.set_value(0, Edge::Rising, 4);
     monitor.set_on(0, Edge::Rising, true);
     sense_all(&rt, &mut monitor, &[(6, 1), (6, 0)]);
-    // Enabling anew forgets it.
+    // Enabling it again forgets that value.
     monitor.set_on(0, Edge::Rising, false);
     sense_all(&rt, &mut monitor, &[(0, 0)]);
     monitor.set_on(0, Edge::Rising, true);

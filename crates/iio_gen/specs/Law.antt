@@ -8,7 +8,7 @@ use Rattle.iio_history.specs.Script.{Finished, script_from}
 use Rattle.iio_gen.specs.declared.steps.TheConstants.{STEPS}
 use Rattle.iio_gen.specs.Input.{made}
 
--- an input whose description may use that many drivers is played to its end, and has that many steps
+-- an input whose description may use `drivers` drivers is played to its end, and has `steps` steps
 pub record IsPlayable (drivers steps : ℕ) (input : List ℕ) : Type 0 where
   pub desc : Description
   pub first : ℕ

@@ -123,8 +123,8 @@ remask : plays adc (codes "A \"OPEN adc0 1 00000005\\n\"\nfire t0 1000\nfire t0 
 unfolding digits
 remask = refl
 
--- what was lost before a REMASK isn't counted after it, and what it discarded is until the OPEN; by its form and in its order
--- it is refused
+-- what was lost before a REMASK isn't counted after it; what it discarded is counted until the next OPEN; its refusals, in
+-- their order
 remask_begins_anew : plays (codes "trigger t0 2\ndevice y t0\nchannel voltage0 le:u8/8>>0\nchannel voltage1 le:u8/8>>0\nmasks 00000001 00000002\nrow 0 65 66\n") (codes "A \"SET y BUFFERS_COUNT 1\\nOPEN y 1 00000001\\n\"\nfire t0 1\nfire t0 2\nA \"REMASK y 00000002\\nREAD y BUFFER overruns\\nREAD y BUFFER discarded\\n\"\nfire t0 3\nA \"READBUF y 1\\nREMASK y 00000003\\nREMASK y 0000001\\nREMASK y\\nREMASK z 00000001\\nREMASK y 00000000\\n\"\nB \"OPEN y 1 00000001\\n\"\nA \"CLOSE y\\nOPEN y 1 00000001\\nREAD y BUFFER discarded\\n\"\nunplug y\nA \"REMASK y 00000001\\n\"\n")
     ≡ codes "A \"0\\n0\\n\"\npoll t0 accepted 1\nhandle t0 y captured\npoll t0 accepted 1\nhandle t0 y captured\nA \"0\\n1\\n0\\n1\\n1\\n\"\npoll t0 accepted 1\nhandle t0 y captured\nA \"1\\n00000002\\nB-22\\n-22\\n-22\\n-19\\n-22\\n\"\nB \"-22\\n\"\nA \"0\\n0\\n1\\n0\\n\"\ny unplugged\nA \"-19\\n\"\n"
 unfolding digits

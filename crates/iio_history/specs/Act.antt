@@ -22,9 +22,9 @@ pub data Act : Type 0 where
   Remasking : (member : Member) (mask : ℕ) → Act
   -- the memberships of these end, where they have one
   Leaving : (gone : List Who) → Act
-  -- and their holdings of events
+  -- and the holdings of events of these
   Ending : (gone : List Who) → Act
-  -- a READBUF of that many bytes
+  -- a READBUF that asks for `bytes` bytes
   Reading : (who : Who) (bytes : ℕ) → Act
   -- an entry that is current is handled: its capture
   Capturing : (capture : Capture) → Act

@@ -54,7 +54,7 @@ LiveIsThere = (m : Told) (name : List ℕ) → is_live name (registry_of m).user
 
 -- ---- numbers of members
 
--- that many members more can be numbered
+-- `n` members more can be numbered
 abbrev pub CanJoinMore : ℕ → Station → Type 0
 CanJoinMore n st = st.joinings + n ≤ 2 ^ 64 - 1
 
@@ -68,7 +68,7 @@ RoomLasts =
 
 -- ---- items
 
--- what an item is answered, and what stands then, is one thing by the session's machine and by the history
+-- the answer to an item, and what stands then, are the same by the session's machine and by the history
 abbrev pub ItemsAreActs : Type 0
 ItemsAreActs =
     (s : Setup) (m : Told) (name : List ℕ) (desk : DeskRecord) (item : Item) → IsBench s m → is_in (names_of m) name ≡ true → IsDeskOf m name desk → Every CanJoin m.stations

@@ -136,18 +136,19 @@ module _ {Q : Type 0} where
 
   -- ---- events
 
-  -- of a plugged device
+  -- EVOPEN at a plugged device
   abbrev pub HoldingsAgree : (lost capacity : Q → ℕ) → Type 0
   HoldingsAgree lost capacity =
       (waits : Q → List (List ℕ)) (m : Machine) (dev who : ℕ) (d : DeviceView Q) → IsAt lost capacity waits m dev d → d.site.plugged ≡ true
       → Does lost capacity waits (ev_open_of m dev who) (held_errno (open_answer d.site.monitor)) dev (at_site (with_monitor (after_open who) d.site) d)
 
+  -- EVREAD at a plugged device
   abbrev pub EventsAgree : (lost capacity : Q → ℕ) → Type 0
   EventsAgree lost capacity =
       (waits : Q → List (List ℕ)) (m : Machine) (dev who : ℕ) (d : DeviceView Q) → IsAt lost capacity waits m dev d → d.site.plugged ≡ true
       → Does lost capacity waits (ev_read_of m dev who) (holder_errno (read_answer (λ a b. a == b) who d.site.monitor)) dev (at_site (with_monitor (after_read (λ a b. a == b) who) d.site) d)
 
-  -- of any device
+  -- EVCLOSE at any device
   abbrev pub ReleasesAgree : (lost capacity : Q → ℕ) → Type 0
   ReleasesAgree lost capacity =
       (waits : Q → List (List ℕ)) (m : Machine) (dev who : ℕ) (d : DeviceView Q) → IsAt lost capacity waits m dev d
@@ -176,7 +177,7 @@ module _ {Q : Type 0} where
 
 -- ---- the ends that are there
 
--- a queue in one hand meets each offer as it stood
+-- a queue of one owner meets each offer as it stood
 abbrev pub QueuesAreMet : Type 0
 QueuesAreMet = (old new : Queue) (scan : List ℕ) (answer : Offered) → QueueOffers old scan answer new → IsMet (λ q. q.lost) (λ q. q.capacity) queue_waits queue_waited scan answer old new
 

@@ -56,7 +56,7 @@ module _ {Q : Type 0} (lost capacity : Q → ℕ) where
 
     -- ---- what a call makes of it
 
-    -- the call is answered so in the plain state too, and leaves it there
+    -- in the plain state too the call has this answer, and the device is left so
     pub record Does {A : Type 0} (o : Outcome A) (answer : Result A Errno) (dev : ℕ) (d : DeviceView Q) : Type 0 where
       pub answered : o.answer ≡ answer
       pub device : IsAt o.machine dev d
@@ -79,8 +79,8 @@ module _ {Q : Type 0} (lost capacity : Q → ℕ) where
     -- ---- what a capture meets
 
     module _ (waited : Q → Q → List (List ℕ)) where
-      -- an offer after which the first end was the second: where the queue that it met has room the scan stands after what
-      -- waited, and else it is lost and counted
+      -- an offer that makes `new` of `old`: where the queue that it met has room, the scan stands after what waited; else it is
+      -- lost and counted
       abbrev pub IsMet : List ℕ → Offered → (old new : Q) → Type 0
       IsMet scan Taken old new = (length (waited old new) < capacity old) × (lost new ≡ lost old) × (waits new ≡ waited old new ++ scan ∷ [])
       IsMet scan Lost old new = (capacity old ≤ length (waited old new)) × (lost new ≡ lost old + 1) × (waits new ≡ waited old new)
@@ -104,14 +104,14 @@ module _ {Q : Type 0} (lost capacity : Q → ℕ) where
 
 -- ---- what the ends of the queues that are there tell
 
--- a queue in one hand: what waits changes by its own calls alone
+-- a queue of one owner: what waits changes by its own calls alone
 abbrev pub queue_waits : Queue → List (List ℕ)
 queue_waits q = q.scans
 
 abbrev pub queue_waited : Queue → Queue → List (List ℕ)
 queue_waited old new = old.scans
 
--- the scans that the first end accepted, without those that were received, which are that many
+-- the scans that the writer's end accepted, without the first `received` of them
 abbrev pub left_after : ℕ → WriterEnd → List (List ℕ)
 left_after received w = map (λ (s : Sent). s.scan) (drop received (accepted w.knows.offers))
 

@@ -1,4 +1,4 @@
--- What a membership sees: the captures of its device since its joining, and what its own READBUFs ask for.
+-- What a membership sees: the captures of its device since its OPEN or its last REMASK, and what its own READBUFs ask for.
 use Rattle.std.specs.Prelude.{ℕ, ◌/◌, List, [], ◌∷◌, if◌then◌else◌}
 use Rattle.iio_history.specs.Event.{Event}
 use Rattle.iio_history.specs.Who.{Who, same}

@@ -45,7 +45,7 @@ open_answer s r d who buffers samples text cyclic =
 
 -- ---- REMASK
 
--- a member under a new mask, beside the masks of the others
+-- the refusals of a member's new mask, in their order, beside the masks of the others
 abbrev pub remask_refusals : ShapeRecord → List ℕ → Member → Bool → ℕ → List (Bool × Errno)
 remask_refusals shape others m is_mask mask =
     mask_refusals (not is_mask) (not (has_data shape mask)) (nat_lt MAX_BYTES (m.capacity * scan_size shape mask)) ++ (is_without_union shape others mask, EINVAL) ∷ []

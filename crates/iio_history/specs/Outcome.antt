@@ -33,7 +33,7 @@ head_from overlong (Ok reading) n [] = if overlong then Cut else described n [] 
 head_from overlong (Ok reading) n (line ∷ lines) =
     if is_end line then described (n + 1) lines (ended_by (Ok reading) line) else head_from overlong (after_line (Ok reading) line) (n + 1) lines
 
--- the head of an input, whose description may use that many drivers
+-- the head of an input, whose description may use `drivers` drivers
 abbrev pub head_of : ℕ → List ℕ → Head
 head_of drivers input = head_from (is_overlong input) (new_reader drivers) 1 (looked_lines input)
 

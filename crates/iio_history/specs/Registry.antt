@@ -16,7 +16,8 @@ pub record Setup : Type 0 where
   pub desc : Description
   pub drivers : List Driver
 
--- a membership of a device: whose it is, the mask of its OPEN, and how many scans its queue holds
+-- a membership of a device: whose it is, its mask, which is that of its OPEN or of its last REMASK, and how many scans its
+-- queue holds
 pub record Member : Type 0 where
   pub who : Who
   pub mask : ℕ
@@ -76,7 +77,7 @@ abbrev pub is_member : Who → List Member → Bool
 is_member who [] = false
 is_member who (m ∷ ms) = same who m.who || is_member who ms
 
--- its membership
+-- the membership of `who`, if any
 abbrev pub member_of : Who → List Member → Option Member
 member_of who [] = None
 member_of who (m ∷ ms) = if same who m.who then Some m else member_of who ms

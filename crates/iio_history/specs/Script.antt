@@ -141,7 +141,7 @@ abbrev pub names_after : List (List ℕ) → Option Step → List (List ℕ)
 names_after names (Some (Feed name bytes)) = if is_known names name then names else name ∷ names
 names_after names step = names
 
--- whether a step keeps to that many names
+-- whether a step leaves no more names than a script may feed
 abbrev pub keeps_names : List (List ℕ) → Option Step → Bool
 keeps_names names (Some (Feed name bytes)) = is_known names name || nat_lt (length names) max_names
 keeps_names names step = true

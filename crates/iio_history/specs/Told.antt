@@ -64,7 +64,7 @@ abbrev pub captures_after : Act → ℕ → ℕ
 captures_after (Capturing c) n = n + 1
 captures_after act n = n
 
--- the scans that a READBUF of that many bytes gives, by what waits for its member
+-- the scans that a READBUF of `bytes` bytes gives, by what waits for its member
 abbrev pub scans_given : ShapeRecord → Who → ℕ → List Seat → List (List ℕ)
 scans_given shape who bytes [] = []
 scans_given shape who bytes (x ∷ xs) =

@@ -53,8 +53,8 @@ impl From<AllocError> for ReadEnd {
     }
 }
 
-/// Writes all of `bytes`, in pieces of at most 65,536 bytes and in as many writes as it takes. Where a write fails, a front part was
-/// written.
+/// Writes all of `bytes`, in pieces of at most 65,536 bytes and in as many writes as it takes. Where a write fails, a front
+/// part was written.
 pub fn write_whole<K: Sink>(sink: &mut K, bytes: &[u8]) -> Result<(), Failed>
     ensures whole { OnOk result (IfSome (K.written sink.old)
         (λ xs. K.written sink.new ≡ Some (xs ++ bytes.now))) }

@@ -21,7 +21,7 @@ same_size k slots size size' i t ss held e d h = rw (← e, ← d) h
 
 -- ---- after a load
 
--- all that is left is in hand, none of it after
+-- all that is left is in hand, and no slot went to the end yet
 pub record InHand (slots n : ℕ) (a : View) (b : Me Cell View) : Type 0 where
   pub hand : List Sent
   pub view : b.0 ≡ with_reading a (record a.reading { hand = hand; seen = n; left = length hand; looks = a.reading.looks + 1 })

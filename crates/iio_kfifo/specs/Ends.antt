@@ -66,7 +66,7 @@ pub record TakesOne (r : Reading) (scan : List ℕ) (lost : ℕ) (r' : Reading) 
   pub showed : 0 < r'.left
   pub knows : r' ≡ record r { received = r.received ++ record { scan = scan; lost = lost } ∷ []; seen = r'.seen; left = r'.left; looks = r.looks + 1 }
 
--- that many scans were received after one load, at most `most` and at most as many as it showed; their bytes were appended
+-- `given` scans were received after one load: as many as it showed, but at most `most`; their bytes were appended
 pub record TakesRun (r : Reading) (most given : ℕ) (before after : List ℕ) (r' : Reading) : Type 0 where
   pub more : List Sent
   pub count : length more ≡ given
@@ -75,7 +75,7 @@ pub record TakesRun (r : Reading) (most given : ℕ) (before after : List ℕ) (
   pub knows : r' ≡ record r { received = r.received ++ more; seen = r'.seen; left = r'.left; looks = r.looks + 1 }
   pub none : given ≡ 0 → AllReceived r'
 
--- that many scans were received, and their bytes were appended
+-- `given` scans were received, and their bytes were appended
 pub record TakesSome (r : Reading) (given : ℕ) (before after : List ℕ) (r' : Reading) : Type 0 where
   pub more : List Sent
   pub count : length more ≡ given
@@ -83,8 +83,8 @@ pub record TakesSome (r : Reading) (given : ℕ) (before after : List ℕ) (r' :
   pub knows : r' ≡ record r { received = r.received ++ more; seen = r'.seen; left = r'.left; looks = r'.looks }
   pub looks : r.looks ≤ r'.looks
 
--- that many scans were received by this call, and their bytes were appended. They are fewer than `most` only where the last load of
--- this call showed nothing left
+-- `given` scans were received by this call, and their bytes were appended. They are fewer than `most` only where the last load
+-- of this call showed nothing left
 pub record TakesScans (r : Reading) (most given : ℕ) (before after : List ℕ) (r' : Reading) : Type 0 where
   pub takes : TakesSome r given before after r'
   pub within : given ≤ most

@@ -1,11 +1,11 @@
--- The offers made to a ring: which scans were accepted, and how many were lost. (This project's own, after the kernel's kfifo: a full
--- one takes nothing.)
+-- The offers made to a ring: which scans were accepted, and how many were lost. (This project's own, after the kernel's kfifo:
+-- a full one takes nothing.)
 use Rattle.std.specs.Prelude.{ℕ, ◌+◌, List, [], ◌∷◌}
 use Rattle.iio_kfifo.specs.declared.view.Offer.{Offer}
 use Rattle.iio_kfifo.specs.declared.view.Offer.TheVariants.{Accepted, Refused}
 use Rattle.iio_kfifo.specs.declared.view.Sent.{Sent}
 
--- the accepted scans in order, each with the number lost before it, where that many were lost before the first offer
+-- the accepted scans in order, each with the number lost before it; before the first offer `lost` were lost
 abbrev pub accepted_after : ℕ → List Offer → List Sent
 accepted_after lost [] = []
 accepted_after lost (Accepted scan ∷ offers) = record { scan = scan; lost = lost } ∷ accepted_after lost offers

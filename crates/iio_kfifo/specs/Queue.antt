@@ -25,7 +25,7 @@ pub record GivesFirst (old : Queue) (scan : List ℕ) (new : Queue) : Type 0 whe
   pub first : old.scans ≡ scan ∷ new.scans
   pub same : new ≡ record old { scans = new.scans }
 
--- the oldest scans of `old`, at most that many, were taken out and stand after what stood before, one after the other
+-- the oldest scans of `old`, at most `most`, were taken out and stand after what stood before, one after the other
 pub record GivesScans (most given : ℕ) (before after : List ℕ) (old new : Queue) : Type 0 where
   pub count : given ≡ min most (length old.scans)
   pub bytes : after ≡ before ++ flat_map (λ scan. scan) (take most old.scans)

@@ -1,4 +1,4 @@
--- The rule of a ring: what holds between any two steps of its ends. Of it public clauses cite what a new ring's ends know alone.
+-- The rule of a ring: what holds between any two steps of its ends. Public clauses cite of it only what a new ring's ends know.
 -- (This project's own; the counts `in` and `out` are those of the kernel's linux/kfifo.h.)
 use Rattle.std.specs.Prelude.{◌≡◌, ◌≢◌, ◌⊎◌, ℕ, ◌+◌, ◌%◌, ◌^◌, ◌<◌, ◌≤◌, Bool, true, false, List, [], ◌∷◌, ◌++◌, length, take, slice_index, slice_index_or}
 use mathlib.Core.Option.{Option, some}
@@ -54,7 +54,8 @@ IsHome k homes j = (c : Cell) × (get_elem? homes j ≡ some (some c)) × (lengt
 abbrev pub IsFull : Key → List (Option Cell) → ℕ → Sent → Type 0
 IsFull k homes i s = (c : Cell) × (get_elem? homes (slot_of k i) ≡ some (some c)) × (length c.bytes.items ≡ k.size) × (sent_of c ≡ s)
 
--- of the words, the slots that are at home, the accepted scans `xs`, and what the writer and the reader know
+-- what holds of the words, of the slots that are at home, of the accepted scans `xs`, and of what the writer and the reader
+-- know
 pub record Rings (k : Key) (words : List ℕ) (homes : List (Option Cell)) (xs : List Sent) (w : Writing) (r : Reading) : Type 0 where
   pub room : 0 < k.slots
   -- `in` counts the accepted scans, `out` the received ones
@@ -84,7 +85,7 @@ new_writing = record { offers = []; turn = false; seen = 0; looks = 0; closed = 
 abbrev pub new_reading : Reading
 new_reading = record { received = []; hand = []; seen = 0; left = 0; looks = 0; word = 0; asks = 0; looked = 0; offers = [] }
 
--- a view of a new ring, of that part, whose scans have that many bytes
+-- a view of a new ring, of that part, whose scans have `size` bytes
 abbrev pub new_view : Part → ℕ → View
 new_view p size = record { part = p; size = size; writing = new_writing; reading = new_reading }
 

@@ -57,7 +57,7 @@ AreIn slots size i [] (x ∷ xs) = ⊥
 AreIn slots size i (s ∷ ss) [] = ⊥
 AreIn slots size i (s ∷ ss) (x ∷ xs) = IsIn slots size i s x × AreIn slots size (suc i) ss xs
 
--- a run's slots in hand, of which that many went after the others
+-- a run's slots in hand, of which the first `t` were read and went to the end
 pub record Turned (slots size i t : ℕ) (ss : List Sent) (held : List (ℕ × Cell)) : Type 0 where
   pub front : List (ℕ × Cell)
   pub back : List (ℕ × Cell)
@@ -80,7 +80,7 @@ pub record Counts (a : Me Cell View) (n : ℕ) (b : Me Cell View) : Type 0 where
   pub low : length a.0.reading.received ≤ n
   pub after : b ≡ (with_reading a.0 (record a.0.reading { seen = n; left = n - length a.0.reading.received; looks = a.0.reading.looks + 1 }), a.1)
 
--- its store of `out`: that many of the scans in hand are received, and all slots go back
+-- its store of `n` to `out`: with the first of the scans in hand `n` are received in all, and all slots go back
 abbrev pub Receives : Me Cell View → ℕ → Me Cell View → Type 0
 Receives a n b =
     b ≡ (with_reading a.0 (record a.0.reading { received = a.0.reading.received ++ take (n - length a.0.reading.received) a.0.reading.hand; hand = [] }), [])

@@ -61,7 +61,7 @@ pub fn ring(alloc: Global, capacity: u32, size: u32) -> Result<(Writer, Reader),
     ends_of(alloc, table, seat, capacity, size)
 }
 
-// Cells for that many scans of that many bytes.
+// `capacity` cells, each for a scan of `size` bytes.
 fn cells_of(alloc: Global, capacity: u32, size: u32) -> Result<Vec<Cell>, Mem>
     ensures count { IfOk result (λ v. length v.items ≡ capacity) }
     ensures size { IfOk result (λ v. All (λ (c : Cell). length c.bytes.items ≡ size) v.items) }

@@ -34,7 +34,7 @@ impl Model for Kfifo {
     ghost invariant = { λ q. IsRing q.first q.waiting q.size q.capacity (length q.bytes.items) (vec_capacity q.bytes) };
 }
 
-// The slot that comes that many after another, of that many slots in a ring.
+// The slot that comes `count` slots after `slot`, in a ring of `slots` slots.
 fn slot_after(slot: u32, count: u32, slots: u32) -> u32
     requires slot { slot < slots }
     requires count { count ≤ slots }
@@ -49,8 +49,8 @@ fn slot_after(slot: u32, count: u32, slots: u32) -> u32
     }
 }
 
-// The first scan's slot once that many were taken, by how many scans are left. With none the ring begins anew, so that a queue
-// that is read often uses few bytes.
+// The first scan's slot once `count` scans were taken, where `left` scans are left. With none left the ring begins at its first
+// slot again, so that a queue that is read often uses few bytes.
 fn first_after(first: u32, count: u32, left: u32, slots: u32) -> u32
     requires slot { first < slots }
     requires count { count ≤ slots }

@@ -164,7 +164,7 @@ fn offer_numbers(writer: &mut Writer, count: u16)
     }
 }
 
-// Takes scans, at most so often, and says how many there were; none where a scan isn't its mark's number, or where a place is
+// Tries to take a scan `turns` times, and says how many came; `None` where a scan isn't its mark's number, or where a place is
 // left out.
 fn take_numbers(reader: &mut Reader, turns: u32) -> Option<u64>
     requires { reader.old.size ≡ 2 }

@@ -37,7 +37,7 @@ bytes_of [] = Some []
 bytes_of (c ∷ []) = None
 bytes_of (high ∷ low ∷ rest) = option_and_then (λ b. option_map (λ bs. b ∷ bs) (bytes_of rest)) (byte_of high low)
 
--- the bytes, where there are this many
+-- the bytes of pairs of digits, where there are `n`
 abbrev pub sized_bytes : List ℕ → ℕ → Option (List ℕ)
 sized_bytes text n = if length text == 2 * n then bytes_of text else None
 

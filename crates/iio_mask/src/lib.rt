@@ -16,8 +16,8 @@ pub struct Mask {
 }
 
 impl Mask {
-    /// Reads the text of a mask for that many channels: 8 hexadecimal digits of either case for each 32 channels,
-    /// the most significant word first. `None` for another length, another byte, or a bit at or above `channels`.
+    /// Reads the text of a mask for `channels` channels: 8 hexadecimal digits of either case for each 32 channels, the most
+    /// significant word first. `None` for another length, another byte, or a bit at or above `channels`.
     pub fn read(text: &[u8], channels: u32) -> Option<Mask>
         requires some { 1 ≤ channels }
         requires few { channels ≤ 64 }
@@ -29,7 +29,7 @@ impl Mask {
         Some(Mask { bits })
     }
 
-    /// The text of the mask for that many channels, in lower case.
+    /// The text of the mask for `channels` channels, in lower case.
     pub fn print(self, alloc: Global, channels: u32) -> Result<String, Mem>
         requires some { 1 ≤ channels }
         requires few { channels ≤ 64 }
@@ -182,7 +182,7 @@ fn read_number(text: &[u8], channels: u32) -> Option<u64>
     }
 }
 
-// Reads pairs of digits into bytes, where there are exactly as many.
+// Reads pairs of digits into bytes, where there is exactly one for each byte of `out`.
 fn read_bytes(text: &[u8], out: &mut [u8]) -> Option<()>
     ensures { MatchOption (sized_bytes text.now (length out.old)) (result ≡ None) (λ bytes. (result ≡ Some tt) × (out.new ≡ bytes)) }
 {

@@ -40,7 +40,7 @@ new_output shape = record { shape = shape; last = first_last shape; underruns = 
 abbrev pub new_writer : (mask size capacity : ℕ) → Bool → WriterRecord
 new_writer mask size capacity cyclic = record { mask = mask; size = size; capacity = capacity; cyclic = cyclic; scans = [] }
 
--- a writer's start: underruns are counted anew
+-- a writer's start: underruns are counted from 0 again
 abbrev pub with_writer : (mask capacity : ℕ) → Bool → OutRecord → OutRecord
 with_writer mask capacity cyclic o = record o { underruns = 0; writer = Some (new_writer mask (scan_size o.shape mask) capacity cyclic) }
 
@@ -112,6 +112,6 @@ abbrev pub underruns_with : Next → ℕ → ℕ
 underruns_with Given n = n
 underruns_with Underrun n = min (n + 1) (2 ^ 64 - 1)
 
--- both
+-- both: what is given, and the underrun where none waits
 abbrev pub with_given : WriterRecord → OutRecord → OutRecord
 with_given w o = record (after_giving w o) { underruns = underruns_after w.scans o.underruns }

@@ -33,7 +33,8 @@ abbrev pub waiting_of : (cyclic : Bool) → Outgoing → ℕ
 waiting_of true x = length x.written
 waiting_of false x = length x.written - x.given
 
--- of a payload as many scans are taken as the capacity less those written and not given; of a cyclic writer's all, once
+-- the scans of a payload that are taken: as many as the capacity less those written and not given; of a cyclic writer's payload
+-- all, once
 abbrev pub taken_at : (cyclic : Bool) → (capacity : ℕ) → Outgoing → List (List ℕ) → List (List ℕ)
 taken_at true capacity x scans = if is_none_left x.written then scans else []
 taken_at false capacity x scans = take (capacity - (length x.written - x.given)) scans

@@ -7,7 +7,7 @@ use Rattle.iio_layout.specs.Layout.{format_at, place_of, scan_size}
 use Rattle.iio_layout.specs.Shape.{ShapeRecord, count_of, formats_of}
 use Rattle.iio_output.specs.Out.{WriterRecord}
 
--- a writer's bytes are whole scans, in room for that many
+-- a writer's bytes are whole scans of `size` bytes, in room for `capacity` scans
 pub record AreWhole (size capacity room : ℕ) (bytes : List ℕ) : Type 0 where
   pub sized : 1 ≤ size
   pub some : 1 ≤ capacity

@@ -114,9 +114,9 @@ impl Out {
         self.last[c as usize]
     }
 
-    /// Starts a writer of scans under the mask, of which at most `capacity` wait; a cyclic one writes its cycle once. The
-    /// underruns are counted anew. `Busy` comes exactly where there is a writer. Where it is refused nothing changes. The
-    /// scans that may wait have at most 4,194,304 bytes. All memory that the writer ever takes is taken here.
+    /// Starts a writer of scans under the mask, of which at most `capacity` wait; a cyclic one writes its cycle once. Underruns
+    /// are counted from 0 again. `Busy` comes exactly where there is a writer. Where it is refused nothing changes. The scans
+    /// that may wait have at most 4,194,304 bytes. All memory that the writer ever takes is taken here.
     pub fn start(&mut self, mask: Mask, capacity: u32, cyclic: bool) -> Result<(), OutFault>
         requires below { mask.bits < 2 ^ count_of self.old.shape }
         requires channel { has_below mask.bits (count_of self.old.shape) ≡ true }

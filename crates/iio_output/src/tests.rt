@@ -199,7 +199,7 @@ fn last_of_each_channel(rt: HostRuntime) -> Result<(), Fail> {
     Ok(())
 }
 
-// One writer at a time; its end drops what waits, and the next one's underruns are counted anew.
+// One writer at a time; its end drops what waits, and the next one's underruns are counted from 0 again.
 #[test]
 fn one_writer_at_a_time(rt: HostRuntime) -> Result<(), Fail> {
     let mut device = two_voltages(rt.alloc())?;

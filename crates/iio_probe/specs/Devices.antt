@@ -26,8 +26,8 @@ abbrev pub first_devices : {Q : Type 0} → List Driver → ℕ → List DeviceR
 first_devices drivers number [] = []
 first_devices drivers number (d ∷ ds) = new_view d number (first_driver drivers d) ∷ first_devices drivers (suc number) ds
 
--- a device that can be made beside that many drivers: it is on a trigger of a number that there may be or on none, it has one
--- of the drivers or none, its rows can be played back, and its attributes can be written
+-- a device that can be made where `drivers` drivers are handed in: it is on a trigger of a number that there may be or on none,
+-- it has one of the drivers or none, its rows can be played back, and its attributes can be written
 pub record IsFit (drivers : ℕ) (d : DeviceRecord) : Type 0 where
   pub attached : IfSome d.trigger (λ t. t < MAX_TRIGGERS)
   pub driven : IfSome d.driver (λ k. k < drivers)

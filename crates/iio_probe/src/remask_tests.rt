@@ -1,4 +1,4 @@
-//! Members that exchange their masks, by hand.
+//! The exchange of a member's mask, by hand.
 
 use crate::tests::{device_of, join};
 use iio_device::{Device, Handled, Member, RemaskFault, RemaskRefused};
@@ -19,8 +19,8 @@ fn capture(device: &mut Device<Kfifo>, trigger: &mut Trigger, t: i64) -> Result<
     Ok(handled)
 }
 
-// A member is to have another mask, with a queue of one scan: how many scans wait in its queue of before and how many that
-// lost, or why not. A refusal gives the new queue back.
+// A member exchanges its mask, with a new queue of one scan: how many scans wait in its old queue and how many that lost, or
+// why not. A refusal gives the new queue back.
 fn remask(
     rt: &impl Abort,
     alloc: Global,
@@ -43,7 +43,7 @@ fn remask(
     }
 }
 
-// The queue of before comes back with what waits in it, what it lost counts, and the member begins anew.
+// The old queue comes back with what waits in it, what it lost is counted, and the member begins anew.
 #[test]
 fn a_member_begins_anew(rt: HostRuntime) -> Result<(), Fail> {
     let alloc = rt.alloc();
@@ -114,7 +114,7 @@ fn its_own_mask_empties_its_queue(rt: HostRuntime) -> Result<(), Fail> {
     Ok(())
 }
 
-// Masks that serve a device, and what members 0 and 1 join under.
+// The listed masks, and the masks under which members 0 and 1 join.
 const LISTED: &[&str] = &["00000003", "00000004"];
 
 const JOINED: [&str; 2] = ["00000001", "00000002"];
@@ -135,7 +135,7 @@ const ANSWERS: &[(u64, u64, Result<(), RemaskFault>)] = &[
     (7, 8, Err(RemaskFault::NotLive)),
 ];
 
-// The refusals in their order; and of an unplugged device each is that it is gone.
+// The answers of `may_remask`, in the order of its refusals; once the device is unplugged, each is that it is gone.
 #[test]
 fn another_mask_is_refused(rt: HostRuntime) -> Result<(), Fail> {
     let alloc = rt.alloc();
@@ -164,7 +164,7 @@ fn another_mask_is_refused(rt: HostRuntime) -> Result<(), Fail> {
     Ok(())
 }
 
-// A refusal changes nothing. The mask that is asked for serves the old union, and not the new one.
+// A refusal changes nothing. The listed masks serve the old union, and not the new one.
 #[test]
 fn a_refusal_changes_nothing(rt: HostRuntime) -> Result<(), Fail> {
     let alloc = rt.alloc();
@@ -218,7 +218,7 @@ fn alone_a_member_has_any_listed_mask(rt: HostRuntime) -> Result<(), Fail> {
     Ok(())
 }
 
-// Two members exchange their masks, while an entry is outstanding: its capture gives each its scan under its new mask.
+// Two members swap their masks while an entry is outstanding: its capture gives each its scan under its new mask.
 #[test]
 fn members_exchange_masks(rt: HostRuntime) -> Result<(), Fail> {
     let alloc = rt.alloc();

@@ -37,7 +37,7 @@ fn one_row(alloc: Global) -> Result<Rows, Mem>
     })
 }
 
-// A device with the channels voltage0, voltage1 and voltage2 of two bytes, on the first trigger, and these listed masks.
+// A device with the channels voltage0, voltage1 and voltage2 of two bytes each, on the first trigger, with these listed masks.
 fn described(alloc: Global, listed: &[&str]) -> Result<DeviceDesc, Fail>
     ensures { IfOk result (λ d. IsFit 0 d) }
 {

@@ -12,7 +12,7 @@ abbrev pub low_bits : ℕ → ℤ → ℕ
 low_bits bits (pos n) = n % 2 ^ bits
 low_bits bits (negsuc n) = 2 ^ bits - 1 - n % 2 ^ bits
 
--- a number in that many bytes, in a byte order
+-- a number in `size` bytes, in a byte order
 abbrev pub number_bytes : Endian → ℕ → ℕ → List ℕ
 number_bytes Little size n = bytes_low_first 0 size n
 number_bytes Big size n = bytes_high_first size n
@@ -37,7 +37,7 @@ abbrev pub number_of : Endian → List ℕ → ℕ
 number_of Little bytes = low_first_number bytes
 number_of Big bytes = low_first_number (reverse bytes)
 
--- the value of that many bits, read in two's complement where it is signed
+-- the value of `bits` bits, read in two's complement where it is signed
 abbrev pub value_by : Sign → ℕ → ℕ → ℤ
 value_by Unsigned bits n = pos n
 value_by Signed bits n = if nat_lt n (2 ^ (bits - 1)) then pos n else (pos n -ℤ pos (2 ^ bits))

@@ -44,16 +44,16 @@ in_profile f =
     && nat_le f.realbits (max_realbits f.sign)
     && nat_le (f.realbits + f.shift) f.storagebits
 
--- the same, as a fact
+-- that a type is one of these, as a fact
 abbrev pub IsInProfile : Format → Type 0
 IsInProfile f = IsTrue (in_profile f)
 
--- the least value of that many bits
+-- the least value of `bits` bits
 abbrev pub least_by : Sign → ℕ → ℤ
 least_by Signed bits = neg_ℤ (pos (2 ^ (bits - 1)))
 least_by Unsigned bits = pos 0
 
--- the greatest value of that many bits
+-- the greatest value of `bits` bits
 abbrev pub greatest_by : Sign → ℕ → ℤ
 greatest_by Signed bits = pos (2 ^ (bits - 1) - 1)
 greatest_by Unsigned bits = pos (2 ^ bits - 1)

@@ -19,7 +19,7 @@ pub fn write_number(number: u64, endian: Endian, out: &mut [u8])
     }
 }
 
-/// Writes a number of that many bits, whole bytes, at the front of eight bytes. Those after them get any value.
+/// Writes a number of `bits` bits, whole bytes, at the front of eight bytes. Those after them get any value.
 #[inline]
 pub fn write_word(number: u64, bits: u8, endian: Endian, out: &mut [u8])
     requires storage { IsTrue (is_storage bits) }

@@ -38,15 +38,14 @@ pub record WritesWhole (before : List ℕ) (outcome : Outcome) (status : Status)
   pub ends : status ≡ status_of outcome.ending
   pub written : after ≡ Some (before ++ outcome.printed)
 
--- what a run writes whose outcome is this one: after a fault, or want of memory, a front part of the printed text, and else
--- all of it
+-- what a run with this outcome writes: after a fault, or want of memory, a front part of the printed text, and else all of it
 abbrev pub Writes : Outcome → (before : List ℕ) → Status → Option (List ℕ) → Type 0
 Writes outcome before ReadFault after = WritesFront before outcome.printed after
 Writes outcome before WriteFault after = WritesFront before outcome.printed after
 Writes outcome before Memory after = WritesFront before outcome.printed after
 Writes outcome before status after = WritesWhole before outcome status after
 
--- the status of a run whose outcome is this one: the outcome's, unless a read or a write failed or memory ran out
+-- the status of a run with this outcome: the outcome's, unless a read or a write failed or memory ran out
 abbrev pub HasStatus : Outcome → Status → Type 0
 HasStatus outcome ReadFault = Unit {0}
 HasStatus outcome WriteFault = Unit {0}

@@ -47,7 +47,7 @@ pub record IsHand (h : Hand) : Type 0 where
   pub given : h.given ≤ input_limit
   pub within : taken_of h ≤ input_limit + 1
 
--- a read put the next bytes after those taken before; none come at the end alone
+-- a read put the next bytes after those taken before; none come only at the end
 pub record ReadsPiece (left before after : List ℕ) (count : ℕ) (remaining : Option (List ℕ)) : Type 0 where
   pub enough : count ≤ length left
   pub bytes : after ≡ before ++ take count left
@@ -61,13 +61,13 @@ pub record StandsAtEnd (h : Hand) : Type 0 where
   pub some : h.looked < length h.bytes
   pub end : get_or h.bytes h.looked 0 ≡ 10
 
--- a whole line, that LF ends
+-- a whole line, with that LF at its end
 pub record HasEnded (h : Hand) : Type 0 where
   pub going : h.over ≡ false
   pub stands : StandsAtEnd h
   pub within : h.given + h.looked < input_limit
 
--- the last line, that the input's end ends
+-- the last line, which the input's end ends
 pub record HasLast (h : Hand) : Type 0 where
   pub going : h.over ≡ false
   pub ended : h.ended ≡ true
@@ -125,7 +125,7 @@ abbrev pub ended_size : List (List ℕ) → ℕ
 ended_size [] = 0
 ended_size (line ∷ lines) = length line + 1 + ended_size lines
 
--- a front part of a text that LF ends, or an empty one, and its lines: so they are whatever follows
+-- a front part of a text, which LF ends or which is empty, and its lines, which are the same whatever follows
 pub record IsFront (bytes : List ℕ) (front : List (List ℕ)) : Type 0 where
   pub lines : (more : List ℕ) → lines_of (bytes ++ more) ≡ front ++ lines_of more
   pub ended : (more : List ℕ) → ended_part (bytes ++ more) ≡ bytes ++ ended_part more
@@ -141,7 +141,7 @@ pub record FollowsFront (input : List ℕ) (front : List (List ℕ)) (h : Hand) 
   pub front_is : IsFront bytes front
   pub end : h.ended ≡ true → rest ≡ []
 
--- all lines of the input were given, the last of which LF doesn't end
+-- all lines of the input were given, and the last has no LF
 pub record FollowsAll (input : List ℕ) (front : List (List ℕ)) (left : Option (List ℕ)) : Type 0 where
   pub none_left : left ≡ Some []
   pub lines : looked_lines input ≡ front

@@ -95,7 +95,7 @@ pub record AnswersSteps (s : Setup) (first : ℕ) (front : List (List ℕ)) (inp
   pub more : List ℕ
   pub written : sent ≡ script_text s (script_from s.desc Finished [] first given) ++ more
 
--- so it is once a script has read on
+-- so it is once a script has read on; before that nothing was taken
 abbrev pub AnswersScript : Setup → (first : ℕ) (front : List (List ℕ)) → (input sent : List ℕ) → (begin left : Option (List ℕ)) → Type 0
 AnswersScript s first front input sent begin left = (left ≡ begin) ⊎ AnswersSteps s first front input sent left
 
@@ -110,7 +110,7 @@ IsOver (Err WriteFault) = Unit {0}
 IsOver (Err Memory) = Unit {0}
 IsOver (Err status) = ⊥
 
--- how a script ends of which that text was written
+-- how a script ends, where that text is what was written of it
 abbrev pub EndsScript : Setup → (first : ℕ) (front : List (List ℕ)) → Outcome → (input : List ℕ) → Status → (text : List ℕ) → (left : Option (List ℕ)) → Type 0
 EndsScript s first front outcome input ReadFault text left = FailsAt s first front outcome input text left
 EndsScript s first front outcome input WriteFault text left = IsFrontOf outcome text

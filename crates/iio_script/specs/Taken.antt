@@ -1,4 +1,4 @@
--- What a run has written whose input couldn't be read on.
+-- What a run has written when its input can't be read on.
 use Rattle.std.specs.Prelude.{◌≡◌, ℕ, ◌+◌, ◌≤◌, true, false, List, [], ◌++◌, length, take, drop, Option, Some}
 use Rattle.iio_text.specs.Lines.{lines_of}
 use Rattle.iio_sensor.specs.Driver.{Driver}
@@ -17,7 +17,7 @@ so_far drivers Cut = []
 so_far drivers (Described desc first lines) = (outcome_of_head drivers false (Described desc first lines)).printed
 so_far drivers (Faulty fault) = (outcome_of_head drivers false (Faulty fault)).printed
 
--- what the lines print that LF ends in a front part of an input
+-- what is printed for those lines of a front part of an input that end in LF
 abbrev pub whole_lines_of : List Driver → List ℕ → List ℕ
 whole_lines_of drivers taken = so_far drivers (head_from true (new_reader (length drivers)) 1 (lines_of (ended_part taken)))
 
@@ -37,7 +37,7 @@ pub record AnswersFirst (drivers : List Driver) (input text : List ℕ) (left : 
   pub more : List ℕ
   pub written : text ≡ whole_lines_of drivers (take before input) ++ more
 
--- how a run ends that has written that text
+-- how a run ends, where that text is what it has written
 abbrev pub EndsRun : List Driver → (input : List ℕ) → Status → (text : List ℕ) → (left : Option (List ℕ)) → Type 0
 EndsRun drivers input ReadFault text left = FailsRun drivers input text left
 EndsRun drivers input WriteFault text left = IsFrontOf (outcome_of drivers input) text
@@ -58,7 +58,7 @@ pub record WritesLines (drivers : List Driver) (left before : List ℕ) (remaini
   pub rest : remaining ≡ Some (drop count left)
   pub written : after ≡ Some (before ++ whole_lines_of drivers (take count left))
 
--- what was written is what a run has written that writes before it reads on
+-- the text that was written has what the whole lines print that were taken before the last piece
 pub record WritesFirst (drivers : List Driver) (left before : List ℕ) (remaining after : Option (List ℕ)) : Type 0 where
   pub text : List ℕ
   pub written : after ≡ Some (before ++ text)

@@ -11,14 +11,14 @@ use Rattle.iio_script.specs.LineReader.{Follows, Hand, TakesNear, piece_size}
 use Rattle.iio_script.specs.declared.opening.Opening.{Opening}
 use Rattle.iio_script.specs.declared.opening.Opening.TheVariants as read
 
--- what it says, where these lines stand after it, and that line is the next
+-- what an opening says, where the lines `more` stand after it, and the next line has the number `next`
 abbrev pub told : ℕ → List (List ℕ) → Opening → Head
 told next more (read.Described desc first) = Described desc first more
 told next more (read.Alone desc) = Described desc next []
 told next more (read.Refused line why) = Faulty (Line line why)
 told next more read.Cut = Cut
 
--- the description is well formed with that many drivers
+-- the description is well formed with `drivers` drivers
 abbrev pub IsSoundOpening : ℕ → Opening → Type 0
 IsSoundOpening drivers (read.Described desc first) = IsWellFormed drivers desc
 IsSoundOpening drivers (read.Alone desc) = IsWellFormed drivers desc
@@ -60,7 +60,7 @@ pub record RefusesAt (drivers : ℕ) (opening : Opening) (line : ℕ) (input : L
   pub head : head_of drivers input ≡ told 0 [] opening
   pub near : TakesNear line input left
 
--- what was read of an input whose description may use that many drivers
+-- what was read of an input whose description may use `drivers` drivers
 abbrev pub Opens : ℕ → Opening → (input : List ℕ) → Hand → (left : Option (List ℕ)) → Type 0
 Opens drivers (read.Described desc first) input h left = EndsAt drivers desc first input h left
 Opens drivers (read.Alone desc) input h left = EndsAlone drivers desc input

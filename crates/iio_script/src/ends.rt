@@ -69,7 +69,7 @@ pub fn write_out<K: Sink>(output: &mut K, printed: &mut Vec<u8>) -> Result<(), S
     }
 }
 
-/// Writes what is kept at a run's end, whose status that is.
+/// Writes what is kept at the end of a run, whose status is `status`.
 pub fn end_with<K: Sink>(output: &mut K, kept: &mut Vec<u8>, status: Status) -> Status
     ensures writes { EndsWriting status result (K.written output.old) (K.written output.new) kept.old.items }
     ensures prints { (outcome : Outcome) → Finishes outcome status [] kept.old.items

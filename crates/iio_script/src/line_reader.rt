@@ -48,7 +48,7 @@ pub struct LineReader {
     piece: Vec<u8>,
 }
 
-// Reads at most that many bytes after those taken before, and answers how many. None come at the end alone.
+// Reads at most `room` bytes after those taken before, and answers how many. None come only at the end.
 fn read_piece<S: Source>(
     source: &mut S,
     piece: &mut [u8],
@@ -73,7 +73,7 @@ fn read_piece<S: Source>(
     Ok(count)
 }
 
-// That many bytes are looked at at once: most lines are shorter.
+// How many bytes are looked at at once: most lines are shorter.
 const LANES: usize = 32;
 
 // Which of the first bytes are LFs, as a mask.

@@ -16,7 +16,7 @@ use std::alloc::Global;
 /// What the lines up to the end of a description say.
 #[derive(Drop)]
 pub enum Opening {
-    /// A description that a line ends. The line after it has that number.
+    /// A description that a line ends. The line after it has the number `first`.
     Described { desc: Desc, first: u32 },
     /// A description that the input's end ends.
     Alone { desc: Desc },

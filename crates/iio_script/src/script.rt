@@ -120,7 +120,7 @@ fn write_ready<K: Sink>(
 }
 
 // The steps of a script from a line on, at a core before the first step. What is printed is written in pieces, and all of it
-// before a read. An `Ok` has bytes in `out` to be written yet; its status is that of the script, or tells a failed read.
+// before a read. An `Ok` has bytes in `out` to be written yet; its status is that of the script, or that of a failed read.
 pub(crate) fn play_steps<S: Source, K: Sink>(
     alloc: Global,
     system: &mut System,
@@ -229,7 +229,7 @@ fn play_described<S: Source, K: Sink>(
     }
 }
 
-// Plays the input that a source has left, with that many drivers.
+// Plays the input that a source has left, with these drivers, of which there are `count`.
 fn play_input<S: Source, K: Sink>(
     alloc: Global,
     input: &mut S,

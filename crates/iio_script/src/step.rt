@@ -181,8 +181,8 @@ fn read_line(
     }
 }
 
-/// The step that a line of a script says, without its LF. `None` comes exactly for a line without a word and for a
-/// comment, whose first byte is `#`, where it isn't too long. An `Err` tells the first check that fails; how many
+/// The step that a line of a script says, without its LF. `None` comes exactly for a line without a word and for a comment,
+/// whose first byte is `#`, where it isn't too long. An `Err` is the first check that fails, or want of memory; how many
 /// connections a script may have isn't checked here.
 pub fn read_step(alloc: Global, desc: &Desc, line: &[u8]) -> Result<Option<Step>, LineFault>
     ensures ok { IfOk result (λ step. step_of desc.now line.now ≡ Ok (option_map step_view step)) }
@@ -193,7 +193,7 @@ pub fn read_step(alloc: Global, desc: &Desc, line: &[u8]) -> Result<Option<Step>
     read_step_into(alloc, &mut room, desc, line)
 }
 
-/// The same, with room for the bytes of a feed, which its step takes. Nothing is said of what is in the room.
+/// The step that a line says, as by `read_step`. The step of a feed takes `room` for its bytes, whatever was in it.
 pub(crate) fn read_step_into(
     alloc: Global,
     room: &mut Vec<u8>,

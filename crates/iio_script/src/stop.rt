@@ -99,7 +99,7 @@ fn tally_steps<S: Source>(
     }
 }
 
-// What a description counts that the input's end ends.
+// What is counted where a description has no steps after it.
 fn tally_alone(alloc: Global, desc: Desc) -> Result<Tally, Stop>
     requires { IsWellFormed 0 desc }
     ensures { (first : ℕ) → TalliesScript (record { desc = desc; drivers = [] }) (script_from desc Finished [] first []) result }

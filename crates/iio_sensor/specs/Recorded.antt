@@ -10,7 +10,7 @@ use Rattle.iio_sensor.specs.Driver.{Driver, bias_in, with_bias}
 abbrev pub come_by : List ℤ → ℤ → ℕ
 come_by moments t = count_by (λ m. int_le m t) moments
 
--- the last of that many rows, or none where there is none
+-- the last of the first n rows, or none where n is 0
 abbrev pub row_before : RowsRecord → ℕ → List ℤ
 row_before rows zero = []
 row_before rows (suc k) = take rows.width (drop (k * rows.width) rows.values)

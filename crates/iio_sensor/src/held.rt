@@ -55,7 +55,7 @@ impl Held {
         self.inputs = 0;
     }
 
-    /// Whether a scan is held for the types of that shape, that mask, and the last of that many rows.
+    /// Whether a scan is held for the types of that shape, that mask, and the last of the first `come` rows.
     #[inline]
     pub(crate) fn is_for(&self, shape: &Shape, mask: Mask, come: usize) -> bool
         ensures shape { IsTrue result → IsFor self.now shape.now }

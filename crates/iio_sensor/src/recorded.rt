@@ -95,7 +95,7 @@ impl Sensor for Recorded {
     }
 }
 
-/// The numbers of the last of that many rows; none where there is none.
+/// The numbers of the last of the first `count` rows; none where there is none.
 #[inline]
 fn row_before(rows: &Rows, count: usize) -> &[i64]
     requires recording { IsRecording rows.now }
@@ -126,7 +126,7 @@ fn come_near(moments: &[i64], before: usize, t: i64) -> usize
     come_by(moments, t)
 }
 
-/// Whether just that many of the moments, which rise, are at or before `t`.
+/// Whether exactly `count` of the moments, which rise, are at or before `t`.
 #[inline]
 fn have_come(moments: &[i64], count: usize, t: i64) -> bool
     requires { Rises moments.now }

@@ -19,13 +19,13 @@ use Rattle.iiod_session.specs.Calls.{is_asking, read_answer}
 use Rattle.iiod_session.specs.Machine.{Member, MemberId, Station, member_in, scans_in, with_scans, with_site}
 use Rattle.iio_system.specs.Station.{station_of}
 
--- the answer is that one, and the device is left so; want of memory changes nothing
+-- the answer is `answer`, and the device is `after` then; want of memory changes nothing
 abbrev pub Turns : {A : Type 0} → Result A Errno → (after : Station) → Result A No → (old new : Station) → Type 0
 Turns answer after (Ok x) old new = (answer ≡ Ok x) × (new ≡ after)
 Turns answer after (Err (NoErrno e)) old new = (answer ≡ Err e) × (new ≡ after)
 Turns answer after (Err NoMem) old new = new ≡ old
 
--- a device after a call that changes it so, where it isn't refused
+-- a device after a call, which changes it by `change` where it isn't refused
 abbrev pub turned : {A : Type 0} → (Station → Station) → Result A Errno → Station → Station
 turned change (Ok x) st = change st
 turned change (Err e) st = st
@@ -60,7 +60,7 @@ TakesAt id Scan scan old new =
 TakesAt id Empty scan old new = (scans_in id old.members ≡ []) × (old.site.plugged ≡ true) × (new ≡ old)
 TakesAt id Gone scan old new = (scans_in id old.members ≡ []) × (old.site.plugged ≡ false) × (new ≡ old)
 
--- the oldest scans of a member's queue are taken, up to that many, and stand after what stood before
+-- the oldest scans of a member's queue are taken, at most `most`, and stand after what stood before
 abbrev pub TakesScansAt : MemberId → (most : ℕ) → Took → (before after : List ℕ) → (old new : Station) → Type 0
 TakesScansAt id most Scan before after old new =
     (0 < length (take most (scans_in id old.members)))

@@ -14,7 +14,7 @@ use Rattle.iio_history.specs.Bench.{Every, IsBench, IsDeskOf, front_of, is_in, m
 use Rattle.iio_history.specs.BenchLaw.{CanJoinMore, heard}
 
 module _ {S : Type 0} (seen : S → SeatRecord) where
-  -- a session is the one of this connection, of whose stream that much is begun
+  -- a session is the one of this connection, whose stream has begun this much
   pub record IsSessionOf (m : Told) (name : List ℕ) (begun : Scanner) (x : SessionRecord S) : Type 0 where
     pub manner : x.manner ≡ Script
     pub stream : x.stream ≡ no_item begun

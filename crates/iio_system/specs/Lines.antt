@@ -12,7 +12,7 @@ abbrev pub polled_words : Polled → List (List ℕ)
 polled_words (Accepted n) = codes "accepted" ∷ decimal n ∷ []
 polled_words (Missed n) = codes "missed" ∷ decimal n ∷ []
 
--- where there was no entry, none
+-- the word for a handled entry; `none` where there was no entry
 abbrev pub handled_word : Option Handled → List ℕ
 handled_word None = codes "none"
 handled_word (Some (Captured n)) = codes "captured"

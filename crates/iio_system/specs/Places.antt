@@ -76,7 +76,7 @@ handled dev t = record t { entries = without_entry dev t.entries }
 
 -- ---- what holds after every call
 
--- whether a device's trigger is one of that many
+-- whether a device has a trigger, and it is one of the first `count`
 abbrev pub has_trigger : ℕ → Option ℕ → Bool
 has_trigger count None = false
 has_trigger count (Some trigger) = nat_lt trigger count

@@ -69,7 +69,7 @@ trigger_by t = record { entries = map handed_by t.entries; missed = t.missed }
 abbrev pub CanCapture : List ℕ → Type 0
 CanCapture captures = All (λ n. n < 2 ^ 63) captures
 
--- no device made more than that many more
+-- the most captures that a device made rose by at most `k`
 abbrev pub RiseBy : ℕ → (old new : List ℕ) → Type 0
 RiseBy k old new = (n : ℕ) → All (λ c. c ≤ n) old → All (λ c. c ≤ n + k) new
 

@@ -113,7 +113,7 @@ pub(crate) fn set_trigger(device: &mut Device<Kfifo>, trigger: Option<u32>) -> R
     }
 }
 
-/// The device's events go to that connection from now on.
+/// Makes that connection the holder of the device's events.
 pub(crate) fn ev_open(device: &mut Device<Kfifo>, who: u32) -> Result<(), No>
     requires { ⊤ }
     ensures acts { Acts (with_site (with_monitor (after_open who))) (ev_open_answer (station_by ⟦<Plug as Sensor>⟧.driver device.old))
@@ -145,7 +145,7 @@ pub(crate) fn ev_read(device: &mut Device<Kfifo>, who: u32) -> Result<Option<Eve
     }
 }
 
-/// The device's events go to nobody.
+/// Ends that connection's holding of the device's events.
 pub(crate) fn ev_close(device: &mut Device<Kfifo>, who: u32) -> Result<(), No>
     requires { ⊤ }
     ensures no_memory { result ≢ Err Mem }
@@ -172,7 +172,7 @@ pub(crate) fn take(device: &mut Device<Kfifo>, number: u64, mask: Mask, out: &mu
     }
 }
 
-// The same, where that member is there.
+// Takes the oldest scan of that member, which is there.
 fn take_from(device: &mut Device<Kfifo>, number: u64, _mask: Mask, out: &mut [u8]) -> Took
     requires there { has_member (id_of number _mask) device.old.core.roster.members.items ≡ true }
     requires size { length out.old ≡ scan_size device.old.core.roster.shape _mask.bits }

@@ -105,7 +105,7 @@ fn leave(bench: &mut Bench, session: Session<Seat>)
     session.end(bench);
 }
 
-// The connection of that place is lost, where it hasn't ended before. Answers whether it hadn't.
+// The connection is lost, and has no session any more. Answers whether it had one.
 fn lose(bench: &mut Bench, connection: &mut Connection<Seat>) -> bool
     requires { IsOwning seen_of (front_of bench.old) connection.old.session }
     ensures kept { kept_of bench.new ≡ kept_of bench.old }

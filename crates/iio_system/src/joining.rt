@@ -34,7 +34,7 @@ pub(crate) fn no_of(fault: JoinFault) -> No
     }
 }
 
-// The same, where the trigger is there.
+// As `host`, where the trigger is there.
 fn host_at(
     device: &Device<Kfifo>,
     triggers: &[Trigger],
@@ -51,7 +51,7 @@ fn host_at(
     }
 }
 
-// The same, where the trigger isn't there: it is as one without a free place.
+// As `host`, where the trigger isn't there: it is as one without a free place.
 fn host_nowhere(
     device: &Device<Kfifo>,
     _triggers: &[Trigger],

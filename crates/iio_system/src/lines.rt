@@ -32,8 +32,8 @@ fn put(out: &mut Vec<u8>, at: usize, text: &[u8]) -> usize
     at + text.len()
 }
 
-// The same of the first bytes of a word, which is filled up with spaces: all sixteen are copied, since a copy of a known
-// length is cheap.
+// Puts the first `len` bytes of a word, which is filled up with spaces, at a place, and answers where they end: all sixteen are
+// copied, since a copy of a known length is cheap.
 #[inline(always)]
 fn put_word(out: &mut Vec<u8>, at: usize, word: &[u8; 16], len: usize) -> usize
     requires len { len ≤ 16 }
@@ -46,7 +46,7 @@ fn put_word(out: &mut Vec<u8>, at: usize, word: &[u8; 16], len: usize) -> usize
     at + len
 }
 
-// The same of a name, of which all bytes in place are copied.
+// Puts a name at a place, and answers where it ends: all bytes in place are copied.
 #[inline(always)]
 fn put_name(out: &mut Vec<u8>, at: usize, name: &Name) -> usize
     requires { at + 32 ≤ length out.old.items }

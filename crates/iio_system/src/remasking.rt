@@ -1,4 +1,4 @@
-//! Members that exchange their masks.
+//! The exchange of a member's mask for another one.
 
 ghost use Rattle.std.specs.Prelude.{◌≡◌, ◌*◌, ◌^◌, ◌<◌, ◌≤◌, true};
 ghost use Rattle.iio_kfifo.specs.declared.limits.TheConstants.{MAX_BYTES};

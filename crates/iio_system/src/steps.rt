@@ -41,7 +41,7 @@ fn look_at_channels(shape: &Shape)
     }
 }
 
-// So each scan with a channel's data has one.
+// Looks at each device's channels: so a scan with a channel's data has a byte.
 fn look_at_sizes(devices: &[DeviceDesc])
     ensures { Every HasDeviceSizes devices.now }
 {

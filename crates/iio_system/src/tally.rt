@@ -20,7 +20,7 @@ pub struct Tally {
     pub captures: u64,
     /// Scans that READBUFs gave.
     pub scans: u64,
-    /// Scans that were lost because a queue was full, of all members, also of those that have left.
+    /// Scans that were lost because a queue was full, of all queues that members have or had.
     pub overruns: u64,
     /// The sum of all bytes of the scans that were given, modulo 2^64.
     pub bytes: u64,

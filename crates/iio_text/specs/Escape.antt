@@ -59,7 +59,7 @@ abbrev pub piece_then : ℕ → Option (ℕ × ℕ) → (ℕ → Result (List �
 piece_then place None next = Err place
 piece_then place (Some piece) next = before (piece.0 ∷ []) (next piece.1)
 
--- what a text from a place on means, after that many bytes that belong to the piece before
+-- what a text from a place on means, whose first `passed` bytes belong to the piece before
 abbrev pub unescaped_from : ℕ → ℕ → List ℕ → Result (List ℕ) ℕ
 unescaped_from place passed [] = Ok []
 unescaped_from place (suc passed) (b ∷ rest) = unescaped_from (place + 1) passed rest
@@ -69,12 +69,12 @@ unescaped_from place zero (b ∷ rest) = piece_then place (piece_of (b ∷ rest)
 abbrev pub unescaped : List ℕ → Result (List ℕ) ℕ
 unescaped text = unescaped_from 0 0 text
 
--- an error tells that place, or want of memory
+-- an error is that place, or want of memory
 abbrev pub Explains : Unescape → Result (List ℕ) ℕ → Type 0
 Explains (BadEscape place) read = read ≡ Err place
 Explains Mem read = Unit {0}
 
--- what stands between a quote at the begin and another one at the end
+-- what stands between a quote at the beginning and another one at the end
 abbrev pub between_quotes : List ℕ → Option (List ℕ)
 between_quotes [] = None
 between_quotes (b ∷ rest) = if b == 34 && slice_index rest (length rest - 1) == 34 then Some (take (length rest - 1) rest) else None

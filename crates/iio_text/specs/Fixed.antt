@@ -34,7 +34,7 @@ body_of text = without_last 10 (without_last 0 text)
 abbrev pub is_minus : List ℕ → Bool
 is_minus text = slice_index text 0 == 45
 
--- a text without a sign at its begin
+-- a text without a sign at its beginning
 abbrev pub unsigned_of : List ℕ → List ℕ
 unsigned_of text = drop (if slice_index text 0 == 43 || slice_index text 0 == 45 then 1 else 0) text
 
@@ -57,7 +57,7 @@ part_digits Nano text = after_first is_point text
 abbrev pub are_right : List ℕ → List ℕ → Bool
 are_right whole part = nat_le 1 (length whole + length part) && list_all is_ascii_digit whole && list_all is_ascii_digit part
 
--- the digits after the point as a number of that many digits: further ones are dropped, missing ones are 0
+-- the digits after the point as a number of `places` digits: further ones are dropped, missing ones are 0
 abbrev pub part_value : ℕ → List ℕ → ℕ
 part_value places digits = digits_value 10 (take places (digits ++ replicate places 48))
 
@@ -65,7 +65,7 @@ part_value places digits = digits_value 10 (take places (digits ++ replicate pla
 abbrev pub signed_fixed : Form → Bool → ℕ → ℕ → Fixed
 signed_fixed form minus whole part = record { negative = minus && not (whole == 0 && part == 0); whole = whole; part = part; form = form }
 
--- the value of the digits, or that they aren't right, or that the whole part is too large
+-- the value of the digits; or these aren't digits, or the whole part is too large
 abbrev pub fixed_by : Form → Bool → List ℕ → List ℕ → Result Fixed Errno
 fixed_by form minus whole part = if are_right whole part
     then (if nat_le (digits_value 10 whole) 2147483647 then Ok (signed_fixed form minus (digits_value 10 whole) (part_value (places_of form) part)) else Err ERANGE)
@@ -75,7 +75,7 @@ fixed_by form minus whole part = if are_right whole part
 abbrev pub fixed_of : Form → List ℕ → Result Fixed Errno
 fixed_of form text = let body = body_of text in fixed_by form (is_minus body) (whole_digits form (unsigned_of body)) (part_digits form (unsigned_of body))
 
--- the last that many decimal digits of a number
+-- the last k decimal digits of a number
 abbrev pub last_digits : ℕ → ℕ → List ℕ
 last_digits zero n = []
 last_digits (suc k) n = last_digits k (n / 10) ++ (48 + n % 10) ∷ []

@@ -1,15 +1,15 @@
--- What the calls answer that read a line: what a reading of definitions gives, its refusal, or that memory ran out.
+-- What the calls that read a line answer: what a reading of definitions gives, its refusal, or want of memory.
 use Rattle.std.specs.Prelude.{◌≡◌, Result, Ok, Err}
 use Rattle.iio_text.specs.declared.refusals.Why.{Why}
 use Rattle.iio_text.specs.declared.faults.LineFault.{LineFault}
 use Rattle.iio_text.specs.declared.faults.LineFault.TheVariants.{Why as Refused, Mem}
 
--- a fault tells the refusal of a reading, or that memory ran out
+-- a fault is the refusal of a reading, or want of memory
 abbrev pub Tells : {A : Type 0} → LineFault → Result A Why → Type 0
 Tells (Refused why) reading = reading ≡ Err why
 Tells Mem reading = Unit {0}
 
--- a call gives what the reading gives, or tells its refusal, or that memory ran out
+-- a call gives what the reading gives, or its refusal, or want of memory
 abbrev pub Gives : {A : Type 0} → Result A LineFault → Result A Why → Type 0
 Gives (Ok x) reading = reading ≡ Ok x
 Gives (Err fault) reading = Tells fault reading

@@ -117,7 +117,7 @@ fn digit_at(digits: &[u8], place: usize) -> u32
     }
 }
 
-// The digits after the point as a number of that many digits.
+// The digits after the point as a number of `places` digits.
 fn part_value(digits: &[u8], places: usize) -> u32
     requires digits { list_all is_ascii_digit digits.now ≡ true }
     requires places { places ≤ 9 }
@@ -135,8 +135,7 @@ fn part_value(digits: &[u8], places: usize) -> u32
 /// with digits after it, then at most one closing LF and at most one closing zero byte. At least one
 /// digit is there. Digits beyond the form's resolution are dropped; zero has no sign.
 ///
-/// `EINVAL` comes for every other text, `ERANGE` for a right one whose whole part is above
-/// 2,147,483,647.
+/// `EINVAL` comes for every other text, `ERANGE` for a valid one whose whole part is above 2,147,483,647.
 pub fn read_fixed(text: &[u8], form: Form) -> Result<Fixed, Errno>
     ensures value { result ≡ fixed_of form text.now }
     ensures sound { IfOk result IsFixed }

@@ -76,7 +76,7 @@ fn is_plain(byte: u8) -> bool
     PRINTED_LENS[byte as usize] == 1
 }
 
-// Writes a byte as it is printed to the begin of a room, and answers how many bytes that takes. Four are written.
+// Writes a byte as it is printed to the front of a room, and answers how many bytes that takes. Four are written.
 #[inline]
 fn put_escaped(byte: u8, room: &mut [u8]) -> usize
     requires { 4 ≤ length room.old }
@@ -98,7 +98,7 @@ fn word_at(bytes: &[u8], place: usize) -> u64
     word
 }
 
-// Writes bytes as they are printed to the begin of a room, and answers how many bytes that takes.
+// Writes bytes as they are printed to the front of a room, and answers how many bytes that takes.
 #[inline(always)]
 fn put_each_escaped(bytes: &[u8], room: &mut [u8]) -> usize
     requires { 4 * length bytes.now ≤ length room.old }
@@ -112,7 +112,7 @@ fn put_each_escaped(bytes: &[u8], room: &mut [u8]) -> usize
     len
 }
 
-// The same of a word's eight bytes, the lowest first. The compiler unrolls the loop.
+// Writes a word's eight bytes, the lowest first, as they are printed to the front of a room. The compiler unrolls the loop.
 #[inline(always)]
 fn put_word_escaped(word: u64, room: &mut [u8]) -> usize
     requires { 4 * GROUP ≤ length room.old }
@@ -127,7 +127,7 @@ fn put_word_escaped(word: u64, room: &mut [u8]) -> usize
     len
 }
 
-// The same of many bytes: whole words come first.
+// Writes many bytes as they are printed to the front of a room: whole words come first.
 fn put_all_escaped(bytes: &[u8], room: &mut [u8]) -> usize
     requires { 4 * length bytes.now ≤ length room.old }
     ensures within { result ≤ 4 * length bytes.now }
@@ -142,7 +142,7 @@ fn put_all_escaped(bytes: &[u8], room: &mut [u8]) -> usize
     len + put_each_escaped(&bytes[place..], &mut room[len..])
 }
 
-// Puts a few bytes at the end of a vector, as they are printed.
+// Puts at most `SHORT` bytes at the end of a vector, as they are printed.
 fn short_escape_to(out: &mut Vec<u8>, bytes: &[u8]) -> Result<(), Mem>
     requires { length bytes.now ≤ SHORT }
     ensures ok { OnOk result (out.new.items ≡ out.old.items ++ escaped bytes.now) }
@@ -155,7 +155,7 @@ fn short_escape_to(out: &mut Vec<u8>, bytes: &[u8]) -> Result<(), Mem>
     Ok(())
 }
 
-// The same of more bytes.
+// Puts at most `CHUNK` bytes at the end of a vector, as they are printed.
 fn chunk_escape_to(out: &mut Vec<u8>, bytes: &[u8]) -> Result<(), Mem>
     requires { length bytes.now ≤ CHUNK }
     ensures ok { OnOk result (out.new.items ≡ out.old.items ++ escaped bytes.now) }
@@ -186,8 +186,8 @@ pub fn escape_to(out: &mut Vec<u8>, bytes: &[u8]) -> Result<(), Mem>
     Ok(())
 }
 
-/// Bytes in printable form: 0x0a as `\n`, `"` and `\` after a `\`, other bytes from 0x20 to 0x7e as
-/// they are, each other byte as `\x` and two hexadecimal digits in lower case.
+/// Bytes in printable form: 0x0a as `\n`, `"` and `\` with a `\` before them, other bytes from 0x20 to 0x7e as they are, each
+/// other byte as `\x` and two hexadecimal digits in lower case.
 pub fn escape(alloc: Global, bytes: &[u8]) -> Result<Vec<u8>, Mem>
     ensures text { IfOk result (λ v. v.items ≡ escaped bytes.now) }
     ensures read_back { IfOk result (λ v. unescaped v.items ≡ Ok bytes.now) }
@@ -300,8 +300,7 @@ pub fn unescape_into(mut out: Vec<u8>, text: &[u8]) -> Result<Vec<u8>, Unescape>
     Ok(out)
 }
 
-/// What stands between a quote at the begin of a text and another one at its end. None where there
-/// are no two such quotes.
+/// What stands between a quote at the beginning of a text and another one at its end. None where there are no two such quotes.
 pub fn between_quotes(text: &[u8]) -> Option<&[u8]>
     ensures { option_copied result ≡ between_quotes text.now }
 {

@@ -17,7 +17,7 @@ pub const MAX_LINE_BYTES: usize = 1_048_576;
 // How many bytes are looked at at once.
 const LANES: usize = 16;
 
-// The same, of a short line.
+// How many bytes of a short line are looked at at once.
 const FEW: usize = 8;
 
 /// How many bytes of a text stand before its first LF; all of them where it has none.
@@ -68,7 +68,7 @@ fn is_printable(byte: u8) -> bool
     matches!(byte, 0x20..=0x7e)
 }
 
-// Whether all of the bytes that are looked at from a place on are printable ASCII.
+// Whether the `LANES` bytes from a place on are printable ASCII.
 #[inline(always)]
 fn lanes_are_printable(line: &[u8], place: usize) -> bool
     requires { place + LANES ≤ length line.now }
@@ -79,7 +79,7 @@ fn lanes_are_printable(line: &[u8], place: usize) -> bool
     others.to_bitmask() == 0
 }
 
-// The same, of few bytes.
+// Whether the `FEW` bytes from a place on are printable ASCII.
 #[inline(always)]
 fn few_are_printable(line: &[u8], place: usize) -> bool
     requires { place + FEW ≤ length line.now }

@@ -24,7 +24,7 @@ pub(crate) fn value_up_to(text: &[u8], limit: u64) -> Option<u64>
     if value <= limit { Some(value) } else { None }
 }
 
-// The number that digits without a leading zero write, but `0` itself, where it is at most `limit`.
+// The number that `0`, or digits without a leading zero, write, where it is at most `limit`.
 fn plain_value(text: &[u8], limit: u64) -> Option<u64>
     requires { limit ≤ 9223372036854775808 }
     ensures { result ≡ plain_value limit text.now }

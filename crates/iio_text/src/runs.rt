@@ -35,8 +35,7 @@ pub(crate) fn first_set(mask: u64) -> usize
     }
 }
 
-/// Copies the bytes of a text before the first that passes, or all, to the begin of a room, and answers how many these
-/// are.
+/// Copies the bytes of a text before the first that passes, or all, to the front of a room, and answers how many these are.
 #[inline(always)]
 pub(crate) fn copy_before<T: ByteTest>(test: &T, text: &[u8], room: &mut [u8]) -> usize
     requires { length text.now ≤ length room.old }

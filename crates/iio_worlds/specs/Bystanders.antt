@@ -19,7 +19,7 @@ has_open_at r a k = elim (slice_get r.devices k) [ None ↦ false | Some d ↦ i
 abbrev pub has_open : Setup → Registry → List ℕ → List ℕ → Bool
 has_open s r a device = elim (find_device s.desc device) [ None ↦ false | Some k ↦ has_open_at r a k ]
 
--- what another connection may say: a line that asks for nothing, EXIT, or an item that names a device of which it `is_so`
+-- what another connection may say: a line that asks for nothing, EXIT, or an item that names a device for which `is_so` holds
 abbrev pub may_say : (is_so : List ℕ → Bool) → Item → Bool
 may_say is_so (Said (Err refused)) = true
 may_say is_so (Said (Ok Help)) = true

@@ -20,7 +20,7 @@ pub record FindsNothing (front : Front) (a b : State) : Type 0 where
   pub read : IsReadOf front dev item
   pub served : Serves front a.told a.desk a.tales item (Refusal EAGAIN) b.told b.desk b.tales
 
--- these items, each with its answer, in that many runs; between two of them a READBUF may have been tried
+-- these items, each with its answer, in n runs; between two of them a READBUF may have been tried
 abbrev pub Runs : ℕ → Front → State → List Item → List Reply → State → Type 0
 Runs zero front a items replies b = (items ≡ []) × (replies ≡ []) × (b ≡ a)
 Runs (suc n) front a items replies b =

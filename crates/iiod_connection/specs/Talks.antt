@@ -17,7 +17,7 @@ use Rattle.iiod_connection.specs.SessionEnd.{EndFaults, WritesFront}
 pub record FeedsOnce (front : Front) (a : Place) (bytes text : List ℕ) (going : Going) (b : Place) : Type 0 where
   pub feeds : Feeds Server front a.state (scan_on a.stream bytes) [] text b.state b.stream going
 
--- that many feeds, one after another, of what was heard in order, and what they said in order
+-- n feeds, one after another: what was heard in order, and what they said in order
 abbrev pub Talk : ℕ → Front → Place → (heard said : List ℕ) → Place → Type 0
 Talk zero front a heard said b = (heard ≡ []) × (said ≡ []) × (b ≡ a)
 Talk (suc k) front a heard said b =

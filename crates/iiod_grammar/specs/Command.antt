@@ -1,5 +1,5 @@
--- What a command line says. (libiio 0.25's iiod, its text protocol. SET's BUFFERS_COUNT is its too; EVOPEN, EVREAD and
--- EVCLOSE, REMASK, the numbers and the CRs before an LF are this project's own.)
+-- What a command line says. (libiio 0.25's iiod, its text protocol. SET's BUFFERS_COUNT is its too; EVOPEN, EVREAD, EVCLOSE and
+-- REMASK, the numbers and the CRs before an LF are this project's own.)
 use Rattle.std.specs.Prelude.{ℕ, ⊤, Bool, true, false, List, [], ◌∷◌, ◌==◌, reverse, codes, Option, Some, None, unwrap_or, Result, Ok, Err, if◌then◌else◌}
 use Rattle.std.specs.Option.{ok_or}
 use Rattle.std.specs.Str.{bytes_eq}

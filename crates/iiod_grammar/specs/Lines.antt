@@ -20,7 +20,8 @@ pub data Cut : Type 0 where
   -- a line that is too long
   Overlong : Cut
 
--- the first piece of all bytes since the piece before: a payload of that many bytes, or else a line
+-- the first piece of all bytes since the piece before: a payload of the wanted number of bytes, where one is wanted; else a
+-- line
 abbrev pub cut : Option ℕ → List ℕ → Cut
 cut (Some count) bytes = if nat_lt (length bytes) count then NotYet else WholePayload (take count bytes)
 cut None bytes =
@@ -61,7 +62,7 @@ feed_of_cut x bytes Overlong = record { taken = 0; ready = TooLong; lines = reco
 abbrev pub feed_of : LinesRecord → List ℕ → Fed
 feed_of x bytes = if x.overlong then record { taken = 0; ready = TooLong; lines = x } else feed_of_cut x bytes (cut x.wanted (x.begun ++ bytes))
 
--- bytes that are the begin of a piece and no whole one; a payload of no bytes may stand there whole
+-- bytes that are the beginning of a piece and no whole one; a payload of no bytes may stand there whole
 abbrev pub is_begun : Option ℕ → List ℕ → Bool
 is_begun (Some count) begun = nat_le (length begun) count && nat_le count MAX_PAYLOAD
 is_begun None begun = (position_or_len is_lf begun == length begun) && nat_le (length begun) MAX_LINE

@@ -11,6 +11,6 @@ is_solid b = not (is_blank b)
 abbrev pub marks_of : List ℕ → ℕ
 marks_of text = mask_l (map is_solid text)
 
--- the same, of a text of at most 63 bytes, and else 0
+-- the marks of a text of at most 63 bytes, and else 0
 abbrev pub kept_marks : List ℕ → ℕ
 kept_marks text = if nat_le (length text) 63 then marks_of text else 0

@@ -4,7 +4,7 @@ use Rattle.iiod_grammar.specs.declared.lines.Ready.{Ready}
 use Rattle.iiod_grammar.specs.declared.lines.Ready.TheVariants.{More, Line, Payload, TooLong}
 use Rattle.iiod_grammar.specs.Lines.{cut, NotYet, WholeLine, WholePayload, Overlong, is_begun}
 
--- that many of the bytes were taken to those kept, and what is kept then
+-- `taken` of the bytes were taken to those kept, and what is kept then
 abbrev pub Takes : Option ℕ → List ℕ → List ℕ → ℕ → Ready → List ℕ → Type 0
 Takes wanted old bytes taken More new = (cut wanted (old ++ bytes) ≡ NotYet) × (taken ≡ length bytes) × (new ≡ old ++ bytes) × (is_begun wanted new ≡ true)
 Takes wanted old bytes taken Line new = cut wanted (old ++ bytes) ≡ WholeLine new (length old + taken)

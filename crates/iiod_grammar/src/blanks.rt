@@ -100,7 +100,7 @@ fn next_word(text: &[u8]) -> Option<(&[u8], &[u8])>
     Some(begun.split_at(word_len(begun)))
 }
 
-// The marks of the bytes of a text that are no blanks: bit i is byte i's. Of 32 bytes that stand from a place on.
+// The marks of the 32 bytes from a place on: bit i says whether byte i is no blank.
 #[inline(always)]
 fn marks_of_32(text: &[u8], place: usize) -> u64
     requires { place + 32 ≤ length text.now }
@@ -110,7 +110,7 @@ fn marks_of_32(text: &[u8], place: usize) -> u64
     (lanes.simd_ne(u8x32::splat(b' ')) & lanes.simd_ne(u8x32::splat(b'\t'))).to_bitmask()
 }
 
-// The same, of 16 bytes.
+// The marks of the 16 bytes from a place on.
 #[inline(always)]
 fn marks_of_16(text: &[u8], place: usize) -> u64
     requires { place + 16 ≤ length text.now }
@@ -120,7 +120,7 @@ fn marks_of_16(text: &[u8], place: usize) -> u64
     (lanes.simd_ne(u8x16::splat(b' ')) & lanes.simd_ne(u8x16::splat(b'\t'))).to_bitmask()
 }
 
-// The same, of 8 bytes.
+// The marks of the 8 bytes from a place on.
 #[inline(always)]
 fn marks_of_8(text: &[u8], place: usize) -> u64
     requires { place + 8 ≤ length text.now }
@@ -130,7 +130,7 @@ fn marks_of_8(text: &[u8], place: usize) -> u64
     (lanes.simd_ne(u8x8::splat(b' ')) & lanes.simd_ne(u8x8::splat(b'\t'))).to_bitmask()
 }
 
-// The same, of all bytes one by one.
+// The marks of a text's bytes, which are looked at one by one.
 fn marks_of_few(text: &[u8]) -> u64
     requires { length text.now < 8 }
     ensures { result ≡ marks_of text.now }
@@ -144,7 +144,7 @@ fn marks_of_few(text: &[u8]) -> u64
     marks
 }
 
-// The same, of all bytes. The last bytes are looked at together with those before them that the first ones hold already.
+// The marks of a text's bytes. The last bytes are looked at together with those before them that the first ones hold already.
 #[inline(always)]
 fn marks_of(text: &[u8]) -> u64
     requires { length text.now ≤ MARKED }
@@ -226,7 +226,7 @@ impl<'a> Words<'a> {
         Some(word)
     }
 
-    // The same, without the marks.
+    // Takes the first word without the marks.
     #[inline(always)]
     fn next_unmarked(&mut self) -> Option<&'a [u8]>
         ensures none { IsNone result ↔ (self.old ≡ []) }

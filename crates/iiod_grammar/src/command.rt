@@ -67,7 +67,7 @@ pub enum Command<'a> {
         target: Option<(Place<'a>, Option<&'a [u8]>)>,
         count: u32,
     },
-    /// `READBUF dev bytes`: up to that many bytes of scans.
+    /// `READBUF dev bytes`: up to `bytes` bytes of scans.
     ReadBuf {
         dev: &'a [u8],
         bytes: u32,

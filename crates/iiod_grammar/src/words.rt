@@ -82,7 +82,7 @@ pub(crate) fn verb_of(word: &[u8]) -> Option<Verb>
     }
 }
 
-// The same, of the words that stand after WRITE in the table.
+// The command of a first word that stands after WRITE in the table.
 fn later_verb_of(word: &[u8]) -> Option<Verb>
     ensures { option_map command_form result ≡ entry_of (drop 9 commands) word.now }
 {

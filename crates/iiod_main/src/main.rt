@@ -1,4 +1,4 @@
-//! The program: its words, its streams, its door and its link, which it hands on.
+//! The program: it gives its words and streams, and its door or its link, to what the words ask for.
 #![tactic(auto)]
 
 use iio_io::{StdSink, StdSource, TcpDoor, TcpLink};

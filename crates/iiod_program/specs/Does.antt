@@ -34,7 +34,7 @@ module _ {S K : Type 0} (left : S → Option (List ℕ)) (reads : S → ℕ) (wr
     -- however it ends, at most 65,536 bytes were taken since all was written that the whole lines before them print
     pub answered : IfSome (left source) (λ xs. IfSome (written sink) (λ ys. WritesFirst drivers xs ys (left source') (written sink')))
 
-  -- the layout of a device of the input's description, which may use that many drivers, under a mask
+  -- the layout of a device of the input's description, which may use `drivers` drivers, under a mask
   pub record PrintsLayout (drivers : ℕ) (device mask : List ℕ) (end : Status) (source source' : S) (sink sink' : K) : Type 0 where
     pub lines : IfSome (left source) (λ xs. IfSome (written sink) (λ ys. Writes (layout_of drivers xs device mask) ys end (written sink')))
     pub complete : reads source ≡ reads source' → writes sink ≡ writes sink'

@@ -7,7 +7,7 @@ use Rattle.iiod_serve.specs.Served.{serve_code}
 use Rattle.iiod_program.specs.declared.exit.End.{End}
 use Rattle.iiod_program.specs.declared.exit.End.TheVariants.{Run, Serve}
 
--- by how what was done ended, or for want of memory before
+-- the exit code, by how what was done ended, or for want of memory before it began
 abbrev pub end_code : Result End Mem → ℕ
 end_code (Ok (Run status)) = code_of status
 end_code (Ok (Serve status)) = serve_code status

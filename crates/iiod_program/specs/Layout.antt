@@ -39,6 +39,6 @@ laid device mask (Faulty (Line n why)) = only_ending (Refused n why)
 laid device mask (Faulty Mem) = only_ending Finished
 laid device mask Cut = only_ending TooLong
 
--- what an input prints for a device and a mask, and its end; its description may use that many drivers
+-- what an input prints for a device and a mask, and its end; its description may use `drivers` drivers
 abbrev pub layout_of : (drivers : ℕ) (input device mask : List ℕ) → Outcome
 layout_of drivers input device mask = laid device mask (head_of drivers input)

@@ -21,7 +21,7 @@ channel_line shape mask c =
     ++ (32 ∷ (decimal (place_of shape mask c)
     ++ (32 ∷ (decimal (size_at (formats_of shape) c) ++ (32 ∷ (type_text (format_at (formats_of shape) c) ++ 10 ∷ []))))))
 
--- the selected ones of that many channels, from the first on, in order
+-- the channels of a mask among the first `channels`, in order
 abbrev pub selected : ℕ → ℕ → List ℕ
 selected mask channels = filter (λ c. has mask c) (range_with_len 0 channels)
 

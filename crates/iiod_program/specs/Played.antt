@@ -18,7 +18,7 @@ pub record PlaysHandedIn (input before : List ℕ) (status : Status) (after : Op
   pub handed : AreHandedIn drivers
   pub writes : Writes (outcome_of drivers input) before status after
 
--- the same, unless memory ran out before the drivers were made
+-- what is written of it, unless memory ran out before the drivers were made
 abbrev pub EndsPlayed : (input before : List ℕ) → Result End Mem → Option (List ℕ) → Type 0
 EndsPlayed input before (Ok (Run status)) after = PlaysHandedIn input before status after
 EndsPlayed input before (Ok (Serve status)) after = ⊥

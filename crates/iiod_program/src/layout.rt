@@ -31,7 +31,7 @@ fn lay_out(
     lay_under(alloc, &desc.devices[number as usize].shape, mask, out)
 }
 
-// It is written.
+// Writes the layout of a device of a description.
 fn lay_device<K: Sink>(
     alloc: Global,
     desc: &Desc,
@@ -52,9 +52,9 @@ fn lay_device<K: Sink>(
     }
 }
 
-/// Reads a description, which may use that many drivers, from a source, and writes to a sink where each channel of the mask
-/// stands in a scan of the device, and the scan's size. What stands after the line that ends the description isn't looked
-/// at, and at most a piece was taken after the byte at which a line failed. Where a read fails, nothing is written.
+/// Reads a description, which may use `drivers` drivers, from a source, and writes to a sink where each channel of the mask
+/// stands in a scan of the device, and the scan's size. What stands after the line that ends the description isn't looked at,
+/// and at most a piece was taken after the byte at which a line failed. Where a read fails, nothing is written.
 pub fn layout<S: Source, K: Sink>(
     alloc: Global,
     drivers: u32,

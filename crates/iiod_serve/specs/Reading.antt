@@ -14,7 +14,7 @@ read_head (Faulty (Line n why)) = only_ending (Refused n why)
 read_head (Faulty Mem) = only_ending Finished
 read_head Cut = only_ending TooLong
 
--- what the description of an input, which may use that many drivers, prints where it is to be served
+-- what the description of an input, which may use `drivers` drivers, prints where it is to be served
 abbrev pub served_of : (drivers : ℕ) (input : List ℕ) → Outcome
 served_of drivers input = read_head (head_of drivers input)
 

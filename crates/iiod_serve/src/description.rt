@@ -35,10 +35,10 @@ fn described<K: Sink>(alloc: Global, opening: Opening, output: &mut K) -> Result
     }
 }
 
-/// Reads the description at the head of the input that a source has left, which may use that many drivers. Where it is refused
-/// or too long, that is written to a sink, and it is the status; for a description that is read nothing is written. What
-/// stands after the line that ends it isn't looked at, and at most a piece was taken after the byte at which a line failed.
-/// Where a read fails, nothing is written.
+/// Reads the description at the head of the input that a source has left, which may use `drivers` drivers. Where it is refused
+/// or too long, that is written to a sink, and it is the status; for a description that is read nothing is written. What stands
+/// after the line that ends it isn't looked at, and at most a piece was taken after the byte at which a line failed. Where a
+/// read fails, nothing is written.
 pub fn read_description<S: Source, K: Sink>(
     alloc: Global,
     drivers: u32,

@@ -18,7 +18,7 @@ use std::thread::Threads;
 
 const NO_ADDRESS: &[u8] = b"no address\n";
 
-// The tickers of that many triggers, each of which is polled each `period` milliseconds.
+// The tickers of `count` triggers, each of which is polled each `period` milliseconds.
 fn tickers_of<D: Listen>(
     alloc: Global,
     door: &D,

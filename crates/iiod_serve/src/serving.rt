@@ -20,7 +20,7 @@ use std::alloc::Global;
 use std::sync::Wait;
 use std::thread::Threads;
 
-// Serves the description of an input, with that many drivers.
+// Serves the description of an input, with these drivers, of which there are `count`.
 fn serve_input<R: Threads + Wait + Sync, S: Source, K: Sink, D: Listen, G: Gate + Sync>(
     rt: &R,
     alloc: Global,
@@ -52,12 +52,12 @@ fn serve_input<R: Threads + Wait + Sync, S: Source, K: Sink, D: Listen, G: Gate 
     }
 }
 
-/// Does what the words `serve ADDRESS PERIOD` say: reads the description of the input that the source has left, which may
-/// use the handed-in drivers by their numbers, opens the door at the address, and serves the devices to the connections
-/// that it gives, until it gives no more or fails. Each trigger is polled each PERIOD milliseconds, from 1 to 60,000, by a
-/// ticker of the door. A description that is refused, or that is longer than is looked at, is told as `layout` tells it,
-/// and the door isn't touched. Where the door can't be opened, `no address` is printed. Else nothing is printed. Other
-/// words print the line that names the commands, and leave the input and the door alone. A return isn't promised.
+/// Does what the words `serve ADDRESS PERIOD` say: reads the description of the input that the source has left, which may use
+/// the handed-in drivers by their numbers, opens the door at the address, and serves the devices to the connections that it
+/// gives, until it gives no more or fails. Each trigger is polled each PERIOD milliseconds, from 1 to 60,000, by a ticker of
+/// the door. A description that is refused, or that is longer than is looked at, is reported as by `layout`, and the door isn't
+/// touched. Where the door can't be opened, `no address` is printed. Else nothing is printed. Other words print the line that
+/// names the commands, and leave the input and the door alone. A return isn't promised.
 pub fn serve<R: Threads + Wait + Sync, S: Source, K: Sink, D: Listen, G: Gate + Sync>(
     rt: &R,
     alloc: Global,

@@ -127,7 +127,7 @@ const ROWS: &[Row<'static>] = &[
         ..SERVED
     },
     Row {
-        name: "a door that fails behind a connection",
+        name: "a door that fails after a connection",
         doors: &[3],
         status: ServeStatus::DoorFault,
         code: 8,

@@ -17,7 +17,7 @@ pub(crate) struct Shared {
 }
 
 impl Shared {
-    /// For that many triggers.
+    /// For `triggers` triggers: no tick and no connection yet.
     pub(crate) fn new(alloc: Global, triggers: usize) -> Result<Shared, Mem>
         ensures { IfOk result (λ s. length s.ticked.items ≡ triggers) }
     {

@@ -19,8 +19,8 @@ pub(crate) struct Workplace<'a, R, H> {
 }
 
 impl<'a, R: Wait, H: Host> Workplace<'a, R, H> {
-    /// Polls a trigger at each moment of its ticker, and tells who handles its entries. Ends where the ticker does, or at the
-    /// first moment after the server's end.
+    /// Polls a trigger at each moment of its ticker, and rings the bell of the worker that handles its entries. Ends where the
+    /// ticker does, or at the first moment after the server's end.
     pub(crate) fn tick_to_end<T: Ticker + Drop>(&self, trigger: u32, mut ticker: T)
         requires trigger { trigger < MAX_TRIGGERS }
         requires bell { trigger < length self.now.shared.now.ticked.items }
@@ -62,7 +62,7 @@ impl<'a, R: Wait, H: Host> Workplace<'a, R, H> {
         self.shared.living.leave(self.rt, who);
     }
 
-    /// Waits for the living connections to end, and tells the workers of the triggers.
+    /// Waits for the living connections to end, and then ends the workers of the triggers.
     pub(crate) fn end(&self) {
         self.shared.living.wait_for_all(self.rt);
         self.shared.end();

@@ -80,21 +80,24 @@ abbrev pub remasked_seat : DeskRecord → ℕ → Bare → ℕ → Machine → R
 remasked_seat desk i s mask m (Err e) = refused e m desk
 remasked_seat desk i s mask m (Ok waiting) = record { reply = zero_reply; machine = m; desk = with_seats (slice_set desk.seats i (bare_remasked mask waiting s)) desk }
 
+-- a REMASK, by what its text asks for
 abbrev pub remask_wanted : Front → Machine → DeskRecord → ℕ → Bare → Result ℕ Errno → Acted
 remask_wanted front m desk i s (Err e) = refused e m desk
 remask_wanted front m desk i s (Ok mask) = let o = remask_of front m s.dev (bare_id s) mask s.capacity in remasked_seat desk i s mask o.machine o.answer
 
+-- a REMASK at the seat in place i
 abbrev pub remask_seat : Front → Machine → DeskRecord → List ℕ → ℕ → Option Bare → Acted
 remask_seat front m desk text i None = refused EBADF m desk
 remask_seat front m desk text i (Some s) = remask_wanted front m desk i s (mask_wanted (shape_at front s.dev) s.capacity text)
 
+-- a REMASK, by the place of the connection's seat at the device
 abbrev pub remask_place : Front → Machine → DeskRecord → List ℕ → Option ℕ → Acted
 remask_place front m desk text None = refused EBADF m desk
 remask_place front m desk text (Some i) = remask_seat front m desk text i (slice_get desk.seats i)
 
 -- ---- READBUF
 
--- the scans that wait, up to that many
+-- the answer to a READBUF by the scans that wait, at most `want`
 abbrev pub read_scans_of : Front → Machine → DeskRecord → Bare → ℕ → ℕ → List (List ℕ) → Acted
 read_scans_of front m desk s want asked [] = refused (if is_plugged m s.dev then EAGAIN else ENODEV) m desk
 read_scans_of front m desk s want asked (x ∷ xs) = record {
@@ -132,6 +135,7 @@ settled desk o = altered (λ d. d) desk o.machine o.answer
 abbrev pub if_plugged : Machine → DeskRecord → ℕ → Acted → Acted
 if_plugged m desk dev acted = if is_plugged m dev then acted else refused ENODEV m desk
 
+-- a REMASK of a device, by its number; of an unplugged one it is refused before all else
 abbrev pub remask_at : Front → Machine → DeskRecord → List ℕ → ℕ → Acted
 remask_at front m desk text dev = if_plugged m desk dev (remask_place front m desk text (place_of dev desk.seats))
 

@@ -87,11 +87,11 @@ remask_refusals shape st id mask =
     ∷ (is_without_union shape (masks_of (without id.number st.members)) mask, EINVAL)
     ∷ []
 
--- the member of that number under another mask: a queue for that many scans begins anew, and the others stay
+-- the member of that number under another mask: a queue for `capacity` scans begins anew, and the others stay
 abbrev pub with_mask : (number mask capacity : ℕ) → Member → Member
 with_mask number mask capacity x = if x.number == number then record x { mask = mask; capacity = capacity; scans = []; lost = 0 } else x
 
--- a device with it; what its queue of before lost is counted
+-- a device with it; what its old queue lost is counted
 abbrev pub remasked : (number mask capacity : ℕ) → Station → Station
 remasked number mask capacity st =
     record st { totals = with_left (lost_by number st.members) st.totals; members = map (with_mask number mask capacity) st.members }

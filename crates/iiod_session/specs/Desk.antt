@@ -84,7 +84,7 @@ wanted_of is_open plugged shape buffers samples text cyclic =
     unless_refused (record { mask = mask; capacity = capacity })
     (first_refusal (asked_refusals (not plugged) cyclic (is_none (mask_of text (count_of shape))) (not (has_data shape mask)) (is_excess capacity (scan_size shape mask)) is_open))
 
--- what an OPEN asks for that isn't refused by it: the mask of its text, the samples times the buffers count as the capacity,
+-- what an OPEN asks for, where that isn't refused: the mask of its text, the samples times the buffers count as the capacity,
 -- and no CYCLIC
 pub record IsWanted (shape : ShapeRecord) (buffers samples : ℕ) (text : List ℕ) (cyclic : Bool) (x : Wanted) : Type 0 where
   pub mask : mask_of text (count_of shape) ≡ Some x.mask
@@ -98,10 +98,11 @@ mask_wanted shape capacity text =
     unless_refused mask
     (first_refusal (mask_refusals (is_none (mask_of text (count_of shape))) (not (has_data shape mask)) (nat_lt MAX_BYTES (capacity * scan_size shape mask))))
 
--- a seat under another mask: the scans that waited are discarded, and counted, but for a count at its end
+-- a count of discarded scans with those that waited; it stays at 2^64 - 1
 abbrev pub more_discarded : ℕ → ℕ → ℕ
 more_discarded n waiting = min (n + waiting) (2 ^ 64 - 1)
 
+-- a seat under another mask: the scans that waited are discarded and counted
 abbrev pub bare_remasked : (mask waiting : ℕ) → Bare → Bare
 bare_remasked mask waiting s = record s { mask = mask; discarded = more_discarded s.discarded waiting }
 

@@ -12,7 +12,8 @@ use Rattle.iiod_session.specs.Seat.{Tale}
 abbrev pub is_named : Front → List ℕ → ℕ → Bool
 is_named front device dev = option_map_or (λ k. k == dev) (find_device front device) false
 
--- what was given of a device, once an item was answered: an OPEN or a REMASK that is accepted begins anew, a READBUF adds its scans
+-- what was given of a device, once an item was answered: an OPEN or a REMASK that is accepted begins anew, a READBUF adds its
+-- scans
 abbrev pub given_by : Front → ℕ → Item → Reply → List (List ℕ) → List (List ℕ)
 given_by front dev (Said (Ok (Open device samples text cyclic))) (Number n) given = if is_named front device dev then [] else given
 given_by front dev (Said (Ok (ReadBuf device asked))) (Block channels mask scans bytes) given = if is_named front device dev then given ++ scans else given

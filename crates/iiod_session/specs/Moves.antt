@@ -69,7 +69,7 @@ pub record Leaves (front : Front) (device : List ℕ) (desk : DeskRecord) (tales
   pub gone : desk' ≡ with_seats (remove desk.seats i) desk
   pub told : tales' ≡ remove tales i
 
--- a seat under another mask, that of the REMASK's text, with its capacity as it was. Nothing was taken of it yet
+-- a seat under another mask, that of the REMASK's text, with its capacity as it was; what it tells begins anew
 pub record Remasks (front : Front) (device text : List ℕ) (desk : DeskRecord) (tales : List (Option Tale)) (desk' : DeskRecord) (tales' : List (Option Tale)) : Type 0 where
   pub s : Bare
   pub i : ℕ
@@ -160,7 +160,8 @@ IsOrShort answer reply = (reply ≡ answer) ⊎ (reply ≡ NoMemory)
 abbrev pub AnswersAlone : Front → DeskRecord → Item → Reply → Type 0
 AnswersAlone front desk item reply = IfSome (answer_alone front desk item) (λ answer. IsOrShort answer reply)
 
--- what a command at a device is answered that isn't refused. What a READBUF is stands in `Moves`, and the others need no device
+-- what a command at a device is answered where it isn't refused. What a READBUF is stands in `Moves`, and the others need no
+-- device
 abbrev pub Accepts : Front → Item → Reply → Type 0
 Accepts front (Said (Ok (Open device samples text cyclic))) reply = reply ≡ zero_reply
 Accepts front (Said (Ok (Close device))) reply = reply ≡ zero_reply

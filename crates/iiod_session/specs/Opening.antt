@@ -11,7 +11,7 @@ use Rattle.iio_device.specs.Joining.{member_faults}
 use Rattle.iio_kfifo.specs.declared.limits.TheConstants.{MAX_BYTES}
 use Rattle.iiod_session.specs.declared.limits.TheConstants.{MAX_SCANS}
 
--- whether a member can't have a queue of that many scans of that size
+-- whether a member can't have a queue of `capacity` scans of `size` bytes
 abbrev pub is_excess : ℕ → ℕ → Bool
 is_excess capacity size = capacity == 0 || nat_lt MAX_SCANS capacity || nat_lt MAX_BYTES (capacity * size)
 

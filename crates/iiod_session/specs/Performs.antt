@@ -76,7 +76,7 @@ abbrev pub JoinsBy : ℕ → Wanted → DeskRecord → List (Option Tale) → Re
 JoinsBy dev x desk tales (Ok done) desk' tales' = JoinsAt dev x desk tales desk' tales'
 JoinsBy dev x desk tales (Err e) desk' tales' = (desk' ≡ desk) × (tales' ≡ tales)
 
--- the same by an OPEN's words
+-- a seat more by an OPEN's words, or nothing more
 abbrev pub OpensBy : Front → (dev samples : ℕ) → (text : List ℕ) → (cyclic : Bool) → DeskRecord → List (Option Tale) → Result ⊤ No → DeskRecord → List (Option Tale) → Type 0
 OpensBy front dev samples text cyclic desk tales (Ok done) desk' tales' =
     (x : Wanted) × IsWanted (shape_at front dev) (buffers_of dev desk.buffers) samples text cyclic x × JoinsAt dev x desk tales desk' tales'

@@ -1,4 +1,4 @@
--- What the functions promise that append an answer last. Cited by private functions alone.
+-- What the functions that append an answer last promise. Cited by private functions alone.
 use Rattle.std.specs.Prelude.{◌≡◌, ℕ, ⊤, List, ◌++◌, Option, Result, Ok, Err}
 use Rattle.iio_base.specs.declared.Mem.{Mem}
 use Rattle.iiod_grammar.specs.Stream.{Item}

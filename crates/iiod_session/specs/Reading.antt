@@ -8,7 +8,7 @@ use Rattle.iiod_session.specs.Front.{Front, channel_count, size_at}
 use Rattle.iiod_session.specs.Machine.{Machine, MemberId, is_plugged, queue_of, with_queue}
 use Rattle.iiod_session.specs.Seat.{SeatRecord, Tale, seat_id, after_scans, after_nothing}
 
--- how many scans a READBUF of that many bytes may take: those asked for, and no more than the queue holds
+-- how many scans a READBUF of `asked` bytes may take: those asked for, and no more than the queue holds
 abbrev pub most_scans : (asked size capacity : ℕ) → ℕ
 most_scans asked size capacity = min (asked / size) capacity
 
@@ -35,14 +35,14 @@ pub record ReadNone (dev : ℕ) (gone : Bool) (told told' : Option Machine) (s s
   pub same : s' ≡ record s { tale = option_map (after_nothing gone) s.tale }
   pub from : FoundNothing dev (seat_id s) (not gone) told told'
 
--- up to that many scans were taken, and their bytes stand after what stood before; or the first take found nothing
+-- at most `most` scans were taken, and their bytes stand after what stood before; or the first take found nothing
 abbrev pub TakesScans : (dev most : ℕ) → (told told' : Option Machine) → (s s' : SeatRecord) → (before after : List ℕ) → Took → Type 0
 TakesScans dev most told told' s s' before after Scan =
     (scans : List (List ℕ)) × (after ≡ before ++ joined_scans scans) × ReadSome dev most told told' s s' scans
 TakesScans dev most told told' s s' before after Empty = (after ≡ before) × ReadNone dev false told told' s s'
 TakesScans dev most told told' s s' before after Gone = (after ≡ before) × ReadNone dev true told told' s s'
 
--- the same, with the scans in a block
+-- at most `most` scans were taken, and stand in a block after what stood before; or the first take found nothing
 abbrev pub ReadsBlock : (channels dev most mask asked : ℕ) → (told told' : Option Machine) → (s s' : SeatRecord) → (before after : List ℕ) → Took → Type 0
 ReadsBlock channels dev most mask asked told told' s s' before after Scan =
     (scans : List (List ℕ)) × (after ≡ before ++ block_text channels mask (joined_scans scans) asked) × ReadSome dev most told told' s s' scans

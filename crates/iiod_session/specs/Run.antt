@@ -64,7 +64,7 @@ Stands manner front a left b On = (b ≡ a) × (left.next ≢ AtEnd)
 Stands manner front a left b (Waits dev) = IsWaiting manner front dev a left b
 Stands manner front a left b Ended = (b ≡ a) × (left ≡ record { items = []; next = AtEnd })
 
--- the first of these items were carried out, and the connection stands so
+-- the first of these items were carried out, and the connection then stands as `going` says
 pub record Carries (manner : Manner) (front : Front) (a : State) (all : Scanned) (before after : List ℕ) (b : State) (left : Scanned) (going : Going) : Type 0 where
   pub mid : State
   pub fed : Fed manner front a all before after mid left

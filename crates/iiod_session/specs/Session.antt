@@ -64,7 +64,7 @@ IsWhole ready lines = lines ≡ after_piece lines.piece
 
 -- ---- bytes that were kept
 
--- the bytes that a READBUF keeps waiting, where that many were looked at
+-- the bytes that a READBUF keeps waiting: those after the first `taken`
 abbrev pub unread_of : Going → ℕ → List ℕ → List ℕ
 unread_of (Waits dev) taken bytes = drop taken bytes
 unread_of going taken bytes = []

@@ -54,7 +54,7 @@ abbrev pub IsShortText : AttrText → Type 0
 IsShortText (text.Fixed digits) = length (string_bytes digits) ≤ 32
 IsShortText value = Unit {0}
 
--- to a WRITE of that many bytes
+-- to a WRITE of `count` bytes
 abbrev pub written_by : ℕ → Result ⊤ No → Reply
 written_by count (Ok done) = Number (pos count)
 written_by count (Err (NoErrno e)) = Refusal e

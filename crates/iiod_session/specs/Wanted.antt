@@ -11,6 +11,7 @@ abbrev pub wanted_view : Result CodeWanted Errno → Result Wanted Errno
 wanted_view (Ok x) = Ok (wanted_of_code x)
 wanted_view (Err e) = Err e
 
+-- the mask alone
 abbrev pub mask_view : Result CodeWanted Errno → Result ℕ Errno
 mask_view (Ok x) = Ok x.mask.bits
 mask_view (Err e) = Err e

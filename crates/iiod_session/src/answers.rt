@@ -15,8 +15,8 @@ use iio_text::Errno;
 use iiod_reply::number;
 use itoa::Buffer;
 
-/// The most bytes that an answer by a number alone has: 20 digits, and an LF after them. This room is taken first, so that a server
-/// can answer want of memory.
+/// The most bytes that an answer by a number alone has: 20 digits, and an LF after them. This room is taken first, so that a
+/// server can answer want of memory.
 pub(crate) const SHORT_ANSWER: usize = 20 + 1;
 
 // What want of memory is answered with.
@@ -83,7 +83,7 @@ pub(crate) fn push_answer(
     }
 }
 
-/// The same, as the end of a command.
+/// `push_answer`, as the end of a command.
 pub(crate) fn finish(
     manner: Manner,
     out: &mut Vec<u8>,

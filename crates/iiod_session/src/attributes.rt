@@ -115,7 +115,7 @@ fn read_buffer<I: Iio>(
     }
 }
 
-// READ, the device's number known.
+// READ at the device of that number.
 fn read_attribute_at<I: Iio>(
     alloc: Global,
     desk: &mut Desk<I::Seat>,
@@ -222,7 +222,7 @@ pub(crate) fn read<I: Iio>(
     Ok(Performed::Done)
 }
 
-// WRITE, the device's number known.
+// WRITE at the device of that number.
 fn write_attribute_at<I: Iio>(
     iio: &mut I,
     dev: u32,
@@ -270,7 +270,7 @@ fn write_attribute<I: Iio>(
     }
 }
 
-// The answer to a WRITE of that many bytes.
+// The answer to a WRITE of `count` bytes.
 fn push_written(
     manner: Manner,
     out: &mut Vec<u8>,
@@ -287,7 +287,7 @@ fn push_written(
     }
 }
 
-/// WRITE, its payload whole. `EINVAL` comes where its words name nothing.
+/// WRITE, with its whole payload. `EINVAL` comes where its words name nothing.
 pub(crate) fn write<I: Iio>(
     manner: Manner,
     desk: &Desk<I::Seat>,

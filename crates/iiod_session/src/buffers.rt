@@ -101,7 +101,7 @@ pub(crate) fn remask<I: Iio>(
     }
 }
 
-/// READBUF. The room for a block is taken before a scan is, so that a server can answer want of memory.
+/// READBUF. Room for the whole block is taken before a scan is taken, so that want of memory loses none.
 pub(crate) fn read_buffer<I: Iio>(
     manner: Manner,
     desk: &mut Desk<I::Seat>,
@@ -148,7 +148,7 @@ fn finish_read(
     }
 }
 
-// SET, the device's number known.
+// SET at the device of that number.
 fn set_buffers_at<I: Iio>(desk: &mut Desk<I::Seat>, iio: &I, dev: u32, count: u32) -> Result<(), No>
     requires dev { dev < length (I.front (I.kept iio.now)).devices }
     requires desk { IsDesk I.seen (I.front (I.kept iio.now)) desk.old }
@@ -235,7 +235,7 @@ fn write_buffer_refusal<I: Iio>(iio: &I, device: &[u8]) -> Errno
     }
 }
 
-// The same, the device's number known.
+// Why a WRITEBUF to the device of that number is refused.
 fn write_buffer_refusal_at<I: Iio>(iio: &I, dev: u32) -> Errno
     requires { dev < length (I.front (I.kept iio.now)).devices }
     ensures { (desk : DeskRecord) → IfSome (I.told iio.now) (λ m. Comes m desk (write_buffer_at m desk dev) (Refusal result) (I.told iio.now) desk) }

@@ -24,7 +24,7 @@ use iio_text::Errno;
 // The bytes of the answer to an EVREAD that took an event: the count, an LF, and the event.
 const EVENT_ROOM: usize = 2 + 1 + 16;
 
-// EVOPEN, the device's number known. The room for the holding is taken first.
+// EVOPEN at the device of that number. The room for the holding is taken first.
 fn ev_open_at<I: Iio>(desk: &mut Desk<I::Seat>, iio: &mut I, dev: u32) -> Result<(), No>
     requires dev { dev < length (I.front (I.kept iio.old)).devices }
     requires desk { IsDesk I.seen (I.front (I.kept iio.old)) desk.old }
@@ -92,7 +92,7 @@ fn forget_holding(holdings: &mut Vec<u32>, dev: u32)
     holdings.retain(|d| *d != dev);
 }
 
-// EVCLOSE, the device's number known.
+// EVCLOSE at the device of that number.
 fn ev_close_at<I: Iio>(desk: &mut Desk<I::Seat>, iio: &mut I, dev: u32) -> Result<(), No>
     requires dev { dev < length (I.front (I.kept iio.old)).devices }
     requires desk { IsDesk I.seen (I.front (I.kept iio.old)) desk.old }

@@ -363,7 +363,7 @@ fn keep_unread(left: &mut Vec<u8>, going: Going, taken: usize, bytes: &[u8]) -> 
     Ok(())
 }
 
-/// The same with the bytes that were kept waiting, and keeps those that wait now.
+/// Carries out the bytes that were kept waiting and then further ones, as `carry_out` does, and keeps those that wait now.
 pub(crate) fn hear<I: Iio>(
     alloc: Global,
     manner: Manner,

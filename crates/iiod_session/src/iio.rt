@@ -39,9 +39,9 @@ pub struct Counts {
 
 /// The devices, as one connection uses them. Devices and triggers are known by their numbers, from 0 on.
 ///
-/// What an `Iio` is, is three meanings: `kept`, which no call changes, with `front`, what a session looks at of it; `told`,
-/// the state of the devices, where it tells it; and `seen`, what a seat is by its own value. Where it tells its state each
-/// answer is the one of that state.
+/// An `Iio` has three meanings: `kept`, which no call changes, with `front`, what a session looks at of it; `told`, the state
+/// of the devices, where it tells it; and `seen`, what a seat is by its own value. Where it tells its state each answer is the
+/// one of that state.
 pub trait Iio {
     ghost use Rattle.iio_attr.specs.Attributes.{is_writable, row_of};
     ghost use Rattle.iio_text.specs.Fixed.{IsFixed};
@@ -92,7 +92,8 @@ pub trait Iio {
 
     /// The member begins anew under another mask: how many scans waited, which are gone. The seat keeps its capacity, and what
     /// it tells begins anew. `ENODEV` comes where the device is unplugged, then `EBADF` where the member isn't there, then
-    /// `EINVAL` where no listed mask serves the other members and this one; a refusal changes nothing.
+    /// `EINVAL` where no listed mask serves the other members and this one; want of memory comes last. A refusal changes
+    /// nothing.
     fn remask(&mut self, dev: u32, seat: &mut Self::Seat, mask: Mask) -> Result<u64, No>
         requires may_open { MayOpen (front (kept self.old)) dev mask.bits (seen seat.old).capacity }
         requires owned { IsOfDevice (front (kept self.old)) dev (seen seat.old) }
@@ -116,8 +117,8 @@ pub trait Iio {
         ensures seat { seen seat.new ≡ record (seen seat.old) { tale = option_map (after_take result out.new) (seen seat.old).tale } }
         ensures told { IfSome (told self.old) (λ m. Takes m dev (seat_id (seen seat.old)) result out.new (told self.new)) };
 
-    /// Takes the oldest scans that wait, up to `most` of them, and appends their bytes to `out`, which has room for those of so
-    /// many. `Scan` comes where there was one at least.
+    /// Takes the oldest scans that wait, at most `most`, and appends their bytes to `out`, which has room for `most` scans.
+    /// `Scan` comes where there was one at least.
     fn take_scans(&mut self, dev: u32, seat: &mut Self::Seat, most: u32, out: &mut Vec<u8>) -> Took
         requires dev { dev < length (front (kept self.old)).devices }
         requires owned { IsOfDevice (front (kept self.old)) dev (seen seat.old) }

@@ -12,14 +12,14 @@ use iio_layout::scan_size;
 use iio_mask::Mask;
 use iiod_reply::{block_closing, block_head, block_room};
 
-// The most bytes of a block's head: the count, the mask, and an LF after each.
-const MOST_HEAD: usize = 10 + 1 + 16 + 1;
+// The most bytes of a block's head where fewer than 2^32 bytes come: the count, the mask, and an LF after each.
+const BLOCK_HEAD: usize = 10 + 1 + 16 + 1;
 
 // The most bytes that a block has besides its scans: the head, the closing 0, and an LF after it.
-const BLOCK_FRAME: usize = MOST_HEAD + 1 + 1;
+const BLOCK_FRAME: usize = BLOCK_HEAD + 1 + 1;
 
-// The block of up to that many scans, at least one. They are taken after room for the head of a block, which is put there only
-// once some came. There is space for it all in `out`.
+// The block of up to `want` scans, at least one. They are taken after room for the block's head, which is filled only once some
+// came. `out` has space for all of it.
 fn read_into<I: Iio>(
     iio: &mut I,
     dev: u32,
@@ -60,7 +60,7 @@ fn read_into<I: Iio>(
     took
 }
 
-/// What [`read_scans`] is, the bytes of a scan known.
+/// As [`read_scans`], at a seat whose scans have `size` bytes.
 pub(crate) fn read_sized<I: Iio>(
     iio: &mut I,
     dev: u32,

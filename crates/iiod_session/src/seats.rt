@@ -1,4 +1,4 @@
-//! A connection's seats: OPEN, CLOSE, REMASK and READBUF, the device's number known.
+//! A connection's seats: OPEN, CLOSE, REMASK and READBUF at the device of a number.
 
 ghost use Rattle.std.specs.Prelude.{◌≡◌, ◌==◌, ◌<◌, ◌≤◌, ◌++◌, ℕ, length, IfSome, IfOk, Some, None, Err, is_some, Bool, List, vec_capacity};
 ghost use Rattle.std.specs.List.{position};

@@ -142,7 +142,7 @@ impl<S> Session<S> {
         leave(&mut self.desk, iio);
     }
 
-    /// The same, and spends the session.
+    /// Closes every seat and ends every holding of events, and spends the session.
     pub fn end<I: Iio<Seat = S>>(self, iio: &mut I)
         requires { IsDesk I.seen (I.front (I.kept iio.old)) self.desk }
         ensures kept { I.kept iio.new ≡ I.kept iio.old }

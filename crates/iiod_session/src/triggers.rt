@@ -35,7 +35,7 @@ fn named_trigger<I: Iio>(iio: &I, name: Option<&[u8]>) -> Result<Option<u32>, Er
     }
 }
 
-// SETTRIG, the device's number known.
+// SETTRIG at the device of that number.
 fn set_trigger_at<I: Iio>(iio: &mut I, dev: u32, name: Option<&[u8]>) -> Result<(), No>
     requires dev { dev < length (I.front (I.kept iio.old)).devices }
     ensures kept { I.kept iio.new ≡ I.kept iio.old }
@@ -97,7 +97,7 @@ fn trigger_of<I: Iio>(iio: &I, device: &[u8]) -> Result<Option<u32>, Errno>
     }
 }
 
-// The same, the device's number known.
+// The trigger of the device of that number, as GETTRIG asks for it.
 fn trigger_at<I: Iio>(iio: &I, dev: u32) -> Result<Option<u32>, Errno>
     requires { dev < length (I.front (I.kept iio.now)).devices }
     ensures { (desk : DeskRecord) → IfSome (I.told iio.now) (λ m. Comes m desk

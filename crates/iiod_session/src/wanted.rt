@@ -26,7 +26,7 @@ pub(crate) struct Wanted {
     pub(crate) size: u32,
 }
 
-// Whether a member can't have a queue of that many scans of that size.
+// Whether a member can't have a queue of `capacity` scans of `size` bytes.
 fn is_excess(capacity: u64, size: u32) -> bool
     ensures { result ≡ is_excess capacity size }
 {

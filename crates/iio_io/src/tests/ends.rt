@@ -83,7 +83,7 @@ fn a_whole_send_is_cut_where_a_send_fails(rt: HostRuntime) -> Result<(), Fail> {
 // What a door gives: the first byte of the link, none, or a failure.
 type Given = Result<Option<u8>, Failed>;
 
-// `listen`, and then `next` so often, at a door of two links whose listed calls fail.
+// `listen`, and then `next` once for each of `gives`, at a door of two links whose listed calls fail.
 fn check_door(
     rt: &impl Abort,
     alloc: Global,

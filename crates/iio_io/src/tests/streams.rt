@@ -10,7 +10,7 @@ use std::io::{ErrorKind, Read, Write};
 use std::test::Fail;
 
 /// A stream whose calls answer what is listed, in this order: `None` is a signal that cut the call short, `Some(0)` a failure,
-/// another number that many bytes. After the list each call fails.
+/// `Some(n)` a call that takes at most `n` bytes. After the list each call fails.
 #[derive(Drop)]
 struct Listed {
     answers: [Option<usize>; 4],

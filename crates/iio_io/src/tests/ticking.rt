@@ -33,8 +33,9 @@ impl<'a> Clock for Hand<'a> {
     }
 }
 
-// A ticker of 10 milliseconds from the clock's moment 5,000 on. Before each call the clock goes on by so much; then the moment
-// that is given, and where the clock stands: on time, late by less than a period, late by more, and on time again.
+// A ticker of 10 milliseconds from the clock's moment 5,000 on. In each row: by how much the clock goes on before the call, the
+// moment that is given, and where the clock stands then. The ticks are on time, late by less than a period, late by more, and
+// on time again.
 #[test]
 fn ticks_are_on_the_grid_of_the_start(rt: HostRuntime) -> Result<(), Fail> {
     let now = Cell::new(5_000u64);
