@@ -1,5 +1,5 @@
 -- What a piece of the stream is to the items, and what is made of it.
-use Rattle.std.proofs.Common.{◌≡◌, ◌≢◌, inl, ℕ, ◌<◌, ◌≤◌, nat_lt, true, false, List, [], ◌∷◌, ◌++◌, ◌+◌, ◌-◌, take, drop, length, refl, sym, ap, ◌∙◌, append-nil, Option, Some, None, IfSome, Result, Ok, Err, IfOk, arith}
+use Rattle.std.proofs.Common.{◌≡◌, ◌≢◌, inl, ℕ, ◌<◌, ◌≤◌, ◌==◌, nat_lt, Bool, true, false, List, [], ◌∷◌, ◌++◌, ◌+◌, ◌-◌, take, drop, length, refl, sym, subst, ap, ◌∙◌, append-nil, Option, Some, None, IfSome, Result, Ok, Err, IfOk, arith}
 use Rattle.std.proofs.lemmas.List.{drop-drop, length-drop, take_rest}
 use Rattle.std.proofs.Math.Seq.{drop-append_seam}
 use Rattle.iio_base.specs.declared.Mem.{Mem}
@@ -18,8 +18,8 @@ use Rattle.iiod_grammar.specs.View.{command_view}
 use Rattle.iiod_grammar.specs.Command.{Command, Exit, ReadBuf, Target, Write, command_of}
 use Rattle.iiod_grammar.specs.Lines.{LinesRecord, after_piece}
 use Rattle.iiod_grammar.specs.Scans.{ScansBy, scan_on, scanner_at}
-use Rattle.iiod_grammar.specs.Stream.{Item, Said, Written, End, ItemsCutAnywhere, ScannerCutAnywhere, Scanned, AtEnd, InLine, after_line, after_said, ended_by, no_item, one_item}
-use Rattle.iiod_reply.specs.Reply.{text_of}
+use Rattle.iiod_grammar.specs.Stream.{Item, Said, Written, End, ItemsCutAnywhere, ScannerCutAnywhere, Scanned, AtEnd, InLine, after_line, after_said, ended_by, no_item, one_item, payload_after}
+use Rattle.iiod_reply.specs.Reply.{Reply, text_of}
 use Rattle.iiod_session.specs.declared.desk.Held.{Held}
 use Rattle.iiod_session.specs.declared.manner.Going.{Going}
 use Rattle.iiod_session.specs.declared.manner.Going.TheVariants.{On, Waits, Ended}
@@ -34,11 +34,13 @@ use Rattle.iiod_session.specs.Machine.{Machine}
 use Rattle.iiod_session.specs.Moves.{AnswersAlone, AnswersAs}
 use Rattle.iiod_session.specs.PendingWrite.{PendingRecord}
 use Rattle.iiod_session.specs.Performs.{IsAllowed, IsReadOf, Performs}
-use Rattle.iiod_session.specs.Run.{State, Fed, Carries}
+use Rattle.iiod_session.specs.Run.{State, CarriesBy, FedBy}
 use Rattle.iiod_session.specs.Seat.{SeatRecord}
 use Rattle.iiod_session.specs.Session.{IsAtOnce, IsKept, IsPlain, IsReady, piece_by, stream_by, unread_of}
+use Rattle.iiod_session.specs.Watch.{Hears, Scene, Tells, is_waiting, waits_in}
+use Rattle.iiod_session.proofs.WatchLaws.{scene}
 use Rattle.iiod_session.proofs.FeedLaws.{fed_more, fed_none, fed_one, fed_then, feeds_more, feeds_of, feeds_on, feeds_then, goes_on}
-use Rattle.iiod_session.proofs.StreamLaws.{scan_end, scan_nil, scan_rest, scanner_goes_on}
+use Rattle.iiod_session.proofs.StreamLaws.{scan_end, scan_more, scan_nil, scan_rest, scanner_goes_on}
 
 -- ---- the end
 
@@ -67,35 +69,43 @@ end_acts front a b error t d = by a.told t error
     by (Some m) x None = (left_machine m a.desk, x, rw d refl)
     by (Some m) x (Some e) = (left_machine m a.desk, x, rw d refl)
 
-ends : (manner : Manner) (front : Front) (a b : State) (error : Option Errno) (before after : List ℕ)
-    → after ≡ before ++ text_of (end_reply error)
-    → IfSome a.told (λ m. b.told ≡ Some (left_machine m a.desk)) → b.desk ≡ left_desk a.desk → b.tales ≡ []
-    → Carries manner front a (ended_by error) before after b (no_item AtEnd) Ended
-ends manner front a b error before after text t d none =
-    feeds_of manner front a b b (ended_by error) (no_item AtEnd) before after Ended
-    (fed_one manner front a b (ended_by error) (no_item AtEnd) before after (End error) (end_reply error) refl refl text
-    (record { allowed = end_allowed manner error; answer = tt; served = record { alone = end_alone front a.desk error; formed = end_formed front error; exact = end_acts front a b error t d; moves = (refl, d, none) } }))
-    (refl, refl)
-
 none_seen : {S : Type 0} (seen : S → SeatRecord) (held : List (Held S)) → held ≡ [] → tales_of seen held ≡ []
 none_seen seen held e = ap (λ hs. tales_of seen hs) e
 
--- the end of a connection, as `end` makes it
-pub end_feeds : {S : Type 0} (seen : S → SeatRecord) (manner : Manner) (front : Front) (a b : State) (held : List (Held S)) (error : Option Errno) (before after : List ℕ)
-    → after ≡ before ++ text_of (end_reply error)
-    → IfSome a.told (λ m. b.told ≡ Some (left_machine m a.desk)) → b.desk ≡ left_desk a.desk → b.tales ≡ tales_of seen held → held ≡ []
-    → Carries manner front a (ended_by error) before after b (no_item AtEnd) Ended
-end_feeds seen manner front a b held error before after text t d tales none = ends manner front a b error before after text t d (tales ∙ none_seen seen held none)
+module _ {W : Type 0} {makes : Front → Option Machine → ℕ → Item → W → W → Type 0} where
+  ends : (manner : Manner) (front : Front) (a b : State) (w v : W) (error : Option Errno) (before after : List ℕ)
+      → makes front a.told a.desk.who (End error) w v
+      → after ≡ before ++ text_of (end_reply error)
+      → IfSome a.told (λ m. b.told ≡ Some (left_machine m a.desk)) → b.desk ≡ left_desk a.desk → b.tales ≡ []
+      → Hears makes manner front (scene a w false) (ended_by error) before after (scene b v false) (no_item AtEnd) Ended
+  ends manner front a b w v error before after tells text t d none =
+      feeds_of manner front (scene a w false) (scene b v false) (scene b v false) (ended_by error) (no_item AtEnd) before after Ended
+      (fed_one (scene a w false) (scene b v false) (ended_by error) (no_item AtEnd) before after (End error) (end_reply error) refl refl text
+      (record {
+        tells = tells;
+        answered = record { allowed = end_allowed manner error; answer = tt; served = record { alone = end_alone front a.desk error; formed = end_formed front error; exact = end_acts front a b error t d; moves = (refl, d, none) } };
+        next = refl;
+      }))
+      (refl, refl)
+
+  -- the end of a connection, as `end` makes it
+  pub end_feeds : {S : Type 0} (seen : S → SeatRecord) (manner : Manner) (front : Front) (a b : State) (w v : W) (held : List (Held S)) (error : Option Errno) (before after : List ℕ)
+      → makes front a.told a.desk.who (End error) w v
+      → after ≡ before ++ text_of (end_reply error)
+      → IfSome a.told (λ m. b.told ≡ Some (left_machine m a.desk)) → b.desk ≡ left_desk a.desk → b.tales ≡ tales_of seen held → held ≡ []
+      → Hears makes manner front (scene a w false) (ended_by error) before after (scene b v false) (no_item AtEnd) Ended
+  end_feeds seen manner front a b w v held error before after tells text t d tales none =
+      ends manner front a b w v error before after tells text t d (tales ∙ none_seen seen held none)
 
 -- a line that ends the connection
-pub ended_line : (manner : Manner) (front : Front) (a b : State) (error : Option Errno) (all : Scanned) (before after : List ℕ) (lines : LinesRecord) (pending : PendingRecord) (r : Result Going Mem)
+pub ended_line : {W : Type 0} (makes : Front → Option Machine → ℕ → Item → W → W → Type 0) (manner : Manner) (front : Front) (a b : State) (w v : W) (error : Option Errno) (all : Scanned) (before after : List ℕ) (lines : LinesRecord) (pending : PendingRecord) (r : Result Going Mem)
     → all ≡ ended_by error → IfOk r (λ going. going ≡ Ended)
-    → IfOk r (λ going. Carries manner front a (ended_by error) before after b (no_item AtEnd) going)
-    → IfOk r (λ going. Carries manner front a all before after b (stream_by going lines pending) going)
-ended_line manner front a b error all before after lines pending (Ok Ended) is e f = rw is f
-ended_line manner front a b error all before after lines pending (Ok On) is e f = cc
-ended_line manner front a b error all before after lines pending (Ok (Waits dev)) is e f = cc
-ended_line manner front a b error all before after lines pending (Err fault) is e f = tt
+    → IfOk r (λ going. Hears makes manner front (scene a w false) (ended_by error) before after (scene b v false) (no_item AtEnd) going)
+    → IfOk r (λ going. Hears makes manner front (scene a w false) all before after (scene b v (is_waiting going)) (stream_by going lines pending) going)
+ended_line makes manner front a b w v error all before after lines pending (Ok Ended) is e f = rw is f
+ended_line makes manner front a b w v error all before after lines pending (Ok On) is e f = cc
+ended_line makes manner front a b w v error all before after lines pending (Ok (Waits dev)) is e f = cc
+ended_line makes manner front a b w v error all before after lines pending (Err fault) is e f = tt
 
 pub ended_ready : (lines : LinesRecord) (pending : PendingRecord) (r : Result Going Mem) → IfOk r (λ going. going ≡ Ended) → IfOk r (λ going. IsReady going lines pending)
 ended_ready lines pending (Ok Ended) e = tt
@@ -117,13 +127,13 @@ write_stream : (line device : List ℕ) (target : Option Target) (count : ℕ) �
 write_stream line device target count e within asked =
     ap (λ said. after_said said) e ∙ rw (let b : nat_lt MAX_PAYLOAD count ≡ false = grind arith in b) refl
 
-pub write_feeds : (manner : Manner) (front : Front) (a : State) (line device : List ℕ) (target : Option Target) (count : ℕ) (before : List ℕ) (lines : LinesRecord) (kept : PendingRecord)
+pub write_feeds : {W : Type 0} {makes : Front → Option Machine → ℕ → Item → W → W → Type 0} (manner : Manner) (front : Front) (a : State) (w : W) (line device : List ℕ) (target : Option Target) (count : ℕ) (before : List ℕ) (lines : LinesRecord) (kept : PendingRecord)
     → command_of line ≡ Ok (Write device target count) → count ≤ MAX_PAYLOAD → lines ≡ record (after_piece line) { wanted = Some count } → (asked : ℕ) → kept ≡ record { device = device; target = target; asked = asked }
-    → Carries manner front a (after_line line) before before a (stream_by On lines kept) On
-write_feeds manner front a line device target count before lines kept e within is asked same =
+    → Hears makes manner front (scene a w false) (after_line line) before before (scene a w false) (stream_by On lines kept) On
+write_feeds manner front a w line device target count before lines kept e within is asked same =
     let here : after_line line ≡ stream_by On lines kept = write_stream line device target count e within asked ∙ rw (is, same) refl in
-    goes_on manner front a a (after_line line) (stream_by On lines kept) before before (scanner_goes_on lines kept.device kept.target)
-    (rw here (fed_none manner front a (stream_by On lines kept) before))
+    goes_on manner front (scene a w false) (scene a w false) (after_line line) (stream_by On lines kept) before before (scanner_goes_on lines kept.device kept.target)
+    (rw here (fed_none (scene a w false) (stream_by On lines kept) before))
 
 plain_line : (said : Result Command Refused) → IsPlain said → after_said said ≡ one_item (Said said)
 plain_line (Ok Exit) p = absurd p
@@ -134,24 +144,26 @@ abbrev pub going_of : Performed → Going
 going_of Done = On
 going_of (PerformedWaits dev) = Waits dev
 
-pub plain_feeds : (manner : Manner) (front : Front) (a b : State) (line : List ℕ) (kept : PendingRecord) (said : Result Command Refused) (lines : LinesRecord) (before after : List ℕ) (p : Performed)
+pub plain_feeds : {W : Type 0} {makes : Front → Option Machine → ℕ → Item → W → W → Type 0} (manner : Manner) (front : Front) (a b : State) (w v : W) (told : Bool) (line : List ℕ) (kept : PendingRecord) (said : Result Command Refused) (lines : LinesRecord) (before after : List ℕ) (p : Performed)
     → command_of line ≡ said → IsPlain said → lines ≡ after_piece line
+    → Tells makes manner front (scene a w told) (Said said) v
     → Performs manner front a.told b.told a.desk a.tales (Said said) b.desk b.tales before after p
-    → Carries manner front a (after_line line) before after b (stream_by (going_of p) lines kept) (going_of p)
-plain_feeds manner front a b line kept said lines before after Done e plain is x =
+    → Hears makes manner front (scene a w told) (after_line line) before after (scene b v (is_waiting (going_of p))) (stream_by (going_of p) lines kept) (going_of p)
+plain_feeds manner front a b w v told line kept said lines before after Done e plain is tells x =
     let all : after_line line ≡ one_item (Said said) = ap (λ z. after_said z) e ∙ plain_line said plain in
     let left : stream_by On lines kept ≡ no_item (InLine []) = rw is refl in
-    goes_on manner front a b (after_line line) (stream_by On lines kept) before after (scanner_goes_on lines kept.device kept.target)
-    (rw (all, left) (fed_one manner front a b (one_item (Said said)) (no_item (InLine [])) before after (Said said) x.0 refl refl x.1 (record { allowed = x.2; answer = x.3; served = x.4 })))
-plain_feeds manner front a b line kept said lines before after (PerformedWaits dev) e plain is x =
+    goes_on manner front (scene a w told) (scene b v false) (after_line line) (stream_by On lines kept) before after (scanner_goes_on lines kept.device kept.target)
+    (rw (all, left) (fed_one (scene a w told) (scene b v false) (one_item (Said said)) (no_item (InLine [])) before after (Said said) x.0 refl refl x.1
+    (record { tells = tells; answered = record { allowed = x.2; answer = x.3; served = x.4 }; next = refl })))
+plain_feeds manner front a b w v told line kept said lines before after (PerformedWaits dev) e plain is tells x =
     let all : after_line line ≡ one_item (Said said) = ap (λ z. after_said z) e ∙ plain_line said plain in
     let left : stream_by (Waits dev) lines kept ≡ one_item (Said said) = rw is all in
-    feeds_of manner front a a b (after_line line) (stream_by (Waits dev) lines kept) before after (Waits dev)
-    (rw (all, left, x.0) (fed_none manner front a (one_item (Said said)) before))
-    (record { server = x.1; item = Said said; more = []; first = ap (λ (z : Scanned). z.items) left; read = x.2; served = x.3 })
+    feeds_of manner front (scene a w told) (scene a w told) (scene b v true) (after_line line) (stream_by (Waits dev) lines kept) before after (Waits dev)
+    (rw (all, left, x.0) (fed_none (scene a w told) (one_item (Said said)) before))
+    (record { server = x.1; item = Said said; more = []; first = ap (λ (z : Scanned). z.items) left; read = x.2; served = record { tells = tells; served = x.3; put = refl } })
 
 -- a line that is answered at once
-once_plain : (said : Result Command Refused) → IsAtOnce said → IsPlain said
+pub once_plain : (said : Result Command Refused) → IsAtOnce said → IsPlain said
 once_plain (Ok Exit) once = absurd once
 once_plain (Ok (Write device target count)) once = absurd once
 once_plain said once = tt
@@ -160,30 +172,35 @@ no_wait : (front : Front) (dev : ℕ) (said : Result Command Refused) → IsAtOn
 no_wait front dev (Ok (ReadBuf device asked)) once r = absurd once
 no_wait front dev said once r = r
 
-pub at_once_feeds : (manner : Manner) (front : Front) (a b : State) (kept : PendingRecord) (said : Result Command Refused) (lines : LinesRecord) (before after : List ℕ) (p : Performed)
+pub at_once_feeds : {W : Type 0} {makes : Front → Option Machine → ℕ → Item → W → W → Type 0} (manner : Manner) (front : Front) (a b : State) (w v : W) (kept : PendingRecord) (said : Result Command Refused) (lines : LinesRecord) (before after : List ℕ) (p : Performed)
     → lines ≡ after_piece lines.piece → command_of lines.piece ≡ said → IsAtOnce said
+    → makes front a.told a.desk.who (Said said) w v
     → Performs manner front a.told b.told a.desk a.tales (Said said) b.desk b.tales before after p
-    → Carries manner front a (after_line lines.piece) before after b (stream_by On lines kept) On
-at_once_feeds manner front a b kept said lines before after Done is e once x = plain_feeds manner front a b lines.piece kept said lines before after Done e (once_plain said once) is x
-at_once_feeds manner front a b kept said lines before after (PerformedWaits dev) is e once x = absurd (no_wait front dev said once x.2)
+    → Hears makes manner front (scene a w false) (after_line lines.piece) before after (scene b v false) (stream_by On lines kept) On
+at_once_feeds manner front a b w v kept said lines before after Done is e once tells x =
+    plain_feeds manner front a b w v false lines.piece kept said lines before after Done e (once_plain said once) is tells x
+at_once_feeds manner front a b w v kept said lines before after (PerformedWaits dev) is e once tells x = absurd (no_wait front dev said once x.2)
 
 -- ---- payloads
 
-pub written_feeds : (manner : Manner) (front : Front) (a b : State) (lines : LinesRecord) (kept : PendingRecord) (device : List ℕ) (target : Option Target) (payload before after : List ℕ) (p : Performed)
+pub written_feeds : {W : Type 0} {makes : Front → Option Machine → ℕ → Item → W → W → Type 0} (manner : Manner) (front : Front) (a b : State) (w v : W) (lines : LinesRecord) (kept : PendingRecord) (device : List ℕ) (target : Option Target) (payload before after : List ℕ) (p : Performed)
     → lines ≡ after_piece lines.piece
+    → makes front a.told a.desk.who (Written device target payload) w v
     → Performs manner front a.told b.told a.desk a.tales (Written device target payload) b.desk b.tales before after p
-    → Carries manner front a (one_item (Written device target payload)) before after b (stream_by On lines kept) On
-written_feeds manner front a b lines kept device target payload before after Done is x =
+    → Hears makes manner front (scene a w false) (one_item (Written device target payload)) before after (scene b v false) (stream_by On lines kept) On
+written_feeds manner front a b w v lines kept device target payload before after Done is tells x =
     let left : stream_by On lines kept ≡ no_item (InLine []) = ap (λ (z : LinesRecord). stream_by On z kept) is in
-    goes_on manner front a b (one_item (Written device target payload)) (stream_by On lines kept) before after (scanner_goes_on lines kept.device kept.target)
-    (rw left (fed_one manner front a b (one_item (Written device target payload)) (no_item (InLine [])) before after (Written device target payload) x.0 refl refl x.1 (record { allowed = x.2; answer = x.3; served = x.4 })))
-written_feeds manner front a b lines kept device target payload before after (PerformedWaits dev) is x = absurd x.2
+    goes_on manner front (scene a w false) (scene b v false) (one_item (Written device target payload)) (stream_by On lines kept) before after (scanner_goes_on lines kept.device kept.target)
+    (rw left (fed_one (scene a w false) (scene b v false) (one_item (Written device target payload)) (no_item (InLine [])) before after (Written device target payload) x.0 refl refl x.1
+    (record { tells = tells; answered = record { allowed = x.2; answer = x.3; served = x.4 }; next = refl })))
+written_feeds manner front a b w v lines kept device target payload before after (PerformedWaits dev) is tells x = absurd x.2
 
-pub said_feeds : (manner : Manner) (front : Front) (a b : State) (kept : PendingRecord) (said : Result Command Refused) (lines : LinesRecord) (before after : List ℕ) (p : Performed)
+pub said_feeds : {W : Type 0} {makes : Front → Option Machine → ℕ → Item → W → W → Type 0} (manner : Manner) (front : Front) (a b : State) (w v : W) (told : Bool) (kept : PendingRecord) (said : Result Command Refused) (lines : LinesRecord) (before after : List ℕ) (p : Performed)
     → lines ≡ after_piece lines.piece → command_of lines.piece ≡ said → IsPlain said
+    → Tells makes manner front (scene a w told) (Said said) v
     → Performs manner front a.told b.told a.desk a.tales (Said said) b.desk b.tales before after p
-    → Carries manner front a (after_line lines.piece) before after b (stream_by (going_of p) lines kept) (going_of p)
-said_feeds manner front a b kept said lines before after p is e plain x = plain_feeds manner front a b lines.piece kept said lines before after p e plain is x
+    → Hears makes manner front (scene a w told) (after_line lines.piece) before after (scene b v (is_waiting (going_of p))) (stream_by (going_of p) lines kept) (going_of p)
+said_feeds manner front a b w v told kept said lines before after p is e plain tells x = plain_feeds manner front a b w v told lines.piece kept said lines before after p e plain is tells x
 
 -- a line of no bytes
 pub blank_line : (line : List ℕ) → line ≡ [] → command_of line ≡ Err Empty
@@ -192,10 +209,10 @@ blank_line line none = ap command_of none
 -- ---- pieces of further bytes
 
 -- no piece is whole
-pub more_feeds : (manner : Manner) (front : Front) (a b : State) (all : Scanned) (before after : List ℕ) (old new : LinesRecord) (device : List ℕ) (target : Option Target) (rest whole tail : List ℕ)
+pub more_feeds : {S : Type 0} {Answered : S → Item → Reply → S → Type 0} {Unanswered : S → Item → S → Type 0} (manner : Manner) (front : Front) (a b : S) (all : Scanned) (before after : List ℕ) (old new : LinesRecord) (device : List ℕ) (target : Option Target) (rest whole tail : List ℕ)
     → scan_on (scanner_at old device target) rest ≡ scanner_at new device target → rest ≡ whole → tail ≡ []
-    → Fed manner front a all before after b (scan_on (scanner_at old device target) whole)
-    → Carries manner front a all before after b (scan_on (scanner_at new device target) tail) On
+    → FedBy Answered a all before after b (scan_on (scanner_at old device target) whole)
+    → CarriesBy Answered Unanswered manner front a all before after b (scan_on (scanner_at new device target) tail) On
 more_feeds manner front a b all before after old new device target rest whole tail scans same none f =
     let left : scan_on (scanner_at new device target) tail ≡ scanner_at new device target =
     ap (λ bs. scan_on (scanner_at new device target) bs) none ∙ scan_nil (scanner_at new device target) in
@@ -230,55 +247,76 @@ piece_scans items scanner old new kept rest taken Payload n going scans =
     scan_rest items scanner (stream_by On old kept) taken rest ∙ ap (λ x. scan_on x (drop taken rest)) scans
 piece_scans items scanner old new kept rest taken TooLong n going scans = scans going ∙ sym (ended_stays (Some E2BIG) (drop taken rest))
 
-pub on_fed : (manner : Manner) (front : Front) (a b c : State) (all left piece next : Scanned) (before mid after tail tail' : List ℕ)
-    → left ≡ scan_on piece tail → tail ≡ tail' → Fed manner front a all before mid b left → Carries manner front b piece mid after c next On
-    → Fed manner front a all before after c (scan_on next tail')
+pub on_fed : {S : Type 0} {Answered : S → Item → Reply → S → Type 0} {Unanswered : S → Item → S → Type 0} (manner : Manner) (front : Front) (a b c : S) (all left piece next : Scanned) (before mid after tail tail' : List ℕ)
+    → left ≡ scan_on piece tail → tail ≡ tail' → FedBy Answered a all before mid b left → CarriesBy Answered Unanswered manner front b piece mid after c next On
+    → FedBy Answered a all before after c (scan_on next tail')
 on_fed manner front a b c all left piece next before mid after tail tail' e same f g =
-    rw (sym same) (fed_then manner front a b c all left (scan_on next tail) before mid after f
-    (rw e (fed_more manner front b c piece next mid after tail (feeds_on manner front b c piece next mid after g))))
+    rw (sym same) (fed_then a b c all left (scan_on next tail) before mid after f
+    (rw e (fed_more b c piece next mid after tail (feeds_on manner front b c piece next mid after g))))
 
-pub stop_feeds : (manner : Manner) (front : Front) (a b c : State) (all left piece next : Scanned) (before mid after tail tail' : List ℕ) (going : Going) → going ≢ On
-    → left ≡ scan_on piece tail → tail ≡ tail' → Fed manner front a all before mid b left → Carries manner front b piece mid after c next going
-    → Carries manner front a all before after c (scan_on next tail') going
+pub stop_feeds : {S : Type 0} {Answered : S → Item → Reply → S → Type 0} {Unanswered : S → Item → S → Type 0} (manner : Manner) (front : Front) (a b c : S) (all left piece next : Scanned) (before mid after tail tail' : List ℕ) (going : Going) → going ≢ On
+    → left ≡ scan_on piece tail → tail ≡ tail' → FedBy Answered a all before mid b left → CarriesBy Answered Unanswered manner front b piece mid after c next going
+    → CarriesBy Answered Unanswered manner front a all before after c (scan_on next tail') going
 stop_feeds manner front a b c all left piece next before mid after tail tail' going stops e same f g =
     rw (sym same) (feeds_then manner front a b c all left (scan_on next tail) before mid after going f
     (rw e (feeds_more manner front b c piece next mid after tail going stops g)))
 
--- a line that is too long ends the connection
-pub too_long_stops : (manner : Manner) (front : Front) (a b : State) (e : Option Errno) (next : Scanned) (before after : List ℕ) → Carries manner front a (ended_by e) before after b next On → ⊥
-too_long_stops manner front a b e next before after f = f.stands.1 (f.fed.next)
-
 -- ---- bytes after a READBUF that waits
 
-pub ended_feeds : (manner : Manner) (front : Front) (a : State) (before bytes more : List ℕ) → Carries manner front a (scan_on (no_item AtEnd) bytes) before before a (scan_on (no_item AtEnd) more) Ended
+pub ended_feeds : {S : Type 0} {Answered : S → Item → Reply → S → Type 0} {Unanswered : S → Item → S → Type 0} (manner : Manner) (front : Front) (a : S) (before bytes more : List ℕ) → CarriesBy Answered Unanswered manner front a (scan_on (no_item AtEnd) bytes) before before a (scan_on (no_item AtEnd) more) Ended
 ended_feeds manner front a before bytes more =
-    rw (scan_end bytes, scan_end more) (feeds_of manner front a a a (no_item AtEnd) (no_item AtEnd) before before Ended (fed_none manner front a (no_item AtEnd) before) (refl, refl))
+    rw (scan_end bytes, scan_end more) (feeds_of manner front a a a (no_item AtEnd) (no_item AtEnd) before before Ended (fed_none a (no_item AtEnd) before) (refl, refl))
 
-pub resumed : (manner : Manner) (front : Front) (a b c : State) (all left : Scanned) (before mid after bytes : List ℕ) (next : ℕ × Going → Scanned) (r : Result (ℕ × Going) Mem)
-    → Carries manner front a all before mid b left On → IfOk r (λ x. Carries manner front b (scan_on left bytes) mid after c (next x) x.1)
-    → IfOk r (λ x. Carries manner front a (scan_on all bytes) before after c (next x) x.1)
+pub resumed : {S : Type 0} {Answered : S → Item → Reply → S → Type 0} {Unanswered : S → Item → S → Type 0} (manner : Manner) (front : Front) (a b : S) (c : ℕ × Going → S) (all left : Scanned) (before mid after bytes : List ℕ) (next : ℕ × Going → Scanned) (r : Result (ℕ × Going) Mem)
+    → CarriesBy Answered Unanswered manner front a all before mid b left On → IfOk r (λ x. CarriesBy Answered Unanswered manner front b (scan_on left bytes) mid after (c x) (next x) x.1)
+    → IfOk r (λ x. CarriesBy Answered Unanswered manner front a (scan_on all bytes) before after (c x) (next x) x.1)
 resumed manner front a b c all left before mid after bytes next (Ok x) f g =
-    feeds_then manner front a b c (scan_on all bytes) (scan_on left bytes) (next x) before mid after x.1
-    (fed_more manner front a b all left before mid bytes (feeds_on manner front a b all left before mid f)) g
+    feeds_then manner front a b (c x) (scan_on all bytes) (scan_on left bytes) (next x) before mid after x.1
+    (fed_more a b all left before mid bytes (feeds_on manner front a b all left before mid f)) g
 resumed manner front a b c all left before mid after bytes next (Err fault) f g = tt
 
 -- where no bytes come after it
-pub again_feeds : (manner : Manner) (front : Front) (a b : State) (all left : Scanned) (before after bytes : List ℕ) (going : Going) → bytes ≡ []
-    → Carries manner front a all before after b left going → Carries manner front a (scan_on all bytes) before after b (scan_on left (drop 0 bytes)) going
+pub again_feeds : {S : Type 0} {Answered : S → Item → Reply → S → Type 0} {Unanswered : S → Item → S → Type 0} (manner : Manner) (front : Front) (a b : S) (all left : Scanned) (before after bytes : List ℕ) (going : Going) → bytes ≡ []
+    → CarriesBy Answered Unanswered manner front a all before after b left going → CarriesBy Answered Unanswered manner front a (scan_on all bytes) before after b (scan_on left (drop 0 bytes)) going
 again_feeds manner front a b all left before after bytes going none f = rw none (rw (scan_nil all, scan_nil left) f)
 
 pub none_begun : (lines : LinesRecord) (kept : PendingRecord) → lines ≡ after_piece lines.piece → (stream_by On lines kept).items ≡ []
 none_begun lines kept is = ap (λ (z : LinesRecord). (stream_by On z kept).items) is
 
 -- the bytes that are kept
-pub unread_feeds : (manner : Manner) (front : Front) (a b : State) (all : Scanned) (before after bytes : List ℕ) (taken : ℕ) (going : Going) (lines : LinesRecord) (kept : PendingRecord)
+pub unread_feeds : {S : Type 0} {Answered : S → Item → Reply → S → Type 0} {Unanswered : S → Item → S → Type 0} (manner : Manner) (front : Front) (a b : S) (all : Scanned) (before after bytes : List ℕ) (taken : ℕ) (going : Going) (lines : LinesRecord) (kept : PendingRecord)
     → (going ≡ On → (taken ≡ length bytes) × ((stream_by On lines kept).items ≡ []))
-    → Carries manner front a all before after b (scan_on (stream_by going lines kept) (drop taken bytes)) going
-    → Carries manner front a all before after b (scan_on (stream_by going lines kept) (unread_of going taken bytes)) going
+    → CarriesBy Answered Unanswered manner front a all before after b (scan_on (stream_by going lines kept) (drop taken bytes)) going
+    → CarriesBy Answered Unanswered manner front a all before after b (scan_on (stream_by going lines kept) (unread_of going taken bytes)) going
 unread_feeds manner front a b all before after bytes taken On lines kept on f =
     let none : drop taken bytes ≡ [] = ap (λ n. drop n bytes) (on refl).0 ∙ drop_all bytes in rw none at f
 unread_feeds manner front a b all before after bytes taken (Waits dev) lines kept on f = f
 unread_feeds manner front a b all before after bytes taken Ended lines kept on f = rw (scan_end (drop taken bytes), ← (scan_end [])) at f
+
+-- no bytes were kept before
+pub first_feeds : {S : Type 0} {Answered : S → Item → Reply → S → Type 0} {Unanswered : S → Item → S → Type 0} (manner : Manner) (front : Front) (a b : S) (all : Scanned) (before after bytes held left : List ℕ) (taken : ℕ) (going : Going) (lines : LinesRecord) (kept : PendingRecord)
+    → held ≡ [] → left ≡ held ++ unread_of going taken bytes
+    → (going ≡ On → (taken ≡ length bytes) × ((stream_by On lines kept).items ≡ []))
+    → CarriesBy Answered Unanswered manner front a (scan_on all bytes) before after b (scan_on (stream_by going lines kept) (drop taken bytes)) going
+    → CarriesBy Answered Unanswered manner front a (scan_on (scan_on all held) bytes) before after b (scan_on (stream_by going lines kept) left) going
+first_feeds {S} {Answered} {Unanswered} manner front a b all before after bytes held left taken going lines kept none now on f =
+    let same : scan_on (scan_on all held) bytes ≡ scan_on all bytes = ap (λ bs. scan_on (scan_on all bs) bytes) none ∙ ap (λ x. scan_on x bytes) (scan_nil all) in
+    let unread : left ≡ unread_of going taken bytes = now ∙ ap (λ (bs : List ℕ). bs ++ unread_of going taken bytes) none in
+    subst (λ x. CarriesBy Answered Unanswered manner front a x before after b (scan_on (stream_by going lines kept) left) going) (sym same)
+    (subst (λ bs. CarriesBy Answered Unanswered manner front a (scan_on all bytes) before after b (scan_on (stream_by going lines kept) bs) going) (sym unread)
+    (unread_feeds manner front a b (scan_on all bytes) before after bytes taken going lines kept on f))
+
+-- bytes were kept before, and are looked at first
+pub kept_feeds : {S : Type 0} {Answered : S → Item → Reply → S → Type 0} {Unanswered : S → Item → S → Type 0} (manner : Manner) (front : Front) (a b : S) (all : Scanned) (before after bytes held whole left : List ℕ) (taken : ℕ) (going : Going) (lines : LinesRecord) (kept : PendingRecord)
+    → ItemsCutAnywhere → ScannerCutAnywhere → whole ≡ held ++ bytes → left ≡ unread_of going taken whole
+    → (going ≡ On → (taken ≡ length whole) × ((stream_by On lines kept).items ≡ []))
+    → CarriesBy Answered Unanswered manner front a (scan_on all whole) before after b (scan_on (stream_by going lines kept) (drop taken whole)) going
+    → CarriesBy Answered Unanswered manner front a (scan_on (scan_on all held) bytes) before after b (scan_on (stream_by going lines kept) left) going
+kept_feeds {S} {Answered} {Unanswered} manner front a b all before after bytes held whole left taken going lines kept items scanner joined unread on f =
+    let same : scan_on (scan_on all held) bytes ≡ scan_on all whole = scan_more items scanner all held bytes ∙ ap (λ bs. scan_on all bs) (sym joined) in
+    subst (λ x. CarriesBy Answered Unanswered manner front a x before after b (scan_on (stream_by going lines kept) left) going) (sym same)
+    (subst (λ bs. CarriesBy Answered Unanswered manner front a (scan_on all whole) before after b (scan_on (stream_by going lines kept) bs) going) (sym unread)
+    (unread_feeds manner front a b (scan_on all whole) before after whole taken going lines kept on f))
 
 pub none_left : (bytes : List ℕ) (taken : ℕ) (going : Going) (lines : LinesRecord) (kept : PendingRecord)
     → (going ≡ On → (taken ≡ length bytes) × ((stream_by On lines kept).items ≡ []))
@@ -317,3 +355,26 @@ not_ended lines kept left On k n e =
 not_ended lines kept left (Waits dev) k n e =
     let one : after_line lines.piece ≡ one_item (Said (command_of lines.piece)) = plain_line (command_of lines.piece) (rw k.1 tt) in
     not_nothing _ _ (ap (λ (s : Scanned). s.items) (ap (λ s. scan_on s left) (sym one) ∙ e))
+
+-- ---- whether the first item that is left waits
+
+payload_begun : (device : List ℕ) (target : Option Target) (count : ℕ) (begun : List ℕ) (b : Bool) → (length begun == count) ≡ b → waits_in (payload_after device target count begun).items ≡ false
+payload_begun device target count begun true e = rw e refl
+payload_begun device target count begun false e = rw e refl
+
+begun_waits : (x : LinesRecord) (device : List ℕ) (target : Option Target) → waits_in (scanner_at x device target).items ≡ false
+begun_waits x device target = by x.wanted
+  where
+    by : (wanted : Option ℕ) → waits_in (scanner_at (record x { wanted = wanted }) device target).items ≡ false
+    by None = refl
+    by (Some count) = payload_begun device target count x.begun (length x.begun == count) refl
+
+pub waits_by : (lines : LinesRecord) (kept : PendingRecord) (left : List ℕ) (going : Going) → IsKept going lines kept left
+    → waits_in (scan_on (stream_by going lines kept) left).items ≡ is_waiting going
+waits_by lines kept left On k =
+    let stays : scan_on (stream_by On lines kept) left ≡ stream_by On lines kept = ap (λ bs. scan_on (stream_by On lines kept) bs) k.1 ∙ scan_nil (stream_by On lines kept) in
+    ap (λ (s : Scanned). waits_in s.items) stays ∙ begun_waits lines kept.device kept.target
+waits_by lines kept left (Waits dev) k =
+    let one : after_line lines.piece ≡ one_item (Said (command_of lines.piece)) = plain_line (command_of lines.piece) (rw k.1 tt) in
+    ap (λ (s : Scanned). waits_in (scan_on s left).items) one
+waits_by lines kept left Ended k = ap (λ (s : Scanned). waits_in s.items) (scan_end left)

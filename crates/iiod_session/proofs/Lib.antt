@@ -7,6 +7,7 @@ pub mod SettleLaws
 pub mod FeedLaws
 pub mod GivenLaws
 pub mod StreamLaws
+pub mod WatchLaws
 pub mod TellLaws
 pub mod HearLaws
 pub mod PlainLaws

@@ -16,7 +16,7 @@ pub scan_nil : (x : Scanned) → scan_on x [] ≡ x
 scan_nil x = scanned_is _ x.items x.next x.next (append-nil x.items) refl
 
 -- it doesn't matter where further bytes are cut
-scan_more : ItemsCutAnywhere → ScannerCutAnywhere → (x : Scanned) (a b : List ℕ) → scan_on (scan_on x a) b ≡ scan_on x (a ++ b)
+pub scan_more : ItemsCutAnywhere → ScannerCutAnywhere → (x : Scanned) (a b : List ℕ) → scan_on (scan_on x a) b ≡ scan_on x (a ++ b)
 scan_more items scanner x a b =
     scanned_is _ _ _ _
     (append_assoc x.items (items_from x.next a) (items_from (scanner_after x.next a) b) ∙ ap (λ is. x.items ++ is) (sym (items x.next a b)))

@@ -13,6 +13,7 @@ pub mod Performs
 pub mod Wanted
 pub mod Given
 pub mod Run
+pub mod Watch
 pub mod PendingWrite
 pub mod Session
 pub mod Plain

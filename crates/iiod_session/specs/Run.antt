@@ -33,42 +33,66 @@ pub record IsAnswered (manner : Manner) (front : Front) (a : State) (item : Item
   pub answer : IsAnswerOf item manner reply
   pub served : Serves front a.told a.desk a.tales item reply b.told b.desk b.tales
 
--- these items, each with its answer
+-- a READBUF for which nothing waits: it isn't answered yet
+abbrev pub FindsNone : Front → State → Item → State → Type 0
+FindsNone front a item b = Serves front a.told a.desk a.tales item (Refusal EAGAIN) b.told b.desk b.tales
+
+-- ---- items one after another, over any states: `Answered` says what an item and its answer make, `Unanswered` what a READBUF
+-- makes that waits
+
+module _ {S : Type 0} (Answered : S → Item → Reply → S → Type 0) where
+  -- these items, each with its answer
+  abbrev pub RunBy : S → List Item → List Reply → S → Type 0
+  RunBy a [] [] b = b ≡ a
+  RunBy a (item ∷ items) (reply ∷ replies) b = (mid : S) × Answered a item reply mid × RunBy mid items replies b
+  RunBy a [] (reply ∷ replies) b = ⊥
+  RunBy a (item ∷ items) [] b = ⊥
+
+  -- the first of the items that are whole were answered: `all` are those before, with where the stream stands, `left` those after
+  pub record FedBy (a : S) (all : Scanned) (before after : List ℕ) (b : S) (left : Scanned) : Type 0 where
+    pub items : List Item
+    pub replies : List Reply
+    pub heard : all.items ≡ items ++ left.items
+    pub next : left.next ≡ all.next
+    pub text : after ≡ before ++ flat_map text_of replies
+    pub run : RunBy a items replies b
+
+module _ {S : Type 0} (Unanswered : S → Item → S → Type 0) (manner : Manner) (front : Front) where
+  -- the first item that is left is a READBUF of that device, for which nothing waits
+  pub record IsWaitingBy (dev : ℕ) (a : S) (left : Scanned) (b : S) : Type 0 where
+    pub server : manner ≡ Server
+    pub item : Item
+    pub more : List Item
+    pub first : left.items ≡ item ∷ more
+    pub read : IsReadOf front dev item
+    pub served : Unanswered a item b
+
+  -- how the connection stands then
+  abbrev pub StandsBy : S → Scanned → S → Going → Type 0
+  StandsBy a left b On = (b ≡ a) × (left.next ≢ AtEnd)
+  StandsBy a left b (Waits dev) = IsWaitingBy dev a left b
+  StandsBy a left b Ended = (b ≡ a) × (left ≡ record { items = []; next = AtEnd })
+
+-- the first of these items were carried out, and the connection stands so
+pub record CarriesBy {S : Type 0} (Answered : S → Item → Reply → S → Type 0) (Unanswered : S → Item → S → Type 0) (manner : Manner) (front : Front)
+    (a : S) (all : Scanned) (before after : List ℕ) (b : S) (left : Scanned) (going : Going) : Type 0 where
+  pub mid : S
+  pub fed : FedBy Answered a all before after mid left
+  pub stands : StandsBy Unanswered manner front mid left b going
+
+-- ---- over what stands at the devices and what the connection has
+
 abbrev pub Run : Manner → Front → State → List Item → List Reply → State → Type 0
-Run manner front a [] [] b = b ≡ a
-Run manner front a (item ∷ items) (reply ∷ replies) b = (mid : State) × IsAnswered manner front a item reply mid × Run manner front mid items replies b
-Run manner front a [] (reply ∷ replies) b = ⊥
-Run manner front a (item ∷ items) [] b = ⊥
+Run manner front = RunBy (IsAnswered manner front)
 
--- the first of the items that are whole were answered: `all` are those before, with where the stream stands, `left` those after
-pub record Fed (manner : Manner) (front : Front) (a : State) (all : Scanned) (before after : List ℕ) (b : State) (left : Scanned) : Type 0 where
-  pub items : List Item
-  pub replies : List Reply
-  pub heard : all.items ≡ items ++ left.items
-  pub next : left.next ≡ all.next
-  pub text : after ≡ before ++ flat_map text_of replies
-  pub run : Run manner front a items replies b
+abbrev pub Fed : Manner → Front → State → Scanned → List ℕ → List ℕ → State → Scanned → Type 0
+Fed manner front = FedBy (IsAnswered manner front)
 
--- the first item that is left is a READBUF of that device, for which nothing waits
-pub record IsWaiting (manner : Manner) (front : Front) (dev : ℕ) (a : State) (left : Scanned) (b : State) : Type 0 where
-  pub server : manner ≡ Server
-  pub item : Item
-  pub more : List Item
-  pub first : left.items ≡ item ∷ more
-  pub read : IsReadOf front dev item
-  pub served : Serves front a.told a.desk a.tales item (Refusal EAGAIN) b.told b.desk b.tales
-
--- how the connection stands then
 abbrev pub Stands : Manner → Front → State → Scanned → State → Going → Type 0
-Stands manner front a left b On = (b ≡ a) × (left.next ≢ AtEnd)
-Stands manner front a left b (Waits dev) = IsWaiting manner front dev a left b
-Stands manner front a left b Ended = (b ≡ a) × (left ≡ record { items = []; next = AtEnd })
+Stands manner front = StandsBy (FindsNone front) manner front
 
--- the first of these items were carried out, and the connection then stands as `going` says
-pub record Carries (manner : Manner) (front : Front) (a : State) (all : Scanned) (before after : List ℕ) (b : State) (left : Scanned) (going : Going) : Type 0 where
-  pub mid : State
-  pub fed : Fed manner front a all before after mid left
-  pub stands : Stands manner front mid left b going
+abbrev pub Carries : Manner → Front → State → Scanned → List ℕ → List ℕ → State → Scanned → Going → Type 0
+Carries manner front = CarriesBy (IsAnswered manner front) (FindsNone front) manner front
 
 -- and what the seats gave is what was answered
 pub record Feeds (manner : Manner) (front : Front) (a : State) (all : Scanned) (before after : List ℕ) (b : State) (left : Scanned) (going : Going) : Type 0 where

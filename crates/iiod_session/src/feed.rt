@@ -1,18 +1,18 @@
 //! The items of a stream, carried out one after another.
 
-ghost use Rattle.std.specs.Prelude.{◌≡◌, ◌≤◌, ◌++◌, [], Ok, Err, IfOk, OnOk, drop, length};
+ghost use Rattle.std.specs.Prelude.{◌≡◌, ◌≤◌, ◌++◌, [], Ok, Err, IfOk, OnOk, drop, false, length, true};
 ghost use Rattle.iiod_grammar.specs.Command.{ReadBuf, command_of};
 ghost use Rattle.iiod_grammar.specs.Lines.{LinesRecord, after_piece};
 ghost use Rattle.iiod_grammar.specs.Scans.{scan_on};
-ghost use Rattle.iiod_grammar.specs.Stream.{AtEnd, Written, after_line, ended_by, no_item};
+ghost use Rattle.iiod_grammar.specs.Stream.{AtEnd, End, Written, after_line, ended_by, no_item};
 ghost use Rattle.iiod_grammar.specs.View.{command_view};
 ghost use Rattle.iiod_reply.specs.Reply.{text_of};
 ghost use Rattle.iiod_session.specs.Acts.{end_reply};
 ghost use Rattle.iiod_session.specs.Desk.{IsDesk, desk_of, tales_of};
 ghost use Rattle.iiod_session.specs.PendingWrite.{PendingRecord};
 ghost use Rattle.iiod_session.specs.Performs.{Performs};
-ghost use Rattle.iiod_session.specs.Run.{Carries, state_of};
 ghost use Rattle.iiod_session.specs.Session.{IsAtOnce, IsKept, IsReady, IsWhole, piece_by, stream_by, unread_of};
+ghost use Rattle.iiod_session.specs.Watch.{Hears, IsSeen, is_waiting, scene_of};
 ghost use Rattle.iiod_session.specs.declared.manner.Going.{Going};
 ghost use Rattle.iiod_session.specs.declared.manner.Manner.{Manner};
 ghost use Rattle.iiod_grammar.specs.declared.lines.Ready.{Ready};
@@ -25,6 +25,7 @@ use crate::leave::leave;
 use crate::manner::{Going, Manner, Performed};
 use crate::pending_write::PendingWrite;
 use crate::perform::{perform, perform_refused, perform_written};
+use crate::watch::{Seen, Watch, count_of};
 use iio_base::Mem;
 use iio_text::Errno;
 use iiod_grammar::{Command, Lines, MAX_PAYLOAD, Ready, Refused, cut_anywhere, read_line};
@@ -41,49 +42,56 @@ fn push_end(out: &mut Vec<u8>, error: Option<Errno>) -> Result<(), Mem>
 }
 
 // The end of a connection.
-fn end<I: Iio>(
+fn end<I: Iio, W: Watch<I>>(
     desk: &mut Desk<I::Seat>,
     iio: &mut I,
+    watch: &mut W,
     error: Option<Errno>,
+    seen: &Seen<'_>,
     out: &mut Vec<u8>,
 ) -> Result<Going, Mem>
     requires desk { IsDesk I.seen (I.front (I.kept iio.old)) desk.old }
+    requires seen { IsSeen (End error) seen.now }
     ensures kept { I.kept iio.new ≡ I.kept iio.old }
     ensures desk { IsDesk I.seen (I.front (I.kept iio.new)) desk.new }
     ensures ended { IfOk result (λ going. going ≡ Going.Ended) }
-    ensures carries { (manner : Manner) → IfOk result (λ going. Carries manner (I.front (I.kept iio.old)) (state_of I.seen (I.told iio.old) desk.old)
-        (ended_by error) out.old.items out.new.items (state_of I.seen (I.told iio.new) desk.new) (no_item AtEnd) going) }
+    ensures hears { (manner : Manner) → IfOk result (λ going. Hears W.makes manner (I.front (I.kept iio.old)) (scene_of I.seen (I.told iio.old) desk.old watch.old false)
+        (ended_by error) out.old.items out.new.items (scene_of I.seen (I.told iio.new) desk.new watch.new false) (no_item AtEnd) going) }
 {
+    watch.before(iio, desk.who, seen);
     push_end(out, error)?;
     leave(desk, iio);
     Ok(Going::Ended)
 }
 
 // A line that is no command.
-fn hear_refused<I: Iio>(
+fn hear_refused<I: Iio, W: Watch<I>>(
     manner: Manner,
     desk: &Desk<I::Seat>,
     iio: &I,
+    watch: &mut W,
     why: Refused,
     out: &mut Vec<u8>,
 ) -> Result<Going, Mem>
     ensures ready { (lines : LinesRecord) (pending : PendingRecord) → lines ≡ after_piece lines.piece → IfOk result (λ going. IsReady going lines pending) }
-    ensures carries { (lines : LinesRecord) (pending : PendingRecord) → lines ≡ after_piece lines.piece
+    ensures hears { (lines : LinesRecord) (pending : PendingRecord) → lines ≡ after_piece lines.piece
         → command_of lines.piece ≡ Err why
-        → IfOk result (λ going. Carries manner (I.front (I.kept iio.now)) (state_of I.seen (I.told iio.now) desk.now)
-        (after_line lines.piece) out.old.items out.new.items (state_of I.seen (I.told iio.now) desk.now)
+        → IfOk result (λ going. Hears W.makes manner (I.front (I.kept iio.now)) (scene_of I.seen (I.told iio.now) desk.now watch.old false)
+        (after_line lines.piece) out.old.items out.new.items (scene_of I.seen (I.told iio.now) desk.now watch.new (is_waiting going))
         (stream_by going lines pending) going) }
 {
+    watch.before(iio, desk.who, &Seen::Refused);
     perform_refused(manner, desk, iio, why, out)?;
     Ok(Going::On)
 }
 
 // A command that is answered at once: not EXIT, WRITE or READBUF.
-fn hear_said<I: Iio>(
+fn hear_said<I: Iio, W: Watch<I>>(
     alloc: Global,
     manner: Manner,
     desk: &mut Desk<I::Seat>,
     iio: &mut I,
+    watch: &mut W,
     command: &Command<'_>,
     out: &mut Vec<u8>,
 ) -> Result<Going, Mem>
@@ -92,21 +100,23 @@ fn hear_said<I: Iio>(
     ensures kept { I.kept iio.new ≡ I.kept iio.old }
     ensures desk { IsDesk I.seen (I.front (I.kept iio.new)) desk.new }
     ensures ready { (lines : LinesRecord) (pending : PendingRecord) → lines ≡ after_piece lines.piece → IfOk result (λ going. IsReady going lines pending) }
-    ensures carries { (lines : LinesRecord) (pending : PendingRecord) → lines ≡ after_piece lines.piece
+    ensures hears { (lines : LinesRecord) (pending : PendingRecord) → lines ≡ after_piece lines.piece
         → command_of lines.piece ≡ Ok (command_view command.now)
-        → IfOk result (λ going. Carries manner (I.front (I.kept iio.old)) (state_of I.seen (I.told iio.old) desk.old)
-        (after_line lines.piece) out.old.items out.new.items (state_of I.seen (I.told iio.new) desk.new)
+        → IfOk result (λ going. Hears W.makes manner (I.front (I.kept iio.old)) (scene_of I.seen (I.told iio.old) desk.old watch.old false)
+        (after_line lines.piece) out.old.items out.new.items (scene_of I.seen (I.told iio.new) desk.new watch.new (is_waiting going))
         (stream_by going lines pending) going) }
 {
+    watch.before(iio, desk.who, &Seen::Command(*command));
     perform(alloc, manner, desk, iio, command, out)?;
     Ok(Going::On)
 }
 
 // A READBUF. What one that waits asks for is kept, and it isn't read again.
-fn hear_read<I: Iio>(
+fn hear_read<I: Iio, W: Watch<I>>(
     manner: Manner,
     desk: &mut Desk<I::Seat>,
     iio: &mut I,
+    watch: &mut W,
     device: &[u8],
     asked: u32,
     pending: &mut PendingWrite,
@@ -117,12 +127,17 @@ fn hear_read<I: Iio>(
     ensures desk { IsDesk I.seen (I.front (I.kept iio.new)) desk.new }
     ensures ready { (lines : LinesRecord) → lines ≡ after_piece lines.piece
         → command_of lines.piece ≡ Ok (ReadBuf device.now asked) → IfOk result (λ going. IsReady going lines pending.new) }
-    ensures carries { (lines : LinesRecord) → lines ≡ after_piece lines.piece
+    ensures hears { (lines : LinesRecord) → lines ≡ after_piece lines.piece
         → command_of lines.piece ≡ Ok (ReadBuf device.now asked)
-        → IfOk result (λ going. Carries manner (I.front (I.kept iio.old)) (state_of I.seen (I.told iio.old) desk.old)
-        (after_line lines.piece) out.old.items out.new.items (state_of I.seen (I.told iio.new) desk.new)
+        → IfOk result (λ going. Hears W.makes manner (I.front (I.kept iio.old)) (scene_of I.seen (I.told iio.old) desk.old watch.old false)
+        (after_line lines.piece) out.old.items out.new.items (scene_of I.seen (I.told iio.new) desk.new watch.new (is_waiting going))
         (stream_by going lines pending.new) going) }
 {
+    let command = Command::ReadBuf {
+        dev: device,
+        bytes: asked,
+    };
+    watch.before(iio, desk.who, &Seen::Command(command));
     match read_buffer(manner, desk, iio, device, asked, out)? {
         Performed::Done => Ok(Going::On),
         Performed::Waits(dev) => {
@@ -133,10 +148,11 @@ fn hear_read<I: Iio>(
 }
 
 // The READBUF that waits is tried again.
-fn hear_again<I: Iio>(
+fn hear_again<I: Iio, W: Watch<I>>(
     manner: Manner,
     desk: &mut Desk<I::Seat>,
     iio: &mut I,
+    _watch: &W,
     pending: &PendingWrite,
     out: &mut Vec<u8>,
 ) -> Result<Going, Mem>
@@ -145,10 +161,10 @@ fn hear_again<I: Iio>(
     ensures desk { IsDesk I.seen (I.front (I.kept iio.new)) desk.new }
     ensures ready { (lines : LinesRecord) → lines ≡ after_piece lines.piece
         → command_of lines.piece ≡ Ok (ReadBuf pending.now.device pending.now.asked) → IfOk result (λ going. IsReady going lines pending.now) }
-    ensures carries { (lines : LinesRecord) → lines ≡ after_piece lines.piece
+    ensures hears { (lines : LinesRecord) → lines ≡ after_piece lines.piece
         → command_of lines.piece ≡ Ok (ReadBuf pending.now.device pending.now.asked)
-        → IfOk result (λ going. Carries manner (I.front (I.kept iio.old)) (state_of I.seen (I.told iio.old) desk.old)
-        (after_line lines.piece) out.old.items out.new.items (state_of I.seen (I.told iio.new) desk.new)
+        → IfOk result (λ going. Hears W.makes manner (I.front (I.kept iio.old)) (scene_of I.seen (I.told iio.old) desk.old _watch.now true)
+        (after_line lines.piece) out.old.items out.new.items (scene_of I.seen (I.told iio.new) desk.new _watch.now (is_waiting going))
         (stream_by going lines pending.now) going) }
 {
     match read_buffer(manner, desk, iio, pending.device(), pending.asked(), out)? {
@@ -158,11 +174,12 @@ fn hear_again<I: Iio>(
 }
 
 // A whole line. What a WRITE names is kept until its payload has come.
-fn hear_line<I: Iio>(
+fn hear_line<I: Iio, W: Watch<I>>(
     alloc: Global,
     manner: Manner,
     desk: &mut Desk<I::Seat>,
     iio: &mut I,
+    watch: &mut W,
     lines: &mut Lines,
     pending: &mut PendingWrite,
     out: &mut Vec<u8>,
@@ -172,17 +189,18 @@ fn hear_line<I: Iio>(
     ensures kept { I.kept iio.new ≡ I.kept iio.old }
     ensures desk { IsDesk I.seen (I.front (I.kept iio.new)) desk.new }
     ensures ready { IfOk result (λ going. IsReady going lines.new pending.new) }
-    ensures carries { IfOk result (λ going. Carries manner (I.front (I.kept iio.old)) (state_of I.seen (I.told iio.old) desk.old)
-        (after_line lines.old.piece) out.old.items out.new.items (state_of I.seen (I.told iio.new) desk.new)
+    ensures hears { IfOk result (λ going. Hears W.makes manner (I.front (I.kept iio.old)) (scene_of I.seen (I.told iio.old) desk.old watch.old false)
+        (after_line lines.old.piece) out.old.items out.new.items (scene_of I.seen (I.told iio.new) desk.new watch.new (is_waiting going))
         (stream_by going lines.new pending.new) going) }
 {
     match &read_line(lines.piece()) {
-        Err(why) => hear_refused(manner, desk, iio, *why, out),
+        Err(why) => hear_refused(manner, desk, iio, watch, *why, out),
         Ok(command) => match command {
-            Command::Exit => end(desk, iio, None, out),
+            Command::Exit => end(desk, iio, watch, None, &Seen::Command(*command), out),
             Command::Write { dev, target, count } => {
                 if *count > MAX_PAYLOAD {
-                    return end(desk, iio, Some(Errno::EFBIG), out);
+                    let seen = Seen::Command(*command);
+                    return end(desk, iio, watch, Some(Errno::EFBIG), &seen, out);
                 }
                 let count = *count;
                 pending.keep(dev, *target)?;
@@ -190,19 +208,20 @@ fn hear_line<I: Iio>(
                 Ok(Going::On)
             }
             Command::ReadBuf { dev, bytes } => {
-                hear_read(manner, desk, iio, dev, *bytes, pending, out)
+                hear_read(manner, desk, iio, watch, dev, *bytes, pending, out)
             }
-            command => hear_said(alloc, manner, desk, iio, command, out),
+            command => hear_said(alloc, manner, desk, iio, watch, command, out),
         },
     }
 }
 
 // A whole payload, of the WRITE that was kept.
-fn hear_payload<I: Iio>(
+fn hear_payload<I: Iio, W: Watch<I>>(
     alloc: Global,
     manner: Manner,
     desk: &mut Desk<I::Seat>,
     iio: &mut I,
+    watch: &mut W,
     payload: &[u8],
     pending: &PendingWrite,
     out: &mut Vec<u8>,
@@ -210,11 +229,19 @@ fn hear_payload<I: Iio>(
     requires desk { IsDesk I.seen (I.front (I.kept iio.old)) desk.old }
     ensures kept { I.kept iio.new ≡ I.kept iio.old }
     ensures desk { IsDesk I.seen (I.front (I.kept iio.new)) desk.new }
+    ensures told { W.makes (I.front (I.kept iio.old)) (I.told iio.old) desk.old.who
+        (Written pending.now.device pending.now.target payload.now) watch.old watch.new }
     ensures served { IfOk result (Performs manner (I.front (I.kept iio.old)) (I.told iio.old) (I.told iio.new)
         (desk_of I.seen desk.old) (tales_of I.seen desk.old.held.items)
         (Written pending.now.device pending.now.target payload.now)
         (desk_of I.seen desk.new) (tales_of I.seen desk.new.held.items) out.old.items out.new.items) }
 {
+    let command = Command::Write {
+        dev: pending.device(),
+        target: pending.target(),
+        count: count_of(payload),
+    };
+    watch.before(iio, desk.who, &Seen::Command(command));
     perform_written(
         alloc,
         manner,
@@ -228,11 +255,12 @@ fn hear_payload<I: Iio>(
 }
 
 // A piece that is whole: a line, the payload of the WRITE before it, or a line that is too long.
-fn hear_piece<I: Iio>(
+fn hear_piece<I: Iio, W: Watch<I>>(
     alloc: Global,
     manner: Manner,
     desk: &mut Desk<I::Seat>,
     iio: &mut I,
+    watch: &mut W,
     lines: &mut Lines,
     pending: &mut PendingWrite,
     ready: Ready,
@@ -244,32 +272,33 @@ fn hear_piece<I: Iio>(
     ensures desk { IsDesk I.seen (I.front (I.kept iio.new)) desk.new }
     ensures ready { IfOk result (λ going. IsReady going lines.new pending.new) }
     ensures payload { ready ≡ Ready.Payload → lines.new ≡ lines.old }
-    ensures carries { IfOk result (λ going. Carries manner (I.front (I.kept iio.old)) (state_of I.seen (I.told iio.old) desk.old)
-        (piece_by ready lines.old pending.old) out.old.items out.new.items (state_of I.seen (I.told iio.new) desk.new)
+    ensures hears { IfOk result (λ going. Hears W.makes manner (I.front (I.kept iio.old)) (scene_of I.seen (I.told iio.old) desk.old watch.old false)
+        (piece_by ready lines.old pending.old) out.old.items out.new.items (scene_of I.seen (I.told iio.new) desk.new watch.new (is_waiting going))
         (stream_by going lines.new pending.new) going) }
 {
     match ready {
         Ready::More => Ok(Going::On),
         Ready::Line => {
             if lines.piece().is_empty() {
-                return hear_refused(manner, desk, iio, Refused::Empty, out);
+                return hear_refused(manner, desk, iio, watch, Refused::Empty, out);
             }
-            hear_line(alloc, manner, desk, iio, lines, pending, out)
+            hear_line(alloc, manner, desk, iio, watch, lines, pending, out)
         }
         Ready::Payload => {
-            hear_payload(alloc, manner, desk, iio, lines.piece(), pending, out)?;
+            hear_payload(alloc, manner, desk, iio, watch, lines.piece(), pending, out)?;
             Ok(Going::On)
         }
-        Ready::TooLong => end(desk, iio, Some(Errno::E2BIG), out),
+        Ready::TooLong => end(desk, iio, watch, Some(Errno::E2BIG), &Seen::TooLong, out),
     }
 }
 
 // Takes the pieces of further bytes one after another, and carries each out.
-fn carry_on<I: Iio>(
+fn carry_on<I: Iio, W: Watch<I>>(
     alloc: Global,
     manner: Manner,
     desk: &mut Desk<I::Seat>,
     iio: &mut I,
+    watch: &mut W,
     lines: &mut Lines,
     pending: &mut PendingWrite,
     bytes: &[u8],
@@ -281,8 +310,8 @@ fn carry_on<I: Iio>(
     ensures desk { IsDesk I.seen (I.front (I.kept iio.new)) desk.new }
     ensures within { IfOk result (λ r. r.0 ≤ length bytes.now) }
     ensures ready { IfOk result (λ r. IsReady r.1 lines.new pending.new) }
-    ensures carries { IfOk result (λ r. Carries manner (I.front (I.kept iio.old)) (state_of I.seen (I.told iio.old) desk.old)
-        (scan_on (stream_by Going.On lines.old pending.old) bytes.now) out.old.items out.new.items (state_of I.seen (I.told iio.new) desk.new)
+    ensures hears { IfOk result (λ r. Hears W.makes manner (I.front (I.kept iio.old)) (scene_of I.seen (I.told iio.old) desk.old watch.old false)
+        (scan_on (stream_by Going.On lines.old pending.old) bytes.now) out.old.items out.new.items (scene_of I.seen (I.told iio.new) desk.new watch.new (is_waiting r.1))
         (scan_on (stream_by r.1 lines.new pending.new) (drop r.0 bytes.now)) r.1) }
     ensures all { IfOk result (λ r. r.1 ≡ Going.On → (r.0 ≡ length bytes.now) × ((stream_by Going.On lines.new pending.new).items ≡ [])) }
 {
@@ -294,7 +323,7 @@ fn carry_on<I: Iio>(
         if let Ready::More = ready {
             return Ok((at, Going::On));
         }
-        match hear_piece(alloc, manner, desk, iio, lines, pending, ready, out)? {
+        match hear_piece(alloc, manner, desk, iio, watch, lines, pending, ready, out)? {
             Going::On => {}
             going => return Ok((at, going)),
         }
@@ -303,11 +332,12 @@ fn carry_on<I: Iio>(
 
 /// Carries out the items that further bytes make whole, first the READBUF that waits, where there is one. Answers how many
 /// of the bytes were looked at, and how the connection stands then.
-pub(crate) fn carry_out<I: Iio>(
+pub(crate) fn carry_out<I: Iio, W: Watch<I>>(
     alloc: Global,
     manner: Manner,
     desk: &mut Desk<I::Seat>,
     iio: &mut I,
+    watch: &mut W,
     lines: &mut Lines,
     pending: &mut PendingWrite,
     going: Going,
@@ -320,20 +350,20 @@ pub(crate) fn carry_out<I: Iio>(
     ensures desk { IsDesk I.seen (I.front (I.kept iio.new)) desk.new }
     ensures within { IfOk result (λ r. r.0 ≤ length bytes.now) }
     ensures ready { IfOk result (λ r. IsReady r.1 lines.new pending.new) }
-    ensures carries { IfOk result (λ r. Carries manner (I.front (I.kept iio.old)) (state_of I.seen (I.told iio.old) desk.old)
-        (scan_on (stream_by going lines.old pending.old) bytes.now) out.old.items out.new.items (state_of I.seen (I.told iio.new) desk.new)
+    ensures hears { IfOk result (λ r. Hears W.makes manner (I.front (I.kept iio.old)) (scene_of I.seen (I.told iio.old) desk.old watch.old (is_waiting going))
+        (scan_on (stream_by going lines.old pending.old) bytes.now) out.old.items out.new.items (scene_of I.seen (I.told iio.new) desk.new watch.new (is_waiting r.1))
         (scan_on (stream_by r.1 lines.new pending.new) (drop r.0 bytes.now)) r.1) }
     ensures all { IfOk result (λ r. r.1 ≡ Going.On → (r.0 ≡ length bytes.now) × ((stream_by Going.On lines.new pending.new).items ≡ [])) }
 {
     match going {
-        Going::On => carry_on(alloc, manner, desk, iio, lines, pending, bytes, out),
+        Going::On => carry_on(alloc, manner, desk, iio, watch, lines, pending, bytes, out),
         Going::Ended => Ok((0, Going::Ended)),
-        Going::Waits(_) => match hear_again(manner, desk, iio, pending, out)? {
+        Going::Waits(_) => match hear_again(manner, desk, iio, watch, pending, out)? {
             Going::On => {
                 if bytes.is_empty() {
                     return Ok((0, Going::On));
                 }
-                carry_on(alloc, manner, desk, iio, lines, pending, bytes, out)
+                carry_on(alloc, manner, desk, iio, watch, lines, pending, bytes, out)
             }
             going => Ok((0, going)),
         },
@@ -363,12 +393,13 @@ fn keep_unread(left: &mut Vec<u8>, going: Going, taken: usize, bytes: &[u8]) -> 
     Ok(())
 }
 
-/// Carries out the bytes that were kept waiting and then further ones, as `carry_out` does, and keeps those that wait now.
-pub(crate) fn hear<I: Iio>(
+/// The same with the bytes that were kept waiting, and keeps those that wait now.
+pub(crate) fn hear<I: Iio, W: Watch<I>>(
     alloc: Global,
     manner: Manner,
     desk: &mut Desk<I::Seat>,
     iio: &mut I,
+    watch: &mut W,
     lines: &mut Lines,
     pending: &mut PendingWrite,
     left: &mut Vec<u8>,
@@ -381,19 +412,23 @@ pub(crate) fn hear<I: Iio>(
     ensures kept { I.kept iio.new ≡ I.kept iio.old }
     ensures desk { IsDesk I.seen (I.front (I.kept iio.new)) desk.new }
     ensures ready { IfOk result (λ going. IsKept going lines.new pending.new left.new.items) }
-    ensures carries { IfOk result (λ going. Carries manner (I.front (I.kept iio.old)) (state_of I.seen (I.told iio.old) desk.old)
-        (scan_on (scan_on (stream_by was lines.old pending.old) left.old.items) bytes.now) out.old.items out.new.items (state_of I.seen (I.told iio.new) desk.new)
+    ensures hears { IfOk result (λ going. Hears W.makes manner (I.front (I.kept iio.old)) (scene_of I.seen (I.told iio.old) desk.old watch.old (is_waiting was))
+        (scan_on (scan_on (stream_by was lines.old pending.old) left.old.items) bytes.now) out.old.items out.new.items (scene_of I.seen (I.told iio.new) desk.new watch.new (is_waiting going))
         (scan_on (stream_by going lines.new pending.new) left.new.items) going) }
     ensures all { IfOk result (λ going. going ≡ Going.On → (scan_on (stream_by going lines.new pending.new) left.new.items).items ≡ []) }
 {
     if left.is_empty() {
-        let (taken, going) = carry_out(alloc, manner, desk, iio, lines, pending, was, bytes, out)?;
+        let (taken, going) = carry_out(
+            alloc, manner, desk, iio, watch, lines, pending, was, bytes, out,
+        )?;
         keep_unread(left, going, taken, bytes)?;
         return Ok(going);
     }
     cut_anywhere();
     left.extend_from_slice(bytes)?;
-    let (taken, going) = carry_out(alloc, manner, desk, iio, lines, pending, was, left, out)?;
+    let (taken, going) = carry_out(
+        alloc, manner, desk, iio, watch, lines, pending, was, left, out,
+    )?;
     let rest = Vec::from_slice(alloc, unread(going, taken, left))?;
     *left = rest;
     Ok(going)

@@ -20,6 +20,7 @@ mod session;
 mod targets;
 mod triggers;
 mod wanted;
+mod watch;
 
 pub use desk::{FIRST_BUFFERS, MAX_BUFFERS};
 pub use iio::{Bells, Counts, Iio, No, Took};
@@ -28,3 +29,4 @@ pub use limits::MAX_SCANS;
 pub use manner::{Going, Manner};
 pub use reading::read_scans;
 pub use session::Session;
+pub use watch::{Seen, Unwatched, Watch};

@@ -21,8 +21,8 @@ use iio_base::Mem;
 use iio_text::Errno;
 use iiod_reply::number;
 
-// The place of the seat at a device.
-fn find_held<S>(held: &[Held<S>], dev: u32) -> Option<usize>
+/// The place of the seat at a device.
+pub(crate) fn find_held<S>(held: &[Held<S>], dev: u32) -> Option<usize>
     ensures place { result ≡ position (λ (h : Held S). h.dev == dev) held.now }
     ensures within { IfSome result (λ i. i < length held.now) }
 {

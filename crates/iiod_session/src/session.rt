@@ -1,12 +1,15 @@
 //! A connection: what it sent, what it is answered, and what it has of the devices.
 
-ghost use Rattle.std.specs.Prelude.{◌≡◌, ◌↔◌, [], IfOk, IfSome, IsTrue, OnErr, Some};
+ghost use Rattle.std.specs.Prelude.{◌≡◌, ◌↔◌, [], IfOk, IfSome, IsTrue, OnErr, Some, is_some};
 ghost use Rattle.iiod_grammar.specs.Scans.{scan_on};
 ghost use Rattle.iiod_grammar.specs.Stream.{AtEnd, no_item};
 ghost use Rattle.iiod_session.specs.Acts.{left_desk, left_machine};
-ghost use Rattle.iiod_session.specs.Desk.{IsDesk, desk_of};
+ghost use Rattle.iio_device.specs.Site.{is_empty};
+ghost use Rattle.iiod_session.specs.Desk.{IsDesk, desk_of, place_of, seats_of};
 ghost use Rattle.iiod_session.specs.Run.{FeedTells, Feeds, state_of};
+ghost use Rattle.iiod_session.specs.Seat.{SeatRecord};
 ghost use Rattle.iiod_session.specs.Session.{IsFresh};
+ghost use Rattle.iiod_session.specs.Watch.{Hears, scene_of, waits_in};
 ghost use Rattle.iiod_session.specs.declared.manner.Going.{Going};
 
 use crate::desk::Desk;
@@ -15,6 +18,8 @@ use crate::iio::Iio;
 use crate::leave::leave;
 use crate::manner::{Going, Manner};
 use crate::pending_write::PendingWrite;
+use crate::seats::find_held;
+use crate::watch::{Unwatched, Watch};
 use iio_base::Mem;
 use iiod_grammar::Lines;
 use std::alloc::Global;
@@ -104,6 +109,36 @@ impl<S> Session<S> {
         ensures script { IfOk result (λ going. FeedTells self.old.manner (I.front (I.kept iio.old)) (state_of I.seen (I.told iio.old) self.old.desk)
             (scan_on self.old.stream bytes.now).items out.old.items out.new.items (state_of I.seen (I.told iio.new) self.new.desk)) }
     {
+        self.feed_watched(alloc, iio, &mut Unwatched, bytes, out)
+    }
+
+    /// Does what [`Session::feed`] does, and tells `watch` each item that it carries out, once, in order, with the devices as
+    /// they stand just before the item. A READBUF that waits was told when it came, and isn't told again.
+    pub fn feed_watched<I: Iio<Seat = S>, W: Watch<I>>(
+        &mut self,
+        alloc: Global,
+        iio: &mut I,
+        watch: &mut W,
+        bytes: &[u8],
+        out: &mut Vec<u8>,
+    ) -> Result<Going, Mem>
+        requires { IsDesk I.seen (I.front (I.kept iio.old)) self.old.desk }
+        ensures kept { I.kept iio.new ≡ I.kept iio.old }
+        ensures desk { IsDesk I.seen (I.front (I.kept iio.new)) self.new.desk }
+        ensures feeds { IfOk result (Feeds self.old.manner (I.front (I.kept iio.old)) (state_of I.seen (I.told iio.old) self.old.desk)
+            (scan_on self.old.stream bytes.now) out.old.items out.new.items (state_of I.seen (I.told iio.new) self.new.desk) self.new.stream) }
+        ensures watched { IfOk result (Hears W.makes self.old.manner (I.front (I.kept iio.old))
+            (scene_of I.seen (I.told iio.old) self.old.desk watch.old (waits_in self.old.stream.items))
+            (scan_on self.old.stream bytes.now) out.old.items out.new.items
+            (scene_of I.seen (I.told iio.new) self.new.desk watch.new (waits_in self.new.stream.items)) self.new.stream) }
+        ensures all { IfOk result (λ going. going ≡ Going.On → self.new.stream.items ≡ []) }
+        ensures manner { self.new.manner ≡ self.old.manner }
+        ensures gone { OnErr result ((self.new.desk.held.items ≡ []) × (self.new.desk.holdings.items ≡ []) × (self.new.stream ≡ no_item AtEnd)) }
+
+        // In a script, over devices that tell their state, all of it is determined.
+        ensures script { IfOk result (λ going. FeedTells self.old.manner (I.front (I.kept iio.old)) (state_of I.seen (I.told iio.old) self.old.desk)
+            (scan_on self.old.stream bytes.now).items out.old.items out.new.items (state_of I.seen (I.told iio.new) self.new.desk)) }
+    {
         let was = self.going;
         self.going = Going::Ended;
         match hear(
@@ -111,6 +146,7 @@ impl<S> Session<S> {
             self.manner,
             &mut self.desk,
             iio,
+            watch,
             &mut self.lines,
             &mut self.pending,
             &mut self.left,
@@ -164,6 +200,20 @@ impl<S> Session<S> {
             holdings: _,
         } = desk;
         held.destroy_empty();
+    }
+
+    /// Whether it has a seat at the device.
+    pub fn holds(&self, dev: u32) -> bool
+        ensures { (seen : S → SeatRecord) → result ≡ is_some (place_of dev (seats_of seen self.now.desk.held.items)) }
+    {
+        find_held(&self.desk.held, dev).is_some()
+    }
+
+    /// Whether it has no seat.
+    pub fn holds_nothing(&self) -> bool
+        ensures { (seen : S → SeatRecord) → result ≡ is_empty (seats_of seen self.now.desk.held.items) }
+    {
+        self.desk.held.is_empty()
     }
 
     /// Whether it has ended: by EXIT, by a broken limit, or because [`Session::feed`] answered `Mem`.

@@ -8,7 +8,7 @@ ghost use Rattle.iiod_session_tests.specs.Shelf.{seen_of};
 
 use crate::shelf::{Shelf, ShelfSeat};
 use iio_desc::{Desc, DescReader};
-use iiod_session::{Going, Manner, Session};
+use iiod_session::{Going, Manner, Seen, Session, Watch};
 use std::alloc::Global;
 use std::process::Abort;
 use std::test::Fail;
@@ -134,5 +134,93 @@ fn data_are_what_the_seats_gave(rt: HostRuntime) -> Result<(), Fail> {
     let lists = lists(alloc, &shelf.closed)?;
     let given = b"aA bB cC dD eE \nx y \nfF gG \n";
     assert_eq!(rt; lists.as_slice(), given.as_slice());
+    Ok(())
+}
+
+// What a watch was told: a letter for each item, and a digit for the scans that waited just before it.
+#[derive(Drop)]
+struct Letters {
+    told: [u8; 32],
+    count: usize,
+}
+
+impl Letters {
+    fn new() -> Letters {
+        Letters {
+            told: [0; 32],
+            count: 0,
+        }
+    }
+
+    fn push(&mut self, letter: u8) {
+        if self.count < 32 {
+            self.told[self.count] = letter;
+            self.count += 1;
+        }
+    }
+
+    fn text(&self) -> &[u8] {
+        if self.count <= 32 {
+            &self.told[..self.count]
+        } else {
+            b""
+        }
+    }
+}
+
+impl Watch<Shelf> for Letters {
+    ghost makes = { λ front told who item old new. Unit {0} };
+
+    fn before(&mut self, iio: &Shelf, _who: u32, item: &Seen<'_>) {
+        self.push(match item {
+            Seen::Command(_) => b'c',
+            Seen::Refused => b'r',
+            Seen::TooLong => b'l',
+        });
+        self.push(b'0' + (iio.scans.len() % 10) as u8);
+    }
+}
+
+// Each item is told once, before it is carried out, and a READBUF that waits isn't told again.
+#[test]
+fn a_watch_is_told_each_item_once(rt: HostRuntime) -> Result<(), Fail> {
+    let alloc = rt.alloc();
+    let mut shelf = shelf_of(alloc, &[b"aA"])?;
+    let mut a = Session::new(alloc, 3, Manner::Server)?;
+    let mut watch = Letters::new();
+    let mut out = Vec::new(alloc);
+    let bytes = b"OPEN adc0 1 00000003\nNONE\n\nREADBUF adc0 2\nREADBUF adc0 2\nVERSION\n";
+    let waits = a.feed_watched(alloc, &mut shelf, &mut watch, bytes, &mut out)?;
+    assert_eq!(rt; waits, Going::Waits(0));
+    assert_eq!(rt; watch.text(), b"c1r1r1c1c0".as_slice());
+    assert!(rt; a.holds(0) && !a.holds(1) && !a.holds_nothing());
+    shelf.scans.push(b"bB".to_vec(alloc)?)?;
+    let on = a.feed_watched(alloc, &mut shelf, &mut watch, b"EX", &mut out)?;
+    assert_eq!(rt; on, Going::On);
+    assert_eq!(rt; watch.text(), b"c1r1r1c1c0c0".as_slice());
+    let ended = a.feed_watched(alloc, &mut shelf, &mut watch, b"IT\n\n", &mut out)?;
+    assert_eq!(rt; ended, Going::Ended);
+    assert_eq!(rt; watch.text(), b"c1r1r1c1c0c0c0".as_slice());
+    assert!(rt; a.holds_nothing());
+    a.end(&mut shelf);
+    Ok(())
+}
+
+// Both broken limits: a line that is too long, and a payload that is too large, which is told as the WRITE.
+#[test]
+fn a_watch_is_told_a_broken_limit(rt: HostRuntime) -> Result<(), Fail> {
+    let alloc = rt.alloc();
+    let mut shelf = shelf_of(alloc, &[])?;
+    let mut a = Session::new(alloc, 3, Manner::Script)?;
+    let mut b = Session::new(alloc, 4, Manner::Script)?;
+    let mut watch = Letters::new();
+    let mut out = Vec::new(alloc);
+    let long = [b'x'; 1025];
+    a.feed_watched(alloc, &mut shelf, &mut watch, &long, &mut out)?;
+    let large = b"WRITE adc0 sampling_frequency 2\n10WRITE adc0 x 65537\n";
+    b.feed_watched(alloc, &mut shelf, &mut watch, large, &mut out)?;
+    assert_eq!(rt; watch.text(), b"l0c0c0".as_slice());
+    a.end(&mut shelf);
+    b.end(&mut shelf);
     Ok(())
 }

@@ -7,8 +7,8 @@ use Rattle.iiod_session.proofs.HearLaws.{all_taken, more_feeds, none_after, on_f
 use Rattle.iiod_session.proofs.StreamLaws.{more_takes, more_waits}
 use Rattle.iiod_session.proofs.feed.carry_on.Goals as goal
 
-pub returns-in-More-clause-carries : goal.returns-in-More-clause-carries
-returns-in-More-clause-carries g c =
+pub returns-in-More-clause-hears : goal.returns-in-More-clause-hears
+returns-in-More-clause-hears g c =
     more_feeds _ _ _ _ _ _ _ c.loop-desk.lines c.feed-taken.new.self c.loop-desk.pending.device c.loop-desk.pending.target _ _ _
     (rw c.in-More.is at (c.feed-taken.ensures.items c.loop-desk.pending.device c.loop-desk.pending.target))
     (take_rest c.args.bytes.now c.loop-desk.at)
@@ -34,13 +34,13 @@ loop-desk-preserved g c = record {
       (ap (λ bs. scan_on (stream_by On c.loop-desk.lines c.loop-desk.pending) bs) (sym (take_rest c.args.bytes.now c.loop-desk.at))
       ∙ piece_scans c.cut_anywhere.ensures.items c.cut_anywhere.ensures.scanner c.loop-desk.lines c.feed-taken.new.self c.loop-desk.pending _ c.feed-taken.result.0 c.feed-taken.result.1
       c.in_default.not-More c.loop-desk.invariant.ready (c.feed-taken.ensures.items _ _))
-      (rest_after c.loop-desk.at c.feed-taken.result.0 c.args.bytes.now) c.loop-desk.invariant.fed (rw (c.in-On.is, c.loop-desk.invariant.kept) at c.in_ok-going.ensures.carries);
+      (rest_after c.loop-desk.at c.feed-taken.result.0 c.args.bytes.now) c.loop-desk.invariant.fed (rw (c.in-On.is, c.loop-desk.invariant.kept) at c.in_ok-going.ensures.hears);
 }
 
-pub returns-in_default-2-clause-carries : goal.returns-in_default-2-clause-carries
-returns-in_default-2-clause-carries g c =
+pub returns-in_default-2-clause-hears : goal.returns-in_default-2-clause-hears
+returns-in_default-2-clause-hears g c =
     stop_feeds _ _ _ _ _ _ _ _ _ _ _ _ _ _ c.in_ok-going.going c.in_default-2.not-On
     (ap (λ bs. scan_on (stream_by On c.loop-desk.lines c.loop-desk.pending) bs) (sym (take_rest c.args.bytes.now c.loop-desk.at))
     ∙ piece_scans c.cut_anywhere.ensures.items c.cut_anywhere.ensures.scanner c.loop-desk.lines c.feed-taken.new.self c.loop-desk.pending _ c.feed-taken.result.0 c.feed-taken.result.1
     c.in_default.not-More c.loop-desk.invariant.ready (c.feed-taken.ensures.items _ _))
-    (rest_after c.loop-desk.at c.feed-taken.result.0 c.args.bytes.now) c.loop-desk.invariant.fed (rw c.loop-desk.invariant.kept at c.in_ok-going.ensures.carries)
+    (rest_after c.loop-desk.at c.feed-taken.result.0 c.args.bytes.now) c.loop-desk.invariant.fed (rw c.loop-desk.invariant.kept at c.in_ok-going.ensures.hears)

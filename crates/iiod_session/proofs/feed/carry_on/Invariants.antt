@@ -1,20 +1,20 @@
-use Rattle.std.proofs.Common.{◌≡◌, ◌≤◌, ◌+◌, ◌-◌, ℕ, drop, length}
+use Rattle.std.proofs.Common.{◌≡◌, ◌≤◌, ◌+◌, ◌-◌, ℕ, drop, false, length}
 use Rattle.std.specs.Option.{option_map_or}
 use Rattle.iiod_grammar.specs.Scans.{scan_on}
 use Rattle.iiod_session.specs.Desk.{IsDesk}
-use Rattle.iiod_session.specs.Run.{Fed, state_of}
 use Rattle.iiod_session.specs.Session.{IsReady, stream_by}
+use Rattle.iiod_session.specs.Watch.{Heard, scene_of}
 use Rattle.iiod_session.specs.declared.manner.Going.TheVariants.{On}
 use Rattle.iiod_session.proofs.feed.carry_on.Given as goal
 
 abbrev pub invariant-loop-desk : goal.invariant-loop-desk
-invariant-loop-desk g l = let iio = g.I.Iio in record {
+invariant-loop-desk g l = let iio = g.I.Iio in let makes = g.W.Watch.makes in record {
   kept : iio.kept l.iio ≡ iio.kept l.fn.iio;
   desk : IsDesk iio.seen (iio.front (iio.kept l.fn.iio)) l.desk;
   within : l.at ≤ length l.bytes;
   ready : IsReady On l.lines l.pending;
-  fed : Fed l.manner (iio.front (iio.kept l.fn.iio)) (state_of iio.seen (iio.told l.fn.iio) l.fn.desk) (scan_on (stream_by On l.fn.lines l.fn.pending) l.bytes)
-      l.fn.out.items l.out.items (state_of iio.seen (iio.told l.iio) l.desk) (scan_on (stream_by On l.lines l.pending) (drop l.at l.bytes));
+  fed : Heard makes l.manner (iio.front (iio.kept l.fn.iio)) (scene_of iio.seen (iio.told l.fn.iio) l.fn.desk l.fn.watch false) (scan_on (stream_by On l.fn.lines l.fn.pending) l.bytes)
+      l.fn.out.items l.out.items (scene_of iio.seen (iio.told l.iio) l.desk l.watch false) (scan_on (stream_by On l.lines l.pending) (drop l.at l.bytes));
 }
 
 abbrev pub decreases-loop-desk : goal.decreases-loop-desk

@@ -1,0 +1,53 @@
+-- What a watch is told beside, and what is left without it.
+use Rattle.std.proofs.Common.{◌≡◌, ◌≢◌, ℕ, Bool, true, false, List, [], ◌∷◌, refl, sym, ap, ◌∙◌, Option, Some, None, Result, Ok, Err, IfOk}
+use Rattle.iio_base.specs.declared.Mem.{Mem}
+use Rattle.iiod_grammar.specs.Stream.{Item, Scanned}
+use Rattle.iiod_reply.specs.Reply.{Reply}
+use Rattle.iiod_session.specs.declared.manner.Going.{Going}
+use Rattle.iiod_session.specs.declared.manner.Going.TheVariants.{On, Waits, Ended}
+use Rattle.iiod_session.specs.declared.manner.Manner.{Manner}
+use Rattle.iiod_session.specs.Front.{Front}
+use Rattle.iiod_session.specs.Machine.{Machine}
+use Rattle.iiod_session.specs.Run.{State, Carries, Run, RunBy, Stands}
+use Rattle.iiod_session.specs.Watch.{Hears, IsHeard, IsPut, Scene}
+
+abbrev pub scene : {W : Type 0} → State → W → Bool → Scene W
+scene a w told = record { state = a; watch = w; told = told }
+
+module _ {W : Type 0} (makes : Front → Option Machine → ℕ → Item → W → W → Type 0) where
+  run_of : (manner : Manner) (front : Front) (a b : Scene W) (items : List Item) (replies : List Reply)
+      → RunBy (IsHeard makes manner front) a items replies b → Run manner front a.state items replies b.state
+  run_of manner front a b [] [] r = ap (λ (x : Scene W). x.state) r
+  run_of manner front a b (item ∷ items) (reply ∷ replies) r = (r.0.state, r.1.answered, run_of manner front r.0 b items replies r.2)
+  run_of manner front a b [] (reply ∷ replies) r = r
+  run_of manner front a b (item ∷ items) [] r = r
+
+module _ {W : Type 0} {makes : Front → Option Machine → ℕ → Item → W → W → Type 0} where
+  stands_of : (manner : Manner) (front : Front) (a b : Scene W) (all left : Scanned) (before after : List ℕ) (going : Going)
+      → (c : Hears makes manner front a all before after b left going) → Stands manner front c.mid.state left b.state going
+  stands_of manner front a b all left before after On c = (ap (λ (x : Scene W). x.state) c.stands.0, c.stands.1)
+  stands_of manner front a b all left before after (Waits dev) c = record {
+    server = c.stands.server;
+    item = c.stands.item;
+    more = c.stands.more;
+    first = c.stands.first;
+    read = c.stands.read;
+    served = c.stands.served.served;
+  }
+  stands_of manner front a b all left before after Ended c = (ap (λ (x : Scene W). x.state) c.stands.0, c.stands.1)
+
+  -- the watch left out
+  pub carries_of : (manner : Manner) (front : Front) (a b : Scene W) (all left : Scanned) (before after : List ℕ) (going : Going)
+      → Hears makes manner front a all before after b left going → Carries manner front a.state all before after b.state left going
+  carries_of manner front a b all left before after going c = record {
+    mid = c.mid.state;
+    fed = record {
+      items = c.fed.items;
+      replies = c.fed.replies;
+      heard = c.fed.heard;
+      next = c.fed.next;
+      text = c.fed.text;
+      run = run_of makes manner front a c.mid c.fed.items c.fed.replies c.fed.run;
+    };
+    stands = stands_of manner front a b all left before after going c;
+  }

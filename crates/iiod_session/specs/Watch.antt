@@ -1,0 +1,73 @@
+-- A feed that tells a watch of its items: each once, in their order, with what stands just before it. (This project's own.)
+use Rattle.std.specs.Prelude.{◌≡◌, ℕ, ◌<◌, min, Bool, true, false, List, ◌∷◌, length, Option, Some, None, MatchBool, Ok, Err}
+use Rattle.iio_text.specs.declared.errors.Errno.TheVariants.{E2BIG, EFBIG}
+use Rattle.iiod_grammar.specs.declared.lines.TheConstants.{MAX_PAYLOAD}
+use Rattle.iiod_grammar.specs.Command.{Target, Exit, Write}
+use Rattle.iiod_grammar.specs.Stream.{Item, Said, Written, End, Scanned}
+use Rattle.iiod_grammar.specs.View.{command_view}
+use Rattle.iiod_reply.specs.Reply.{Reply}
+use Rattle.iiod_session.specs.declared.desk.Desk.{Desk}
+use Rattle.iiod_session.specs.declared.manner.Going.{Going}
+use Rattle.iiod_session.specs.declared.manner.Going.TheVariants.{Waits}
+use Rattle.iiod_session.specs.declared.manner.Manner.{Manner}
+use Rattle.iiod_session.specs.declared.watch.Seen.{Seen}
+use Rattle.iiod_session.specs.declared.watch.Seen.TheVariants.{Command, Refused, TooLong}
+use Rattle.iiod_session.specs.Front.{Front}
+use Rattle.iiod_session.specs.Machine.{Machine}
+use Rattle.iiod_session.specs.Run.{State, CarriesBy, FedBy, FindsNone, IsAnswered, state_of}
+use Rattle.iiod_session.specs.Seat.{SeatRecord}
+use Rattle.iiod_session.specs.Session.{IsPlain}
+
+-- an item as a watch is told it: EXIT comes as the end that it is, a WRITE as the command once its payload is whole, and so
+-- does one whose payload is too large. (A payload has no more bytes than a payload may have.)
+abbrev pub IsSeen : Item → Seen → Type 0
+IsSeen (Said (Ok said)) (Command command) = IsPlain (Ok said) × (command_view command ≡ said)
+IsSeen (Said (Err why)) Refused = Unit {0}
+IsSeen (Written device target payload) (Command command) = command_view command ≡ Write device target (min (length payload) MAX_PAYLOAD)
+IsSeen (End None) (Command command) = command_view command ≡ Exit
+IsSeen (End (Some EFBIG)) (Command command) =
+    (device : List ℕ) × (target : Option Target) × (count : ℕ) × (command_view command ≡ Write device target count) × (MAX_PAYLOAD < count)
+IsSeen (End (Some E2BIG)) TooLong = Unit {0}
+IsSeen item seen = ⊥
+
+-- what stands, with the watch, and whether the READBUF that comes first was told already, since it waited
+pub record Scene (W : Type 0) : Type 0 where
+  pub state : State
+  pub watch : W
+  pub told : Bool
+
+abbrev pub scene_of : {S W : Type 0} → (S → SeatRecord) → Option Machine → Desk S → W → Bool → Scene W
+scene_of seen told desk watch waited = record { state = state_of seen told desk; watch = watch; told = waited }
+
+abbrev pub is_waiting : Going → Bool
+is_waiting (Waits dev) = true
+is_waiting going = false
+
+-- a line that is whole and isn't answered yet waits
+abbrev pub waits_in : List Item → Bool
+waits_in (Said line ∷ items) = true
+waits_in items = false
+
+module _ {W : Type 0} (makes : Front → Option Machine → ℕ → Item → W → W → Type 0) (manner : Manner) (front : Front) where
+  -- the watch once it was told an item
+  abbrev pub Tells : Scene W → Item → W → Type 0
+  Tells a item w = MatchBool a.told (w ≡ a.watch) (makes front a.state.told a.state.desk.who item a.watch w)
+
+  -- the watch is told, and the item is answered
+  pub record IsHeard (a : Scene W) (item : Item) (reply : Reply) (b : Scene W) : Type 0 where
+    pub tells : Tells a item b.watch
+    pub answered : IsAnswered manner front a.state item reply b.state
+    pub next : b.told ≡ false
+
+  -- the watch is told, and the item waits
+  pub record IsPut (a : Scene W) (item : Item) (b : Scene W) : Type 0 where
+    pub tells : Tells a item b.watch
+    pub served : FindsNone front a.state item b.state
+    pub put : b.told ≡ true
+
+  abbrev pub Heard : Scene W → Scanned → List ℕ → List ℕ → Scene W → Scanned → Type 0
+  Heard = FedBy IsHeard
+
+  -- the first of these items were carried out, each told once
+  abbrev pub Hears : Scene W → Scanned → List ℕ → List ℕ → Scene W → Scanned → Going → Type 0
+  Hears = CarriesBy IsHeard IsPut manner front
