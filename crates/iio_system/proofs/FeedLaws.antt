@@ -30,7 +30,7 @@ use Rattle.iio_system.proofs.NameLaws.{is_named, line_at, no_line}
 use Rattle.iio_system.proofs.NewLaws.{new_arrived, new_begun, new_hearing, new_live}
 use Rattle.iio_system.proofs.OwnLaws.{with_session}
 
-line_there : (name : List ℕ) (ls : List Line) (l : Line) → line_named name ls ≡ Some l → is_in (map name_of ls) name ≡ true
+pub line_there : (name : List ℕ) (ls : List Line) (l : Line) → line_named name ls ≡ Some l → is_in (map name_of ls) name ≡ true
 line_there name [] l is = cc
 line_there name (x ∷ ls) l is = by (bytes_eq x.user.who name) is (line_there name ls l)
   where

@@ -30,3 +30,9 @@ pub mod FireLaws
 pub mod StepLaws
 pub mod TallyLaws
 pub mod RoomLemmas
+pub mod WatchLaws
+pub mod BesideLaws
+pub mod SaidLaws
+pub mod GuardLaws
+pub mod BackLaws
+pub mod GuardedLaws

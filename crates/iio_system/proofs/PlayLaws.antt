@@ -50,7 +50,7 @@ feed_triggers s m name bytes = by (has_ended name (registry_of m).users)
     by true = refl
     by false = steps_triggers s name (step s m (Arrived name bytes)) (items_from (begun_by name m.lines) bytes)
 
-pub on_ok : {P : Type 0} (r : Result (Unit {0}) Mem) → P → OnOk r P
+pub on_ok : {A P : Type 0} (r : Result A Mem) → P → OnOk r P
 on_ok (Ok x) p = p
 on_ok (Err e) p = tt
 
@@ -106,7 +106,7 @@ module _ {X : Type 0} {V : X → Type 0} (driver : Plug X V → Driver) where
     triggers = ap (λ (k : Kept). k.triggers) kept ∙ holds.triggers ∙ ap (λ (ts : List Trigger). map trigger_by ts) (sym same);
   }
 
-  pub feeds_there : (b b' : Bench X V) (cs : List (Connection Seat)) (i : ℕ) (c c' : Connection Seat) (name bytes before after : List ℕ) (r : Result (Unit {0}) Mem)
+  pub feeds_there : {A : Type 0} (b b' : Bench X V) (cs : List (Connection Seat)) (i : ℕ) (c c' : Connection Seat) (name bytes before after : List ℕ) (r : Result A Mem)
       → Some i ≡ position (is_named name) cs → c ≡ get_or cs i c → c'.name ≡ c.name → kept_of b' ≡ kept_of b → IsOwning seen_of (front_of b') c'.session
       → OnOk r (Feeds seen_of c.name bytes (front_of b) (Some (machine_of driver b)) (Some (machine_of driver b')) before after c.session c'.session)
       → OnOk r (MakesFeed driver name bytes b b' cs (set cs i c') before after)
@@ -124,7 +124,7 @@ module _ {X : Type 0} {V : X → Type 0} (driver : Plug X V → Driver) where
             (subst (λ (e : Connection Seat). Stands seen_of s (state_after s m (Feed name bytes)) (front_of b) (Some (machine_of driver b')) (set cs i e)) whole fed.1),
       )
 
-  pub feeds_new : (b b' : Bench X V) (cs : List (Connection Seat)) (c c' : Connection Seat) (name bytes before after : List ℕ) (r : Result (Unit {0}) Mem)
+  pub feeds_new : {A : Type 0} (b b' : Bench X V) (cs : List (Connection Seat)) (c c' : Connection Seat) (name bytes before after : List ℕ) (r : Result A Mem)
       → None ≡ position (is_named name) cs → IsNew name (length cs) c → c'.name ≡ c.name → kept_of b' ≡ kept_of b → IsOwning seen_of (front_of b') c'.session
       → OnOk r (Feeds seen_of c.name bytes (front_of b) (Some (machine_of driver b)) (Some (machine_of driver b')) before after c.session c'.session)
       → OnOk r (MakesFeed driver name bytes b b' cs (cs ++ c' ∷ []) before after)
@@ -169,17 +169,17 @@ module _ {X : Type 0} {V : X → Type 0} (driver : Plug X V → Driver) where
 
   -- ---- any step
 
-  pub made_move : (t : CodeStep) (b b' : Bench X V) (cs : List (Connection Seat)) (before after : List ℕ) (r : Result (Unit {0}) Mem)
+  pub made_move : {A : Type 0} (t : CodeStep) (b b' : Bench X V) (cs : List (Connection Seat)) (before after : List ℕ) (r : Result A Mem)
       → OnOk r ((cs : List (Connection Seat)) → Makes driver (step_view t) b b' cs cs before after) → OnOk r (MakesStep driver t b b' cs cs before after)
   made_move t b b' cs before after (Err e) makes = tt
   made_move t b b' cs before after (Ok x) makes = λ s m room holds. makes cs s m holds
 
-  pub made_step : (t : CodeStep) (b b' : Bench X V) (cs cs' : List (Connection Seat)) (before after : List ℕ) (r : Result (Unit {0}) Mem)
+  pub made_step : {A : Type 0} (t : CodeStep) (b b' : Bench X V) (cs cs' : List (Connection Seat)) (before after : List ℕ) (r : Result A Mem)
       → OnOk r (Makes driver (step_view t) b b' cs cs' before after) → OnOk r (MakesStep driver t b b' cs cs' before after)
   made_step t b b' cs cs' before after (Err e) makes = tt
   made_step t b b' cs cs' before after (Ok x) makes = λ s m room holds. makes s m holds
 
-  pub made_feed : (name bytes : List ℕ) (b b' : Bench X V) (cs cs' : List (Connection Seat)) (before after : List ℕ) (r : Result (Unit {0}) Mem)
+  pub made_feed : {A : Type 0} (name bytes : List ℕ) (b b' : Bench X V) (cs cs' : List (Connection Seat)) (before after : List ℕ) (r : Result A Mem)
       → OnOk r (MakesFeed driver name bytes b b' cs cs' before after) → OnOk r (MakesStep driver (code.Feed name bytes) b b' cs cs' before after)
   made_feed name bytes b b' cs cs' before after (Err e) makes = tt
   made_feed name bytes b b' cs cs' before after (Ok x) makes = λ s m room holds. makes s m (room_less (suc (length bytes)) (1 + length bytes) m.stations (omega arith) room) holds

@@ -100,7 +100,7 @@ module _ {X : Type 0} {V : X → Type 0} (driver : Plug X V → Driver) where
         },
       )
 
-  pub steps_ok : (x x' : System X V) (t : CodeStep) (before after : List ℕ) (r : Result (Unit {0}) Mem) → x.used + cost_of t < 2 ^ 56 → x'.used ≡ x.used + cost_of t
+  pub steps_ok : {A : Type 0} (x x' : System X V) (t : CodeStep) (before after : List ℕ) (r : Result A Mem) → x.used + cost_of t < 2 ^ 56 → x'.used ≡ x.used + cost_of t
       → OnOk r (MakesStep driver t x.bench x'.bench x.connections.items x'.connections.items before after)
       → OnOk r ((s : Setup) (h : List Event) → StandsFor driver s h x → (after ≡ before ++ lines_of_step s h (step_view t)) × StandsFor driver s (with_step s h (step_view t)) x')
   steps_ok x x' t before after (Err e) few used makes = tt

@@ -11,6 +11,7 @@ pub mod Lines
 pub mod Step
 pub mod System
 pub mod Feeding
+pub mod Guard
 pub mod Standing
 pub mod Moves
 pub mod Tally

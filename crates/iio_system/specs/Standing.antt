@@ -13,6 +13,7 @@ use Rattle.iio_history.specs.Transcript.{Step, Feed}
 use Rattle.iio_history.specs.Bench.{Every}
 use Rattle.iio_history.specs.BenchLaw.{CanJoinMore}
 use Rattle.iio_history.specs.Played.{state_after, step_lines}
+use Rattle.iio_worlds.specs.Stance.{step_meets}
 use Rattle.iio_system.specs.declared.bench.Bench.{Bench}
 use Rattle.iio_system.specs.declared.connection.Connection.{Connection}
 use Rattle.iio_system.specs.declared.seat.Seat.{Seat}
@@ -97,6 +98,18 @@ module _ {X : Type 0} {V : X → Type 0} (driver : Plug X V → Driver) where
   MakesStep t b b' cs cs' before after =
       (s : Setup) (m : Told) → Every (CanJoinMore (cost_of t)) m.stations → Holds s m b cs
       → (after ≡ before ++ step_lines s m (step_view t)) × Holds s (state_after s m (step_view t)) b' cs'
+
+  -- whether a step keeps to the rules of bystanders beside the watched connection; and a feed, or any step of the code
+  abbrev pub Meets : (watched : List ℕ) → Step → Bench X V → List (Connection Seat) → Bool → Type 0
+  Meets watched t b cs meets = (s : Setup) (m : Told) → Holds s m b cs → meets ≡ step_meets s watched m t
+
+  abbrev pub MeetsFeed : (watched name bytes : List ℕ) → Bench X V → List (Connection Seat) → Bool → Type 0
+  MeetsFeed watched name bytes b cs meets =
+      (s : Setup) (m : Told) → Every (CanJoinMore (suc (length bytes))) m.stations → Holds s m b cs → meets ≡ step_meets s watched m (Feed name bytes)
+
+  abbrev pub MeetsStep : (watched : List ℕ) → CodeStep → Bench X V → List (Connection Seat) → Bool → Type 0
+  MeetsStep watched t b cs meets =
+      (s : Setup) (m : Told) → Every (CanJoinMore (cost_of t)) m.stations → Holds s m b cs → meets ≡ step_meets s watched m (step_view t)
 
   -- a system stands for these events: it holds what they tell, and members can still be numbered. (A step has at most 32
   -- events for itself and for each of its bytes.)

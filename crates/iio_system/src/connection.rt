@@ -1,6 +1,6 @@
 //! The connections of a script.
 
-ghost use Rattle.std.specs.Prelude.{◌≡◌, ◌↔◌, ◌++◌, ℕ, List, IfOk, IsTrue, None, OnOk, position};
+ghost use Rattle.std.specs.Prelude.{◌≡◌, ◌↔◌, ◌++◌, ℕ, List, IfOk, IsTrue, None, OnOk, Some, position};
 ghost use Rattle.std.specs.Str.{bytes_eq};
 ghost use Rattle.iiod_grammar.specs.Stream.{AtEnd, Scanner, no_item};
 ghost use Rattle.iiod_session.specs.Desk.{IsDesk};
@@ -9,11 +9,12 @@ ghost use Rattle.iio_history.specs.Told.{Told};
 ghost use Rattle.iio_history.specs.Transcript.{closed_line};
 ghost use Rattle.iio_system.specs.Connection.{HasHeard, IsHearing};
 ghost use Rattle.iio_system.specs.Feeding.{Feeds, IsOwning};
+ghost use Rattle.iio_system.specs.Guard.{Watches};
 
 use crate::lines::{push_closed, push_feed};
 use iio_attr::Name;
 use iio_base::Mem;
-use iiod_session::{Iio, Session};
+use iiod_session::{Iio, Session, Watch};
 use std::alloc::Global;
 
 /// A connection: its name, and its session until it has ended; `S` is the type of its seats.
@@ -24,9 +25,10 @@ pub struct Connection<S> {
 }
 
 // The items that these bytes make whole, and whether the connection has ended with them.
-fn hear<I: Iio>(
+fn hear<I: Iio, W: Watch<I>>(
     alloc: Global,
     iio: &mut I,
+    watch: &mut W,
     session: &mut Session<I::Seat>,
     bytes: &[u8],
     answers: &mut Vec<u8>,
@@ -38,8 +40,9 @@ fn hear<I: Iio>(
         → IsHearing I.seen s m (I.front (I.kept iio.old)) (I.told iio.old) name begun bytes.now session.old
         → HasHeard I.seen s m (I.told iio.new) name begun bytes.now answers.old.items answers.new.items session.new) }
     ensures ended { IfOk result (λ ended. IsTrue ended ↔ (session.new.stream ≡ no_item AtEnd)) }
+    ensures watches { IfOk result (λ ended. (name : List ℕ) → Watches I.seen W.makes name bytes.now (I.front (I.kept iio.old)) (I.told iio.old) (Some session.old) watch.old watch.new) }
 {
-    session.feed(alloc, iio, bytes, answers)?;
+    session.feed_watched(alloc, iio, watch, bytes, answers)?;
     Ok(session.ended())
 }
 
@@ -56,9 +59,10 @@ fn end<S: Drop>(connection: &mut Connection<S>, out: &mut Vec<u8>) -> Result<(),
 }
 
 // The lines of a feed, and what is left of the connection.
-pub(crate) fn feed_at<I: Iio>(
+pub(crate) fn feed_at<I: Iio, W: Watch<I>>(
     alloc: Global,
     iio: &mut I,
+    watch: &mut W,
     connection: &mut Connection<I::Seat>,
     bytes: &[u8],
     answers: &mut Vec<u8>,
@@ -72,12 +76,14 @@ where
     ensures desk { IsOwning I.seen (I.front (I.kept iio.new)) connection.new.session }
     ensures fed { OnOk result (Feeds I.seen connection.old.name bytes.now (I.front (I.kept iio.old)) (I.told iio.old) (I.told iio.new)
         out.old.items out.new.items connection.old.session connection.new.session) }
+    ensures watches { OnOk result (Watches I.seen W.makes connection.old.name bytes.now (I.front (I.kept iio.old)) (I.told iio.old)
+        connection.old.session watch.old watch.new) }
 {
     let Some(session) = &mut connection.session else {
         return push_closed(out, &connection.name);
     };
     answers.clear();
-    let ended = hear(alloc, iio, session, bytes, answers)?;
+    let ended = hear(alloc, iio, watch, session, bytes, answers)?;
     push_feed(out, &connection.name, answers)?;
     if ended {
         end(connection, out)?;

@@ -1,25 +1,28 @@
 //! The connections of a script at the bench.
 
-ghost use Rattle.std.specs.Prelude.{◌≡◌, ◌<◌, ◌≤◌, true, None, IfOk, OnOk, is_some, length, map, position};
+ghost use Rattle.std.specs.Prelude.{◌≡◌, ◌<◌, ◌≤◌, true, None, Some, IfOk, OnOk, is_some, length, map, position};
 ghost use Rattle.std.specs.Str.{bytes_eq};
 ghost use Rattle.iio_history.specs.Script.{max_names};
 ghost use Rattle.iio_history.specs.Transcript.{Drop, Feed};
 ghost use Rattle.iio_system.specs.Bench.{front_of, kept_of, machine_of};
 ghost use Rattle.iiod_session.specs.Acts.{left_machine};
 ghost use Rattle.iiod_session.specs.Desk.{IsDesk, desk_of};
-ghost use Rattle.iio_system.specs.Feeding.{AreOwning, IsOwning, left_by};
-ghost use Rattle.iio_system.specs.Standing.{IsNew, Makes, MakesFeed, has_room, name_by, names_with};
+ghost use Rattle.iio_system.specs.Feeding.{AreOwning, Feeds, IsOwning, left_by};
+ghost use Rattle.iio_system.specs.Guard.{MeetsBeside};
+ghost use Rattle.iio_system.specs.Standing.{IsNew, Makes, MakesFeed, Meets, MeetsFeed, has_room, name_by, names_with};
 ghost use Rattle.iio_system.specs.Seat.{seen_of};
 
 use crate::bench::Bench;
 use crate::connection::{Connection, feed_at};
+use crate::guard::{Guard, may_end};
 use crate::lines::push_drop;
 use crate::seat::Seat;
 use iio_attr::Name;
 use iio_base::Mem;
 use iio_device::Plug;
 use iio_sensor::Sensor;
-use iiod_session::{Manner, Session};
+use iio_worlds::stance_law;
+use iiod_session::{Manner, Session, Unwatched};
 use std::alloc::Global;
 
 /// The place of the connection of that name.
@@ -65,7 +68,15 @@ fn feed_first(
 {
     connections.reserve(1)?;
     let mut connection = connect(alloc, connections.len(), name)?;
-    let fed = feed_at(alloc, bench, &mut connection, bytes, answers, out);
+    let fed = feed_at(
+        alloc,
+        bench,
+        &mut Unwatched,
+        &mut connection,
+        bytes,
+        answers,
+        out,
+    );
     connections.push_reserved(connection);
     fed
 }
@@ -91,8 +102,170 @@ pub(crate) fn feed(
     ensures makes { OnOk result (MakesFeed ⟦<Plug as Sensor>⟧.driver name.now bytes.now bench.old bench.new connections.old.items connections.new.items out.old.items out.new.items) }
 {
     match place(connections, name) {
-        Some(at) => feed_at(alloc, bench, &mut connections[at], bytes, answers, out),
+        Some(at) => feed_at(
+            alloc,
+            bench,
+            &mut Unwatched,
+            &mut connections[at],
+            bytes,
+            answers,
+            out,
+        ),
         None => feed_first(alloc, bench, connections, name, bytes, answers, out),
+    }
+}
+
+// Feeds a connection, and answers whether what it says keeps to the rules of bystanders beside the watched connection, where
+// these are the others.
+fn feed_beside(
+    alloc: Global,
+    bench: &mut Bench,
+    watched: &[u8],
+    connection: &mut Connection<Seat>,
+    others: &[Connection<Seat>],
+    bytes: &[u8],
+    answers: &mut Vec<u8>,
+    out: &mut Vec<u8>,
+) -> Result<bool, Mem>
+    requires { IsOwning seen_of (front_of bench.old) connection.old.session }
+    ensures kept { kept_of bench.new ≡ kept_of bench.old }
+    ensures name { connection.new.name ≡ connection.old.name }
+    ensures desk { IsOwning seen_of (front_of bench.new) connection.new.session }
+    ensures fed { OnOk result (Feeds seen_of connection.old.name bytes.now (front_of bench.old) (Some (machine_of ⟦<Plug as Sensor>⟧.driver bench.old))
+        (Some (machine_of ⟦<Plug as Sensor>⟧.driver bench.new)) out.old.items out.new.items connection.old.session connection.new.session) }
+    ensures meets { IfOk result (MeetsBeside seen_of watched.now connection.old.name bytes.now (front_of bench.old)
+        (Some (machine_of ⟦<Plug as Sensor>⟧.driver bench.old)) connection.old.session others.now) }
+{
+    let mut watch = Guard::new(watched, &connection.name, others);
+    feed_at(alloc, bench, &mut watch, connection, bytes, answers, out)?;
+    Ok(watch.meets)
+}
+
+// The same with a connection that comes with this feed.
+#[cold]
+#[inline(never)]
+fn guard_first(
+    alloc: Global,
+    bench: &mut Bench,
+    connections: &mut Vec<Connection<Seat>>,
+    watched: &[u8],
+    name: &Name,
+    bytes: &[u8],
+    answers: &mut Vec<u8>,
+    out: &mut Vec<u8>,
+) -> Result<bool, Mem>
+    requires owned { AreOwning seen_of (front_of bench.old) connections.old.items }
+    requires few { length connections.old.items ≤ max_names }
+    requires absent { position (λ c. bytes_eq c.name name.now) connections.old.items ≡ None }
+    requires taken { has_room (map name_by connections.old.items) name.now ≡ true }
+    ensures kept { kept_of bench.new ≡ kept_of bench.old }
+    ensures owned { AreOwning seen_of (front_of bench.new) connections.new.items }
+    ensures few { length connections.new.items ≤ max_names }
+    ensures names { OnOk result (map name_by connections.new.items ≡ names_with (map name_by connections.old.items) (Feed name.now bytes.now)) }
+    ensures makes { OnOk result (MakesFeed ⟦<Plug as Sensor>⟧.driver name.now bytes.now bench.old bench.new connections.old.items connections.new.items out.old.items out.new.items) }
+    ensures meets { IfOk result (MeetsFeed ⟦<Plug as Sensor>⟧.driver watched.now name.now bytes.now bench.old connections.old.items) }
+{
+    stance_law();
+    connections.reserve(1)?;
+    let mut connection = connect(alloc, connections.len(), name)?;
+    let fed = feed_beside(
+        alloc,
+        bench,
+        watched,
+        &mut connection,
+        connections,
+        bytes,
+        answers,
+        out,
+    );
+    connections.push_reserved(connection);
+    fed
+}
+
+// The same with one that is there. It is taken out for as long.
+fn guard_there(
+    alloc: Global,
+    bench: &mut Bench,
+    connections: &mut Vec<Connection<Seat>>,
+    at: usize,
+    watched: &[u8],
+    name: &Name,
+    bytes: &[u8],
+    answers: &mut Vec<u8>,
+    out: &mut Vec<u8>,
+) -> Result<bool, Mem>
+    requires at { position (λ c. bytes_eq c.name name.now) connections.old.items ≡ Some at }
+    requires owned { AreOwning seen_of (front_of bench.old) connections.old.items }
+    ensures kept { kept_of bench.new ≡ kept_of bench.old }
+    ensures owned { AreOwning seen_of (front_of bench.new) connections.new.items }
+    ensures count { length connections.new.items ≡ length connections.old.items }
+    ensures names { OnOk result (map name_by connections.new.items ≡ names_with (map name_by connections.old.items) (Feed name.now bytes.now)) }
+    ensures makes { OnOk result (MakesFeed ⟦<Plug as Sensor>⟧.driver name.now bytes.now bench.old bench.new connections.old.items connections.new.items out.old.items out.new.items) }
+    ensures meets { IfOk result (MeetsFeed ⟦<Plug as Sensor>⟧.driver watched.now name.now bytes.now bench.old connections.old.items) }
+{
+    stance_law();
+    let mut connection = Connection {
+        name: name.copy(),
+        session: connections[at].session.take(),
+    };
+    let fed = feed_beside(
+        alloc,
+        bench,
+        watched,
+        &mut connection,
+        connections,
+        bytes,
+        answers,
+        out,
+    );
+    connections[at] = connection;
+    fed
+}
+
+/// Does what [`feed`] does, and answers whether what the connection says keeps to the rules of bystanders beside the watched
+/// one.
+pub(crate) fn feed_guarded(
+    alloc: Global,
+    bench: &mut Bench,
+    connections: &mut Vec<Connection<Seat>>,
+    watched: &[u8],
+    name: &Name,
+    bytes: &[u8],
+    answers: &mut Vec<u8>,
+    out: &mut Vec<u8>,
+) -> Result<bool, Mem>
+    requires owned { AreOwning seen_of (front_of bench.old) connections.old.items }
+    requires few { length connections.old.items ≤ max_names }
+    requires taken { has_room (map name_by connections.old.items) name.now ≡ true }
+    ensures kept { kept_of bench.new ≡ kept_of bench.old }
+    ensures owned { AreOwning seen_of (front_of bench.new) connections.new.items }
+    ensures few { length connections.new.items ≤ max_names }
+    ensures names { OnOk result (map name_by connections.new.items ≡ names_with (map name_by connections.old.items) (Feed name.now bytes.now)) }
+    ensures makes { OnOk result (MakesFeed ⟦<Plug as Sensor>⟧.driver name.now bytes.now bench.old bench.new connections.old.items connections.new.items out.old.items out.new.items) }
+    ensures meets { IfOk result (MeetsFeed ⟦<Plug as Sensor>⟧.driver watched.now name.now bytes.now bench.old connections.old.items) }
+{
+    match place(connections, name) {
+        Some(at) => guard_there(
+            alloc,
+            bench,
+            connections,
+            at,
+            watched,
+            name,
+            bytes,
+            answers,
+            out,
+        ),
+        None => guard_first(
+            alloc,
+            bench,
+            connections,
+            watched,
+            name,
+            bytes,
+            answers,
+            out,
+        ),
     }
 }
 
@@ -144,4 +317,27 @@ pub(crate) fn drop_named(
         }
         None => push_drop(out, name.bytes(), false),
     }
+}
+
+/// Does what [`drop_named`] does, and answers whether the loss keeps to the rules of bystanders beside the watched connection:
+/// its own does where none of the others has a device open.
+pub(crate) fn drop_guarded(
+    bench: &mut Bench,
+    connections: &mut Vec<Connection<Seat>>,
+    watched: &[u8],
+    name: &Name,
+    out: &mut Vec<u8>,
+) -> Result<bool, Mem>
+    requires owned { AreOwning seen_of (front_of bench.old) connections.old.items }
+    ensures kept { kept_of bench.new ≡ kept_of bench.old }
+    ensures owned { AreOwning seen_of (front_of bench.new) connections.new.items }
+    ensures names { map name_by connections.new.items ≡ map name_by connections.old.items }
+    ensures count { length connections.new.items ≡ length connections.old.items }
+    ensures makes { OnOk result (Makes ⟦<Plug as Sensor>⟧.driver (Drop name.now) bench.old bench.new connections.old.items connections.new.items out.old.items out.new.items) }
+    ensures meets { IfOk result (Meets ⟦<Plug as Sensor>⟧.driver watched.now (Drop name.now) bench.old connections.old.items) }
+{
+    stance_law();
+    let meets = may_end(connections, watched, name.is(watched));
+    drop_named(bench, connections, name, out)?;
+    Ok(meets)
 }

@@ -7,6 +7,7 @@ mod connection;
 mod connections;
 mod firing;
 mod first;
+mod guard;
 mod iio;
 mod joining;
 mod lines;

@@ -1,6 +1,6 @@
 //! The steps of a script at the core.
 
-ghost use Rattle.std.specs.Prelude.{◌≡◌, ◌+◌, ◌++◌, ◌<◌, ◌≤◌, ◌^◌, [], All, IfOk, List, OnOk, length, map};
+ghost use Rattle.std.specs.Prelude.{◌≡◌, ◌+◌, ◌++◌, ◌<◌, ◌≤◌, ◌^◌, [], All, IfOk, List, OnOk, length, map, true};
 ghost use Rattle.iio_scan_type.specs.Format.{size_of};
 ghost use Rattle.iio_desc.specs.WellFormed.{IsWellFormed};
 ghost use Rattle.iio_device.specs.declared.plug.Plug.TheVariants.{Given};
@@ -11,14 +11,15 @@ ghost use Rattle.iio_history.specs.Registry.{Setup};
 ghost use Rattle.iio_history.specs.Script.{max_names};
 ghost use Rattle.iio_history.specs.Transcript.{lines_of_step, with_step};
 ghost use Rattle.iio_system.specs.Bench.{captures_of, front_of};
+ghost use Rattle.iio_worlds.specs.Bystanders.{only_bystanders};
 ghost use Rattle.iio_system.specs.Feeding.{AreOwning};
-ghost use Rattle.iio_system.specs.Standing.{CanCapture, IsTaken, MakesStep, RiseBy, StandsFor, has_room, name_by, names_by, names_with};
+ghost use Rattle.iio_system.specs.Standing.{CanCapture, IsTaken, MakesStep, MeetsStep, RiseBy, StandsFor, has_room, name_by, names_by, names_with};
 ghost use Rattle.iio_system.specs.Seat.{seen_of};
 ghost use Rattle.iio_system.specs.Step.{IsValid, cost_of, step_view};
 
 use crate::bench::Bench;
 use crate::connection::Connection;
-use crate::connections::{drop_named, feed, place};
+use crate::connections::{drop_guarded, drop_named, feed, feed_guarded, place};
 use crate::moves;
 use crate::seat::Seat;
 use crate::step::Step;
@@ -30,6 +31,7 @@ use iio_device::Plug;
 use iio_history::MAX_NAMES;
 use iio_layout::Shape;
 use iio_sensor::Sensor;
+use iio_worlds::stance_law;
 use std::alloc::Global;
 
 // Looks at each channel's size: its type says that it has a byte.
@@ -101,6 +103,48 @@ fn perform(
     }
 }
 
+// Does what `perform` does, and answers whether the step keeps to the rules of bystanders beside the watched connection.
+fn perform_guarded(
+    alloc: Global,
+    bench: &mut Bench,
+    connections: &mut Vec<Connection<Seat>>,
+    answers: &mut Vec<u8>,
+    watched: &[u8],
+    step: &Step,
+    out: &mut Vec<u8>,
+) -> Result<bool, Mem>
+    requires valid { IsValid (length (front_of bench.old).triggers) (length (front_of bench.old).devices) step.now }
+    requires taken { IsTaken (map name_by connections.old.items) step.now }
+    requires owned { AreOwning seen_of (front_of bench.old) connections.old.items }
+    requires few { length connections.old.items ≤ max_names }
+    requires captures { CanCapture (captures_of bench.old) }
+    ensures front { front_of bench.new ≡ front_of bench.old }
+    ensures owned { AreOwning seen_of (front_of bench.new) connections.new.items }
+    ensures few { length connections.new.items ≤ max_names }
+    ensures names { OnOk result (map name_by connections.new.items ≡ names_with (map name_by connections.old.items) (step_view step.now)) }
+    ensures captures { RiseBy 32 (captures_of bench.old) (captures_of bench.new) }
+    ensures makes { OnOk result (MakesStep ⟦<Plug as Sensor>⟧.driver step.now bench.old bench.new connections.old.items connections.new.items out.old.items out.new.items) }
+    ensures meets { IfOk result (MeetsStep ⟦<Plug as Sensor>⟧.driver watched.now step.now bench.old connections.old.items) }
+{
+    match step {
+        Step::Feed(name, bytes) => feed_guarded(
+            alloc,
+            bench,
+            connections,
+            watched,
+            name,
+            bytes.bytes(),
+            answers,
+            out,
+        ),
+        Step::Drop(name) => drop_guarded(bench, connections, watched, name, out),
+        _ => {
+            perform(alloc, bench, connections, answers, step, out)?;
+            Ok(true)
+        }
+    }
+}
+
 impl System {
     /// The core before the first step: no connection was fed, and the devices are those of a new [`Bench`].
     pub fn new(
@@ -149,6 +193,33 @@ impl System {
             &mut self.bench,
             &mut self.connections,
             &mut self.answers,
+            step,
+            out,
+        )
+    }
+
+    /// Does what [`System::step`] does, and answers whether each event of the step keeps to the rules of bystanders beside the
+    /// connection of the name `watched`. It takes no memory for that.
+    pub fn guarded(&mut self, watched: &[u8], step: &Step, out: &mut Vec<u8>) -> Result<bool, Mem>
+        requires valid { IsValid (length (front_of self.old.bench).triggers) (length (front_of self.old.bench).devices) step.now }
+        requires taken { IsTaken (names_by self.old) step.now }
+        requires few { self.old.used + cost_of step.now < 2 ^ 56 }
+        ensures lines { OnOk result ((s : Setup) (h : List Event) → StandsFor ⟦<Plug as Sensor>⟧.driver s h self.old
+            → (out.new.items ≡ out.old.items ++ lines_of_step s h (step_view step.now)) × StandsFor ⟦<Plug as Sensor>⟧.driver s (with_step s h (step_view step.now)) self.new) }
+        ensures front { front_of self.new.bench ≡ front_of self.old.bench }
+        ensures names { OnOk result (names_by self.new ≡ names_with (names_by self.old) (step_view step.now)) }
+        ensures used { self.new.used ≡ self.old.used + cost_of step.now }
+        ensures meets { IfOk result (λ meets. (s : Setup) (h : List Event) → StandsFor ⟦<Plug as Sensor>⟧.driver s h self.old
+            → only_bystanders s watched.now h ≡ true → meets ≡ only_bystanders s watched.now (with_step s h (step_view step.now))) }
+    {
+        stance_law();
+        self.used += cost_of(step);
+        perform_guarded(
+            self.alloc,
+            &mut self.bench,
+            &mut self.connections,
+            &mut self.answers,
+            watched,
             step,
             out,
         )

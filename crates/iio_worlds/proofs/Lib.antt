@@ -11,6 +11,7 @@ pub mod StartLaws
 pub mod StanceLaws
 pub mod DeskLaws
 pub mod SoloLaws
+pub mod BothLaws
 pub mod KeptLaws
 pub mod OwnLinesLaws
 mod Rows

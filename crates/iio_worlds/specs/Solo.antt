@@ -1,6 +1,6 @@
 -- Both worlds of a connection as they are printed: without the steps of other connections, and with them. (This project's
 -- own.)
-use Rattle.std.specs.Prelude.{◌≡◌, ℕ, Bool, true, List, [], ◌∷◌, ◌++◌, map, length, codes, Option, Some, None, option_map, slice_get, Result, Ok, Err, if◌then◌else◌}
+use Rattle.std.specs.Prelude.{◌≡◌, ℕ, Bool, true, false, List, [], ◌∷◌, ◌++◌, map, length, codes, Option, Some, None, option_map, slice_get, Result, Ok, Err, if◌then◌else◌}
 use Rattle.iio_text.specs.declared.refusals.Why.TheVariants.{Bystander}
 use Rattle.iio_sensor.specs.Driver.{Driver}
 use Rattle.iio_desc.specs.declared.reader.DescFault.TheVariants.{Line, Mem}
@@ -122,3 +122,37 @@ OffenceLineIs =
 -- where a line of the input is refused, or it has too many bytes, that is all that is printed
 abbrev pub BadLineIsFirst : Type 0
 BadLineIsFirst = (a : List ℕ) (drivers : List Driver) (input : List ℕ) → ((outcome_of drivers input).ending ≡ Finished → ⊥) → solo_outcome_of a drivers input ≡ only_ending (outcome_of drivers input).ending
+
+-- ---- an input in the grammar
+
+-- after its description these are its steps, with the numbers of their lines, and no line is refused
+pub record HasSteps (drivers : List Driver) (input : List ℕ) (s : Setup) (ts : List Numbered) : Type 0 where
+  pub first : ℕ
+  pub lines : List (List ℕ)
+  pub head : head_of (length drivers) input ≡ Described s.desc first lines
+  pub handed : s.drivers ≡ drivers
+  pub short : is_overlong input ≡ false
+  pub finished : (script_from s.desc Finished [] first lines).ending ≡ Finished
+  pub steps : ts ≡ numbered_from s.desc [] first lines
+
+-- the transcript without the steps of other connections, twice
+abbrev pub alone_twice : Setup → List ℕ → List Step → List ℕ
+alone_twice s a steps = transcript s [] (without_others a steps) ++ between ++ transcript s [] (without_others a steps)
+
+-- beside bystanders both texts are the same one
+abbrev pub AreAlike : List ℕ → List Driver → List ℕ → Type 0
+AreAlike a drivers input =
+    (s : Setup) (ts : List Numbered) → HasSteps drivers input s ts → only_bystanders s a (with_steps s [] (map step_of_numbered ts)) ≡ true
+    → solo_outcome_of a drivers input ≡ record { printed = alone_twice s a (map step_of_numbered ts); ending = Finished }
+
+-- beside others the line of the first step against the rules is refused, and nothing else is printed
+abbrev pub IsRefusedBeside : List ℕ → List Driver → List ℕ → Type 0
+IsRefusedBeside a drivers input =
+    (s : Setup) (ts : List Numbered) → HasSteps drivers input s ts → only_bystanders s a (with_steps s [] (map step_of_numbered ts)) ≡ false
+    → (line : ℕ) × (number_at ts (first_offence s a [] (map step_of_numbered ts)) ≡ Some line) × (solo_outcome_of a drivers input ≡ only_ending (Refused line Bystander))
+
+abbrev pub WorldsAreAlike : Type 0
+WorldsAreAlike = (a : List ℕ) (drivers : List Driver) (input : List ℕ) → AreAlike a drivers input
+
+abbrev pub OffenderIsRefused : Type 0
+OffenderIsRefused = (a : List ℕ) (drivers : List Driver) (input : List ℕ) → IsRefusedBeside a drivers input

@@ -3,7 +3,7 @@
 
 ghost use Rattle.iio_worlds.specs.Worlds.{TwoWorlds, OffenceIs, StartDecides};
 ghost use Rattle.iio_worlds.specs.Stance.{StanceDecides, StepDecides, SeatsTell, OthersAreThere, DesksDecide};
-ghost use Rattle.iio_worlds.specs.Solo.{SoloIsTwice, RunKeeps, OffenceLineIs, BadLineIsFirst};
+ghost use Rattle.iio_worlds.specs.Solo.{SoloIsTwice, RunKeeps, OffenceLineIs, BadLineIsFirst, WorldsAreAlike, OffenderIsRefused};
 ghost use Rattle.iio_worlds.specs.KeptOn.{KeptGoesOn};
 ghost use Rattle.iio_worlds.specs.OwnLines.{OwnLinesPlay};
 
@@ -32,4 +32,6 @@ pub fn solo_law()
     ensures bad { BadLineIsFirst }
     ensures on { KeptGoesOn }
     ensures own { OwnLinesPlay }
+    ensures alike { WorldsAreAlike }
+    ensures offender { OffenderIsRefused }
 {}

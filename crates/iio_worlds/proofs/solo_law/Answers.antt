@@ -1,3 +1,4 @@
+use Rattle.iio_worlds.proofs.BothLaws.{are_alike, is_refused_beside}
 use Rattle.iio_worlds.proofs.OwnLinesLaws.{own_lines_play}
 use Rattle.iio_worlds.proofs.KeptLaws.{kept_goes_on}
 use Rattle.iio_worlds.proofs.SoloLaws.{solo_is_twice, run_keeps, offence_line_is, bad_line_is_first}
@@ -20,3 +21,9 @@ returns-clause-on c = kept_goes_on
 
 pub returns-clause-own : goal.returns-clause-own
 returns-clause-own c = own_lines_play
+
+pub returns-clause-alike : goal.returns-clause-alike
+returns-clause-alike c = are_alike
+
+pub returns-clause-offender : goal.returns-clause-offender
+returns-clause-offender c = is_refused_beside

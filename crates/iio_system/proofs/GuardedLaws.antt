@@ -1,0 +1,132 @@
+-- Whether a step keeps to the rules of bystanders, over the told state.
+use Rattle.std.proofs.Common.{◌≡◌, ℕ, suc, ◌+◌, ◌*◌, ◌-◌, ◌^◌, ◌<◌, ◌||◌, not, Bool, true, false, List, length, get_or, set, Option, Some, None, Result, Ok, Err, IfOk, refl, sym, ap, ◌∙◌, subst, arith, []}
+use Rattle.std.specs.List.{position}
+use Rattle.std.specs.Str.{bytes_eq}
+use Rattle.std.proofs.lemmas.List.Quantifiers.{position-Some}
+use Rattle.iio_base.specs.declared.Mem.{Mem}
+use Rattle.iio_sensor.specs.Driver.{Driver}
+use Rattle.iio_device.specs.declared.plug.Plug.{Plug}
+use Rattle.iiod_grammar.specs.Stream.{InLine}
+use Rattle.iiod_session.specs.Session.{SessionRecord}
+use Rattle.iio_history.specs.Event.{Event}
+use Rattle.iio_history.specs.Registry.{Setup}
+use Rattle.iio_history.specs.Told.{Line, Told, told}
+use Rattle.iio_history.specs.Transcript.{Drop, Feed, line_named, with_step}
+use Rattle.iio_history.specs.Bench.{Every}
+use Rattle.iio_history.specs.BenchLaw.{CanJoinMore}
+use Rattle.iio_worlds.specs.Bystanders.{only_bystanders}
+use Rattle.iio_worlds.specs.Stance.{DesksDecide, StepDecides, none_seated, step_meets}
+use Rattle.iio_system.specs.declared.bench.Bench.{Bench}
+use Rattle.iio_system.specs.declared.connection.Connection.{Connection}
+use Rattle.iio_system.specs.declared.seat.Seat.{Seat}
+use Rattle.iio_system.specs.declared.step.Step.{Step as CodeStep}
+use Rattle.iio_system.specs.declared.step.Step.TheVariants as code
+use Rattle.iio_system.specs.declared.system.System.{System}
+use Rattle.iio_system.specs.Bench.{front_of, machine_of}
+use Rattle.iio_system.specs.Guard.{MeetsBeside, desk_named, desks_besides}
+use Rattle.iio_system.specs.Seat.{seen_of}
+use Rattle.iio_system.specs.Standing.{Holds, IsNew, Meets, MeetsFeed, MeetsStep, StandsFor}
+use Rattle.iio_system.specs.Step.{cost_of, step_view}
+use Rattle.iio_system.specs.System.{IsServed}
+use Rattle.iio_system.proofs.BackLaws.{named_there}
+use Rattle.iio_system.proofs.FedLaws.{begun_line, is_hearing, live_user}
+use Rattle.iio_system.proofs.FeedLaws.{line_there}
+use Rattle.iio_system.proofs.GuardLaws.{besides_set, meets_ended, meets_lost, meets_those, named_set}
+use Rattle.iio_system.proofs.ItemLemmas.{items_few, room_less}
+use Rattle.iio_system.proofs.NameLaws.{is_named, line_at, no_line, none_named}
+use Rattle.iio_system.proofs.NewLaws.{new_begun, new_hearing, new_live}
+
+module _ {X : Type 0} {V : X → Type 0} (driver : Plug X V → Driver) where
+  -- ---- a feed
+
+  -- of one that is there
+  meets_there : DesksDecide → (b : Bench X V) (cs others : List (Connection Seat)) (i : ℕ) (c : Connection Seat) (a name bytes : List ℕ) (r : Result Bool Mem)
+      → position (is_named name) cs ≡ Some i → c ≡ get_or cs i c
+      → (bytes_eq name a ≡ false → desk_named seen_of a others ≡ desk_named seen_of a cs) → (bytes_eq name a ≡ true → desks_besides seen_of a others ≡ desks_besides seen_of a cs)
+      → IfOk r (MeetsBeside seen_of a name bytes (front_of b) (Some (machine_of driver b)) c.session others)
+      → IfOk r (MeetsFeed driver a name bytes b cs)
+  meets_there decides b cs others i c a name bytes (Err e) at is own besides fed = tt
+  meets_there decides b cs others i c a name bytes (Ok meets) at is own besides fed = λ s m room holds.
+      let place = position-Some (is_named name) cs i c at in
+      let line = line_at name seen_of (front_of b) m m.lines cs i c holds.stands.lines place.0 place.1 place.2 in
+      by s m room holds line.0 line.1 (get_or cs i c).session line.2
+      (subst (λ (e : Connection Seat). MeetsBeside seen_of a name bytes (front_of b) (Some (machine_of driver b)) e.session others meets) is fed)
+    where
+      by : (s : Setup) (m : Told) → Every (CanJoinMore (suc (length bytes))) m.stations → Holds driver s m b cs → (l : Line) → line_named name m.lines ≡ Some l
+          → (o : Option (SessionRecord Seat)) → IsServed seen_of (front_of b) m l o
+          → MeetsBeside seen_of a name bytes (front_of b) (Some (machine_of driver b)) o others meets → meets ≡ step_meets s a m (Feed name bytes)
+      by s m room holds l here None served fed = fed ∙ meets_ended seen_of s m a name bytes (live_user m name l true here served.ended)
+      by s m room holds l here (Some x) served fed =
+          meets_those seen_of decides s m (front_of b) (Some (machine_of driver b)) cs others a name bytes l.begun meets holds.stands (live_user m name l false here served.live) (begun_line m name l here) own besides
+          (fed s _ l.begun
+          (is_hearing seen_of s m (front_of b) (Some (machine_of driver b)) cs name bytes l x holds.stands here served (line_there name m.lines l here)
+          (room_less _ _ m.stations (omega (arith, items_few l.begun bytes)) room)))
+
+  -- the same, where it is taken out while it is fed
+  pub meets_back : DesksDecide → (b : Bench X V) (cs others : List (Connection Seat)) (i : ℕ) (c hole : Connection Seat) (own : List ℕ) (session : Option (SessionRecord Seat)) (a name bytes : List ℕ) (r : Result Bool Mem)
+      → position (is_named name) cs ≡ Some i → c ≡ get_or cs i c → hole.name ≡ c.name → own ≡ name → session ≡ c.session → others ≡ set cs i hole
+      → IfOk r (MeetsBeside seen_of a own bytes (front_of b) (Some (machine_of driver b)) session others)
+      → IfOk r (MeetsFeed driver a name bytes b cs)
+  meets_back decides b cs others i c hole own session a name bytes r at is left named same rest fed =
+      let there : c.name ≡ name = named_there cs i c name at is in
+      let was : (e : Bool) → bytes_eq name a ≡ e → bytes_eq (get_or cs i c).name a ≡ e = λ e h. ap (λ (x : Connection Seat). bytes_eq x.name a) (sym is) ∙ ap (λ (w : List ℕ). bytes_eq w a) there ∙ h in
+      let now : (e : Bool) → bytes_eq name a ≡ e → bytes_eq hole.name a ≡ e = λ e h. ap (λ (w : List ℕ). bytes_eq w a) (left ∙ there) ∙ h in
+      meets_there decides b cs others i c a name bytes r at is
+      (λ other. ap (λ (xs : List (Connection Seat)). desk_named seen_of a xs) rest ∙ named_set seen_of a cs i hole c (was false other) (now false other))
+      (λ mine. ap (λ (xs : List (Connection Seat)). desks_besides seen_of a xs) rest ∙ besides_set seen_of a cs i hole c (was true mine) (now true mine))
+      (subst (λ (o : Option (SessionRecord Seat)). IfOk r (MeetsBeside seen_of a name bytes (front_of b) (Some (machine_of driver b)) o others)) same
+      (subst (λ (n : List ℕ). IfOk r (MeetsBeside seen_of a n bytes (front_of b) (Some (machine_of driver b)) session others)) named fed))
+
+  -- of one that comes
+  pub meets_new : DesksDecide → (b : Bench X V) (cs : List (Connection Seat)) (c : Connection Seat) (a name bytes : List ℕ) (r : Result Bool Mem)
+      → position (is_named name) cs ≡ None → IsNew name (length cs) c
+      → IfOk r (MeetsBeside seen_of a c.name bytes (front_of b) (Some (machine_of driver b)) c.session cs)
+      → IfOk r (MeetsFeed driver a name bytes b cs)
+  meets_new decides b cs c a name bytes (Err e) at is fed = tt
+  meets_new decides b cs c a name bytes (Ok meets) at is fed = λ s m room holds.
+      let nobody = no_line name seen_of (front_of b) m m.lines cs holds.stands.lines (none_named name cs at) in
+      let said : MeetsBeside seen_of a name bytes (front_of b) (Some (machine_of driver b)) (Some is.fresh) cs meets =
+      subst (λ (n : List ℕ). MeetsBeside seen_of a n bytes (front_of b) (Some (machine_of driver b)) (Some is.fresh) cs meets) is.name_is
+      (subst (λ (o : Option (SessionRecord Seat)). MeetsBeside seen_of a c.name bytes (front_of b) (Some (machine_of driver b)) o cs meets) is.session_is fed) in
+      meets_those seen_of decides s m (front_of b) (Some (machine_of driver b)) cs cs a name bytes (InLine []) meets holds.stands (new_live m name nobody) (new_begun m name nobody) (λ e. refl) (λ e. refl)
+      (said s _ (InLine [])
+      (new_hearing seen_of s m (front_of b) (Some (machine_of driver b)) cs name bytes is.fresh holds.stands nobody is.is_fresh (room_less _ _ m.stations (omega (arith, items_few (InLine []) bytes)) room)))
+
+  -- ---- a loss
+
+  pub meets_drop : DesksDecide → (b : Bench X V) (cs : List (Connection Seat)) (a name : List ℕ) (meets : Bool)
+      → meets ≡ (not (bytes_eq name a) || none_seated (desks_besides seen_of a cs)) → Meets driver a (Drop name) b cs meets
+  meets_drop decides b cs a name meets is = λ s m holds. meets_lost seen_of decides s m (front_of b) (Some (machine_of driver b)) cs a name meets holds.stands is
+
+  -- ---- any step
+
+  pub met_feed : (a name bytes given : List ℕ) (t : CodeStep) (b : Bench X V) (cs : List (Connection Seat)) (r : Result Bool Mem) → t ≡ code.Feed name bytes → given ≡ bytes
+      → IfOk r (MeetsFeed driver a name given b cs) → IfOk r (MeetsStep driver a t b cs)
+  met_feed a name bytes given t b cs (Err e) is same fed = tt
+  met_feed a name bytes given t b cs (Ok meets) is same fed =
+      let those : MeetsFeed driver a name bytes b cs meets = subst (λ (bs : List ℕ). MeetsFeed driver a name bs b cs meets) same fed in
+      let met : MeetsStep driver a (code.Feed name bytes) b cs meets = λ s m room holds. those s m (room_less (suc (length bytes)) (1 + length bytes) m.stations (omega arith) room) holds in
+      subst (λ (x : CodeStep). MeetsStep driver a x b cs meets) (sym is) met
+
+  pub met_drop : (a name : List ℕ) (t : CodeStep) (b : Bench X V) (cs : List (Connection Seat)) (r : Result Bool Mem) → t ≡ code.Drop name
+      → IfOk r (Meets driver a (Drop name) b cs) → IfOk r (MeetsStep driver a t b cs)
+  met_drop a name t b cs (Err e) is lost = tt
+  met_drop a name t b cs (Ok meets) is lost =
+      let met : MeetsStep driver a (code.Drop name) b cs meets = λ s m room holds. lost s m holds in
+      subst (λ (x : CodeStep). MeetsStep driver a x b cs meets) (sym is) met
+
+  -- every other step keeps to them
+  pub met_other : (a : List ℕ) (t : CodeStep) (b : Bench X V) (cs : List (Connection Seat)) → ((name bytes : List ℕ) → t ≡ code.Feed name bytes → ⊥) → ((name : List ℕ) → t ≡ code.Drop name → ⊥)
+      → MeetsStep driver a t b cs true
+  met_other a (code.Feed name bytes) b cs feed drop = absurd (feed name bytes refl)
+  met_other a (code.Drop name) b cs feed drop = absurd (drop name refl)
+  met_other a t b cs feed drop = λ s m room holds. refl
+
+  -- ---- the whole, by the history
+
+  pub meets_ok : StepDecides → (x : System X V) (t : CodeStep) (a : List ℕ) (r : Result Bool Mem) → x.used + cost_of t < 2 ^ 56
+      → IfOk r (MeetsStep driver a t x.bench x.connections.items)
+      → IfOk r (λ meets. (s : Setup) (h : List Event) → StandsFor driver s h x → only_bystanders s a h ≡ true → meets ≡ only_bystanders s a (with_step s h (step_view t)))
+  meets_ok decides x t a (Err e) few met = tt
+  meets_ok decides x t a (Ok meets) few met = λ s h stands so_far.
+      met s (told s h) (room_less (cost_of t) (2 ^ 64 - 1 - 32 * x.used) (told s h).stations (omega (arith, few)) stands.room) stands.holds ∙ sym (decides s a h (step_view t) so_far)

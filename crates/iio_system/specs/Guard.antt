@@ -1,0 +1,74 @@
+-- What is known while a connection is fed of what the others have open, by the desks of their sessions; and whether what it
+-- says keeps to the rules of bystanders.
+use Rattle.std.specs.Prelude.{◌≡◌, ℕ, ◌&&◌, nat_lt, Bool, true, List, [], ◌∷◌, Option, Some, None, option_map, Ok, if◌then◌else◌}
+use Rattle.std.specs.Borrow.{Bor}
+use Rattle.std.specs.Str.{bytes_eq}
+use Rattle.iio_text.specs.declared.errors.Errno.TheVariants.{EFBIG}
+use Rattle.iiod_grammar.specs.declared.lines.TheConstants.{MAX_PAYLOAD}
+use Rattle.iiod_grammar.specs.Command.{Command, Exit, Write}
+use Rattle.iiod_grammar.specs.Stream.{Item, Said, Written, End, Scanner, items_from}
+use Rattle.iiod_session.specs.Desk.{DeskRecord, desk_of}
+use Rattle.iiod_session.specs.Front.{Front}
+use Rattle.iiod_session.specs.Machine.{Machine}
+use Rattle.iiod_session.specs.Seat.{SeatRecord}
+use Rattle.iiod_session.specs.Session.{SessionRecord}
+use Rattle.iio_history.specs.Registry.{Setup}
+use Rattle.iio_history.specs.Told.{Told}
+use Rattle.iio_worlds.specs.Stance.{Opens, item_meets, items_meet, opens_by}
+use Rattle.iio_system.specs.declared.connection.Connection.{Connection}
+use Rattle.iio_system.specs.declared.guard.Guard.{Guard}
+use Rattle.iio_system.specs.declared.seat.Seat.{Seat}
+use Rattle.iio_system.specs.Connection.{IsHearing}
+use Rattle.iio_system.specs.Seat.{seen_of}
+
+-- a watch once it was told these items, whatever stood before each
+module _ {W : Type 0} (makes : Front → Option Machine → ℕ → Item → W → W → Type 0) (front : Front) where
+  abbrev pub TellsAll : List Item → W → W → Type 0
+  TellsAll [] w v = v ≡ w
+  TellsAll (item ∷ items) w v = (u : W) × (told : Option Machine) × (who : ℕ) × makes front told who item w u × TellsAll items u v
+
+module _ {S : Type 0} (seen : S → SeatRecord) where
+  -- of a connection that is fed a watch is told the items; of one that has ended none
+  abbrev pub Watches : {W : Type 0} → (makes : Front → Option Machine → ℕ → Item → W → W → Type 0) → (name bytes : List ℕ) → Front → (told : Option Machine) → Option (SessionRecord S) → W → W → Type 0
+  Watches makes name bytes front told None w v = v ≡ w
+  Watches makes name bytes front told (Some x) w v =
+      (s : Setup) (n : Told) (begun : Scanner) → IsHearing seen s n front told name begun bytes x → TellsAll makes front (items_from begun bytes) w v
+
+  -- a connection that has ended has no desk
+  abbrev pub with_desk : Option (SessionRecord S) → List DeskRecord → List DeskRecord
+  with_desk None desks = desks
+  with_desk (Some x) desks = desk_of seen x.desk ∷ desks
+
+  -- the desks of these connections but of those of that name
+  abbrev pub desks_besides : List ℕ → List (Connection S) → List DeskRecord
+  desks_besides name [] = []
+  desks_besides name (c ∷ cs) = if bytes_eq c.name name then desks_besides name cs else with_desk c.session (desks_besides name cs)
+
+  -- the desk of the first one of that name
+  abbrev pub desk_named : List ℕ → List (Connection S) → Option DeskRecord
+  desk_named name [] = None
+  desk_named name (c ∷ cs) = if bytes_eq c.name name then option_map (λ (x : SessionRecord S). desk_of seen x.desk) c.session else desk_named name cs
+
+  abbrev pub desk_by : Option (Bor (SessionRecord S)) → Option DeskRecord
+  desk_by own = option_map (λ (x : Bor (SessionRecord S)). desk_of seen x.now.desk) own
+
+  -- whether a feed keeps to the rules, where these are the others: one that has ended says nothing
+  abbrev pub MeetsBeside : (watched name bytes : List ℕ) → Front → (told : Option Machine) → Option (SessionRecord S) → (others : List (Connection S)) → Bool → Type 0
+  MeetsBeside watched name bytes front told None others meets = meets ≡ true
+  MeetsBeside watched name bytes front told (Some x) others meets =
+      (s : Setup) (n : Told) (begun : Scanner) → IsHearing seen s n front told name begun bytes x
+      → meets ≡ items_meet (opens_by front (desk_named watched others) (desks_besides watched others)) (bytes_eq name watched) (items_from begun bytes)
+
+-- the item that a command is told of, where a WRITE's payload is left out
+abbrev pub item_by : Command → Item
+item_by Exit = End None
+item_by (Write device target count) = if nat_lt MAX_PAYLOAD count then End (Some EFBIG) else Written device target []
+item_by said = Said (Ok said)
+
+-- what a guard knows to be open
+abbrev pub opens_at : Front → Guard → Opens
+opens_at front x = opens_by front (desk_by seen_of x.own) (desks_besides seen_of x.watched.now x.others.now)
+
+-- a guard once it was told an item
+abbrev pub guards : Front → Option Machine → (who : ℕ) → Item → Guard → Guard → Type 0
+guards front told who item x y = y ≡ record x { meets = x.meets && item_meets (opens_at front x) x.mine item }

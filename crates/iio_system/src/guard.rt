@@ -1,0 +1,252 @@
+//! Whether what a connection says keeps to the rules of bystanders.
+
+ghost use Rattle.std.specs.Prelude.{◌≡◌, ◌∷◌, ◌||◌, [], true, not, Ok, Option};
+ghost use Rattle.std.specs.Str.{bytes_eq};
+ghost use Rattle.iiod_grammar.specs.Stream.{Item, Said};
+ghost use Rattle.iiod_grammar.specs.View.{command_view};
+ghost use Rattle.iiod_session.specs.Desk.{DeskRecord};
+ghost use Rattle.iiod_session.specs.Front.{find_device};
+ghost use Rattle.iiod_session.specs.Watch.{IsSeen};
+ghost use Rattle.iio_worlds.specs.Bystanders.{may_say};
+ghost use Rattle.iio_worlds.specs.Stance.{by_number, item_meets, may_part, none_seated, one_seated, opens_by, own_has};
+ghost use Rattle.iio_system.specs.Bench.{front_of};
+ghost use Rattle.iio_system.specs.Guard.{desk_by, desk_named, desks_besides, item_by, opens_at};
+ghost use Rattle.iio_system.specs.Seat.{seen_of};
+
+use crate::bench::Bench;
+use crate::connection::Connection;
+use crate::seat::Seat;
+use iio_attr::Name;
+use iiod_grammar::{Command, MAX_PAYLOAD};
+use iiod_session::{Iio, Seen, Session, Watch};
+
+/// The watch of a feed beside a watched connection: whether each item that it was told keeps to the rules of bystanders.
+#[derive(Drop)]
+pub(crate) struct Guard<'a> {
+    pub(crate) meets: bool,
+    // Whether the watched connection is the one that is fed.
+    mine: bool,
+    watched: &'a [u8],
+    // The session of the watched connection, where it isn't fed.
+    own: Option<&'a Session<Seat>>,
+    others: &'a [Connection<Seat>],
+}
+
+// The session of the connection of that name.
+fn session_of<'a>(connections: &'a [Connection<Seat>], name: &[u8]) -> Option<&'a Session<Seat>>
+    ensures { desk_by seen_of result ≡ desk_named seen_of name.now connections.now }
+{
+    for connection in connections {
+        if connection.name.is(name) {
+            return connection.session.as_ref();
+        }
+    }
+    None
+}
+
+// Whether a connection has the device of that number open.
+fn own_holds(own: Option<&Session<Seat>>, dev: u32) -> bool
+    ensures { result ≡ own_has (desk_by seen_of own.entry) dev }
+{
+    match own {
+        None => false,
+        Some(session) => session.holds(dev),
+    }
+}
+
+// Whether it has the device of that name open.
+fn own_has(bench: &Bench, own: Option<&Session<Seat>>, device: &[u8]) -> bool
+    ensures { result ≡ by_number (find_device (front_of bench.now) device.now) (own_has (desk_by seen_of own.entry)) }
+{
+    match bench.find(device) {
+        None => false,
+        Some(dev) => own_holds(own, dev),
+    }
+}
+
+// Whether a connection of another name has the device of that number open.
+fn other_holds(connection: &Connection<Seat>, watched: &[u8], dev: u32) -> bool
+    ensures { result ≡ one_seated (desks_besides seen_of watched.now (connection.now ∷ [])) dev }
+{
+    if connection.name.is(watched) {
+        return false;
+    }
+    match &connection.session {
+        None => false,
+        Some(session) => session.holds(dev),
+    }
+}
+
+// Whether one of these has.
+fn one_holds(others: &[Connection<Seat>], watched: &[u8], dev: u32) -> bool
+    ensures { result ≡ one_seated (desks_besides seen_of watched.now others.now) dev }
+{
+    for other in others {
+        if other_holds(other, watched, dev) {
+            return true;
+        }
+    }
+    false
+}
+
+// Whether one of these has the device of that name open.
+fn one_has(bench: &Bench, others: &[Connection<Seat>], watched: &[u8], device: &[u8]) -> bool
+    ensures { result ≡ by_number (find_device (front_of bench.now) device.now) (one_seated (desks_besides seen_of watched.now others.now)) }
+{
+    match bench.find(device) {
+        None => false,
+        Some(dev) => one_holds(others, watched, dev),
+    }
+}
+
+// Whether a connection of another name has no device open.
+fn other_holds_nothing(connection: &Connection<Seat>, watched: &[u8]) -> bool
+    ensures { result ≡ none_seated (desks_besides seen_of watched.now (connection.now ∷ [])) }
+{
+    if connection.name.is(watched) {
+        return true;
+    }
+    match &connection.session {
+        None => true,
+        Some(session) => session.holds_nothing(),
+    }
+}
+
+// Whether none of these has, but for those of that name.
+fn none_holds(others: &[Connection<Seat>], watched: &[u8]) -> bool
+    ensures { result ≡ none_seated (desks_besides seen_of watched.now others.now) }
+{
+    for other in others {
+        if !other_holds_nothing(other, watched) {
+            return false;
+        }
+    }
+    true
+}
+
+/// Whether the watched connection may do this: it may end where none of the others has a device open.
+pub(crate) fn may_end(others: &[Connection<Seat>], watched: &[u8], ends: bool) -> bool
+    ensures { result ≡ (not ends || none_seated (desks_besides seen_of watched.now others.now)) }
+{
+    !ends || none_holds(others, watched)
+}
+
+// Whether another connection may say this command.
+fn may_ask(bench: &Bench, own: Option<&Session<Seat>>, command: &Command<'_>) -> bool
+    ensures { result ≡ may_say (λ device. by_number (find_device (front_of bench.now) device) (own_has (desk_by seen_of own.entry))) (Said (Ok (command_view command.now))) }
+{
+    match *command {
+        Command::Help
+        | Command::Exit
+        | Command::Version
+        | Command::Print
+        | Command::Timeout { .. } => true,
+        Command::Open { dev, .. }
+        | Command::Close { dev }
+        | Command::Read { dev, .. }
+        | Command::ReadBuf { dev, .. }
+        | Command::GetTrig { dev }
+        | Command::SetBuffers { dev, .. }
+        | Command::Remask { dev, .. } => own_has(bench, own, dev),
+        Command::Write { .. }
+        | Command::WriteBuf { .. }
+        | Command::SetTrig { .. }
+        | Command::EvOpen { .. }
+        | Command::EvRead { .. }
+        | Command::EvClose { .. } => false,
+    }
+}
+
+// Whether another connection may say this.
+fn may_say(bench: &Bench, own: Option<&Session<Seat>>, item: &Seen<'_>) -> bool
+    ensures { (x : Item) → IsSeen x item.now → result ≡ may_say (λ device. by_number (find_device (front_of bench.now) device) (own_has (desk_by seen_of own.entry))) x }
+{
+    match *item {
+        Seen::Refused | Seen::TooLong => true,
+        Seen::Command(command) => may_ask(bench, own, &command),
+    }
+}
+
+// Whether the watched connection itself may say this command.
+fn may_leave(
+    bench: &Bench,
+    others: &[Connection<Seat>],
+    watched: &[u8],
+    command: &Command<'_>,
+) -> bool
+    ensures { (own : Option DeskRecord) → result ≡ may_part (opens_by (front_of bench.now) own (desks_besides seen_of watched.now others.now)) (item_by (command_view command.now)) }
+{
+    match *command {
+        Command::Close { dev } | Command::Remask { dev, .. } => {
+            !one_has(bench, others, watched, dev)
+        }
+        Command::Exit => none_holds(others, watched),
+        Command::Write { count, .. } => may_end(others, watched, count > MAX_PAYLOAD),
+        Command::Help
+        | Command::Version
+        | Command::Print
+        | Command::Timeout { .. }
+        | Command::Open { .. }
+        | Command::Read { .. }
+        | Command::ReadBuf { .. }
+        | Command::WriteBuf { .. }
+        | Command::GetTrig { .. }
+        | Command::SetTrig { .. }
+        | Command::SetBuffers { .. }
+        | Command::EvOpen { .. }
+        | Command::EvRead { .. }
+        | Command::EvClose { .. } => true,
+    }
+}
+
+// Whether the watched connection itself may say this.
+fn may_part(bench: &Bench, others: &[Connection<Seat>], watched: &[u8], item: &Seen<'_>) -> bool
+    ensures { (own : Option DeskRecord) (x : Item) → IsSeen x item.now → result ≡ may_part (opens_by (front_of bench.now) own (desks_besides seen_of watched.now others.now)) x }
+{
+    match *item {
+        Seen::Refused => true,
+        Seen::TooLong => none_holds(others, watched),
+        Seen::Command(command) => may_leave(bench, others, watched, &command),
+    }
+}
+
+impl<'a> Guard<'a> {
+    /// A guard that was told nothing yet, of a feed of the connection of that name. Where that isn't the watched one, it is
+    /// among the others, if it is there.
+    pub(crate) fn new(watched: &'a [u8], name: &Name, others: &'a [Connection<Seat>]) -> Guard<'a>
+        ensures meets { result.meets ≡ true }
+        ensures mine { result.mine ≡ bytes_eq name.now watched.now }
+        ensures watched { result.watched.now ≡ watched.now }
+        ensures own { desk_by seen_of result.own ≡ desk_named seen_of watched.now others.now }
+        ensures others { result.others.now ≡ others.now }
+    {
+        Guard {
+            meets: true,
+            mine: name.is(watched),
+            watched,
+            own: session_of(others, watched),
+            others,
+        }
+    }
+
+    // Whether what is said keeps to the rules.
+    fn allows(&self, bench: &Bench, item: &Seen<'_>) -> bool
+        ensures { (x : Item) → IsSeen x item.now → result ≡ item_meets (opens_at (front_of bench.now) self.now) self.now.mine x }
+    {
+        if self.mine {
+            return may_part(bench, self.others, self.watched, item);
+        }
+        may_say(bench, self.own, item)
+    }
+}
+
+impl<'a> Watch<Bench> for Guard<'a> {
+    ghost use Rattle.iio_system.specs.Guard.{guards};
+
+    ghost makes = { guards };
+
+    fn before(&mut self, iio: &Bench, _who: u32, item: &Seen<'_>) {
+        let allowed = self.allows(iio, item);
+        self.meets &= allowed;
+    }
+}
