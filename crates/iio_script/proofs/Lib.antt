@@ -16,3 +16,5 @@ pub mod StepLaws
 pub mod RunLaws
 pub mod OutcomeLaws
 pub mod TallyLaws
+pub mod KeepLaws
+pub mod KeptLaws

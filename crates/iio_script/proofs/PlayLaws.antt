@@ -26,7 +26,7 @@ same_room : (one other : List (List ℕ)) (name : List ℕ) → AreSame one othe
 same_room one other name same =
     ap (λ (b : Bool). b || nat_lt (length one) max_names) (same.known name) ∙ ap (λ (n : ℕ). is_known other name || nat_lt n max_names) same.count
 
-same_kept : (one other : List (List ℕ)) (step : Step) → AreSame one other → keeps_names one (Some step) ≡ keeps_names other (Some step)
+pub same_kept : (one other : List (List ℕ)) (step : Step) → AreSame one other → keeps_names one (Some step) ≡ keeps_names other (Some step)
 same_kept one other (Feed name bytes) same = same_room one other name same
 same_kept one other (Fire trigger moment) same = refl
 same_kept one other (Poll trigger moment) same = refl
@@ -63,7 +63,7 @@ same_fed one other name same =
     (by_known (is_known one name) one other name same)
 
 -- once a step was made
-same_after : (one other : List (List ℕ)) (step : Step) → AreSame one other → AreSame (names_after one (Some step)) (names_with other step)
+pub same_after : (one other : List (List ℕ)) (step : Step) → AreSame one other → AreSame (names_after one (Some step)) (names_with other step)
 same_after one other (Feed name bytes) same = same_fed one other name same
 same_after one other (Fire trigger moment) same = same
 same_after one other (Poll trigger moment) same = same
@@ -75,20 +75,20 @@ same_after one other (Unplug device) same = same
 
 -- ---- a script's first line
 
-means_nothing : (desc : Description) (ending : Ending) (names : List (List ℕ)) (n : ℕ) (line : List ℕ) (lines : List (List ℕ)) → step_of desc line ≡ Ok None
+pub means_nothing : (desc : Description) (ending : Ending) (names : List (List ℕ)) (n : ℕ) (line : List ℕ) (lines : List (List ℕ)) → step_of desc line ≡ Ok None
     → script_from desc ending names n (line ∷ lines) ≡ script_from desc ending names (n + 1) lines
 means_nothing desc ending names n line lines said = rw (said, script_from) refl
 
-says_step : (desc : Description) (ending : Ending) (names : List (List ℕ)) (n : ℕ) (line : List ℕ) (lines : List (List ℕ)) (step : Step) → step_of desc line ≡ Ok (Some step)
+pub says_step : (desc : Description) (ending : Ending) (names : List (List ℕ)) (n : ℕ) (line : List ℕ) (lines : List (List ℕ)) (step : Step) → step_of desc line ≡ Ok (Some step)
     → keeps_names names (Some step) ≡ true
     → script_from desc ending names n (line ∷ lines) ≡ first_step (Some step) (script_from desc ending (names_after names (Some step)) (n + 1) lines)
 says_step desc ending names n line lines step said kept = rw (said, kept, script_from) refl
 
-is_refused : (desc : Description) (ending : Ending) (names : List (List ℕ)) (n : ℕ) (line : List ℕ) (lines : List (List ℕ)) (why : Why) → step_of desc line ≡ Err why
+pub is_refused : (desc : Description) (ending : Ending) (names : List (List ℕ)) (n : ℕ) (line : List ℕ) (lines : List (List ℕ)) (why : Why) → step_of desc line ≡ Err why
     → script_from desc ending names n (line ∷ lines) ≡ record { steps = []; ending = Refused n why }
 is_refused desc ending names n line lines why said = rw (said, script_from) refl
 
-is_over : (desc : Description) (ending : Ending) (names : List (List ℕ)) (n : ℕ) (line : List ℕ) (lines : List (List ℕ)) (step : Step) → step_of desc line ≡ Ok (Some step)
+pub is_over : (desc : Description) (ending : Ending) (names : List (List ℕ)) (n : ℕ) (line : List ℕ) (lines : List (List ℕ)) (step : Step) → step_of desc line ≡ Ok (Some step)
     → keeps_names names (Some step) ≡ false → script_from desc ending names n (line ∷ lines) ≡ record { steps = []; ending = Refused n Limit }
 is_over desc ending names n line lines step said over = rw (said, over, script_from) refl
 

@@ -3,6 +3,7 @@ pub mod Step
 pub mod Outline
 pub mod LineReader
 pub mod Plays
+pub mod Keeps
 pub mod Taken
 pub mod Told
 pub mod Ends

@@ -37,8 +37,8 @@ use std::alloc::Global;
 // The most bytes that are kept back where no read comes between.
 const KEPT: usize = 61_440;
 
-// Whether a step keeps to the number of names.
-fn takes(system: &System, step: &Step) -> bool
+/// Whether a step keeps to the number of names.
+pub(crate) fn takes(system: &System, step: &Step) -> bool
     ensures { result ≡ keeps_names (names_by system.now) (Some (step_view step.now)) }
 {
     match step {
@@ -47,8 +47,8 @@ fn takes(system: &System, step: &Step) -> bool
     }
 }
 
-// Keeps the bytes of a feed as room for those of the next.
-fn keep_room(step: Step, room: &mut Vec<u8>) {
+/// Keeps the bytes of a feed as room for those of the next.
+pub(crate) fn keep_room(step: Step, room: &mut Vec<u8>) {
     if let Step::Feed(_, bytes) = step {
         *room = bytes.into_bytes();
     }

@@ -1,28 +1,34 @@
-//! What is counted in a text that is played.
+//! What is counted in a text that is played, and what is kept of it.
 
-ghost use Rattle.std.specs.Prelude.{◌≡◌, ◌+◌, ◌≤◌, [], ◌++◌, List, ℕ, length, None, Some};
+ghost use Rattle.std.specs.Prelude.{◌≡◌, ◌+◌, ◌≤◌, [], ◌++◌, List, ℕ, length, map, None, Some};
 ghost use Rattle.iio_desc.specs.WellFormed.{IsWellFormed};
+ghost use Rattle.iio_device.specs.declared.plug.Plug.TheVariants.{Given};
 ghost use Rattle.iio_history.specs.Input.{input_limit, is_overlong, looked_lines};
 ghost use Rattle.iio_history.specs.Outcome.{last_ending};
 ghost use Rattle.iio_history.specs.Script.{Finished, script_from};
+ghost use Rattle.iio_script.specs.Keeps.{KeepsText};
 ghost use Rattle.iio_script.specs.LineReader.{Follows, IsHand};
 ghost use Rattle.iio_script.specs.Tallies.{Tallies, TalliesScript};
 
+use crate::keeping::{Keeping, keep};
 use crate::line_reader::LineReader;
 use crate::opening::{Opening, open};
 use crate::outline::outline;
 use crate::script::play_steps;
 use crate::status::Status;
 use iio_desc::Desc;
+use iio_device::Plug;
 use iio_io::{Failed, Sink, Source};
+use iio_sensor::Sensor;
 use iio_system::{System, Tally};
 use iio_text::Why;
 use std::alloc::Global;
 
-/// Why a text isn't counted.
+/// Why a text isn't counted, or nothing is kept of it.
 #[derive(Clone, Copy, Debug, PartialEq, Eq)]
 pub enum Stop {
-    /// The line of that number, counted from 1, is the first that fails.
+    /// The line of that number, counted from 1, is the first that fails. Where something is to be kept of a text of which none
+    /// does, it is the line of the first step against the rules of bystanders, and why is `Bystander`.
     Refused { line: u32, why: Why },
     /// Memory ran out.
     Mem,
@@ -127,6 +133,26 @@ pub fn tally(alloc: Global, text: &[u8]) -> Result<Tally, Stop>
         Ok(Opening::Alone { desc }) => tally_alone(alloc, desc),
         Ok(Opening::Refused { line, why }) => Err(Stop::Refused { line, why }),
         Ok(Opening::Cut) => Err(Stop::Mem),
+        Err(_) => Err(Stop::Mem),
+    }
+}
+
+/// What is kept of a text that is played with these drivers: what it prints, but for the steps of connections of other names.
+/// `Refused` comes at the first line that fails, or else at the first step against the rules of bystanders.
+pub fn kept(
+    alloc: Global,
+    name: &[u8],
+    text: &[u8],
+    drivers: Vec<Box<dyn Sensor + Send>>,
+) -> Result<Vec<u8>, Stop>
+    requires { length text.now ≤ input_limit }
+    ensures { KeepsText (λ out. out.items) name.now (map (λ d. ⟦<Plug as Sensor>⟧.driver (Given d)) drivers.items) text.now result }
+{
+    let mut source = Text { rest: text };
+    match keep(alloc, name, &mut source, drivers) {
+        Ok(Keeping::Text(kept)) => Ok(kept),
+        Ok(Keeping::Refused { line, why }) => Err(Stop::Refused { line, why }),
+        Ok(Keeping::TooLong) => Err(Stop::Mem),
         Err(_) => Err(Stop::Mem),
     }
 }
