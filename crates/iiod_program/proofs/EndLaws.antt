@@ -13,7 +13,7 @@ use Rattle.iiod_program.specs.Complete.{Completes}
 use Rattle.iiod_program.specs.declared.exit.End.TheVariants.{Run}
 use Rattle.iiod_program.specs.Does.{Does}
 use Rattle.iiod_program.specs.Played.{AreHandedIn, EndsPlayed}
-use Rattle.iiod_program.specs.Request.{Request, Play, Layout, Gen, Other, Asks}
+use Rattle.iiod_program.specs.Request.{Request, Play, Solo, Layout, Gen, Other, Asks}
 use Rattle.iiod_program.specs.Words.{IsPlay}
 
 completes : (outcome : Outcome) (before : List ℕ) (status : Status) (after : Option (List ℕ)) (reads reads' writes writes' : ℕ)
@@ -36,6 +36,11 @@ completes_told outcome (Some xs) None status after reads reads' writes writes' w
 completes_told outcome (Some xs) (Some before) status after reads reads' writes writes' wrote read write r w =
     completes (outcome xs) before status after reads reads' writes writes' wrote read write r w
 
+-- what holds of each input holds of the one that is told
+pub each_input : (P : List ℕ → Type 0) (left : Option (List ℕ)) → ((xs : List ℕ) → P xs) → IfSome left P
+each_input P None all = tt
+each_input P (Some xs) all = all xs
+
 -- ---- of the words `gen N`
 
 gen_no_read_fault : (status : Status) → EndsGen status → status ≡ ReadFault → ⊥
@@ -57,25 +62,37 @@ as_long l m is = ap (λ (x : List (List ℕ)). length x) is
 word_is : (k : ℕ) (l m : List (List ℕ)) → l ≡ m → get_or l k [] ≡ get_or m k []
 word_is k l m is = ap (λ (x : List (List ℕ)). get_or x k []) is
 
+gen_no_solo : codes "gen" ≡ codes "solo" → ⊥
+gen_no_solo is = omega (arith, ap (λ (l : List ℕ). length l) is)
+
 pub asks_one : {A : Type 0} (words : List (String A)) (r r' : Request) → Asks words r → Asks words r' → r ≡ r'
 asks_one words Play Play one other = refl
 asks_one words Play (Layout device mask) one other = absurd (omega (arith, as_long _ _ (sym one ∙ other)))
 asks_one words Play (Gen n) one other = absurd (omega (arith, as_long _ _ (sym one ∙ other.1)))
+asks_one words Play (Solo name) one other = absurd (omega (arith, as_long _ _ (sym one ∙ other.1)))
 asks_one words Play Other one other = absurd (other.0 one)
 asks_one words (Layout device mask) Play one other = absurd (omega (arith, as_long _ _ (sym one ∙ other)))
 asks_one words (Layout device mask) (Layout device' mask') one other =
     let first : device ≡ device' = word_is 1 _ _ (sym one ∙ other) in
     let second : mask ≡ mask' = word_is 2 _ _ (sym one ∙ other) in
     subst (λ (d : List ℕ). Layout device mask ≡ Layout d mask') first (ap (λ (m : List ℕ). Layout device m) second)
+asks_one words (Layout device mask) (Solo name) one other = absurd (omega (arith, as_long _ _ (sym one ∙ other.1)))
 asks_one words (Layout device mask) (Gen n) one other = absurd (omega (arith, as_long _ _ (sym one ∙ other.1)))
-asks_one words (Layout device mask) Other one other = absurd (other.1 device mask one)
+asks_one words (Layout device mask) Other one other = absurd (other.2 device mask one)
 asks_one words (Gen n) Play one other = absurd (omega (arith, as_long _ _ (sym one.1 ∙ other)))
 asks_one words (Gen n) (Layout device mask) one other = absurd (omega (arith, as_long _ _ (sym one.1 ∙ other)))
 asks_one words (Gen n) (Gen n') one other = ap (λ (k : ℕ). Gen k) (decimal_injective n n' one.0 other.0 (word_is 1 _ _ (sym one.1 ∙ other.1)))
-asks_one words (Gen n) Other one other = absurd (other.2 n one)
+asks_one words (Gen n) (Solo name) one other = absurd (gen_no_solo (word_is 0 _ _ (sym one.1 ∙ other.1)))
+asks_one words (Gen n) Other one other = absurd (other.3 n one)
+asks_one words (Solo name) Play one other = absurd (omega (arith, as_long _ _ (sym one.1 ∙ other)))
+asks_one words (Solo name) (Layout device mask) one other = absurd (omega (arith, as_long _ _ (sym one.1 ∙ other)))
+asks_one words (Solo name) (Gen n) one other = absurd (gen_no_solo (word_is 0 _ _ (sym other.1 ∙ one.1)))
+asks_one words (Solo name) (Solo name') one other = ap (λ (w : List ℕ). Solo w) (word_is 1 _ _ (sym one.1 ∙ other.1))
+asks_one words (Solo name) Other one other = absurd (other.1 name one)
 asks_one words Other Play one other = absurd (one.0 other)
-asks_one words Other (Layout device mask) one other = absurd (one.1 device mask other)
-asks_one words Other (Gen n) one other = absurd (one.2 n other)
+asks_one words Other (Solo name) one other = absurd (one.1 name other)
+asks_one words Other (Layout device mask) one other = absurd (one.2 device mask other)
+asks_one words Other (Gen n) one other = absurd (one.3 n other)
 asks_one words Other Other one other = refl
 
 -- so what is done for what they were read to ask is done for all that they ask

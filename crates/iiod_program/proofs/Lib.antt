@@ -1,5 +1,6 @@
 pub mod EndLaws
 pub mod GenWords
+pub mod SoloWords
 pub mod LayoutLaws
 pub mod PlacingLaws
 mod Worked

@@ -11,11 +11,12 @@ use Rattle.iio_script.specs.Plays.{TakesFor}
 use Rattle.iio_script.specs.Taken.{WritesFirst, WritesLines}
 use Rattle.iio_script.specs.declared.status.Status.{Status}
 use Rattle.iio_script.specs.declared.status.Status.TheVariants.{ReadFault, Usage}
+use Rattle.iio_worlds.specs.Solo.{AreAlike, IsRefusedBeside, solo_outcome_of}
 use Rattle.iio_gen.specs.Summary.{EndsGen, summarized}
 use Rattle.iiod_serve.specs.Usage.{IsUsage, PrintsUsage}
 use Rattle.iiod_program.specs.Complete.{Completes}
 use Rattle.iiod_program.specs.Layout.{TakesForLine, layout_of}
-use Rattle.iiod_program.specs.Request.{Request, Play, Layout, Gen, Other}
+use Rattle.iiod_program.specs.Request.{Request, Play, Solo, Layout, Gen, Other}
 
 module _ {S K : Type 0} (left : S → Option (List ℕ)) (reads : S → ℕ) (written : K → Option (List ℕ)) (writes : K → ℕ) where
   -- the transcript of the input, with these drivers
@@ -33,6 +34,21 @@ module _ {S K : Type 0} (left : S → Option (List ℕ)) (reads : S → ℕ) (wr
     pub whole_lines : end ≡ ReadFault → IfSome (left source) (λ xs. IfSome (written sink) (λ ys. WritesLines drivers xs ys (left source') (written sink')))
     -- however it ends, at most 65,536 bytes were taken since all was written that the whole lines before them print
     pub answered : IfSome (left source) (λ xs. IfSome (written sink) (λ ys. WritesFirst drivers xs ys (left source') (written sink')))
+
+  -- both worlds of a connection of the input, with these drivers
+  pub record ShowsWorlds (drivers : List Driver) (name : List ℕ) (end : Status) (source source' : S) (sink sink' : K) : Type 0 where
+    -- where no line of the input fails, and the others are bystanders, the same text twice, with a line between
+    pub alike : IfSome (left source) (λ xs. AreAlike name drivers xs)
+    -- where no line fails, and they aren't, the line of the first step against the rules is refused
+    pub beside : IfSome (left source) (λ xs. IsRefusedBeside name drivers xs)
+    pub worlds : IfSome (left source) (λ xs. IfSome (written sink) (λ ys. Writes (solo_outcome_of name drivers xs) ys end (written sink')))
+    pub complete : reads source ≡ reads source' → writes sink ≡ writes sink'
+        → IfSome (left source) (λ xs. IfSome (written sink) (λ ys. Completes (solo_outcome_of name drivers xs) ys end (written sink')))
+    pub status : IfSome (left source) (λ xs. HasStatus (solo_outcome_of name drivers xs) end)
+    pub words : end ≡ Usage → ⊥
+    pub taken : IfSome (left source) (λ xs. TakesAtMost xs (input_limit + 1) (left source'))
+    -- nothing is written before the input's end
+    pub nothing : end ≡ ReadFault → written sink' ≡ written sink
 
   -- the layout of a device of the input's description, which may use `drivers` drivers, under a mask
   pub record PrintsLayout (drivers : ℕ) (device mask : List ℕ) (end : Status) (source source' : S) (sink sink' : K) : Type 0 where
@@ -63,6 +79,7 @@ module _ {S K : Type 0} (left : S → Option (List ℕ)) (reads : S → ℕ) (wr
   -- what was asked for
   abbrev pub Does : List Driver → Request → Status → S → S → K → K → Type 0
   Does drivers Play end source source' sink sink' = PlaysInput drivers end source source' sink sink'
+  Does drivers (Solo name) end source source' sink sink' = ShowsWorlds drivers name end source source' sink sink'
   Does drivers (Layout device mask) end source source' sink sink' = PrintsLayout (length drivers) device mask end source source' sink sink'
   Does drivers (Gen n) end source source' sink sink' = Counts n end source source' sink sink'
   Does drivers Other end source source' sink sink' = NamesCommands end source source' sink sink'

@@ -13,11 +13,15 @@ use iio_gen::gen_;
 use iio_io::{Sink, Source};
 use iio_script::{Status, play};
 use iio_sensor::Sensor;
+use iio_solo::solo;
+use iio_worlds::solo_law;
 use iiod_serve::print_usage;
 use std::alloc::Global;
 
 /// Does what the words after the program's name ask for. `play` plays the input that the source has left, with the drivers
-/// that its description names by their numbers. `layout DEVICE MASK` reads the description of that input alone, and
+/// that its description names by their numbers. `solo NAME` plays it too, and prints what it prints for the connection of that
+/// name without the steps of others, the line `%%`, and what it prints with them; a line that fails, and the first step that isn't
+/// a bystander's, are refused instead, and alone. `layout DEVICE MASK` reads the description of that input alone, and
 /// prints where the channels of the mask stand in a scan of the device; an unknown device and a wrong mask are refused at
 /// line 0. `gen N` makes an input from a number, plays it without drivers, and prints what is counted in it. Other words,
 /// and none, print the line that names the commands. Like `gen N`, they leave the input alone.
@@ -32,8 +36,10 @@ pub fn run<S: Source, K: Sink>(
         (map (λ d. ⟦<Plug as Sensor>⟧.driver (Given d)) drivers.items) asked result input.old input.new output.old output.new }
     ensures faults { ShowsFaults S.left S.faults K.written K.faults result input.old input.new output.old output.new }
 {
+    solo_law();
     match request_of(words) {
         Request::Play => play(alloc, input, drivers, output),
+        Request::Solo { name } => solo(alloc, name, input, drivers, output),
         Request::Layout { device, mask } => {
             let Ok(count) = u32::try_from(drivers.len()) else {
                 return Status::Memory;

@@ -3,8 +3,9 @@
 ghost use Rattle.std.specs.Prelude.{◌≡◌, ◌↔◌, ℕ, List, IsNone, IsTrue, IfSome};
 ghost use Rattle.iiod_program.specs.Request.{Asks};
 ghost use Rattle.iiod_program.specs.View.{request_view};
-ghost use Rattle.iiod_program.specs.Words.{IsPlay, IsLayout, IsGen};
+ghost use Rattle.iiod_program.specs.Words.{IsPlay, IsSolo, IsLayout, IsGen};
 
+use iio_attr::Name;
 use iiod_serve::read_spelled;
 
 /// What the program is asked for.
@@ -12,6 +13,8 @@ use iiod_serve::read_spelled;
 pub enum Request<'a> {
     /// `play`: the transcript of the input.
     Play,
+    /// `solo NAME`: what the input prints for the connection of that name without the others, and with them.
+    Solo { name: &'a [u8] },
     /// `layout DEVICE MASK`: where the channels of the mask stand in a scan of the device.
     Layout { device: &'a [u8], mask: &'a [u8] },
     /// `gen N`: what is counted in the input that the number makes.
@@ -27,6 +30,24 @@ fn is_play(words: &[String]) -> bool
         [word] => word.as_str() == "play",
         _ => false,
     }
+}
+
+// The name of the words `solo NAME`. None exactly for other words.
+fn solo_words(words: &[String]) -> Option<&[u8]>
+    ensures found { IfSome result (λ name. IsSolo words.now name.now) }
+    ensures none { IsNone result → (name : List ℕ) → IsSolo words.now name → ⊥ }
+{
+    let [word, name] = words else {
+        return None;
+    };
+    if word.as_str() != "solo" {
+        return None;
+    }
+    let name = name.as_bytes();
+    if Name::new(name).is_none() {
+        return None;
+    }
+    Some(name)
 }
 
 // The device and the mask of the words `layout DEVICE MASK`. None exactly for other words.
@@ -63,6 +84,9 @@ pub fn request_of(words: &[String]) -> Request<'_>
 {
     if is_play(words) {
         return Request::Play;
+    }
+    if let Some(name) = solo_words(words) {
+        return Request::Solo { name };
     }
     if let Some((device, mask)) = layout_words(words) {
         return Request::Layout { device, mask };

@@ -18,6 +18,7 @@ mod reading;
 mod remasking;
 mod scans;
 mod serving;
+mod solo_words;
 mod steps;
 mod streams;
 mod triggers;

@@ -1,12 +1,13 @@
 use Rattle.std.proofs.Common.{◌≡◌, ℕ, length, refl, subst, sym, ◌∙◌}
 use Rattle.std.proofs.lemmas.List.{length-map}
 use Rattle.iio_history.specs.Outcome.{outcome_of}
+use Rattle.iio_worlds.specs.Solo.{AreAlike, IsRefusedBeside, solo_outcome_of}
 use Rattle.iio_gen.specs.Summary.{EndsGen, summarized}
 use Rattle.iiod_program.specs.Does.{PrintsLayout}
 use Rattle.iiod_program.specs.Layout.{layout_of}
-use Rattle.iiod_program.specs.Request.{Play, Layout, Gen, Asks}
+use Rattle.iiod_program.specs.Request.{Play, Solo, Layout, Gen, Asks}
 use Rattle.iiod_program.specs.View.{request_view}
-use Rattle.iiod_program.proofs.EndLaws.{completes_told, does_asked, gen_completes}
+use Rattle.iiod_program.proofs.EndLaws.{completes_told, does_asked, each_input, gen_completes}
 use Rattle.iiod_program.proofs.command.run.Goals as goal
 
 pub returns-in-Play-clause-does : goal.returns-in-Play-clause-does
@@ -21,6 +22,20 @@ returns-in-Play-clause-does g c =
       near = c.play.ensures.near;
       whole_lines = c.play.ensures.whole_lines;
       answered = c.play.ensures.answered;
+    })
+
+pub returns-in-Solo-clause-does : goal.returns-in-Solo-clause-does
+returns-in-Solo-clause-does g c =
+    does_asked g.S.Source.left g.S.Source.faults g.K.Sink.written g.K.Sink.faults c.args.words.now (Solo c.in-Solo.name.now) _ c.solo.result c.args.input.now c.solo.new.input c.args.output.now c.solo.new.output
+    (subst (λ r. Asks c.args.words.now (request_view r)) c.in-Solo.is c.request_of.ensures) (record {
+      alike = each_input (λ xs. AreAlike c.in-Solo.name.now _ xs) (g.S.Source.left c.args.input.now) (λ xs. c.solo_law.ensures.alike c.in-Solo.name.now _ xs);
+      beside = each_input (λ xs. IsRefusedBeside c.in-Solo.name.now _ xs) (g.S.Source.left c.args.input.now) (λ xs. c.solo_law.ensures.offender c.in-Solo.name.now _ xs);
+      worlds = c.solo.ensures.worlds;
+      complete = λ reads writes. completes_told (λ xs. solo_outcome_of c.in-Solo.name.now _ xs) _ _ _ _ _ _ _ _ c.solo.ensures.worlds c.solo.ensures.faults.read_fault c.solo.ensures.faults.write_fault reads writes;
+      status = c.solo.ensures.status;
+      words = c.solo.ensures.words;
+      taken = c.solo.ensures.taken;
+      nothing = c.solo.ensures.nothing;
     })
 
 pub returns-in-Gen-clause-does : goal.returns-in-Gen-clause-does

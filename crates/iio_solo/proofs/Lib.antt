@@ -1,0 +1,2 @@
+pub mod BothLaws
+pub mod SoloEnds
