@@ -9,6 +9,3 @@ pub use crate::attributes::{Attr, Scope, check, find, first_value, writable};
 pub use crate::names::Name;
 pub use crate::values::Value;
 pub use iio_text::{Errno, Fixed, Form};
-
-#[cfg(test)]
-mod tests;

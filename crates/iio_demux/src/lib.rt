@@ -8,6 +8,3 @@ mod table;
 
 pub use iio_base::Mem;
 pub use table::{Entry, Table};
-
-#[cfg(test)]
-mod tests;

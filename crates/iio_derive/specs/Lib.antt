@@ -6,4 +6,3 @@ pub mod Members
 pub mod Sized
 pub mod Average
 pub mod View
-pub mod Tested

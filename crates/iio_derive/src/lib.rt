@@ -13,6 +13,3 @@ mod sums;
 pub use average::Average;
 pub use iio_base::Mem;
 pub use reading::reading_law;
-
-#[cfg(test)]
-mod tests;

@@ -12,6 +12,3 @@ pub use event::{Edge, EventData, code};
 pub use iio_base::Mem;
 pub use monitor::{Held, Monitor, NotHolder};
 pub use watch::{Watch, Watched};
-
-#[cfg(test)]
-mod tests;

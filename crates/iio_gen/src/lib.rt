@@ -40,6 +40,3 @@ pub fn law()
     ensures playable { MadeIsPlayable }
     ensures finishes { MadeFinishes }
 {}
-
-#[cfg(test)]
-mod tests;

@@ -31,10 +31,7 @@ pub use list_ticker::ListTicker;
 pub use mem_link::MemLink;
 pub use memory::{MemSink, MemSource};
 pub use standard::{StdSink, StdSource};
-pub use tcp_door::TcpDoor;
+pub use tcp_door::{TcpDoor, accept};
 pub use tcp_link::TcpLink;
 pub use traits::{Failed, Sink, Source};
 pub use whole::{ReadEnd, read_whole, send_whole, write_whole};
-
-#[cfg(test)]
-mod tests;

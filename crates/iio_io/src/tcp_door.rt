@@ -140,8 +140,9 @@ fn accept_unless<L: OpenListener>(
     Ok(Some(stream))
 }
 
-// The next connection of a listener. One that went away before it was taken is passed over.
-pub(crate) fn accept<L: OpenListener>(listener: &L) -> Result<L::Stream, Failed> {
+/// The next connection of a listener, for a door over it. One that went away before it was taken is passed over; any other
+/// error is a failure.
+pub fn accept<L: OpenListener>(listener: &L) -> Result<L::Stream, Failed> {
     for _ in 0..u64::MAX {
         match listener.accept() {
             Ok((stream, _)) => return Ok(stream),

@@ -27,8 +27,3 @@ pub use reader::{Ended, Ending, Mark, Reader};
 pub use tail::{Offered, Tail};
 pub use view::{Offer, Reading, Sent, Writing};
 pub use writer::{Closing, Writer};
-
-#[cfg(test)]
-mod ring_tests;
-#[cfg(test)]
-mod tests;

@@ -17,6 +17,3 @@ pub use rows::Rows;
 pub use scan::{fill, fill_from};
 pub use shape::{MAX_CHANNELS, Shape};
 pub use values::Values;
-
-#[cfg(test)]
-mod tests;

@@ -195,6 +195,3 @@ fn fits(bits: u64, channels: u32) -> bool
 {
     channels >= 64 || bits < 1 << channels
 }
-
-#[cfg(test)]
-mod tests;

@@ -14,6 +14,3 @@ mod writer;
 pub use iio_base::Mem;
 pub use out::{Out, OutFault};
 pub use writer::{Next, Wrote};
-
-#[cfg(test)]
-mod tests;

@@ -2,10 +2,6 @@
 #![tactic(auto)]
 
 mod devices;
-#[cfg(test)]
-mod remask_tests;
-#[cfg(test)]
-mod tests;
 
 pub use devices::devices_of;
 pub use iio_base::Mem;

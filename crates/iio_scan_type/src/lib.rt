@@ -14,8 +14,6 @@ ghost use Rattle.iio_scan_type.specs.Text.{profiled};
 use std::marker::Model;
 
 mod bytes;
-#[cfg(test)]
-mod tests;
 mod text;
 
 use bytes::{read_number, write_number, write_word};

@@ -7,8 +7,6 @@ mod held;
 mod ramp;
 mod recorded;
 mod sensor;
-#[cfg(test)]
-mod tests;
 
 pub use failing::Failing;
 pub use ramp::Ramp;

@@ -25,6 +25,3 @@ pub use crate::words::{
     count_words, from_word, is_word, next_word, one_word, three_words, two_words,
 };
 pub use iio_base::Mem;
-
-#[cfg(test)]
-mod tests;

@@ -239,6 +239,3 @@ impl Trigger {
         true
     }
 }
-
-#[cfg(test)]
-mod tests;

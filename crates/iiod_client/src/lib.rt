@@ -18,6 +18,3 @@ pub use client::{MOST_SCANS, read_device};
 pub use client_end::ClientEnd;
 pub use iio_base::Mem;
 pub use limits::limits_are_these;
-
-#[cfg(test)]
-mod tests;

@@ -1,4 +1,4 @@
-//! Tests of the program, by subject: whole inputs and what is printed for each, over sources and sinks in memory.
+//! Tests of the program's words: what each of them prints and how it ends, over sources and sinks in memory.
 #![tactic(auto)]
 
 #[cfg(test)]

@@ -5,8 +5,6 @@ mod dialled;
 mod exit;
 mod read_status;
 mod reading;
-#[cfg(test)]
-mod tests;
 mod wanted;
 mod words;
 

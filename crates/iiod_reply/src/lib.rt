@@ -217,6 +217,3 @@ fn append(bytes: &[u8], out: &mut Vec<u8>)
 {
     let _ = out.extend_from_slice(bytes);
 }
-
-#[cfg(test)]
-mod tests;

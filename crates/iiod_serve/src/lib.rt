@@ -7,8 +7,6 @@ mod opened;
 mod serve_status;
 mod serving;
 mod spelled;
-#[cfg(test)]
-mod tests;
 mod usage;
 mod words;
 

@@ -1,38 +1,55 @@
 //! Hubs and servers. Each test with threads ends by itself, by a limit of turns, and none depends on who comes first.
 
+mod asked;
 mod connections;
 mod doubles;
 mod hubs;
 mod playback;
 mod reading;
 mod remasking;
+mod serve_words;
 mod serving;
+mod sessions;
 
-ghost use Rattle.std.specs.Prelude.{IfOk};
+ghost use Rattle.std.specs.Prelude.{◌≡◌, ◌+◌, ◌-◌, ◌^◌, ◌<◌, ◌≤◌, IfOk, OnOk, ⊤};
+ghost use Rattle.iio_desc.specs.DescReader.{drivers_of, line_count};
 ghost use Rattle.iio_desc.specs.WellFormed.{IsWellFormed};
 
 use iio_desc::{Desc, DescReader};
-use iio_io::{MemLink, MemSink, MemSource};
-use iiod_hub::Hub;
+use iio_io::{Door, Gate, Link, ListTicker, MemLink, MemSink, MemSource, OpenGate, Ticker};
+use iiod_hub::{Hub, SessionEnd, serve_connection};
+use iiod_server::{ServeEnd, serve_all};
 use std::alloc::Global;
+use std::sync::Wait;
 use std::test::Fail;
+use std::thread::Threads;
 
 // How often a test looks again, a millisecond apart, before it gives up.
 const TURNS: u32 = 10_000;
+
+// Reads a line of a description. Nothing is known here of what it says.
+fn read_line(reader: &mut DescReader, line: &[u8]) -> Result<(), Fail>
+    requires { line_count reader.old < 2 ^ 32 - 2 }
+    ensures counted { line_count reader.new ≤ line_count reader.old + 1 }
+    ensures drivers { OnOk result (drivers_of reader.new ≡ drivers_of reader.old) }
+{
+    reader.line(line)?;
+    Ok(())
+}
 
 // A device of two voltages, an acceleration and a timestamp, with one recorded row.
 fn described(alloc: Global) -> Result<Desc, Fail>
     ensures { IfOk result (λ desc. IsWellFormed 0 desc) }
 {
     let mut reader = DescReader::new(alloc, 0)?;
-    reader.line(b"context \"<context/>\"")?;
-    reader.line(b"trigger t0 2")?;
-    reader.line(b"device adc0 t0")?;
-    reader.line(b"channel voltage0 le:u12/16>>4")?;
-    reader.line(b"channel voltage1 le:u12/16>>4")?;
-    reader.line(b"channel accel_x be:s16/16>>0")?;
-    reader.line(b"timestamp")?;
-    reader.line(b"row 0 1 2 -3")?;
+    read_line(&mut reader, b"context \"<context/>\"")?;
+    read_line(&mut reader, b"trigger t0 2")?;
+    read_line(&mut reader, b"device adc0 t0")?;
+    read_line(&mut reader, b"channel voltage0 le:u12/16>>4")?;
+    read_line(&mut reader, b"channel voltage1 le:u12/16>>4")?;
+    read_line(&mut reader, b"channel accel_x be:s16/16>>0")?;
+    read_line(&mut reader, b"timestamp")?;
+    read_line(&mut reader, b"row 0 1 2 -3")?;
     Ok(reader.finish()?)
 }
 
@@ -46,4 +63,37 @@ fn link_of(alloc: Global, bytes: &[u8]) -> Result<MemLink, Fail> {
     let source = MemSource::new(bytes.to_vec(alloc)?, 100, Vec::new(alloc));
     let sink = MemSink::new(alloc, 100_000, Vec::new(alloc))?;
     Ok(MemLink::new(source, sink))
+}
+
+// How a connection ends. Nothing more is known of it here than what its link tells.
+fn end_of<R: Wait, L: Link>(rt: &R, alloc: Global, hub: &Hub, who: u32, link: &mut L) -> SessionEnd
+    requires { ⊤ }
+{
+    serve_connection(rt, alloc, hub, who, link, &OpenGate)
+}
+
+// How a server ends whose triggers aren't polled.
+fn serve_untimed<R: Threads + Wait + Sync, D: Door, G: Gate + Sync>(
+    rt: &R,
+    alloc: Global,
+    hub: &Hub,
+    door: &mut D,
+    gate: &G,
+) -> ServeEnd {
+    let tickers: Vec<ListTicker> = Vec::new(alloc);
+    serve_all(rt, alloc, hub, door, tickers, gate)
+}
+
+// How a server ends whose first trigger is polled at the moments of a ticker.
+fn serve_timed<R: Threads + Wait + Sync, D: Door, T: Ticker + Send + Drop, G: Gate + Sync>(
+    rt: &R,
+    alloc: Global,
+    hub: &Hub,
+    door: &mut D,
+    ticker: T,
+    gate: &G,
+) -> Result<ServeEnd, Fail> {
+    let mut tickers = Vec::new(alloc);
+    tickers.push(ticker)?;
+    Ok(serve_all(rt, alloc, hub, door, tickers, gate))
 }

@@ -1,6 +1,7 @@
 //! A session over the shelf.
 
-ghost use Rattle.std.specs.Prelude.{◌≡◌, IfOk};
+ghost use Rattle.std.specs.Prelude.{◌≡◌, ◌+◌, ◌-◌, ◌^◌, ◌<◌, ◌≤◌, IfOk, OnOk};
+ghost use Rattle.iio_desc.specs.DescReader.{drivers_of, line_count};
 ghost use Rattle.iio_desc.specs.WellFormed.{IsWellFormed};
 ghost use Rattle.iiod_bank.specs.FrontOf.{front_of};
 ghost use Rattle.iiod_session.specs.Desk.{IsDesk};
@@ -13,16 +14,26 @@ use std::alloc::Global;
 use std::process::Abort;
 use std::test::Fail;
 
+// Reads a line of a description. Nothing is known here of what it says.
+fn read_line(reader: &mut DescReader, line: &[u8]) -> Result<(), Fail>
+    requires { line_count reader.old < 2 ^ 32 - 2 }
+    ensures counted { line_count reader.new ≤ line_count reader.old + 1 }
+    ensures drivers { OnOk result (drivers_of reader.new ≡ drivers_of reader.old) }
+{
+    reader.line(line)?;
+    Ok(())
+}
+
 // A device of two channels of one byte each.
 fn described(alloc: Global) -> Result<Desc, Fail>
     ensures { IfOk result (λ desc. IsWellFormed 0 desc) }
 {
     let mut reader = DescReader::new(alloc, 0)?;
-    reader.line(b"trigger t0 1")?;
-    reader.line(b"device adc0 t0")?;
-    reader.line(b"channel voltage0 le:u8/8>>0")?;
-    reader.line(b"channel voltage1 le:u8/8>>0")?;
-    reader.line(b"row 0 1 2")?;
+    read_line(&mut reader, b"trigger t0 1")?;
+    read_line(&mut reader, b"device adc0 t0")?;
+    read_line(&mut reader, b"channel voltage0 le:u8/8>>0")?;
+    read_line(&mut reader, b"channel voltage1 le:u8/8>>0")?;
+    read_line(&mut reader, b"row 0 1 2")?;
     Ok(reader.finish()?)
 }
 
@@ -117,20 +128,32 @@ fn a_remask_begins_the_data_anew(rt: HostRuntime) -> Result<(), Fail> {
     Ok(())
 }
 
+// Feeds all the exchanges, the last of which ends with a READBUF that waits.
+fn hear_all(
+    rt: &impl Abort,
+    alloc: Global,
+    session: &mut Session<ShelfSeat>,
+    shelf: &mut Shelf,
+) -> Result<(), Fail>
+    requires { IsDesk seen_of (front_of shelf.old.front) session.old.desk }
+    ensures { IsDesk seen_of (front_of shelf.new.front) session.new.desk }
+{
+    hear(rt, alloc, session, shelf, EXCHANGES[0], Going::On)?;
+    hear(rt, alloc, session, shelf, EXCHANGES[1], Going::On)?;
+    hear(rt, alloc, session, shelf, EXCHANGES[2], Going::On)?;
+    hear(rt, alloc, session, shelf, EXCHANGES[3], Going::On)?;
+    hear(rt, alloc, session, shelf, EXCHANGES[4], Going::Waits(0))
+}
+
 // The data of each seat's READBUFs are the scans that it gave, and its mask and capacity are those of its OPEN.
 #[test]
 fn data_are_what_the_seats_gave(rt: HostRuntime) -> Result<(), Fail> {
     let alloc = rt.alloc();
     let scans: [&[u8]; 9] = [b"aA", b"bB", b"cC", b"dD", b"eE", b"x", b"y", b"fF", b"gG"];
     let mut shelf = shelf_of(alloc, &scans)?;
-    let mut a = Session::new(alloc, 3, Manner::Server)?;
-    hear(&rt, alloc, &mut a, &mut shelf, EXCHANGES[0], Going::On)?;
-    hear(&rt, alloc, &mut a, &mut shelf, EXCHANGES[1], Going::On)?;
-    hear(&rt, alloc, &mut a, &mut shelf, EXCHANGES[2], Going::On)?;
-    hear(&rt, alloc, &mut a, &mut shelf, EXCHANGES[3], Going::On)?;
-    let waits = Going::Waits(0);
-    hear(&rt, alloc, &mut a, &mut shelf, EXCHANGES[4], waits)?;
-    a.end(&mut shelf);
+    let mut session = Session::new(alloc, 3, Manner::Server)?;
+    hear_all(&rt, alloc, &mut session, &mut shelf)?;
+    session.end(&mut shelf);
     let lists = lists(alloc, &shelf.closed)?;
     let given = b"aA bB cC dD eE \nx y \nfF gG \n";
     assert_eq!(rt; lists.as_slice(), given.as_slice());

@@ -1,10 +1,13 @@
 //! The words `gen N`, and what is counted in a text. The expected lines of `gen` are those of another program that makes and
 //! plays the same inputs.
 
-use crate::tests::playing::run_words;
-use iio_io::{MemSink, MemSource, read_whole};
+ghost use Rattle.std.specs.Prelude.{◌≤◌, length};
+
+use crate::tests::playing::{outcome, run_words, sink, source};
+use iio_io::read_whole;
 use iio_script::{Status, Stop, tally};
 use iio_text::Why;
+use std::alloc::Global;
 use std::test::Fail;
 
 /// What is counted in the input of 1.
@@ -26,44 +29,51 @@ const SUMMARIES: &[(&str, &[u8])] = &[
 /// What stands in the input, and stays there.
 const LEFT: &[u8] = b"trigger";
 
+// What is printed for a number, the status, and what is left of the input.
+fn generated(alloc: Global, number: &str) -> Result<(Vec<u8>, Status, Vec<u8>), Fail> {
+    let mut input = source(alloc, LEFT, 1000, &[])?;
+    let (printed, status) = outcome(alloc, &["gen", number], &mut input)?;
+    Ok((printed, status, read_whole(alloc, &mut input, 1000)?))
+}
+
 #[test]
 fn generated_run(rt: HostRuntime) -> Result<(), Fail> {
-    let alloc = rt.alloc();
     for (number, lines) in SUMMARIES {
-        let mut input = MemSource::new(LEFT.to_vec(alloc)?, 1000, Vec::new(alloc));
-        let mut output = MemSink::new(alloc, 1000, Vec::new(alloc))?;
-        let status = run_words(alloc, &["gen", *number], &mut input, &mut output)?;
+        let (printed, status, left) = generated(rt.alloc(), number)?;
         assert_eq!(rt; status, Status::Done, "{number}");
-        assert_eq!(rt; output.written(), *lines, "{number}");
-        assert_eq!(rt;
-            read_whole(alloc, &mut input, 1000)?.as_slice(),
-            LEFT,
-            "{number}"
-        );
+        assert_eq!(rt; printed.as_slice(), *lines, "{number}");
+        assert!(rt; left.as_slice() == LEFT, "{number}");
     }
     Ok(())
 }
 
-// A sink takes what it has room for, and the next write fails. The lines have 54 bytes.
+/// The room of a sink, the write that fails, what is written of the lines of 1, and the status. The lines have 54 bytes.
+const WRITES: &[(usize, u64, &[u8], Status)] = &[
+    (1000, 1, b"", Status::WriteFault),
+    (20, 9, b"captures 7549\nscans ", Status::WriteFault),
+    (
+        53,
+        9,
+        b"captures 7549\nscans 11106\noverruns 1342\nbytes 9826801",
+        Status::WriteFault,
+    ),
+    (54, 2, LINES, Status::Done),
+];
+
+fn written_to(alloc: Global, room: usize, failing: u64) -> Result<(Vec<u8>, Status), Fail> {
+    let mut input = source(alloc, b"", 1000, &[])?;
+    let mut output = sink(alloc, room, &[failing])?;
+    let ended = run_words(alloc, &["gen", "1"], &mut input, &mut output)?;
+    Ok((output.written().to_vec(alloc)?, ended))
+}
+
+// A sink takes what it has room for, and the next write fails.
 #[test]
 fn failing_writes_cut_the_summary(rt: HostRuntime) -> Result<(), Fail> {
-    let alloc = rt.alloc();
-    for (room, failing, written, status) in [
-        (1000usize, 1u64, b"".as_slice(), Status::WriteFault),
-        (20, 9, b"captures 7549\nscans ", Status::WriteFault),
-        (
-            53,
-            9,
-            b"captures 7549\nscans 11106\noverruns 1342\nbytes 9826801",
-            Status::WriteFault,
-        ),
-        (54, 2, LINES, Status::Done),
-    ] {
-        let mut input = MemSource::new(Vec::new(alloc), 1000, Vec::new(alloc));
-        let mut output = MemSink::new(alloc, room, Vec::from_slice(alloc, &[failing])?)?;
-        let ended = run_words(alloc, &["gen", "1"], &mut input, &mut output)?;
-        assert_eq!(rt; ended, status, "room {room}");
-        assert_eq!(rt; output.written(), written, "room {room}");
+    for (room, failing, lines, status) in WRITES {
+        let (written, ended) = written_to(rt.alloc(), *room, *failing)?;
+        assert_eq!(rt; ended, *status, "room {room}");
+        assert_eq!(rt; written.as_slice(), *lines, "room {room}");
     }
     Ok(())
 }
@@ -72,25 +82,21 @@ fn failing_writes_cut_the_summary(rt: HostRuntime) -> Result<(), Fail> {
 const COUNTED: &[u8] =
     b"trigger t0 2\ndevice y t0\nchannel voltage0 le:u8/8>>0\nrow 1 65\nrow 2 66\nrow 3 67\nrow 4 68\n%%\nA \"SET y BUFFERS_COUNT 1\\nOPEN y 1 00000001\\n\"\nfire t0 1\nfire t0 2\nfire t0 3\nA \"READBUF y 1\\n\"\nA \"READ y BUFFER overruns\\n\"\nfire t0 4\nA \"READBUF y 2\\n\"\nA \"READBUF y 1\\n\"\n";
 
+// What is counted in a text, or why it isn't. Nothing is known here of what the text says.
+fn counted(alloc: Global, text: &[u8]) -> Result<[u64; 4], Stop>
+    requires { length text.now ≤ 1000 }
+{
+    let found = tally(alloc, text)?;
+    Ok([found.captures, found.scans, found.overruns, found.bytes])
+}
+
 // What is counted in a text that is played, and the first line that fails.
 #[test]
-fn tally_of_a_run(rt: HostRuntime) -> Result<(), Fail> {
-    let alloc = rt.alloc();
-    match tally(alloc, COUNTED) {
-        Ok(counted) => {
-            assert_eq!(rt; counted.captures, 4);
-            assert_eq!(rt; counted.scans, 2);
-            assert_eq!(rt; counted.overruns, 2);
-            assert_eq!(rt; counted.bytes, 133);
-        }
-        Err(_) => return Err(Fail::from("not counted")),
-    }
-    assert_eq!(rt;
-        tally(alloc, b"x\n").err(),
-        Some(Stop::Refused {
-            line: 1,
-            why: Why::Word,
-        })
-    );
-    Ok(())
+fn tally_of_a_run(rt: HostRuntime) {
+    let refused = Stop::Refused {
+        line: 1,
+        why: Why::Word,
+    };
+    assert_eq!(rt; counted(rt.alloc(), COUNTED), Ok([4, 2, 2, 133]));
+    assert_eq!(rt; counted(rt.alloc(), b"x\n"), Err(refused));
 }

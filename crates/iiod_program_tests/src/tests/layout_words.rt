@@ -2,23 +2,12 @@
 
 ghost use Rattle.std.specs.Prelude.{◌≤◌};
 
-use crate::tests::playing::{run_words, sink, source};
-use iio_io::{MemSink, MemSource, read_whole};
+use crate::tests::playing::{joined, outcome, run_words, sink, source};
+use iio_io::{MemSource, read_whole};
 use iio_script::Status;
 use std::alloc::Global;
 use std::process::Abort;
 use std::test::Fail;
-
-// What the words `layout DEVICE MASK` do with a source and a sink.
-fn laid(
-    alloc: Global,
-    device: &str,
-    mask: &str,
-    input: &mut MemSource,
-    output: &mut MemSink,
-) -> Result<Status, Fail> {
-    run_words(alloc, &["layout", device, mask], input, output)
-}
 
 /// Six lines: a trigger, and a device with three channels and a timestamp.
 const ADC0: &[u8] =
@@ -42,25 +31,31 @@ const LAYOUTS: &[(&str, &[u8])] = &[
     ("00000000", b"scan 0\n"),
 ];
 
+/// What stands behind the description.
+const ENDINGS: &[&[u8]] = &[
+    b"",
+    b"%%",
+    b" %% \n",
+    b"row 0 1 2 3\n%%\nno line of a description \x00\n",
+];
+
+// What is printed for a mask of adc0, and the status, where its description ends so.
+fn laid(alloc: Global, mask: &str, ending: &[u8]) -> Result<(Vec<u8>, Status), Fail> {
+    let mut text = ADC0.to_vec(alloc)?;
+    text.extend_from_slice(ending)?;
+    let mut input = MemSource::new(text, 7, Vec::new(alloc));
+    outcome(alloc, &["layout", "adc0", mask], &mut input)
+}
+
 #[test]
 fn layouts_are_printed(rt: HostRuntime) -> Result<(), Fail> {
-    let alloc = rt.alloc();
-    for (mask, printed) in LAYOUTS {
-        for ending in [
-            b"".as_slice(),
-            b"%%",
-            b" %% \n",
-            b"row 0 1 2 3\n%%\nno line of a description \x00\n",
-        ] {
-            let mut text = ADC0.to_vec(alloc)?;
-            text.extend_from_slice(ending)?;
-            let mut input = MemSource::new(text, 7, Vec::new(alloc));
-            let mut output = sink(alloc, 1000, &[])?;
-            assert_eq!(rt;
-                laid(alloc, "adc0", mask, &mut input, &mut output)?,
-                Status::Done
+    for (mask, lines) in LAYOUTS {
+        for ending in ENDINGS {
+            let (printed, status) = laid(rt.alloc(), mask, ending)?;
+            assert!(rt;
+                printed.as_slice() == *lines && status == Status::Done,
+                "{mask}"
             );
-            assert_eq!(rt; output.written(), *printed);
         }
     }
     Ok(())
@@ -124,59 +119,139 @@ const ENDS: &[(&[u8], &str, &str, &[u8], u8)] = &[
     ),
 ];
 
+// What `layout` prints for a description, and the number of its status.
+fn check_layout(
+    rt: &impl Abort,
+    alloc: Global,
+    names: (&str, &str),
+    text: &[u8],
+    printed: &[u8],
+    status: u8,
+) -> Result<(), Fail> {
+    let mut input = source(alloc, text, 1000, &[])?;
+    let (found, ended) = outcome(alloc, &["layout", names.0, names.1], &mut input)?;
+    assert_eq!(rt; found.as_slice(), printed);
+    assert_eq!(rt; ended.code(), status);
+    Ok(())
+}
+
 #[test]
 fn layouts_are_refused(rt: HostRuntime) -> Result<(), Fail> {
-    let alloc = rt.alloc();
     for (text, device, mask, printed, status) in ENDS {
-        let mut input = source(alloc, text, 1000, &[])?;
-        let mut output = sink(alloc, 1000, &[])?;
-        let ended = laid(alloc, device, mask, &mut input, &mut output)?;
-        assert_eq!(rt; output.written(), *printed);
-        assert_eq!(rt; ended.code(), *status);
+        check_layout(&rt, rt.alloc(), (*device, *mask), text, printed, *status)?;
     }
     Ok(())
+}
+
+/// A channel of four elements of four bytes.
+const QUATERNION: &[u8] =
+    b"trigger t0 2\ndevice q t0\nchannel accel_x le:s32/32X4>>0\ntimestamp\nrow 0 1 2 3 -1\n";
+
+/// A channel's type, and what `layout` prints for the channel alone and ends with.
+const SPELLINGS: &[(&str, &[u8], u8)] = &[
+    ("be:u12/16", b"voltage0 0 2 be:u12/16>>0\nscan 2\n", 0),
+    (
+        "le:s32/32X2>>0",
+        b"voltage0 0 8 le:s32/32X2>>0\nscan 8\n",
+        0,
+    ),
+    (
+        "le:s32/32X4>>0",
+        b"voltage0 0 16 le:s32/32X4>>0\nscan 16\n",
+        0,
+    ),
+    (
+        "le:s64/64X2>>0",
+        b"voltage0 0 16 le:s64/64X2>>0\nscan 16\n",
+        0,
+    ),
+    ("be:u16/16X8", b"voltage0 0 16 be:u16/16X8>>0\nscan 16\n", 0),
+    ("le:s64/64X4>>0", b"refused 2 type\n", 1),
+    ("le:s32/32X8>>0", b"refused 2 type\n", 1),
+    ("le:s32/32X1>>0", b"refused 2 type\n", 1),
+    ("le:u64/64>>0", b"refused 2 type\n", 1),
+];
+
+#[test]
+fn spellings(rt: HostRuntime) -> Result<(), Fail> {
+    for (ty, printed, status) in SPELLINGS {
+        let text = joined(rt.alloc(), &["device d -\nchannel voltage0 ", ty, "\n"])?;
+        let names = ("d", "00000001");
+        check_layout(&rt, rt.alloc(), names, text.as_slice(), printed, *status)?;
+    }
+    check_layout(
+        &rt,
+        rt.alloc(),
+        ("q", "00000003"),
+        QUATERNION,
+        b"accel_x 0 16 le:s32/32X4>>0\ntimestamp 16 8 le:s64/64>>0\nscan 32\n",
+        0,
+    )
+}
+
+// The status of a layout whose reads are of one byte each and of which one fails, and whether nothing is printed.
+fn status_without(alloc: Global, text: &[u8], failing: u64) -> Result<(Status, bool), Fail> {
+    let mut input = source(alloc, text, 1, &[failing])?;
+    let (printed, status) = outcome(alloc, &["layout", "adc0", "00000009"], &mut input)?;
+    Ok((status, printed.is_empty()))
 }
 
 // One byte a read: each read up to the end line fails in turn. Nothing is read after it.
 #[test]
 fn failing_reads_end_the_layout(rt: HostRuntime) -> Result<(), Fail> {
-    let alloc = rt.alloc();
-    let mut text = ADC0.to_vec(alloc)?;
+    let mut text = ADC0.to_vec(rt.alloc())?;
     text.extend_from_slice(b"%%\n")?;
     let reads = text.len() as u64;
     for failing in 1..=reads {
-        let mut input = source(alloc, text.as_slice(), 1, &[failing])?;
-        let mut output = sink(alloc, 1000, &[])?;
-        let ended = laid(alloc, "adc0", "00000009", &mut input, &mut output)?;
-        assert_eq!(rt; ended, Status::ReadFault, "at read {failing}");
-        assert!(rt; output.written().is_empty(), "at read {failing}");
+        let ended = status_without(rt.alloc(), text.as_slice(), failing)?;
+        assert_eq!(rt; ended, (Status::ReadFault, true), "at read {failing}");
     }
-    let mut input = source(alloc, text.as_slice(), 1, &[reads + 1])?;
-    let mut output = sink(alloc, 1000, &[])?;
-    assert_eq!(rt;
-        laid(alloc, "adc0", "00000009", &mut input, &mut output)?,
-        Status::Done
-    );
+    let ended = status_without(rt.alloc(), text.as_slice(), reads + 1)?;
+    assert_eq!(rt; ended, (Status::Done, false));
     Ok(())
+}
+
+const ONE_CHANNEL: &[u8] = b"voltage0 0 2 le:u12/16>>4\nscan 2\n";
+
+/// The room of a sink, the write that fails, how much is written, and the status.
+const WRITES: &[(usize, u64, usize, u8)] = &[
+    (1000, 1, 0, 4),
+    (0, 9, 0, 4),
+    (1, 9, 1, 4),
+    (20, 2, 20, 4),
+    (32, 9, 32, 4),
+    (33, 2, 33, 0),
+];
+
+// What is written of the layout of one channel is a front part of it: its bytes, and the number of the status.
+fn written_to(alloc: Global, room: usize, failing: u64) -> Result<Option<(usize, u8)>, Fail> {
+    let mut input = source(alloc, ADC0, 1000, &[])?;
+    let mut output = sink(alloc, room, &[failing])?;
+    let words = ["layout", "adc0", "00000001"];
+    let ended = run_words(alloc, &words, &mut input, &mut output)?.code();
+    let written = output.written();
+    Ok(if ONE_CHANNEL.starts_with(written) {
+        Some((written.len(), ended))
+    } else {
+        None
+    })
 }
 
 #[test]
 fn failing_writes_end_the_layout(rt: HostRuntime) -> Result<(), Fail> {
-    let alloc = rt.alloc();
-    let printed = b"voltage0 0 2 le:u12/16>>4\nscan 2\n".as_slice();
-    for (room, failing, taken, status) in [
-        (1000usize, 1u64, 0usize, 4u8),
-        (0, 9, 0, 4),
-        (1, 9, 1, 4),
-        (20, 2, 20, 4),
-        (32, 9, 32, 4),
-        (33, 2, 33, 0),
-    ] {
-        let mut input = source(alloc, ADC0, 1000, &[])?;
-        let mut output = sink(alloc, room, &[failing])?;
-        let ended = laid(alloc, "adc0", "00000001", &mut input, &mut output)?;
-        assert_eq!(rt; ended.code(), status, "room {room}");
-        assert_eq!(rt; output.written(), &printed[..taken], "room {room}");
+    for (room, failing, taken, status) in WRITES {
+        let written = written_to(rt.alloc(), *room, *failing)?;
+        assert_eq!(rt; written, Some((*taken, *status)), "room {room}");
+    }
+    Ok(())
+}
+
+// That many rows.
+fn push_rows(alloc: Global, text: &mut Vec<u8>, rows: u32) -> Result<(), Fail> {
+    for row in 0..rows {
+        let number = 1_000_000_000 + u64::from(row);
+        let line = format!(in alloc; "row {number} 1 2 3\n")?;
+        text.extend_from_slice(line.as_bytes())?;
     }
     Ok(())
 }
@@ -184,10 +259,7 @@ fn failing_writes_end_the_layout(rt: HostRuntime) -> Result<(), Fail> {
 // A description with `rows` rows, and 200,000 empty lines after the line that ends it.
 fn ended_early(alloc: Global, rows: u32) -> Result<Vec<u8>, Fail> {
     let mut text = ADC0.to_vec(alloc)?;
-    for row in 0..rows {
-        let number = 1_000_000_000 + u64::from(row);
-        text.extend_from_slice(format!(in alloc; "row {number} 1 2 3\n")?.as_bytes())?;
-    }
+    push_rows(alloc, &mut text, rows)?;
     text.extend_from_slice(b"%%\n")?;
     text.extend_from_slice(vec![in alloc; b'\n'; 200_000]?.as_slice())?;
     Ok(text)
@@ -206,13 +278,11 @@ fn check_taken(
     let text = ended_early(alloc, rows)?;
     let len = text.len();
     let mut input = MemSource::new(text, piece, Vec::new(alloc));
-    let mut output = sink(alloc, 1000, &[])?;
-    let ended = laid(alloc, "adc0", "00000000", &mut input, &mut output)?;
-    assert_eq!(rt; ended, Status::Done);
-    assert_eq!(rt; output.written(), b"scan 0\n".as_slice());
-    let left = read_whole(alloc, &mut input, 1_000_000)?;
+    let (printed, ended) = outcome(alloc, &["layout", "adc0", "00000000"], &mut input)?;
+    let left = read_whole(alloc, &mut input, 1_000_000)?.len();
+    assert!(rt; printed.as_slice() == b"scan 0\n".as_slice() && ended == Status::Done);
     assert_eq!(rt;
-        len.checked_sub(left.len()),
+        len.checked_sub(left),
         Some(taken),
         "rows {rows}, piece {piece}"
     );

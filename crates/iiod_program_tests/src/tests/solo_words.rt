@@ -2,14 +2,17 @@
 
 ghost use Rattle.std.specs.Prelude.{◌≤◌};
 
-use crate::tests::devices::ADC;
-use crate::tests::examples::FIRST_PATH;
 use crate::tests::playing::{joined, run_words, sink, source};
+use crate::tests::words::FIRST_PATH;
 use iio_io::{MemSink, MemSource};
 use iio_script::Status;
 use std::alloc::Global;
 use std::process::Abort;
 use std::test::Fail;
+
+/// A device of three channels and a timestamp.
+const ADC: &str =
+    "trigger t0 2\ndevice adc0 t0\nchannel voltage0 le:u12/16>>4\nchannel voltage1 le:u12/16>>4\nchannel accel_x be:s16/16>>0\ntimestamp\nrow 0 1 2 -3\n";
 
 // What the words `solo NAME` print for a text, and the number that they end with; `row` tells the row that fails.
 fn check_solo(

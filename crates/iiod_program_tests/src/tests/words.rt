@@ -1,13 +1,22 @@
 //! The program's words: it serves where the first of them is `serve`, and runs else.
 
-use crate::tests::examples::FIRST_PATH;
-use crate::tests::playing::{USAGE, run_words, sink, source};
-use iio_io::{ListDoor, MemLink, MemSink, MemSource, read_whole};
+use crate::tests::playing::{USAGE, outcome, owned, run_words, sink, source};
+use iio_io::{ListDoor, MemLink, read_whole};
 use iio_script::Status;
 use iio_text::Why;
 use iiod_program::{End, end_of};
 use iiod_serve::ServeStatus;
+use std::alloc::Global;
+use std::process::Abort;
+use std::sync::Wait;
 use std::test::Fail;
+use std::thread::Threads;
+
+pub(crate) const FIRST_PATH: &[u8] =
+    b"trigger t0 2\ndevice adc0 t0\nchannel voltage0 le:u12/16>>4\nchannel voltage1 le:u12/16>>4\nrow 0 1 2\n%%\nA \"OPEN adc0 1 00000001\\n\"\nfire t0 1000\nA \"READBUF adc0 4\\n\"\n";
+
+const FIRST_PATH_PRINTED: &[u8] =
+    b"A \"0\\n\"\npoll t0 accepted 1\nhandle t0 adc0 captured\nA \"2\\n00000001\\n\\x10\\x000\\n\"\n";
 
 /// A device on the last of the four drivers.
 const DRIVEN: &str = "trigger t 1\ndevice d t\nchannel voltage0 le:u8/8>>0\ndriver 3\n";
@@ -41,28 +50,35 @@ const ENDS: &[(&[&str], &str, &[u8], End)] = &[
     (&[], DRIVEN, USAGE, End::Run(Status::Usage)),
 ];
 
+// How words end over an input and a door without a connection, and what is printed.
+fn end_after<R: Threads + Wait + Sync>(
+    rt: &R,
+    alloc: Global,
+    words: &[&str],
+    text: &str,
+) -> Result<(End, Vec<u8>), Fail> {
+    let list = owned(alloc, words)?;
+    let mut input = source(alloc, text.as_bytes(), 100, &[])?;
+    let mut output = sink(alloc, 100, &[])?;
+    let links: Vec<MemLink> = Vec::new(alloc);
+    let mut door = ListDoor::new(links, Vec::new(alloc));
+    let end = end_of(
+        rt,
+        alloc,
+        list.as_slice(),
+        &mut input,
+        &mut output,
+        &mut door,
+    )?;
+    Ok((end, output.written().to_vec(alloc)?))
+}
+
 #[test]
 fn first_word_chooses(rt: HostRuntime) -> Result<(), Fail> {
-    let alloc = rt.alloc();
     for (words, text, printed, end) in ENDS {
-        let mut list = Vec::new(alloc);
-        for word in *words {
-            list.push(String::from_str(alloc, word)?)?;
-        }
-        let mut input = MemSource::new(text.as_bytes().to_vec(alloc)?, 100, Vec::new(alloc));
-        let mut output = MemSink::new(alloc, 100, Vec::new(alloc))?;
-        let links: Vec<MemLink> = Vec::new(alloc);
-        let mut door = ListDoor::new(links, Vec::new(alloc));
-        let got = end_of(
-            &rt,
-            alloc,
-            list.as_slice(),
-            &mut input,
-            &mut output,
-            &mut door,
-        )?;
-        assert_eq!(rt; output.written(), *printed, "{words:?}");
+        let (got, written) = end_after(&rt, rt.alloc(), words, text)?;
         assert_eq!(rt; got, *end, "{words:?}");
+        assert_eq!(rt; written.as_slice(), *printed, "{words:?}");
     }
     Ok(())
 }
@@ -97,32 +113,47 @@ const OTHER_WORDS: &[&str] = &[
     "serve a 10",
 ];
 
+// The words of a text, with a space between two.
+fn words_of<'a>(alloc: Global, text: &'a str) -> Result<Vec<&'a str>, Fail> {
+    let mut words = Vec::new(alloc);
+    for word in text.split(' ') {
+        words.push(word)?;
+    }
+    Ok(words)
+}
+
+// The commands are named, also where there is room for a part of that line alone, and the input is left.
+fn check_other(rt: &impl Abort, alloc: Global, words: &[&str]) -> Result<(), Fail> {
+    let mut input = source(alloc, FIRST_PATH, 1000, &[])?;
+    let (printed, status) = outcome(alloc, words, &mut input)?;
+    let mut full = sink(alloc, 10, &[])?;
+    let fault = run_words(alloc, words, &mut input, &mut full)?;
+    let left = read_whole(alloc, &mut input, 1000)?;
+    assert_eq!(rt; (status, fault), (Status::Usage, Status::WriteFault));
+    assert_eq!(rt; printed.as_slice(), USAGE);
+    assert_eq!(rt; full.written(), &USAGE[..10]);
+    assert_eq!(rt; left.as_slice(), FIRST_PATH);
+    Ok(())
+}
+
 #[test]
 fn other_words_name_the_commands(rt: HostRuntime) -> Result<(), Fail> {
-    let alloc = rt.alloc();
     for text in OTHER_WORDS {
-        let mut words = Vec::new(alloc);
-        for word in text.split(' ') {
-            words.push(word)?;
-        }
-        let mut input = source(alloc, FIRST_PATH, 1000, &[])?;
-        let mut output = sink(alloc, 1000, &[])?;
-        assert_eq!(rt;
-            run_words(alloc, words.as_slice(), &mut input, &mut output)?,
-            Status::Usage
-        );
-        assert_eq!(rt; output.written(), USAGE);
-        assert_eq!(rt; read_whole(alloc, &mut input, 1000)?.as_slice(), FIRST_PATH);
-        let mut full = sink(alloc, 10, &[])?;
-        assert_eq!(rt;
-            run_words(alloc, words.as_slice(), &mut input, &mut full)?,
-            Status::WriteFault
-        );
-        assert_eq!(rt; full.written(), &USAGE[..10]);
+        let words = words_of(rt.alloc(), text)?;
+        check_other(&rt, rt.alloc(), words.as_slice())?;
     }
-    let mut output = sink(alloc, 1000, &[])?;
-    let mut input = source(alloc, FIRST_PATH, 1000, &[])?;
-    assert_eq!(rt; run_words(alloc, &[], &mut input, &mut output)?.code(), 2);
-    assert_eq!(rt; output.written(), USAGE);
+    check_other(&rt, rt.alloc(), &[])?;
+    assert_eq!(rt; Status::Usage.code(), 2);
+    Ok(())
+}
+
+// A script through the word `play`. With enough memory the program doesn't give up.
+#[test]
+fn answers_with_ample_memory(rt: HostRuntime) -> Result<(), Fail> {
+    let mut input = source(rt.alloc(), FIRST_PATH, 1000, &[])?;
+    let (printed, status) = outcome(rt.alloc(), &["play"], &mut input)?;
+    assert_ne!(rt; status, Status::Memory);
+    assert_eq!(rt; status, Status::Done);
+    assert_eq!(rt; printed.as_slice(), FIRST_PATH_PRINTED);
     Ok(())
 }

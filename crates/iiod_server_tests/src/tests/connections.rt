@@ -2,10 +2,11 @@
 
 ghost use Rattle.std.specs.Prelude.{◌≤◌};
 
-use super::hub_of;
-use iio_io::{MemLink, MemSink, MemSource, OpenGate};
-use iiod_hub::{SessionEnd, serve_connection};
+use super::{end_of, hub_of};
+use iio_io::{MemLink, MemSink, MemSource};
+use iiod_hub::{Hub, SessionEnd};
 use std::alloc::Global;
+use std::sync::Wait;
 use std::test::Fail;
 
 // A link on which these bytes come in pieces, and to which `room` bytes can be sent. The listed receives fail.
@@ -47,20 +48,29 @@ const CONNECTIONS: &[(&[u8], SessionEnd, &[u8])] = &[
     ),
 ];
 
+// How such a connection ends, and what was sent.
+fn served<R: Wait>(
+    rt: &R,
+    alloc: Global,
+    hub: &Hub,
+    comes: &[u8],
+    piece: usize,
+) -> Result<(SessionEnd, Vec<u8>), Fail>
+    requires { 1 ≤ piece }
+{
+    let mut link = faulty_link(alloc, comes, piece, &[], 1_000)?;
+    let end = end_of(rt, alloc, hub, 1, &mut link);
+    Ok((end, link.sent().to_vec(alloc)?))
+}
+
 #[test]
 fn one_connection_in_memory(rt: HostRuntime) -> Result<(), Fail> {
-    let alloc = rt.alloc();
-    let hub = hub_of(alloc)?;
+    let hub = hub_of(rt.alloc())?;
     for (comes, end, sent) in CONNECTIONS.iter() {
         for piece in [1usize, 3, 100] {
-            let mut link = faulty_link(alloc, comes, piece, &[], 1_000)?;
-            let got = serve_connection(&rt, alloc, &hub, 1, &mut link, &OpenGate);
-            assert!(rt; got == *end, "of {comes:?} by {piece}: {got:?}");
-            assert!(rt;
-                link.sent() == *sent,
-                "of {comes:?} by {piece}: {:?}",
-                link.sent()
-            );
+            let (got, said) = served(&rt, rt.alloc(), &hub, comes, piece)?;
+            let right = got == *end && said.as_slice() == *sent;
+            assert!(rt; right, "of {comes:?} by {piece}: {got:?} {said:?}");
         }
     }
     Ok(())
@@ -75,22 +85,26 @@ const FAULTS: &[(&[u64], usize, &[u8])] = &[
     (&[], 20, b"0.25.iiosim0\n0.25.ii"),
 ];
 
+// The same of three VERSION, over a link whose calls fail.
+fn faulted<R: Wait>(
+    rt: &R,
+    alloc: Global,
+    hub: &Hub,
+    fails: &[u64],
+    room: usize,
+) -> Result<(SessionEnd, Vec<u8>), Fail> {
+    let mut link = faulty_link(alloc, b"VERSION\nVERSION\nVERSION\n", 8, fails, room)?;
+    let end = end_of(rt, alloc, hub, 1, &mut link);
+    Ok((end, link.sent().to_vec(alloc)?))
+}
+
 #[test]
 fn a_link_that_fails(rt: HostRuntime) -> Result<(), Fail> {
-    let alloc = rt.alloc();
-    let hub = hub_of(alloc)?;
+    let hub = hub_of(rt.alloc())?;
     for (fails, room, sent) in FAULTS.iter() {
-        let mut link = faulty_link(alloc, b"VERSION\nVERSION\nVERSION\n", 8, fails, *room)?;
-        let got = serve_connection(&rt, alloc, &hub, 1, &mut link, &OpenGate);
-        assert!(rt;
-            got == SessionEnd::LinkFault,
-            "with {fails:?} and {room}: {got:?}"
-        );
-        assert!(rt;
-            link.sent() == *sent,
-            "with {fails:?} and {room}: {:?}",
-            link.sent()
-        );
+        let (got, said) = faulted(&rt, rt.alloc(), &hub, fails, *room)?;
+        let right = got == SessionEnd::LinkFault && said.as_slice() == *sent;
+        assert!(rt; right, "with {fails:?} and {room}: {got:?} {said:?}");
     }
     Ok(())
 }

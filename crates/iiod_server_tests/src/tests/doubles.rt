@@ -35,6 +35,12 @@ pub struct Texts<'a, R> {
     pub sent: MemLink,
 }
 
+// Polls the first trigger, and handles its entries.
+fn fire<R: Wait>(rt: &R, alloc: Global, hub: &Hub, t: i64) {
+    hub.poll(rt, alloc, 0, t);
+    hub.sweep(rt, alloc, 0);
+}
+
 // The front of a text, as far as there is room.
 fn copy_front(text: &[u8], out: &mut [u8]) -> usize
     ensures fits { result ≤ length out.new }
@@ -56,10 +62,8 @@ impl<'a, R: Wait> Link for Texts<'a, R> {
 
     fn recv(&mut self, out: &mut [u8]) -> Result<usize, Failed> {
         if self.next == self.fires_at {
-            for t in [1000, 2000] {
-                self.hub.poll(self.rt, self.alloc, 0, t);
-                self.hub.sweep(self.rt, self.alloc, 0);
-            }
+            fire(self.rt, self.alloc, self.hub, 1000);
+            fire(self.rt, self.alloc, self.hub, 2000);
         }
         if self.next >= self.texts.len() {
             return Ok(0);
@@ -96,10 +100,8 @@ impl<'a, R: Wait, L: Link> Link for Firing<'a, R, L> {
     fn recv(&mut self, out: &mut [u8]) -> Result<usize, Failed> {
         let first = self.moment;
         self.moment = first.saturating_add(2000);
-        for t in [first, first.saturating_add(1000)] {
-            self.hub.poll(self.rt, self.alloc, 0, t);
-            self.hub.sweep(self.rt, self.alloc, 0);
-        }
+        fire(self.rt, self.alloc, self.hub, first);
+        fire(self.rt, self.alloc, self.hub, first.saturating_add(1000));
         self.link.recv(out)
     }
 
@@ -361,14 +363,14 @@ impl<'a, R: Clock + Wait> Door for Unplugging<'a, R> {
 
 /// A ticker of one tick a millisecond, by the clock, from when a flag is set.
 #[derive(Drop)]
-pub struct Starting<'a, R> {
+pub struct Starting<'a, 'b, R> {
     pub rt: R,
     pub opened: &'a AtomicBool,
-    pub stop: &'a AtomicBool,
-    pub ticker: Option<ClockTicker<'a, R>>,
+    pub stop: &'b AtomicBool,
+    pub ticker: Option<ClockTicker<'b, R>>,
 }
 
-impl<'a, R: Clock + Copy> Ticker for Starting<'a, R> {
+impl<'a, 'b, R: Clock + Copy> Ticker for Starting<'a, 'b, R> {
     ghost use Rattle.std.specs.Prelude.{None};
 
     ghost moments = { λ t. None };

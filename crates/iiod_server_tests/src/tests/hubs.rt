@@ -1,17 +1,24 @@
 //! Hubs: a usual session, a lost one, and a bank without locks.
 
+ghost use Rattle.std.specs.Prelude.{◌<◌, length};
+ghost use Rattle.iiod_hub.specs.Link.{seen_of};
+ghost use Rattle.iiod_session.specs.Desk.{IsDesk};
+
 use super::doubles::Texts;
-use super::{described, hub_of, link_of};
+use super::sessions::{handle, hear, link_to, poll, tick_once, unplug};
+use super::{end_of, hub_of, link_of};
 use iio_device::Handled;
-use iio_io::{ListTicker, OpenGate};
+use iio_io::ListTicker;
 use iio_kfifo::Ended;
 use iio_layout::{has_data, scan_size};
 use iio_mask::Mask;
 use iio_text::Errno;
 use iio_trigger::Polled;
 use iiod_bank::{Bank, OwnBank};
-use iiod_hub::{HubLink, SessionEnd, serve_connection, tick};
-use iiod_session::{Going, Manner, No, Session};
+use iiod_hub::{Hub, HubLink, HubSeat, SessionEnd};
+use iiod_session::{Going, Manner, Mem, No, Session};
+use std::alloc::Global;
+use std::sync::Wait;
 use std::test::Fail;
 
 const FIRST: &[u8] =
@@ -22,80 +29,99 @@ const SECOND: &[u8] = b"READBUF adc0 1024\x0d\nCLOSE adc0\x0d\nEXIT\x0d\n";
 const ANSWERS: &[u8] =
     b"0.25.iiosim0\n-22\n10\n<context/>\n0\n0\n8\n00000005\n\x10\x00\xff\xfd\x10\x00\xff\xfd0\n0\n";
 
-// A usual session at a hub whose trigger is fired twice between its two texts, each of which comes in two pieces.
+// A session whose texts come one after another, at a hub whose trigger is fired twice before the text of number `fires_at`:
+// how it ends, and what is answered.
+fn session_of<'a, R: Wait>(
+    rt: &'a R,
+    alloc: Global,
+    hub: &'a Hub,
+    texts: &'a [&'a [u8]],
+    fires_at: usize,
+) -> Result<(SessionEnd, Vec<u8>), Fail> {
+    let mut link = Texts {
+        rt,
+        alloc,
+        hub,
+        texts,
+        fires_at,
+        next: 0,
+        sent: link_of(alloc, b"")?,
+    };
+    let end = end_of(rt, alloc, hub, 1, &mut link);
+    Ok((end, link.sent.sent().to_vec(alloc)?))
+}
+
+// A usual session whose trigger is fired between its two texts, each of which comes in two pieces.
 #[test]
 fn usual_session_in_any_pieces(rt: HostRuntime) -> Result<(), Fail> {
-    let alloc = rt.alloc();
     for cut in 1..FIRST.len() {
         let (a, b) = FIRST.split_at(cut);
         let (c, d) = SECOND.split_at(cut.min(SECOND.len() - 1));
-        let hub = hub_of(alloc)?;
-        let mut link = Texts {
-            rt: &rt,
-            alloc,
-            hub: &hub,
-            texts: &[a, b, c, d],
-            fires_at: 2,
-            next: 0,
-            sent: link_of(alloc, b"")?,
-        };
-        let end = serve_connection(&rt, alloc, &hub, 1, &mut link, &OpenGate);
-        assert_eq!(rt; end, SessionEnd::Ended, "cut at {cut}");
-        assert_eq!(rt; link.sent.sent(), ANSWERS, "cut at {cut}");
+        let hub = hub_of(rt.alloc())?;
+        let (end, answers) = session_of(&rt, rt.alloc(), &hub, &[a, b, c, d], 2)?;
+        let right = end == SessionEnd::Ended && answers.as_slice() == ANSWERS;
+        assert!(rt; right, "cut at {cut}: {end:?} {answers:?}");
     }
     Ok(())
+}
+
+// What a second connection is answered to SETTRIG, after a usual session that was lost after that many bytes.
+fn answer_after<R: Wait>(rt: &R, alloc: Global, end: usize) -> Result<Vec<u8>, Fail> {
+    let first = &FIRST[..end.min(FIRST.len())];
+    let second = &SECOND[..end.saturating_sub(FIRST.len()).min(SECOND.len())];
+    let hub = hub_of(alloc)?;
+    session_of(rt, alloc, &hub, &[first, second], 1)?;
+    let mut next = link_of(alloc, b"SETTRIG adc0\n")?;
+    end_of(rt, alloc, &hub, 2, &mut next);
+    Ok(next.sent().to_vec(alloc)?)
 }
 
 // A usual session that is lost after each of its bytes leaves no member: the device takes another trigger.
 #[test]
 fn a_lost_connection_leaves_no_member(rt: HostRuntime) -> Result<(), Fail> {
-    let alloc = rt.alloc();
     for end in 0..FIRST.len() + SECOND.len() {
-        let first = &FIRST[..end.min(FIRST.len())];
-        let second = &SECOND[..end.saturating_sub(FIRST.len())];
-        let hub = hub_of(alloc)?;
-        let mut lost = Texts {
-            rt: &rt,
-            alloc,
-            hub: &hub,
-            texts: &[first, second],
-            fires_at: 1,
-            next: 0,
-            sent: link_of(alloc, b"")?,
-        };
-        serve_connection(&rt, alloc, &hub, 1, &mut lost, &OpenGate);
-        let mut next = link_of(alloc, b"SETTRIG adc0\n")?;
-        serve_connection(&rt, alloc, &hub, 2, &mut next, &OpenGate);
-        assert_eq!(rt; next.sent(), b"0\n".as_slice(), "lost after {end}");
+        let answer = answer_after(&rt, rt.alloc(), end)?;
+        assert!(rt; answer.as_slice() == b"0\n".as_slice(), "lost after {end}");
     }
     Ok(())
+}
+
+// What comes of a tick, a poll and a handling between an OPEN and a READBUF, and of a tick of a ticker that has ended.
+type Between = (bool, Polled, Option<Handled>, bool);
+
+fn hear_between(
+    alloc: Global,
+    session: &mut Session<HubSeat>,
+    link: &mut HubLink<OwnBank>,
+    said: &mut Vec<u8>,
+) -> Result<Between, Mem>
+    requires desk { IsDesk seen_of (⟦<OwnBank as Bank>⟧.front link.old.bank) session.old.desk }
+    requires device { 0 < length (⟦<OwnBank as Bank>⟧.front link.old.bank).devices }
+    ensures { IsDesk seen_of (⟦<OwnBank as Bank>⟧.front link.new.bank) session.new.desk }
+{
+    let mut ticker = ListTicker::new(vec![in alloc; 1000i64]?);
+    hear(alloc, session, link, b"OPEN adc0 1 00000009\n", said)?;
+    let ticked = tick_once(link, &mut ticker);
+    let polled = poll(link, 2000);
+    let handled = handle(link);
+    let ended = tick_once(link, &mut ticker);
+    hear(alloc, session, link, b"READBUF adc0 16\n", said)?;
+    Ok((ticked, polled, handled, ended))
 }
 
 // A bank without locks: a device is opened, a tick polls its trigger, a second poll is missed, and the entry is handled.
 #[test]
 fn a_bank_is_opened_ticked_polled_and_handled(rt: HostRuntime) -> Result<(), Fail> {
     let alloc = rt.alloc();
-    let bank = OwnBank::new(alloc, described(alloc)?, Vec::new(alloc))?;
-    if bank.front().count() == 0 {
-        return Err(Fail::from("no device"));
-    }
-    let mut ticker = ListTicker::new(vec![in alloc; 1000i64]?);
-    let mut link = HubLink { bank, alloc };
+    let mut link = link_to(alloc)?;
     let mut said = Vec::new(alloc);
     let mut session = Session::new(alloc, 1, Manner::Server)?;
-    let opened = session.feed(alloc, &mut link, b"OPEN adc0 1 00000009\n", &mut said);
-    let ticked = tick(&mut link, 0, &mut ticker);
-    let polled = link.poll(0, 2000);
-    let handled = link.handle(0, 0);
-    let ended = tick(&mut link, 0, &mut ticker);
-    let read = session.feed(alloc, &mut link, b"READBUF adc0 16\n", &mut said);
+    let between = hear_between(alloc, &mut session, &mut link, &mut said);
     session.end(&mut link);
-    opened?;
-    read?;
-    assert!(rt; ticked);
+    let (ticked, polled, handled, ended) = between?;
+    assert!(rt; ticked && !ended);
     assert_eq!(rt; polled, Polled::Missed(1));
     assert_eq!(rt; handled, Some(Handled::Captured(1)));
-    assert!(rt; !ended);
     assert_eq!(rt;
         said.as_slice(),
         b"0\n16\n00000009\n\x10\0\0\0\0\0\0\0\xe8\x03\0\0\0\0\0\0".as_slice()
@@ -103,31 +129,38 @@ fn a_bank_is_opened_ticked_polled_and_handled(rt: HostRuntime) -> Result<(), Fai
     Ok(())
 }
 
+// How a session stands after a READBUF that waits, whether the device is unplugged then and once more, and how it stands after
+// another READBUF.
+fn hear_unplugged(
+    alloc: Global,
+    session: &mut Session<HubSeat>,
+    link: &mut HubLink<OwnBank>,
+    said: &mut Vec<u8>,
+) -> Result<(Going, bool, bool, Going), Mem>
+    requires desk { IsDesk seen_of (⟦<OwnBank as Bank>⟧.front link.old.bank) session.old.desk }
+    requires device { 0 < length (⟦<OwnBank as Bank>⟧.front link.old.bank).devices }
+    ensures { IsDesk seen_of (⟦<OwnBank as Bank>⟧.front link.new.bank) session.new.desk }
+{
+    let first = b"OPEN adc0 1 00000005\nREADBUF adc0 4\n";
+    let waits = hear(alloc, session, link, first, said)?;
+    let unplugged = unplug(link);
+    let again = unplug(link);
+    let told = hear(alloc, session, link, b"READBUF adc0 4\nCLOSE adc0\n", said)?;
+    Ok((waits, unplugged, again, told))
+}
+
 // A device that is unplugged under a READBUF that waits: that READBUF and each later one is -19, and CLOSE is no error.
 #[test]
 fn unplugged_under_a_reader(rt: HostRuntime) -> Result<(), Fail> {
     let alloc = rt.alloc();
-    let bank = OwnBank::new(alloc, described(alloc)?, Vec::new(alloc))?;
-    if bank.front().count() == 0 {
-        return Err(Fail::from("no device"));
-    }
-    let mut link = HubLink { bank, alloc };
+    let mut link = link_to(alloc)?;
     let mut said = Vec::new(alloc);
     let mut session = Session::new(alloc, 1, Manner::Server)?;
-    let waits = session.feed(
-        alloc,
-        &mut link,
-        b"OPEN adc0 1 00000005\nREADBUF adc0 4\n",
-        &mut said,
-    );
-    let unplugged = link.unplug(0);
-    let again = link.unplug(0);
-    let told = session.feed(alloc, &mut link, b"READBUF adc0 4\nCLOSE adc0\n", &mut said);
+    let heard = hear_unplugged(alloc, &mut session, &mut link, &mut said);
     session.end(&mut link);
-    assert_eq!(rt; waits?, Going::Waits(0));
-    assert_eq!(rt; told?, Going::On);
-    assert!(rt; unplugged);
-    assert!(rt; !again);
+    let (waits, unplugged, again, told) = heard?;
+    assert_eq!(rt; (waits, told), (Going::Waits(0), Going::On));
+    assert!(rt; unplugged && !again);
     assert_eq!(rt; said.as_slice(), b"0\n-19\n-19\n0\n".as_slice());
     Ok(())
 }

@@ -4,11 +4,11 @@ ghost use Rattle.std.specs.Prelude.{IfOk};
 ghost use Rattle.iio_desc.specs.WellFormed.{IsWellFormed};
 
 use super::doubles::{Playing, Starting};
-use super::link_of;
+use super::{link_of, read_line, serve_timed};
 use iio_desc::{Desc, DescReader};
 use iio_io::{ListDoor, OpenGate};
 use iiod_hub::Hub;
-use iiod_server::{ServeEnd, serve_all};
+use iiod_server::ServeEnd;
 use std::alloc::Global;
 use std::sync::atomic::{AtomicBool, AtomicU32, Ordering};
 use std::test::Fail;
@@ -28,16 +28,16 @@ fn played(alloc: Global) -> Result<Desc, Fail>
     ensures { IfOk result (λ desc. IsWellFormed 0 desc) }
 {
     let mut reader = DescReader::new(alloc, 0)?;
-    reader.line(b"trigger t0 2")?;
-    reader.line(b"device adc0 t0")?;
-    reader.line(b"channel voltage0 le:u12/16>>4")?;
-    reader.line(b"timestamp")?;
-    reader.line(b"row 0 0")?;
-    reader.line(b"row 10000000 1")?;
-    reader.line(b"row 20000000 2")?;
-    reader.line(b"row 30000000 3")?;
-    reader.line(b"row 40000000 4")?;
-    reader.line(b"row 50000000 5")?;
+    read_line(&mut reader, b"trigger t0 2")?;
+    read_line(&mut reader, b"device adc0 t0")?;
+    read_line(&mut reader, b"channel voltage0 le:u12/16>>4")?;
+    read_line(&mut reader, b"timestamp")?;
+    read_line(&mut reader, b"row 0 0")?;
+    read_line(&mut reader, b"row 10000000 1")?;
+    read_line(&mut reader, b"row 20000000 2")?;
+    read_line(&mut reader, b"row 30000000 3")?;
+    read_line(&mut reader, b"row 40000000 4")?;
+    read_line(&mut reader, b"row 50000000 5")?;
     Ok(reader.finish()?)
 }
 
@@ -77,14 +77,13 @@ fn rows_play_back_in_real_time(rt: HostRuntime) -> Result<(), Fail> {
     let stop = AtomicBool::new(false);
     let right = AtomicU32::new(0);
     let mut door = playing_door(alloc, rt, &opened, &stop, &right)?;
-    let mut tickers = Vec::new(alloc);
-    tickers.push(Starting {
+    let ticker = Starting {
         rt,
         opened: &opened,
         stop: &stop,
         ticker: None,
-    })?;
-    let end = serve_all(&rt, alloc, &hub, &mut door, tickers, &OpenGate);
+    };
+    let end = serve_timed(&rt, alloc, &hub, &mut door, ticker, &OpenGate)?;
     assert_eq!(rt; end, ServeEnd::DoorEnd);
     assert_eq!(rt; right.load(Ordering::SeqCst), SCANS);
     Ok(())

@@ -3,11 +3,12 @@
 ghost use Rattle.std.specs.Prelude.{⊤};
 
 use super::doubles::Firing;
-use super::hub_of;
-use iio_io::{Dial, Door, Listen, MemSink, MemSource, OpenGate, TcpDoor, TcpLink};
-use iiod_hub::{Hub, SessionEnd, serve_connection};
+use super::{end_of, hub_of};
+use iio_io::{Dial, Door, Listen, MemSink, MemSource, TcpDoor, TcpLink};
+use iiod_hub::{Hub, SessionEnd};
 use iiod_readdev::{ReadStatus, readdev};
 use std::alloc::Global;
+use std::net::SocketAddr;
 use std::sync::Wait;
 use std::sync::atomic::AtomicBool;
 use std::test::Fail;
@@ -77,7 +78,31 @@ fn serve_next<'a, 'b, R: Wait>(
         moment: 0,
         link,
     };
-    Some(serve_connection(server.rt, server.alloc, server.hub, 1, &mut link, &OpenGate))
+    Some(end_of(server.rt, server.alloc, server.hub, 1, &mut link))
+}
+
+// The words of a client that reads two scans of the hub's device at a door.
+fn words_for(alloc: Global, address: SocketAddr) -> Result<Vec<String>, Fail> {
+    let mut words = Vec::new(alloc);
+    words.push(String::from_str(alloc, "readdev")?)?;
+    words.push(format!(in alloc; "{address}")?)?;
+    for word in ["adc0", "1", "00000005", "2"] {
+        words.push(String::from_str(alloc, word)?)?;
+    }
+    Ok(words)
+}
+
+fn client_of(rt: HostRuntime, alloc: Global, address: SocketAddr) -> Result<Client, Fail> {
+    let words = words_for(alloc, address)?;
+    let input = MemSource::new(TOLD.to_vec(alloc)?, 100, Vec::new(alloc));
+    let output = MemSink::new(alloc, 1_000, Vec::new(alloc))?;
+    Ok(Client {
+        alloc,
+        words,
+        input,
+        output,
+        link: TcpLink::new(rt),
+    })
 }
 
 // The device of a usual session is read over the loopback by the command that reads devices.
@@ -91,19 +116,7 @@ fn a_client_reads_over_the_loopback(rt: HostRuntime) -> Result<(), Fail> {
     let Some(address) = door.address() else {
         return Err(Fail::from("no address"));
     };
-    let mut words = Vec::new(alloc);
-    words.push(String::from_str(alloc, "readdev")?)?;
-    words.push(format!(in alloc; "{address}")?)?;
-    for word in ["adc0", "1", "00000005", "2"] {
-        words.push(String::from_str(alloc, word)?)?;
-    }
-    let mut client = Client {
-        alloc,
-        words,
-        input: MemSource::new(TOLD.to_vec(alloc)?, 100, Vec::new(alloc)),
-        output: MemSink::new(alloc, 1_000, Vec::new(alloc))?,
-        link: TcpLink::new(rt),
-    };
+    let mut client = client_of(rt, alloc, address)?;
     let mut server = Server {
         rt: &rt,
         alloc,

@@ -1,54 +1,80 @@
 //! REMASK by a server's session over a hub's view of a bank, with polls and handlings between.
 
-use super::described;
+ghost use Rattle.std.specs.Prelude.{◌≡◌, ◌<◌, length, ⊤};
+ghost use Rattle.iiod_hub.specs.Link.{seen_of};
+ghost use Rattle.iiod_session.specs.Desk.{IsDesk};
+
+use super::sessions::{handle, hear, link_to, poll};
 use iiod_bank::{Bank, OwnBank};
-use iiod_hub::HubLink;
-use iiod_session::{Going, Manner, Session};
+use iiod_hub::{HubLink, HubSeat};
+use iiod_session::{Going, Manner, Mem, Session};
+use std::alloc::Global;
 use std::test::Fail;
 
+// A poll, and a capture.
+fn fire(link: &mut HubLink<OwnBank>, t: i64)
+    requires { 0 < length (⟦<OwnBank as Bank>⟧.front link.old.bank).devices }
+    ensures { ⟦<OwnBank as Bank>⟧.front link.new.bank ≡ ⟦<OwnBank as Bank>⟧.front link.old.bank }
+{
+    poll(link, t);
+    handle(link);
+}
+
+// Another connection has no mask to exchange.
+fn hear_another(alloc: Global, link: &mut HubLink<OwnBank>, said: &mut Vec<u8>) -> Result<(), Mem>
+    requires { ⊤ }
+    ensures { ⟦<OwnBank as Bank>⟧.front link.new.bank ≡ ⟦<OwnBank as Bank>⟧.front link.old.bank }
+{
+    let mut other = Session::new(alloc, 2, Manner::Server)?;
+    let heard = hear(alloc, &mut other, link, b"REMASK adc0 00000001\n", said);
+    other.end(link);
+    heard?;
+    Ok(())
+}
+
+// What a session hears, with captures between, and how it stands then.
+fn exchange(
+    alloc: Global,
+    session: &mut Session<HubSeat>,
+    link: &mut HubLink<OwnBank>,
+    said: &mut Vec<u8>,
+) -> Result<Going, Mem>
+    requires desk { IsDesk seen_of (⟦<OwnBank as Bank>⟧.front link.old.bank) session.old.desk }
+    requires device { 0 < length (⟦<OwnBank as Bank>⟧.front link.old.bank).devices }
+    ensures { IsDesk seen_of (⟦<OwnBank as Bank>⟧.front link.new.bank) session.new.desk }
+{
+    hear(alloc, session, link, b"OPEN adc0 1 00000005\n", said)?;
+    fire(link, 1000);
+    fire(link, 2000);
+    hear(
+        alloc,
+        session,
+        link,
+        b"REMASK adc0 00000002\nREAD adc0 BUFFER overruns\nREAD adc0 BUFFER discarded\n",
+        said,
+    )?;
+    fire(link, 3000);
+    hear(
+        alloc,
+        session,
+        link,
+        b"READBUF adc0 2\nREMASK adc0 00000008\nREAD adc0 BUFFER discarded\n",
+        said,
+    )?;
+    hear_another(alloc, link, said)?;
+    hear(alloc, session, link, b"READBUF adc0 2\n", said)
+}
+
 // The answers are those of a script: what waited is discarded, and the next scan is one of the new mask. A READBUF that finds
-// nothing then waits. Another connection has no mask to exchange.
+// nothing then waits.
 #[test]
 fn remask_discards(rt: HostRuntime) -> Result<(), Fail> {
     let alloc = rt.alloc();
-    let bank = OwnBank::new(alloc, described(alloc)?, Vec::new(alloc))?;
-    if bank.front().count() == 0 {
-        return Err(Fail::from("no device"));
-    }
-    let mut link = HubLink { bank, alloc };
+    let mut link = link_to(alloc)?;
     let mut said = Vec::new(alloc);
-    let mut a = Session::new(alloc, 1, Manner::Server)?;
-    let Ok(mut b) = Session::new(alloc, 2, Manner::Server) else {
-        a.end(&mut link);
-        return Err(Fail::from("no memory"));
-    };
-    let opened = a.feed(alloc, &mut link, b"OPEN adc0 1 00000005\n", &mut said);
-    link.poll(0, 1000);
-    link.handle(0, 0);
-    link.poll(0, 2000);
-    link.handle(0, 0);
-    let remasked = a.feed(
-        alloc,
-        &mut link,
-        b"REMASK adc0 00000002\nREAD adc0 BUFFER overruns\nREAD adc0 BUFFER discarded\n",
-        &mut said,
-    );
-    link.poll(0, 3000);
-    link.handle(0, 0);
-    let read = a.feed(
-        alloc,
-        &mut link,
-        b"READBUF adc0 2\nREMASK adc0 00000008\nREAD adc0 BUFFER discarded\n",
-        &mut said,
-    );
-    let other = b.feed(alloc, &mut link, b"REMASK adc0 00000001\n", &mut said);
-    let waits = a.feed(alloc, &mut link, b"READBUF adc0 2\n", &mut said);
-    a.end(&mut link);
-    b.end(&mut link);
-    opened?;
-    remasked?;
-    read?;
-    other?;
+    let mut session = Session::new(alloc, 1, Manner::Server)?;
+    let waits = exchange(alloc, &mut session, &mut link, &mut said);
+    session.end(&mut link);
     assert_eq!(rt; waits?, Going::Waits(0));
     assert_eq!(rt;
         said.as_slice(),

@@ -1,15 +1,24 @@
 //! Servers: connections at once, ticks and sweeps, and how many live at once.
 
 use super::doubles::{Answered, Asking, Counting, Crowd, Ending, Once, Rounds, Second, Unplugging};
-use super::{hub_of, link_of};
-use iio_io::{ListDoor, ListTicker, MemLink, MemSink, MemSource, OpenGate};
+use super::{hub_of, link_of, serve_timed, serve_untimed};
+use iio_io::{ListDoor, MemLink, MemSink, MemSource, OpenGate};
 use iiod_hub::Hub;
-use iiod_server::{MAX_CONNECTIONS, ServeEnd, serve_all};
+use iiod_server::{MAX_CONNECTIONS, ServeEnd};
 use std::alloc::Global;
 use std::sync::Wait;
 use std::sync::atomic::{AtomicBool, AtomicU32, Ordering};
 use std::test::Fail;
 use std::time::Clock;
+
+// As many links on which this comes.
+fn links_of(alloc: Global, count: usize, bytes: &[u8]) -> Result<Vec<MemLink>, Fail> {
+    let mut links = Vec::new(alloc);
+    for _ in 0..count {
+        links.push(link_of(alloc, bytes)?)?;
+    }
+    Ok(links)
+}
 
 // Each connection of a door is served, and a door that fails ends the server. The door's calls are counted from 1.
 #[test]
@@ -17,12 +26,10 @@ fn answers_with_ample_memory(rt: HostRuntime) -> Result<(), Fail> {
     let alloc = rt.alloc();
     let hub = hub_of(alloc)?;
     for (fails, end) in [(0u64, ServeEnd::DoorEnd), (2, ServeEnd::DoorFault)] {
-        let mut links = Vec::new(alloc);
-        links.push(link_of(alloc, b"VERSION\nEXIT\n")?)?;
+        let mut links = links_of(alloc, 1, b"VERSION\nEXIT\n")?;
         links.push(link_of(alloc, b"VERSION\n")?)?;
         let mut door = ListDoor::new(links, vec![in alloc; fails]?);
-        let tickers: Vec<ListTicker> = Vec::new(alloc);
-        let got = serve_all(&rt, alloc, &hub, &mut door, tickers, &OpenGate);
+        let got = serve_untimed(&rt, alloc, &hub, &mut door, &OpenGate);
         assert_eq!(rt; got, end);
     }
     Ok(())
@@ -32,17 +39,14 @@ fn answers_with_ample_memory(rt: HostRuntime) -> Result<(), Fail> {
 fn second_is_heard_while_first_waits(rt: HostRuntime) -> Result<(), Fail> {
     let alloc = rt.alloc();
     let hub = hub_of(alloc)?;
-    let mut links = Vec::new(alloc);
-    links.push(link_of(alloc, b"VERSION\nEXIT\n")?)?;
-    links.push(link_of(alloc, b"VERSION\nEXIT\n")?)?;
+    let links = links_of(alloc, 2, b"VERSION\nEXIT\n")?;
     let mut door = ListDoor::new(links, Vec::new(alloc));
     let gate = Second {
         rt,
         answered: AtomicBool::new(false),
         in_time: AtomicBool::new(false),
     };
-    let tickers: Vec<ListTicker> = Vec::new(alloc);
-    let end = serve_all(&rt, alloc, &hub, &mut door, tickers, &gate);
+    let end = serve_untimed(&rt, alloc, &hub, &mut door, &gate);
     assert_eq!(rt; end, ServeEnd::DoorEnd);
     assert!(rt; gate.in_time.load(Ordering::SeqCst));
     Ok(())
@@ -76,13 +80,12 @@ fn tick_and_sweep_run(rt: HostRuntime) -> Result<(), Fail> {
     let found = AtomicBool::new(false);
     let gate = Answered { flag: &opened };
     let mut door = asking_door(alloc, rt, &found)?;
-    let mut tickers = Vec::new(alloc);
-    tickers.push(Once {
+    let ticker = Once {
         rt,
         flag: &opened,
         given: false,
-    })?;
-    let end = serve_all(&rt, alloc, &hub, &mut door, tickers, &gate);
+    };
+    let end = serve_timed(&rt, alloc, &hub, &mut door, ticker, &gate)?;
     assert_eq!(rt; end, ServeEnd::DoorEnd);
     assert!(rt; found.load(Ordering::SeqCst));
     Ok(())
@@ -93,10 +96,7 @@ fn one_connection_too_many_is_unheard(rt: HostRuntime) -> Result<(), Fail> {
     let alloc = rt.alloc();
     let hub = hub_of(alloc)?;
     let ended = AtomicBool::new(false);
-    let mut links = Vec::new(alloc);
-    for _ in 0..MAX_CONNECTIONS + 1 {
-        links.push(link_of(alloc, b"VERSION\nEXIT\n")?)?;
-    }
+    let links = links_of(alloc, MAX_CONNECTIONS + 1, b"VERSION\nEXIT\n")?;
     let mut door = Ending {
         door: ListDoor::new(links, Vec::new(alloc)),
         ended: &ended,
@@ -106,8 +106,7 @@ fn one_connection_too_many_is_unheard(rt: HostRuntime) -> Result<(), Fail> {
         ended: &ended,
         heard: AtomicU32::new(0),
     };
-    let tickers: Vec<ListTicker> = Vec::new(alloc);
-    let end = serve_all(&rt, alloc, &hub, &mut door, tickers, &gate);
+    let end = serve_untimed(&rt, alloc, &hub, &mut door, &gate);
     assert_eq!(rt; end, ServeEnd::DoorEnd);
     assert_eq!(rt; gate.heard.load(Ordering::SeqCst) as usize, MAX_CONNECTIONS);
     Ok(())
@@ -146,9 +145,8 @@ fn three_workers_use_one_hub(rt: HostRuntime) -> Result<(), Fail> {
     let ended = AtomicBool::new(false);
     let wrong = AtomicBool::new(false);
     let mut door = rounds_door(alloc, rt, &ended, &wrong)?;
-    let mut tickers = Vec::new(alloc);
-    tickers.push(Counting { rt, turn: 0 })?;
-    let end = serve_all(&rt, alloc, &hub, &mut door, tickers, &OpenGate);
+    let ticker = Counting { rt, turn: 0 };
+    let end = serve_timed(&rt, alloc, &hub, &mut door, ticker, &OpenGate)?;
     assert_eq!(rt; end, ServeEnd::DoorEnd);
     assert!(rt; ended.load(Ordering::SeqCst));
     assert!(rt; !wrong.load(Ordering::SeqCst));
@@ -188,8 +186,7 @@ fn unplugged_while_a_reader_waits(rt: HostRuntime) -> Result<(), Fail> {
     let opened = AtomicBool::new(false);
     let gate = Answered { flag: &opened };
     let mut door = unplugging_door(alloc, rt, &hub, &opened)?;
-    let tickers: Vec<ListTicker> = Vec::new(alloc);
-    let end = serve_all(&rt, alloc, &hub, &mut door, tickers, &gate);
+    let end = serve_untimed(&rt, alloc, &hub, &mut door, &gate);
     assert_eq!(rt; end, ServeEnd::DoorEnd);
     assert!(rt; door.unplugged);
     Ok(())

@@ -1,7 +1,0 @@
-//! What no clause says: the system's streams and sockets, calls that a signal cuts short, the clock, and messages. Sources
-//! and sinks in memory, their pieces and their failures are at work in each test of `iiod_program_tests` too.
-
-mod ends;
-mod sockets;
-mod streams;
-mod ticking;

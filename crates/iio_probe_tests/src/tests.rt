@@ -1,0 +1,6 @@
+//! A device of three channels, by hand.
+
+mod devices;
+mod groups;
+mod remasking;
+mod steps;

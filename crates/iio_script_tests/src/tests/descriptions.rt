@@ -1,0 +1,301 @@
+//! Descriptions: lines that are refused, and the most of each.
+
+ghost use Rattle.std.specs.Prelude.{◌+◌, ◌-◌, ◌^◌, ◌<◌, ◌≤◌};
+ghost use Rattle.iio_desc.specs.DescReader.{line_count};
+
+use crate::tests::devices::ADC;
+use crate::tests::playing::{check_play, joined, push, push_many, push_numbered};
+use iio_desc::{DescFault, DescReader};
+use iio_text::Why;
+use std::alloc::Global;
+use std::test::Fail;
+
+const HEAD: &str = "trigger t0 8\ndevice adc0 t0\nchannel voltage0 le:u12/16>>4\n";
+
+/// Lines of a description after others, and how they are refused: for each line of the table, each of its checks in order.
+const REFUSED: &[(&str, &str, &str)] = &[
+    ("", "context \"a\\x7\"\n\tx\n", "refused 1 text\n"),
+    ("# \t\n\n  \n", "frobnicate\n", "refused 4 word\n"),
+    ("context \"\"\n", "context\n", "refused 2 order\n"),
+    ("", " # x\n", "refused 1 word\n"),
+    ("", "Trigger t0 2\n", "refused 1 word\n"),
+    ("", "Trigger\t\n", "refused 1 text\n"),
+    ("", "context\n", "refused 1 count\n"),
+    ("", "context \"a\\q\"\n", "refused 1 text\n"),
+    ("", "context \"x\" \n", "refused 1 text\n"),
+    ("", "trigger t0\n", "refused 1 count\n"),
+    ("", "trigger 0t 9\n", "refused 1 name\n"),
+    ("trigger t0 1\n", "trigger t0 9\n", "refused 2 taken\n"),
+    ("", "trigger t0 9\n", "refused 1 number\n"),
+    (
+        "",
+        "trigger t12345678901234567890123456789012 2\n",
+        "refused 1 name\n",
+    ),
+    ("", "trigger t0 0\n", "refused 1 number\n"),
+    ("", "trigger t0 257\n", "refused 1 number\n"),
+    ("", "trigger t0 02\n", "refused 1 number\n"),
+    ("", "trigger\tt0 2\n", "refused 1 text\n"),
+    ("", "trigger t0 2\r\n", "refused 1 text\n"),
+    ("device a -\n", "device b\n", "refused 2 order\n"),
+    ("", "device a\n", "refused 1 count\n"),
+    ("", "device _a t\n", "refused 1 name\n"),
+    ("trigger t0 1\n", "device t0 t\n", "refused 2 taken\n"),
+    ("", "device a t\n", "refused 1 trigger\n"),
+    (HEAD, "device b -\n", "refused 5 order\n"),
+    (HEAD, "trigger adc0 1\n", "refused 4 taken\n"),
+    ("", "channel\n", "refused 1 order\n"),
+    (HEAD, "channel volt\n", "refused 4 count\n"),
+    (HEAD, "channel volt x\n", "refused 4 name\n"),
+    (HEAD, "channel voltage00 x\n", "refused 4 name\n"),
+    (HEAD, "channel timestamp le:s64/64>>0\n", "refused 4 name\n"),
+    (HEAD, "channel voltage0 x\n", "refused 4 taken\n"),
+    (HEAD, "channel voltage1 le:u12\n", "refused 4 type\n"),
+    (HEAD, "channel voltage1 le:u12/16>>04\n", "refused 4 type\n"),
+    (HEAD, "channel voltage1 le:u12/16>>8\n", "refused 4 type\n"),
+    (
+        HEAD,
+        "channel voltage1 le:s32/32X8>>0\n",
+        "refused 4 type\n",
+    ),
+    (
+        HEAD,
+        "timestamp\nchannel voltage1 le:u8/8>>0\n",
+        "refused 5 order\n",
+    ),
+    ("device a -\n", "timestamp x y\n", "refused 2 order\n"),
+    (HEAD, "timestamp x y\n", "refused 4 count\n"),
+    (HEAD, "timestamp x\n", "refused 4 type\n"),
+    (HEAD, "timestamp\ntimestamp\n", "refused 5 order\n"),
+    ("device a -\n", "masks\n", "refused 2 order\n"),
+    (HEAD, "masks 00000001\nmasks\n", "refused 5 order\n"),
+    (HEAD, "row 0 1\nmasks\n", "refused 5 order\n"),
+    (HEAD, "masks\n", "refused 4 count\n"),
+    (HEAD, "masks 1\n", "refused 4 mask\n"),
+    (HEAD, "masks 0000000g\n", "refused 4 mask\n"),
+    (HEAD, "masks 00000000\n", "refused 4 mask\n"),
+    (HEAD, "timestamp\nmasks 00000003\n", "refused 5 mask\n"),
+    (
+        HEAD,
+        "timestamp\nmasks 00000001 00000002\n",
+        "refused 5 mask\n",
+    ),
+    (
+        HEAD,
+        "masks 00000001 00000001 00000001 00000001 00000001 00000001 00000001 00000001 00000001 00000001 00000001 00000001 00000001 00000001 00000001 00000001 00000001\n",
+        "refused 4 limit\n",
+    ),
+    ("device a -\n", "row\n", "refused 2 order\n"),
+    (HEAD, "row x\n", "refused 4 count\n"),
+    (HEAD, "row x 1 y\n", "refused 4 count\n"),
+    (HEAD, "row x y\n", "refused 4 number\n"),
+    (HEAD, "row 5 1\nrow 5 y\n", "refused 5 moment\n"),
+    (HEAD, "row 5 y\n", "refused 4 number\n"),
+    (HEAD, "row -05 1\n", "refused 4 number\n"),
+    (HEAD, "row 0 -0\n", "refused 4 number\n"),
+    (HEAD, "row 0 9223372036854775808\n", "refused 4 number\n"),
+    (
+        HEAD,
+        "attr - sampling_frequency 5\nmasks 00000001\n",
+        "refused 5 order\n",
+    ),
+    ("", "driver 0\n", "refused 1 order\n"),
+    (HEAD, "row 0 1\ndriver\n", "refused 5 order\n"),
+    (HEAD, "driver 0\ndriver 1\n", "refused 5 order\n"),
+    (HEAD, "driver 0\nrow 0 1\n", "refused 5 order\n"),
+    (HEAD, "driver 0\nmasks 00000001\n", "refused 5 order\n"),
+    (HEAD, "driver\n", "refused 4 count\n"),
+    (HEAD, "driver 4 x\n", "refused 4 count\n"),
+    (HEAD, "driver 4\n", "refused 4 driver\n"),
+    (HEAD, "driver -1\n", "refused 4 driver\n"),
+    (HEAD, "driver 00\n", "refused 4 driver\n"),
+    (
+        HEAD,
+        "driver 3\ndevice b -\nchannel temp le:s8/8\ndriver 3\n",
+        "refused 7 driver\n",
+    ),
+    ("device a -\n", "attr\n", "refused 2 order\n"),
+    (HEAD, "attr - name\n", "refused 4 count\n"),
+    (HEAD, "attr voltage1 scale 1\n", "refused 4 attr\n"),
+    (
+        HEAD,
+        "timestamp\nattr timestamp scale 1\n",
+        "refused 5 attr\n",
+    ),
+    (HEAD, "attr - scale 1\n", "refused 4 attr\n"),
+    (
+        HEAD,
+        "attr voltage0 sampling_frequency 1\n",
+        "refused 4 attr\n",
+    ),
+    (HEAD, "attr - length 1\n", "refused 4 attr\n"),
+    (HEAD, "attr - name x\n", "refused 4 attr\n"),
+    (HEAD, "attr voltage0 raw 1\n", "refused 4 attr\n"),
+    (HEAD, "attr voltage0 scale x\n", "refused 4 attr\n"),
+    (
+        HEAD,
+        "attr voltage0 offset 2147483648\n",
+        "refused 4 attr\n",
+    ),
+    (
+        HEAD,
+        "attr voltage0 thresh_rising_en 2\n",
+        "refused 4 attr\n",
+    ),
+    (
+        HEAD,
+        "attr - sampling_frequency 5\nchannel temp le:s8/8\n",
+        "refused 5 order\n",
+    ),
+    ("device a -\n", "%% x\n", "refused 2 order\n"),
+    (HEAD, "%% x\n", "refused 4 count\n"),
+    (HEAD, "%%\tx\n", "refused 4 text\n"),
+    ("device a -\n", "", "refused 2 order\n"),
+    (
+        "trigger t0 2\ndevice adc0 t0\n",
+        "channel voltage0 le:u12/16>>8\nchannel voltage1 le:u12/16>>4\n%%\n",
+        "refused 3 type\n",
+    ),
+    (ADC, "%%\nA \"VERSION", "refused 9 text\n"),
+];
+
+#[test]
+fn refused_lines(rt: HostRuntime) -> Result<(), Fail> {
+    for (head, lines, printed) in REFUSED {
+        let text = joined(rt.alloc(), &[head, lines])?;
+        check_play(&rt, rt.alloc(), lines, text, printed.as_bytes(), 1)?;
+    }
+    Ok(())
+}
+
+/// A first text, how often a numbered line follows, the line before and after its number, a further line, and how that is
+/// refused, if it is: triggers, devices, channels.
+const FULL: &[(&str, u32, &str, &str, &str, &str)] = &[
+    ("", 16, "trigger t", " 1\n", "", ""),
+    (
+        "",
+        16,
+        "trigger t",
+        " 1\n",
+        "trigger t16 1\n",
+        "refused 17 limit\n",
+    ),
+    (
+        "",
+        16,
+        "trigger t",
+        " 1\n",
+        "trigger t16 9\n",
+        "refused 17 number\n",
+    ),
+    ("", 16, "device d", " -\nchannel temp le:s8/8\n", "", ""),
+    (
+        "",
+        16,
+        "device d",
+        " -\nchannel temp le:s8/8\n",
+        "device d16 -\n",
+        "refused 33 limit\n",
+    ),
+    (
+        "",
+        16,
+        "device d",
+        " -\nchannel temp le:s8/8\n",
+        "device d16 t\n",
+        "refused 33 trigger\n",
+    ),
+    ("device d -\n", 64, "channel voltage", " le:u8/8\n", "", ""),
+    (
+        "device d -\n",
+        64,
+        "channel voltage",
+        " le:u8/8\n",
+        "channel temp le:u8/8\n",
+        "refused 66 limit\n",
+    ),
+    (
+        "device d -\n",
+        64,
+        "channel voltage",
+        " le:u8/8\n",
+        "channel temp le:u8/9\n",
+        "refused 66 type\n",
+    ),
+    (
+        "device d -\n",
+        64,
+        "channel voltage",
+        " le:u8/8\n",
+        "timestamp\n",
+        "refused 66 limit\n",
+    ),
+];
+
+// That many numbered lines between a first text and a further line.
+fn full_text(
+    alloc: Global,
+    head: &str,
+    count: u32,
+    parts: (&str, &str),
+    further: &str,
+) -> Result<Vec<u8>, Fail> {
+    let (first, last) = parts;
+    let mut text = joined(alloc, &[head])?;
+    for number in 0..count {
+        push_numbered(alloc, &mut text, first, number, last)?;
+    }
+    push(&mut text, further)?;
+    Ok(text)
+}
+
+#[test]
+fn full_descriptions(rt: HostRuntime) -> Result<(), Fail> {
+    for (head, count, first, last, further, printed) in FULL {
+        let text = full_text(rt.alloc(), head, *count, (*first, *last), further)?;
+        let status = if printed.is_empty() { 0 } else { 1 };
+        check_play(&rt, rt.alloc(), further, text, printed.as_bytes(), status)?;
+    }
+    Ok(())
+}
+
+/// What stands before a line, its bytes, what is printed and the status.
+const LONG: &[(&str, usize, &str, u8)] = &[
+    ("", 1_048_576, "", 0),
+    ("", 1_048_577, "refused 1 long\n", 1),
+    ("%%\n", 1_048_576, "", 0),
+    ("%%\n", 1_048_577, "refused 2 long\n", 1),
+];
+
+// A line may have 1,048,576 bytes.
+#[test]
+fn long_lines_are_refused(rt: HostRuntime) -> Result<(), Fail> {
+    for (head, len, printed, status) in LONG {
+        let mut text = joined(rt.alloc(), &[head])?;
+        push_many(rt.alloc(), &mut text, b'#', *len)?;
+        check_play(&rt, rt.alloc(), head, text, printed.as_bytes(), *status)?;
+    }
+    Ok(())
+}
+
+// What a reader answers to a line. Nothing is known here of what the line says.
+fn answer_to(reader: &mut DescReader, line: &[u8]) -> Result<(), DescFault>
+    requires { line_count reader.old < 2 ^ 32 - 2 }
+    ensures { line_count reader.new ≤ line_count reader.old + 1 }
+{
+    reader.line(line)
+}
+
+// The first fault of a description is the answer to each later line too.
+#[test]
+fn refused_description_stays_refused(rt: HostRuntime) -> Result<(), Fail> {
+    let refused = DescFault::Line {
+        number: 1,
+        why: Why::Word,
+    };
+    let mut reader = DescReader::new(rt.alloc(), 0)?;
+    let first = answer_to(&mut reader, b"x");
+    let second = answer_to(&mut reader, b"trigger t0 2");
+    assert_eq!(rt; (first, second), (Err(refused), Err(refused)));
+    Ok(())
+}

@@ -1,0 +1,16 @@
+//! The lower crates, one subject a module. Expected values by hand.
+
+mod attributes;
+mod averages;
+mod demux;
+mod events;
+mod fixtures;
+mod layouts;
+mod masks;
+mod outputs;
+mod queues;
+mod rings;
+mod scan_types;
+mod sensors;
+mod texts;
+mod triggers;

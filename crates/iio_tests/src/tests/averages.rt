@@ -1,0 +1,254 @@
+//! Means of captures. Expected values by hand, after the layout of docs/FORMATS.md.
+ghost use Rattle.std.specs.Prelude.{◌≡◌, ◌+◌, ◌≤◌, ◌<◌, IfOk};
+ghost use Rattle.iio_tests.specs.Tested.{AreTested};
+
+use crate::tests::fixtures::voltage;
+use iio_derive::Average;
+use iio_layout::{Shape, fill, scan_size};
+use iio_mask::Mask;
+use iio_scan_type::Endian;
+use std::alloc::Global;
+use std::process::Abort;
+use std::test::Fail;
+
+/// The types of the base's channels in most tests.
+const TYPES: [&str; 3] = ["le:u12/16>>4", "le:s8/8>>0", "be:s16/16>>0"];
+
+// A device whose base has channels voltage0 to voltage2 of these types, and a timestamp.
+fn device(alloc: Global, types: [&str; 3], window: u32, size: usize) -> Result<Average, Fail>
+    requires low { 2 ≤ window }
+    requires high { window ≤ 1000 }
+    ensures { IfOk result (λ a. AreTested 0 size a.seats) }
+{
+    let mut channels = Vec::new(alloc);
+    for (number, ty) in (0u16..64).zip(types) {
+        channels.push(voltage(number, ty)?)?;
+    }
+    let shape = Shape::new(channels, Some(Endian::Little), Vec::new(alloc)).ok_or("no shape")?;
+    Ok(Average::new(alloc, shape, window)?)
+}
+
+// A member joins, whose scans have `size` bytes; at most one scan waits. At most `most` offers were made to any queue.
+fn join(
+    rt: &impl Abort,
+    device: &mut Average,
+    mask: u64,
+    size: usize,
+    most: u64,
+) -> Result<u32, Fail>
+    requires { AreTested most size device.old.seats }
+    ensures { AreTested most size device.new.seats }
+{
+    let mask = Mask { bits: mask };
+    assert!(rt; device.shape().count() == 4 && device.shape().inputs() == 3);
+    assert!(rt; mask.contains(0) || mask.contains(1) || mask.contains(2));
+    assert!(rt; mask.bits < 16);
+    let bytes = scan_size(device.shape(), mask);
+    assert!(rt; bytes as usize == size && bytes <= 16);
+    Ok(device.join(mask, 1)?)
+}
+
+// A capture of these values is added; before it at most `most` offers were made to any queue.
+fn add(
+    rt: &impl Abort,
+    device: &mut Average,
+    values: [i64; 3],
+    t: i64,
+    size: usize,
+    most: u64,
+) -> Option<u32>
+    requires known { AreTested most size device.old.seats }
+    requires few { most < 1000 }
+    ensures { AreTested (most + 1) size device.new.seats }
+{
+    assert!(rt; device.shape().count() == 4 && device.shape().width() == 3);
+    assert!(rt; device.has_member());
+    let full = Mask { bits: 15 };
+    let bytes = scan_size(device.shape(), full) as usize;
+    assert!(rt; bytes <= 32);
+    let mut room = [0; 32];
+    fill(device.shape(), full, &values, t, &mut room[..bytes]);
+    device.add(&room[..bytes])
+}
+
+// The oldest scan of a member, where one waits.
+fn take(
+    rt: &impl Abort,
+    device: &mut Average,
+    member: u32,
+    size: usize,
+    most: u64,
+) -> (bool, [u8; 16])
+    requires { AreTested most size device.old.seats }
+    ensures { AreTested most size device.new.seats }
+{
+    let mut room = [0; 16];
+    assert!(rt; size <= 16);
+    let taken = device.take(member, &mut room[..size]);
+    (taken == Some(true), room)
+}
+
+// A member joins, and has that number.
+fn check_join(
+    rt: &impl Abort,
+    device: &mut Average,
+    mask: u64,
+    size: usize,
+    most: u64,
+    number: u32,
+) -> Result<(), Fail>
+    requires { AreTested most size device.old.seats }
+    ensures { AreTested most size device.new.seats }
+{
+    let given = join(rt, device, mask, size, most)?;
+    assert_eq!(rt; given, number);
+    Ok(())
+}
+
+// A capture is added, and that many members are offered a mean, if any is made.
+fn check_add(
+    rt: &impl Abort,
+    device: &mut Average,
+    values: [i64; 3],
+    t: i64,
+    size: usize,
+    most: u64,
+    made: Option<u32>,
+)
+    requires known { AreTested most size device.old.seats }
+    requires few { most < 1000 }
+    ensures { AreTested (most + 1) size device.new.seats }
+{
+    let given = add(rt, device, values, t, size, most);
+    assert_eq!(rt; given, made, "at {t}");
+}
+
+// The oldest scan of a member is this.
+fn check_take(
+    rt: &impl Abort,
+    device: &mut Average,
+    member: u32,
+    size: usize,
+    most: u64,
+    scan: &[u8],
+)
+    requires { AreTested most size device.old.seats }
+    ensures { AreTested most size device.new.seats }
+{
+    let (given, room) = take(rt, device, member, size, most);
+    assert!(rt; given && size <= 16);
+    assert_eq!(rt; &room[..size], scan);
+}
+
+// The mean of two captures, at 1000 and at 2000, in the scan of a member of that mask.
+fn check_mean(
+    rt: &impl Abort,
+    alloc: Global,
+    types: [&str; 3],
+    mask: u64,
+    captures: [[i64; 3]; 2],
+    want: &[u8],
+) -> Result<(), Fail> {
+    let size = want.len();
+    let mut device = device(alloc, types, 2, size)?;
+    let member = join(rt, &mut device, mask, size, 0)?;
+    let [first, second] = captures;
+    check_add(rt, &mut device, first, 1000, size, 0, None);
+    assert_eq!(rt; device.waiting(member), Some(0));
+    check_add(rt, &mut device, second, 2000, size, 1, Some(1));
+    assert_eq!(rt; device.waiting(member), Some(1));
+    check_take(rt, &mut device, member, size, 2, want);
+    Ok(())
+}
+
+#[test]
+fn averaged_pairs(rt: HostRuntime) -> Result<(), Fail> {
+    let pair = [[1, 2, -3], [4, 2, -4]];
+    let rows: [(u64, [[i64; 3]; 2], &[u8]); 5] = [
+        // 2, 2 and -3: rounded towards zero.
+        (5, pair, b"\x20\x00\xff\xfd"),
+        (3, pair, b"\x20\x00\x02\x00"),
+        (6, [[0, -128, 7], [0, -127, 8]], b"\x81\x00\x00\x07"),
+        (2, [[0, 127, 0], [0, 126, 0]], b"\x7e"),
+        // At the second one's moment.
+        (
+            9,
+            pair,
+            b"\x20\x00\x00\x00\x00\x00\x00\x00\xd0\x07\x00\x00\x00\x00\x00\x00",
+        ),
+    ];
+    for (mask, captures, want) in rows {
+        check_mean(&rt, rt.alloc(), TYPES, mask, captures, want)?;
+    }
+    Ok(())
+}
+
+// Values at the ends of 64 and of 63 bits, whose sums have more.
+#[test]
+fn ends_of_values(rt: HostRuntime) -> Result<(), Fail> {
+    let types = ["le:s64/64>>0", "be:u63/64>>0", "le:u8/8>>0"];
+    let rows: [(u64, [[i64; 3]; 2], &[u8]); 4] = [
+        (
+            1,
+            [[i64::MAX, 0, 0], [i64::MAX, 0, 0]],
+            b"\xff\xff\xff\xff\xff\xff\xff\x7f",
+        ),
+        (
+            1,
+            [[i64::MIN, 0, 0], [i64::MIN, 0, 0]],
+            b"\x00\x00\x00\x00\x00\x00\x00\x80",
+        ),
+        (
+            1,
+            [[i64::MIN, 0, 0], [i64::MAX, 0, 0]],
+            b"\x00\x00\x00\x00\x00\x00\x00\x00",
+        ),
+        (
+            2,
+            [[0, i64::MAX, 0], [0, i64::MAX, 0]],
+            b"\x7f\xff\xff\xff\xff\xff\xff\xff",
+        ),
+    ];
+    for (mask, captures, want) in rows {
+        check_mean(&rt, rt.alloc(), types, mask, captures, want)?;
+    }
+    Ok(())
+}
+
+// The second member joins within a window, and is offered that window's mean too. A full queue loses what it is offered.
+#[test]
+fn two_members(rt: HostRuntime) -> Result<(), Fail> {
+    let mut device = device(rt.alloc(), TYPES, 2, 4)?;
+    check_join(&rt, &mut device, 5, 4, 0, 0)?;
+    check_add(&rt, &mut device, [1, 2, -3], 1000, 4, 0, None);
+    check_join(&rt, &mut device, 3, 4, 1, 1)?;
+    check_add(&rt, &mut device, [4, 2, -4], 2000, 4, 1, Some(2));
+    check_take(&rt, &mut device, 1, 4, 2, b"\x20\x00\x02\x00");
+    check_add(&rt, &mut device, [8, 0, 0], 3000, 4, 2, None);
+    check_add(&rt, &mut device, [9, 0, 0], 4000, 4, 3, Some(2));
+    assert_eq!(rt; (device.lost(0), device.lost(1)), (Some(1), Some(0)));
+    check_take(&rt, &mut device, 0, 4, 4, b"\x20\x00\xff\xfd");
+    check_take(&rt, &mut device, 1, 4, 4, b"\x80\x00\x00\x00");
+    assert!(rt; !take(&rt, &mut device, 1, 4, 4).0);
+    Ok(())
+}
+
+// When the last member leaves, the window begins anew; a number that is free is given again.
+#[test]
+fn window_anew(rt: HostRuntime) -> Result<(), Fail> {
+    let mut device = device(rt.alloc(), TYPES, 3, 4)?;
+    assert!(rt; !device.has_member() && !device.leave(0));
+    check_join(&rt, &mut device, 5, 4, 0, 0)?;
+    check_add(&rt, &mut device, [100, 0, 100], 1000, 4, 0, None);
+    check_join(&rt, &mut device, 5, 4, 1, 1)?;
+    assert!(rt; device.leave(0));
+    assert_eq!(rt; (device.waiting(0), device.lost(0)), (None, None));
+    check_add(&rt, &mut device, [100, 0, 100], 2000, 4, 1, None);
+    assert!(rt; device.leave(1) && !device.leave(1));
+    check_join(&rt, &mut device, 5, 4, 2, 0)?;
+    check_add(&rt, &mut device, [1, 0, -1], 3000, 4, 2, None);
+    check_add(&rt, &mut device, [1, 0, -1], 4000, 4, 3, None);
+    check_add(&rt, &mut device, [6, 0, 0], 5000, 4, 4, Some(1));
+    check_take(&rt, &mut device, 0, 4, 5, b"\x20\x00\x00\x00");
+    Ok(())
+}

@@ -1,0 +1,449 @@
+//! Answers in pieces, and readings over links in memory. Expected texts by hand.
+
+ghost use Rattle.std.specs.Prelude.{◌≡◌, ◌<◌, ◌≤◌, ◌^◌, true, length, IfOk};
+ghost use Rattle.iio_mask.specs.Mask.{has};
+ghost use Rattle.iio_layout.specs.Shape.{count_of};
+ghost use Rattle.iiod_client.specs.Ask.{IsAsk, wanted_by};
+
+use iio_io::{MemLink, MemSink, MemSource};
+use iio_layout::{Channel, Direction, Shape, read_id};
+use iio_mask::Mask;
+use iio_scan_type::{Endian, read_type};
+use iiod_client::{Answer, Ask, ClientEnd, MAX_ASKED, State, read_device};
+use std::alloc::Global;
+use std::process::Abort;
+use std::test::Fail;
+
+// An answer to READBUF under 00000005 of scans of four bytes: what was asked for, the text, how many bytes of it are the
+// answer's, its state and its data.
+struct Fed {
+    asked: u32,
+    text: &'static [u8],
+    taken: usize,
+    state: State,
+    body: &'static [u8],
+}
+
+const FED: [Fed; 17] = [
+    Fed {
+        asked: 4,
+        text: b"4\n00000005\nabcd",
+        taken: 15,
+        state: State::Done,
+        body: b"abcd",
+    },
+    Fed {
+        asked: 4,
+        text: b"4\n00000005\nabcd0\n",
+        taken: 15,
+        state: State::Done,
+        body: b"abcd",
+    },
+    Fed {
+        asked: 8,
+        text: b"4\n00000005\nabcd0\n7",
+        taken: 17,
+        state: State::Done,
+        body: b"abcd",
+    },
+    Fed {
+        asked: 8,
+        text: b"4\n00000005\nabcd",
+        taken: 15,
+        state: State::More,
+        body: b"abcd",
+    },
+    Fed {
+        asked: 8,
+        text: b"1\n00000005\na2\nbc005\ndefgh",
+        taken: 25,
+        state: State::Done,
+        body: b"abcdefgh",
+    },
+    Fed {
+        asked: 4,
+        text: b"-16\n0\n",
+        taken: 4,
+        state: State::Refused(16),
+        body: b"",
+    },
+    Fed {
+        asked: 8,
+        text: b"4\n00000005\nabcd-5\n",
+        taken: 18,
+        state: State::Refused(5),
+        body: b"abcd",
+    },
+    Fed {
+        asked: 8,
+        text: b"3\n00000005\nabc-5\n",
+        taken: 17,
+        state: State::Malformed,
+        body: b"abc",
+    },
+    Fed {
+        asked: 4,
+        text: b"3\n00000005\nabc0\n",
+        taken: 16,
+        state: State::Malformed,
+        body: b"abc",
+    },
+    Fed {
+        asked: 8,
+        text: b"4\n00000005\nabcd00\n",
+        taken: 18,
+        state: State::Malformed,
+        body: b"abcd",
+    },
+    Fed {
+        asked: 4,
+        text: b"0\n",
+        taken: 2,
+        state: State::Malformed,
+        body: b"",
+    },
+    Fed {
+        asked: 4,
+        text: b"-0\n",
+        taken: 3,
+        state: State::Malformed,
+        body: b"",
+    },
+    Fed {
+        asked: 4,
+        text: b"5\n00000005\n",
+        taken: 2,
+        state: State::Malformed,
+        body: b"",
+    },
+    Fed {
+        asked: 4,
+        text: b"4\n00000003\nabcd",
+        taken: 11,
+        state: State::Malformed,
+        body: b"",
+    },
+    Fed {
+        asked: 6,
+        text: b"6\n00000005\nabcdef",
+        taken: 17,
+        state: State::Malformed,
+        body: b"abcdef",
+    },
+    Fed {
+        asked: 4,
+        text: b"00000000000000000000000000000000",
+        taken: 32,
+        state: State::More,
+        body: b"",
+    },
+    Fed {
+        asked: 4,
+        text: b"0000000000000000000000000000000000",
+        taken: 33,
+        state: State::Malformed,
+        body: b"",
+    },
+];
+
+// Whether an answer is read so where its text comes in two pieces.
+fn is_answer(alloc: Global, row: &Fed, cut: usize) -> Result<bool, Fail> {
+    if row.asked < 1 || row.asked > MAX_ASKED {
+        return Ok(false);
+    }
+    let cut = cut.min(row.text.len());
+    let mut answer = Answer::new(alloc, row.asked, Mask { bits: 5 }, 4, 4)?;
+    let (first, _) = answer.feed(&row.text[..cut]);
+    let (second, state) = answer.feed(&row.text[first..]);
+    let taken = first.saturating_add(second);
+    Ok(state == row.state && taken == row.taken && answer.body() == row.body)
+}
+
+#[test]
+fn answers_at_every_cut(rt: HostRuntime) -> Result<(), Fail> {
+    for row in &FED {
+        for cut in 0..=row.text.len() {
+            let right = is_answer(rt.alloc(), row, cut)?;
+            assert!(rt; right, "of {:?} at {cut}", row.text);
+        }
+    }
+    Ok(())
+}
+
+// A channel of that ID and type.
+fn channel(id: &str, ty: &str) -> Result<Channel, Fail> {
+    let (kind, suffix) = read_id(id.as_bytes()).ok_or("no ID")?;
+    Ok(Channel {
+        kind,
+        suffix,
+        direction: Direction::Input,
+        ty: read_type(ty.as_bytes()).ok_or("no type")?,
+    })
+}
+
+// voltage0, voltage1, accel_x and a timestamp.
+fn adc(alloc: Global) -> Result<Shape, Fail> {
+    let mut channels = Vec::new(alloc);
+    channels.push(channel("voltage0", "le:u12/16>>4")?)?;
+    channels.push(channel("voltage1", "le:u12/16>>4")?)?;
+    channels.push(channel("accel_x", "be:s16/16>>0")?)?;
+    let shape = Shape::new(channels, Some(Endian::Little), Vec::new(alloc));
+    Ok(shape.ok_or("no shape")?)
+}
+
+// What is wanted of adc0 under a mask that has its first channel.
+fn ask_under<'a>(shape: &'a Shape, mask: Mask, scans: u32) -> Ask<'a>
+    requires below { mask.bits < 2 ^ count_of shape.now }
+    requires channel { 0 < length shape.now.channels }
+    requires first { has mask.bits 0 ≡ true }
+    requires scans { 1 ≤ scans }
+    ensures { IsAsk (wanted_by result) }
+{
+    Ask {
+        device: b"adc0",
+        shape,
+        mask,
+        samples: 1,
+        scans,
+    }
+}
+
+// What is wanted of adc0 under the mask that a text says.
+fn ask<'a>(rt: &impl Abort, shape: &'a Shape, mask: &str, scans: u32) -> Result<Ask<'a>, Fail>
+    requires { 1 ≤ scans }
+    ensures { IfOk result (λ ask. IsAsk (wanted_by ask)) }
+{
+    assert_eq!(rt; shape.count(), 4);
+    assert_eq!(rt; shape.inputs(), 3);
+    let mask = Mask::read(mask.as_bytes(), 4).ok_or("no mask")?;
+    assert!(rt; mask.contains(0));
+    assert!(rt; mask.bits < 16);
+    Ok(ask_under(shape, mask, scans))
+}
+
+// A link that gives these bytes in pieces, and calls of which fail.
+fn link(
+    alloc: Global,
+    bytes: &[u8],
+    piece: usize,
+    receives: &[u64],
+    sends: &[u64],
+) -> Result<MemLink, Fail>
+    requires { 1 ≤ piece }
+{
+    let source = MemSource::new(bytes.to_vec(alloc)?, piece, receives.to_vec(alloc)?);
+    Ok(MemLink::new(source, MemSink::new(alloc, 65_536, sends.to_vec(alloc)?)?))
+}
+
+// A reading: the mask, the scans that are wanted, what the link gives, what is sent and printed, and the end.
+struct Row {
+    mask: &'static str,
+    scans: u32,
+    given: &'static [u8],
+    sent: &'static [u8],
+    printed: &'static [u8],
+    end: ClientEnd,
+}
+
+const OPEN_SENT: &[u8] = b"OPEN adc0 1 00000005\n";
+
+const READ_SENT: &[u8] = b"OPEN adc0 1 00000005\nREADBUF adc0 4\n";
+
+const READ_TWO_SENT: &[u8] = b"OPEN adc0 1 00000005\nREADBUF adc0 8\n";
+
+const ROWS: [Row; 14] = [
+    Row {
+        mask: "00000005",
+        scans: 1,
+        given: b"0\n4\n00000005\n\x10\x00\xff\xfd0\n",
+        sent: b"OPEN adc0 1 00000005\nREADBUF adc0 4\nCLOSE adc0\nEXIT\n",
+        printed: b"1000fffd voltage0=1 accel_x=-3\n",
+        end: ClientEnd::Done,
+    },
+    // Bytes after the last answer aren't looked at.
+    Row {
+        mask: "00000005",
+        scans: 3,
+        given: b"0\n4\n00000005\n\x10\x00\xff\xfd8\n\x20\x00\x00\x01\xf0\xff\x80\x000\nmore",
+        sent: b"OPEN adc0 1 00000005\nREADBUF adc0 12\nCLOSE adc0\nEXIT\n",
+        printed: b"1000fffd voltage0=1 accel_x=-3\n20000001 voltage0=2 accel_x=1\nf0ff8000 voltage0=4095 accel_x=-32768\n",
+        end: ClientEnd::Done,
+    },
+    Row {
+        mask: "00000009",
+        scans: 2,
+        given: b"0\n16\n00000009\n\x10\x00\0\0\0\0\0\0\xe8\x03\0\0\0\0\0\x000\n16\n00000009\n\x20\x00\0\0\0\0\0\0\xff\xff\xff\xff\xff\xff\xff\xff0\n",
+        sent: b"OPEN adc0 1 00000009\nREADBUF adc0 32\nREADBUF adc0 16\nCLOSE adc0\nEXIT\n",
+        printed: b"1000000000000000e803000000000000 voltage0=1 timestamp=1000\n2000000000000000ffffffffffffffff voltage0=2 timestamp=-1\n",
+        end: ClientEnd::Done,
+    },
+    Row {
+        mask: "00000005",
+        scans: 1,
+        given: b"-16\n",
+        sent: OPEN_SENT,
+        printed: b"refused -16\n",
+        end: ClientEnd::Refused(16),
+    },
+    Row {
+        mask: "00000005",
+        scans: 1,
+        given: b"0\n3\n00000005\n\x10\x00\xff0\n",
+        sent: READ_SENT,
+        printed: b"",
+        end: ClientEnd::Malformed,
+    },
+    Row {
+        mask: "00000005",
+        scans: 1,
+        given: b"0\n-11\n",
+        sent: READ_SENT,
+        printed: b"refused -11\n",
+        end: ClientEnd::Refused(11),
+    },
+    // The answer that ends as refused isn't printed.
+    Row {
+        mask: "00000005",
+        scans: 2,
+        given: b"0\n4\n00000005\n\x10\x00\xff\xfd-5\n",
+        sent: READ_TWO_SENT,
+        printed: b"refused -5\n",
+        end: ClientEnd::Refused(5),
+    },
+    Row {
+        mask: "00000005",
+        scans: 1,
+        given: b"0\n4\n00000005\n\x10\x00\xff\xfd-9\n",
+        sent: b"OPEN adc0 1 00000005\nREADBUF adc0 4\nCLOSE adc0\n",
+        printed: b"1000fffd voltage0=1 accel_x=-3\nrefused -9\n",
+        end: ClientEnd::Refused(9),
+    },
+    Row {
+        mask: "00000005",
+        scans: 1,
+        given: b"",
+        sent: OPEN_SENT,
+        printed: b"",
+        end: ClientEnd::Cut,
+    },
+    Row {
+        mask: "00000005",
+        scans: 1,
+        given: b"0\n4\n00000005\n\x10\x00",
+        sent: READ_SENT,
+        printed: b"",
+        end: ClientEnd::Cut,
+    },
+    Row {
+        mask: "00000005",
+        scans: 1,
+        given: b"1\n",
+        sent: OPEN_SENT,
+        printed: b"",
+        end: ClientEnd::Malformed,
+    },
+    Row {
+        mask: "00000005",
+        scans: 1,
+        given: b"-0\n",
+        sent: OPEN_SENT,
+        printed: b"",
+        end: ClientEnd::Malformed,
+    },
+    Row {
+        mask: "00000005",
+        scans: 1,
+        given: b"000000000000000000000000000000000",
+        sent: OPEN_SENT,
+        printed: b"",
+        end: ClientEnd::Malformed,
+    },
+    Row {
+        mask: "00000005",
+        scans: 1,
+        given: b"0\n4\n00000003\n",
+        sent: READ_SENT,
+        printed: b"",
+        end: ClientEnd::Malformed,
+    },
+];
+
+// The end of a reading. Nothing more of it is known than what a link and a sink tell.
+fn end_of(alloc: Global, ask: &Ask<'_>, link: &mut MemLink, output: &mut MemSink) -> ClientEnd
+    requires { IsAsk (wanted_by ask.now) }
+{
+    read_device(alloc, link, ask, output)
+}
+
+// Whether a reading over a link that gives its bytes in such pieces sends, prints and ends as the row says.
+fn is_reading(alloc: Global, ask: &Ask<'_>, row: &Row, piece: usize) -> Result<bool, Fail>
+    requires asked { IsAsk (wanted_by ask.now) }
+    requires piece { 1 ≤ piece }
+{
+    let mut link = link(alloc, row.given, piece, &[], &[])?;
+    let mut output = MemSink::new(alloc, 65_536, Vec::new(alloc))?;
+    let end = end_of(alloc, ask, &mut link, &mut output);
+    Ok(end == row.end && link.sent() == row.sent && output.written() == row.printed)
+}
+
+#[test]
+fn reads_in_any_pieces(rt: HostRuntime) -> Result<(), Fail> {
+    let shape = adc(rt.alloc())?;
+    for row in &ROWS {
+        assert!(rt; 1 <= row.scans);
+        let ask = ask(&rt, &shape, row.mask, row.scans)?;
+        for piece in 1..row.given.len() + 2 {
+            let right = is_reading(rt.alloc(), &ask, row, piece)?;
+            assert!(rt; right, "of {:?} by {piece}", row.given);
+        }
+    }
+    Ok(())
+}
+
+// How the reading of the first row ends where these calls fail, if what was sent and printed is a front part of the row's.
+fn faulty_end(
+    alloc: Global,
+    ask: &Ask<'_>,
+    receives: &[u64],
+    sends: &[u64],
+    writes: &[u64],
+) -> Result<Option<ClientEnd>, Fail>
+    requires { IsAsk (wanted_by ask.now) }
+{
+    let row = &ROWS[0];
+    let mut link = link(alloc, row.given, 1, receives, sends)?;
+    let mut output = MemSink::new(alloc, 65_536, writes.to_vec(alloc)?)?;
+    let end = end_of(alloc, ask, &mut link, &mut output);
+    let front = row.sent.starts_with(link.sent()) && row.printed.starts_with(output.written());
+    Ok(if front { Some(end) } else { None })
+}
+
+// Reads the first row where these calls fail, and compares the end.
+fn check_faults(
+    rt: &impl Abort,
+    alloc: Global,
+    receives: &[u64],
+    sends: &[u64],
+    writes: &[u64],
+    want: ClientEnd,
+) -> Result<(), Fail> {
+    let shape = adc(alloc)?;
+    let ask = ask(rt, &shape, "00000005", 1)?;
+    let end = faulty_end(alloc, &ask, receives, sends, writes)?;
+    assert_eq!(rt; end, Some(want), "with {receives:?}, {sends:?}, {writes:?}");
+    Ok(())
+}
+
+#[test]
+fn each_call_fails_in_turn(rt: HostRuntime) -> Result<(), Fail> {
+    let alloc = rt.alloc();
+    // 19 bytes come, one at a time, and 4 lines go.
+    for call in 1..20 {
+        check_faults(&rt, alloc, &[call], &[], &[], ClientEnd::LinkFault)?;
+    }
+    for call in 1..5 {
+        check_faults(&rt, alloc, &[], &[call], &[], ClientEnd::LinkFault)?;
+    }
+    check_faults(&rt, alloc, &[], &[], &[1], ClientEnd::WriteFault)?;
+    check_faults(&rt, alloc, &[20], &[5], &[2], ClientEnd::Done)
+}
