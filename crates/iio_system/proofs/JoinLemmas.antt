@@ -21,12 +21,12 @@ use Rattle.iio_device.specs.Members.{masks_of as masks_of_memberships}
 use Rattle.iio_device.specs.Site.{is_empty}
 use Rattle.iiod_session.specs.Front.{Front, place_count, shape_at}
 use Rattle.iiod_session.specs.Machine.{Machine, Station, masks_of, station_at}
-use Rattle.iiod_session.specs.Opening.{errno_of}
+use Rattle.iiod_session.specs.Opening.{errno_of, no_of}
 use Rattle.iiod_session.specs.Calls.{attached_count, has_no_place, is_full, joined, open_of, open_refusals, unless}
 use Rattle.iiod_session.specs.Seat.{Answers}
 use Rattle.iio_history.specs.Devices.{queue_waits}
 use Rattle.iio_history.proofs.DeviceLaws.{agree, joined_is as plain_joined, masks_are as plain_masks}
-use Rattle.iio_system.specs.Faults.{faults_at, first_queue, is_full as is_full_at, lacks_place, no_of}
+use Rattle.iio_system.specs.Faults.{faults_at, first_queue, is_full as is_full_at, lacks_place}
 use Rattle.iio_system.specs.Places.{IsBench}
 use Rattle.iio_system.specs.Station.{member_of, station_of}
 use Rattle.iio_system.proofs.ListLemmas.{is_empty-map}

@@ -27,13 +27,13 @@ use Rattle.iiod_session.specs.declared.iio.No.{No}
 use Rattle.iiod_session.specs.Front.{shape_at}
 use Rattle.iiod_session.specs.Machine.{Machine, Station, with_station}
 use Rattle.iiod_session.specs.Calls.{closed, is_attached, joined, left, open_of, open_refusals}
-use Rattle.iiod_session.specs.Opening.{errno_of}
+use Rattle.iiod_session.specs.Opening.{errno_of, no_of}
 use Rattle.iiod_session.specs.Seat.{Answers, IsNew, MayOpen, number_by as number_of}
 use Rattle.iio_history.specs.Devices.{queue_waits}
 use Rattle.iio_history.proofs.DeviceLaws.{left_is as plain_left}
 use Rattle.iio_system.specs.declared.seat.Seat.{Seat}
 use Rattle.iio_system.specs.Acting.{KeepsCaptures}
-use Rattle.iio_system.specs.Faults.{Hosts, JoinsBy, faults_at, no_of}
+use Rattle.iio_system.specs.Faults.{Hosts, JoinsBy, faults_at}
 use Rattle.iio_system.specs.Places.{IsBench, IsNumbered, has_trigger, is_hosted, places_from, trigger_of}
 use Rattle.iio_system.specs.Seat.{seen_of}
 use Rattle.iio_system.specs.Station.{front_by, member_of, number_by, station_by, station_of, stations_by, view_by}

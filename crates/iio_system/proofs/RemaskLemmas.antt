@@ -26,13 +26,13 @@ use Rattle.iiod_session.specs.declared.iio.No.{No}
 use Rattle.iiod_session.specs.declared.iio.No.TheVariants.{Errno as NoErrno}
 use Rattle.iiod_session.specs.Calls.{remask_of, remask_refusals, remasked, with_mask}
 use Rattle.iiod_session.specs.Machine.{Member, MemberId, Station, member_in, queue_of, scans_in}
-use Rattle.iiod_session.specs.Opening.{remask_errno}
+use Rattle.iiod_session.specs.Opening.{remask_errno, remask_no}
 use Rattle.iiod_session.specs.Seat.{Answers}
 use Rattle.iio_history.specs.Devices.{queue_waits}
 use Rattle.iio_history.proofs.DeviceRemasks.{refusals_are, remasked_is, waited_is}
 use Rattle.iio_system.specs.Acting.{Acts, KeepsCaptures, has_member}
 use Rattle.iio_system.specs.Places.{IsBench}
-use Rattle.iio_system.specs.Remasking.{remask_answer, remask_no}
+use Rattle.iio_system.specs.Remasking.{remask_answer}
 use Rattle.iio_system.specs.Station.{front_by, member_of, station_by, station_of, stations_by}
 use Rattle.iio_system.proofs.BenchLemmas.{KeepsPlace, acts_kept}
 use Rattle.iio_system.proofs.IioLemmas.{IsUnder, keeps_along, sound_kept, told_absent}

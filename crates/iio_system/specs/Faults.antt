@@ -2,7 +2,6 @@
 use Rattle.std.specs.Prelude.{◌≡◌, ℕ, ◌<◌, ◌-◌, ◌^◌, ◌==◌, ◌&&◌, ◌||◌, not, Bool, true, false, List, [], ◌∷◌, length, slice_get, Option, Some, None, is_none, Result, Ok, Err}
 use Rattle.std.specs.Option.{option_map_or}
 use Rattle.iio_base.specs.Refusals.{first_refusal}
-use Rattle.iio_text.specs.declared.errors.Errno.TheVariants.{ENODEV, EINVAL, ENOSPC}
 use Rattle.iio_mask.specs.declared.Mask.{Mask}
 use Rattle.iio_layout.specs.Layout.{scan_size}
 use Rattle.iio_layout.specs.Shape.{ShapeRecord}
@@ -16,7 +15,7 @@ use Rattle.iio_device.specs.Joining.{member_faults}
 use Rattle.iio_device.specs.Members.{masks_of}
 use Rattle.iio_device.specs.Site.{is_empty}
 use Rattle.iiod_session.specs.declared.iio.No.{No}
-use Rattle.iiod_session.specs.declared.iio.No.TheVariants.{Errno as NoErrno, Mem as NoMem}
+use Rattle.iiod_session.specs.declared.iio.No.TheVariants.{Mem as NoMem}
 use Rattle.iio_system.specs.declared.seat.Seat.{Seat}
 
 -- whether there is no place at the device's trigger; at one that isn't there, there is none
@@ -39,15 +38,6 @@ abbrev pub Hosts : List State → DeviceView Queue → ℕ → Result ℕ JoinFa
 Hosts states d mask (Ok trigger) =
     (d.site.trigger ≡ Some trigger) × (trigger < length states) × (first_refusal (faults_at states d mask) ≡ None)
 Hosts states d mask (Err fault) = first_refusal (faults_at states d mask) ≡ Some fault
-
--- what a fault is answered with
-abbrev pub no_of : JoinFault → No
-no_of fault.Gone = NoErrno ENODEV
-no_of fault.BadMask = NoErrno EINVAL
-no_of fault.NoTrigger = NoErrno EINVAL
-no_of fault.NoUnion = NoErrno EINVAL
-no_of fault.NoPlace = NoErrno ENOSPC
-no_of fault.Mem = NoMem
 
 -- a new queue
 abbrev pub first_queue : ShapeRecord → Mask → ℕ → Queue

@@ -8,7 +8,7 @@ ghost use Rattle.iio_system.specs.Station.{front_by};
 
 use crate::bench::Bench;
 use crate::calls;
-use crate::joining::{host, join, no_of};
+use crate::joining::{host, join};
 use crate::remasking::remask;
 use crate::seat::Seat;
 use iio_attr::{Attr, Name, Value};
@@ -20,7 +20,7 @@ use iio_layout::{Shape, scan_size};
 use iio_mask::Mask;
 use iio_sensor::Sensor;
 use iio_text::Fixed;
-use iiod_session::{Counts, Iio, No, Took};
+use iiod_session::{Counts, Iio, No, Took, no_of};
 
 // Whether a device has that name.
 fn is_named(device: &Device<Kfifo>, name: &[u8]) -> bool

@@ -7,7 +7,7 @@ ghost use Rattle.iio_layout.specs.Layout.{scan_size};
 ghost use Rattle.iio_layout.specs.Shape.{count_of};
 ghost use Rattle.iio_kfifo.specs.declared.limits.TheConstants.{MAX_BYTES};
 ghost use Rattle.iio_device.specs.Device.{join_faults};
-ghost use Rattle.iio_system.specs.Faults.{Hosts, JoinsBy, no_of};
+ghost use Rattle.iio_system.specs.Faults.{Hosts, JoinsBy};
 ghost use Rattle.iio_system.specs.Places.{is_hosted};
 ghost use Rattle.iio_system.specs.Station.{station_by, view_by};
 
@@ -17,22 +17,9 @@ use iio_kfifo::Kfifo;
 use iio_layout::scan_size;
 use iio_mask::Mask;
 use iio_sensor::Sensor;
-use iio_text::Errno;
 use iio_trigger::Trigger;
 use iiod_session::No;
 use std::alloc::Global;
-
-/// What a fault of joining is answered with.
-pub(crate) fn no_of(fault: JoinFault) -> No
-    ensures { result ≡ no_of fault }
-{
-    match fault {
-        JoinFault::Gone => No::Errno(Errno::ENODEV),
-        JoinFault::BadMask | JoinFault::NoTrigger | JoinFault::NoUnion => No::Errno(Errno::EINVAL),
-        JoinFault::NoPlace => No::Errno(Errno::ENOSPC),
-        JoinFault::Mem => No::Mem,
-    }
-}
 
 // As `host`, where the trigger is there.
 fn host_at(

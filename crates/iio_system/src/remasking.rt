@@ -7,29 +7,17 @@ ghost use Rattle.iio_layout.specs.Layout.{scan_size};
 ghost use Rattle.iio_layout.specs.Shape.{count_of};
 ghost use Rattle.iiod_session.specs.Calls.{remasked};
 ghost use Rattle.iio_system.specs.Acting.{Acts, KeepsCaptures, has_member, id_of};
-ghost use Rattle.iio_system.specs.Remasking.{remask_answer, remask_no};
+ghost use Rattle.iio_system.specs.Remasking.{remask_answer};
 ghost use Rattle.iio_system.specs.Station.{station_by, view_by};
 
 use crate::seat::Seat;
-use iio_device::{Device, Member, Plug, RemaskFault, RemaskRefused};
+use iio_device::{Device, Member, Plug, RemaskRefused};
 use iio_kfifo::Kfifo;
 use iio_mask::Mask;
 use iio_sensor::Sensor;
 use iio_text::Errno;
-use iiod_session::No;
+use iiod_session::{No, remask_no};
 use std::alloc::Global;
-
-// What a fault of another mask is answered with.
-fn no_of(fault: RemaskFault) -> No
-    ensures { result ≡ remask_no fault }
-{
-    match fault {
-        RemaskFault::Gone => No::Errno(Errno::ENODEV),
-        RemaskFault::NotLive => No::Errno(Errno::EBADF),
-        RemaskFault::BadMask | RemaskFault::NoUnion => No::Errno(Errno::EINVAL),
-        RemaskFault::Mem => No::Mem,
-    }
-}
 
 // The member of a seat gets the mask, with a queue for as many scans of `size` bytes as the seat says: how many scans waited.
 fn exchange(
@@ -55,7 +43,7 @@ fn exchange(
         number: seat.number,
     };
     if let Err(fault) = device.may_remask(&member, mask) {
-        return Err(no_of(fault));
+        return Err(remask_no(fault));
     }
     let Ok(tail) = Kfifo::new(alloc, seat.capacity, size) else {
         return Err(No::Mem);

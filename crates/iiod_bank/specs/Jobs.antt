@@ -2,7 +2,7 @@
 use Rattle.std.specs.Prelude.{◌≡◌, ℕ, ℤ, ◌<◌, ◌^◌, Bool, ⊤, zero, suc, [], length, Option, Some, None, IfSome, nat_eq, option_map, option_and_then, Result, Ok, Err, MatchBool, if◌then◌else◌}
 use Rattle.iio_base.specs.Refusals.{first_refusal}
 use Rattle.iio_text.specs.declared.errors.Errno.{Errno}
-use Rattle.iio_text.specs.declared.errors.Errno.TheVariants.{EBADF, EBUSY, EINVAL, EIO, ENODEV, ENOSPC}
+use Rattle.iio_text.specs.declared.errors.Errno.TheVariants.{EBADF, EBUSY, EIO, ENODEV}
 use Rattle.iio_text.specs.declared.values.Fixed.{Fixed}
 use Rattle.iio_attr.specs.declared.attributes.Attr.{Attr}
 use Rattle.iio_attr.specs.declared.attributes.Attr.TheVariants.{Raw}
@@ -19,10 +19,6 @@ use Rattle.iio_layout.specs.Shape.{ShapeRecord, count_of}
 use Rattle.iio_device.specs.declared.handling.RawFault.{RawFault}
 use Rattle.iio_device.specs.declared.handling.RawFault.TheVariants as raw
 use Rattle.iio_device.specs.declared.membership.Membership.{Membership}
-use Rattle.iio_device.specs.declared.roster.JoinFault.{JoinFault}
-use Rattle.iio_device.specs.declared.roster.JoinFault.TheVariants as fault
-use Rattle.iio_device.specs.declared.roster.RemaskFault.{RemaskFault}
-use Rattle.iio_device.specs.declared.roster.RemaskFault.TheVariants as remask
 use Rattle.iio_device.specs.Device.{DeviceView, LeavesDevice, RemasksDevice, after_raw, after_trigger, after_write, at_site, device_joined, join_faults, raw_answer, remask_faults, trigger_answer, trigger_joined, write_answer}
 use Rattle.iio_device.specs.Members.{first_number, member_of}
 use Rattle.iio_device.specs.Site.{unplugged, with_monitor}
@@ -41,15 +37,6 @@ refused (Ok x) = Ok x
 refused (Err e) = Err (NoErrno e)
 
 -- ---- OPEN
-
--- what a fault of joining is answered with
-abbrev pub no_of : JoinFault → No
-no_of fault.Gone = NoErrno ENODEV
-no_of fault.BadMask = NoErrno EINVAL
-no_of fault.NoTrigger = NoErrno EINVAL
-no_of fault.NoUnion = NoErrno EINVAL
-no_of fault.NoPlace = NoErrno ENOSPC
-no_of fault.Mem = NoMem
 
 -- where it may be done: the mask has channels of the device alone, and its scans have the size that the opener knows
 pub record MayOpenAt (mask size : ℕ) (shape : ShapeRecord) : Type 0 where
@@ -95,14 +82,6 @@ LeaveMakes lost number a (Some s) o b None = ⊥
 LeaveMakes lost number a None o b (Some t) = ⊥
 
 -- ---- REMASK
-
--- what a fault of another mask is answered with
-abbrev pub remask_no : RemaskFault → No
-remask_no remask.Gone = NoErrno ENODEV
-remask_no remask.NotLive = NoErrno EBADF
-remask_no remask.BadMask = NoErrno EINVAL
-remask_no remask.NoUnion = NoErrno EINVAL
-remask_no remask.Mem = NoMem
 
 -- the errno of the refusal, where there is one
 abbrev pub remask_refusal : (number mask : ℕ) → DeviceView WriterEnd → Option Errno

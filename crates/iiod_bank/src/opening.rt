@@ -3,36 +3,24 @@
 ghost use Rattle.std.specs.Prelude.{◌≡◌, ◌==◌, ◌*◌, ◌^◌, ◌≤◌, ◌<◌, nat_lt, true, Some, None, is_some};
 ghost use Rattle.iio_layout.specs.Layout.{scan_size};
 ghost use Rattle.iio_kfifo.specs.declared.limits.TheConstants.{MAX_BYTES};
-ghost use Rattle.iiod_bank.specs.Jobs.{LeaveMakes, MayOpenAt, OpenMakes, no_of};
+ghost use Rattle.iiod_bank.specs.Jobs.{LeaveMakes, MayOpenAt, OpenMakes};
 ghost use Rattle.iiod_bank.specs.Lent.{Kept, lent_by};
 
 use crate::bank::DeviceJob;
-use iio_device::{Device, JoinFault, JoinRefused, Member, Plug};
+use iio_device::{Device, JoinRefused, Member, Plug};
 use iio_kfifo::{Reader, Tail, Writer, ring};
 use iio_layout::{Shape, scan_size};
 use iio_mask::Mask;
 use iio_sensor::Sensor;
 use iio_text::Errno;
 use iio_trigger::Trigger;
-use iiod_session::No;
+use iiod_session::{No, no_of};
 use std::alloc::Global;
 
 /// A member, and the end of its ring at which scans are taken.
 pub struct Opened {
     pub member: Member,
     pub reader: Reader,
-}
-
-// What a fault of joining is answered with.
-fn no_of(fault: JoinFault) -> No
-    ensures { result ≡ no_of fault }
-{
-    match fault {
-        JoinFault::Gone => No::Errno(Errno::ENODEV),
-        JoinFault::BadMask | JoinFault::NoTrigger | JoinFault::NoUnion => No::Errno(Errno::EINVAL),
-        JoinFault::NoPlace => No::Errno(Errno::ENOSPC),
-        JoinFault::Mem => No::Mem,
-    }
 }
 
 // Whether a mask has bits below that number of channels alone.

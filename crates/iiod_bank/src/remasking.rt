@@ -2,36 +2,23 @@
 
 ghost use Rattle.std.specs.Prelude.{◌≡◌, ◌*◌, ◌≤◌, true};
 ghost use Rattle.iio_kfifo.specs.declared.limits.TheConstants.{MAX_BYTES};
-ghost use Rattle.iiod_bank.specs.Jobs.{MayOpenAt, RemaskMakes, remask_no};
+ghost use Rattle.iiod_bank.specs.Jobs.{MayOpenAt, RemaskMakes};
 ghost use Rattle.iiod_bank.specs.Lent.{Kept, lent_by};
 
 use crate::bank::Work;
 use crate::opening::is_sized;
-use iio_device::{Device, Member, Plug, RemaskFault, RemaskRefused};
+use iio_device::{Device, Member, Plug, RemaskRefused};
 use iio_kfifo::{Reader, Tail, Writer, ring};
 use iio_layout::Shape;
 use iio_mask::Mask;
 use iio_sensor::Sensor;
-use iio_text::Errno;
-use iiod_session::No;
+use iiod_session::{No, remask_no};
 use std::alloc::Global;
 
 /// What a REMASK's job gives: the writing end of the member's old ring, and the reading end of its new one.
 pub struct Remasked {
     pub before: Writer,
     pub reader: Reader,
-}
-
-// What a fault of another mask is answered with.
-fn no_of(fault: RemaskFault) -> No
-    ensures { result ≡ remask_no fault }
-{
-    match fault {
-        RemaskFault::Gone => No::Errno(Errno::ENODEV),
-        RemaskFault::NotLive => No::Errno(Errno::EBADF),
-        RemaskFault::BadMask | RemaskFault::NoUnion => No::Errno(Errno::EINVAL),
-        RemaskFault::Mem => No::Mem,
-    }
 }
 
 // The member begins anew under that mask, with a ring for `capacity` scans of `size` bytes, which is that of the mask's scans.
@@ -52,7 +39,7 @@ fn remask_at(
         (lent_by ⟦<Plug as Sensor>⟧.driver device.old) result (lent_by ⟦<Plug as Sensor>⟧.driver device.new) }
 {
     if let Err(fault) = device.may_remask(member, mask) {
-        return Err(no_of(fault));
+        return Err(remask_no(fault));
     }
     let Ok((writer, reader)) = ring(alloc, capacity, size) else {
         return Err(No::Mem);

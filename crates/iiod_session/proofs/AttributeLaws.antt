@@ -13,7 +13,6 @@ use Rattle.iio_text.specs.declared.values.Form.TheVariants as form
 use Rattle.iio_text.specs.Fixed.{last_digits, part_text, printed_fixed}
 use Rattle.iio_attr.specs.declared.attributes.Attr.{Attr}
 use Rattle.iio_attr.specs.declared.attributes.Attr.TheVariants as attr
-use Rattle.iio_attr.specs.declared.values.Value.{Value as AttrValue}
 use Rattle.iio_attr.specs.declared.values.Value.TheVariants.{Number as StoredNumber, Int}
 use Rattle.iio_layout.specs.Shape.{ShapeRecord}
 use Rattle.iio_sensor.specs.Driver.{ask_fails, value_of}
@@ -21,13 +20,11 @@ use Rattle.iio_device.specs.Site.{is_empty}
 use Rattle.iiod_grammar.specs.Command.{Place, Read, Target}
 use Rattle.iiod_grammar.specs.Stream.{Said, Written}
 use Rattle.iiod_reply.specs.Reply.{Reply, Refusal, Value, NoMemory}
-use Rattle.iiod_session.specs.declared.attributes.AttrText.{AttrText}
-use Rattle.iiod_session.specs.declared.attributes.AttrText.TheVariants as text
 use Rattle.iiod_session.specs.declared.desk.Held.{Held}
 use Rattle.iiod_session.specs.declared.iio.No.{No}
 use Rattle.iiod_session.specs.declared.iio.No.TheVariants.{Errno as NoErrno, Mem as NoMem}
-use Rattle.iiod_session.specs.Acts.{Acted, act, at_device, only, refused, read_attribute_at, read_buffer_attribute, read_buffer_attribute_at, read_device_attribute, read_named, value_reply, write_assignment, write_attribute_at, written}
-use Rattle.iiod_session.specs.Attributes.{Assignment, Named, buffer_number, found, is_of_buffer, text_of_value, write_found}
+use Rattle.iiod_session.specs.Acts.{Acted, act, at_device, only, refused, read_attribute_at, read_buffer_attribute, read_buffer_attribute_at, read_device_attribute, read_named, write_assignment, write_attribute_at, written}
+use Rattle.iiod_session.specs.Attributes.{Assignment, Named, buffer_number, found, is_of_buffer, write_found}
 use Rattle.iiod_session.specs.Calls.{raw_answer, read_attr_of, write_attr_of}
 use Rattle.iiod_session.specs.Desk.{AllHeld, DeskRecord, IsHeld, bare_of, place_of, seats_of, with_seats}
 use Rattle.iiod_session.specs.Front.{Front, find_device, shape_at}
@@ -35,11 +32,11 @@ use Rattle.iiod_session.specs.Machine.{Machine, MemberId, Station, is_plugged, l
 use Rattle.iiod_session.specs.Moves.{AnswersAs, Serves}
 use Rattle.iiod_session.specs.Performs.{Comes}
 use Rattle.iiod_session.specs.Seat.{Answers, SeatRecord, Tale, seat_id}
-use Rattle.iiod_session.specs.Targets.{text_by, written_by}
+use Rattle.iiod_session.specs.Targets.{written_by}
 use Rattle.iiod_session.proofs.HeldLaws.{id_is}
-use Rattle.iiod_session.proofs.PlainLaws.{serves_only}
+use Rattle.iiod_session.proofs.AnswerLaws.{serves_only}
 use Rattle.iiod_session.proofs.SeatsLaws.{get_is}
-use Rattle.iiod_session.proofs.ServeLaws.{all_comes, alone_at}
+use Rattle.iiod_session.proofs.ServeLaws.{all_comes, all_refused, serves_at}
 
 -- ---- an attribute of the device
 
@@ -60,25 +57,6 @@ unfolding read_attr_of
 still front m dev None a v e = refl
 still front m dev (Some c) attr.Raw v e = not_stored (shape_at front dev) m.clock c (station_at m dev) v e
 still front m dev (Some c) a v e = refl
-
-pub said_no : (front : Front) (told told' : Option Machine) (desk : DeskRecord) (dev : ℕ) (target : Named) (why : No)
-    → IfSome told (λ m. Answers (read_attr_of front m dev target.channel target.attribute) m (Err why) told')
-    → IfSome told (λ m. Comes m desk (read_device_attribute front m desk dev target) (text_by (Err why)) told' desk)
-said_no front None told' desk dev target why a = tt
-said_no front (Some m) told' desk dev target (NoErrno e) a =
-    (_, a.1, ap (λ (r : Result AttrValue Errno). record { reply = value_reply r; machine = (read_attr_of front m dev target.channel target.attribute).machine; desk = desk }) a.0)
-said_no front (Some m) told' desk dev target NoMem a = (a, refl)
-
-pub said_value : (front : Front) (told told' : Option Machine) (desk : DeskRecord) (dev : ℕ) (target : Named) (v : AttrValue) (text : List ℕ) → text ≡ text_of_value v
-    → IfSome told (λ m. Answers (read_attr_of front m dev target.channel target.attribute) m (Ok v) told')
-    → IfSome told (λ m. Comes m desk (read_device_attribute front m desk dev target) (Value text) told' desk)
-said_value front None told' desk dev target v text t a = tt
-said_value front (Some m) told' desk dev target v text t a = (
-  _,
-  a.1,
-  ap (λ (r : Result AttrValue Errno). record { reply = value_reply r; machine = (read_attr_of front m dev target.channel target.attribute).machine; desk = desk }) a.0
-      ∙ ap (λ (bytes : List ℕ). record { reply = Value bytes; machine = (read_attr_of front m dev target.channel target.attribute).machine; desk = desk }) (sym t),
-)
 
 -- a stored number for whose digits there was no memory
 pub said_short : (front : Front) (told told' : Option Machine) (desk : DeskRecord) (dev : ℕ) (target : Named) (v : Fixed)
@@ -159,47 +137,40 @@ wrote (Some m) told' desk dev count x (Err NoMem) a = (a, refl)
 
 -- ---- the commands
 
-read_is : (front : Front) (m : Machine) (desk : DeskRecord) (device : List ℕ) (place : Place) (name : Option (List ℕ))
-    → act front m desk (Said (Ok (Read device place name))) ≡ at_device m desk (read_attribute_at front m desk place name) (find_device front device)
-unfolding act
-read_is front m desk device place name = refl
-
-pub serves_read_attribute : (front : Front) (told told' : Option Machine) (desk desk' : DeskRecord) (tales tales' : List (Option Tale)) (device : List ℕ) (place : Place) (name : Option (List ℕ)) (reply : Reply)
-    → IfSome told (λ m. Comes m desk (at_device m desk (read_attribute_at front m desk place name) (find_device front device)) reply told' desk)
-    → desk' ≡ desk → tales' ≡ tales
-    → (find_device front device ≡ None → reply ≡ Refusal ENODEV) → AnswersAs front (Said (Ok (Read device place name))) reply
+pub serves_read_attribute : (front : Front) (told told' : Option Machine) (desk desk' : DeskRecord) (tales tales' : List (Option Tale)) (device : List ℕ) (place : Place) (name : Option (List ℕ)) (dev : ℕ) (reply : Reply)
+    → Some dev ≡ find_device front device
+    → IfSome told (λ m. Comes m desk (read_attribute_at front m desk place name dev) reply told' desk)
+    → desk' ≡ desk → tales' ≡ tales → AnswersAs front (Said (Ok (Read device place name))) reply
     → Serves front told desk tales (Said (Ok (Read device place name))) reply told' desk' tales'
-serves_read_attribute front told told' desk desk' tales tales' device place name reply c d t none formed = record {
-  alone = alone_at (find_device front device) reply none;
-  formed = formed;
-  exact = rw d (all_comes front told told' desk desk _ (λ m. at_device m desk (read_attribute_at front m desk place name) (find_device front device)) reply (λ m. read_is front m desk device place name) c);
-  moves = (d, t);
-}
+serves_read_attribute front told told' desk desk' tales tales' device place name dev reply e c d t formed =
+    rw d (serves_at front told told' desk desk tales tales' (Read device place name) dev reply e (rw (sym e) tt) formed c (refl, t))
 
-written_is : (front : Front) (m : Machine) (desk : DeskRecord) (device : List ℕ) (place : Place) (name : Option (List ℕ)) (payload : List ℕ)
-    → act front m desk (Written device (Some (place, name)) payload) ≡ at_device m desk (write_attribute_at front m desk place name payload) (find_device front device)
+written_is : (front : Front) (m : Machine) (desk : DeskRecord) (device : List ℕ) (place : Place) (name : Option (List ℕ)) (payload : List ℕ) (o : Option ℕ) → o ≡ find_device front device
+    → act front m desk (Written device (Some (place, name)) payload) ≡ at_device m desk (λ dev. write_attribute_at front m desk place name payload dev) o
 unfolding act
-written_is front m desk device place name payload = refl
+written_is front m desk device place name payload o e = ap (λ x. at_device m desk (λ dev. write_attribute_at front m desk place name payload dev) x) (sym e)
 
-pub serves_write_attribute : (front : Front) (told told' : Option Machine) (desk : DeskRecord) (tales : List (Option Tale)) (device : List ℕ) (place : Place) (name : Option (List ℕ)) (payload : List ℕ) (reply : Reply)
-    → IfSome told (λ m. Comes m desk (at_device m desk (write_attribute_at front m desk place name payload) (find_device front device)) reply told' desk)
-    → (find_device front device ≡ None → reply ≡ Refusal ENODEV) → AnswersAs front (Written device (Some (place, name)) payload) reply
-    → Serves front told desk tales (Written device (Some (place, name)) payload) reply told' desk tales
-serves_write_attribute front told told' desk tales device place name payload reply c none formed =
-    record { alone = alone_at (find_device front device) reply none; formed = formed; exact = all_comes front told told' desk desk _ (λ m. at_device m desk (write_attribute_at front m desk place name payload) (find_device front device)) reply (λ m. written_is front m desk device place name payload) c; moves = (refl, refl) }
-
-pub text_formed : (front : Front) (device : List ℕ) (place : Place) (name : Option (List ℕ)) (r : Result AttrText No) → AnswersAs front (Said (Ok (Read device place name))) (text_by r)
-text_formed front device place name (Ok (text.Fixed digits)) = (_, refl)
-text_formed front device place name (Ok (text.Int n)) = (_, refl)
-text_formed front device place name (Ok (text.Count n)) = (_, refl)
-text_formed front device place name (Ok (text.Name bytes)) = (_, refl)
-text_formed front device place name (Err (NoErrno e)) = tt
-text_formed front device place name (Err NoMem) = tt
-
-pub written_formed : (front : Front) (device : List ℕ) (target : Target) (payload : List ℕ) (r : Result ⊤ No) → AnswersAs front (Written device (Some target) payload) (written_by (length payload) r)
+written_formed : (front : Front) (device : List ℕ) (target : Target) (payload : List ℕ) (r : Result ⊤ No) → AnswersAs front (Written device (Some target) payload) (written_by (length payload) r)
 written_formed front device target payload (Ok done) = refl
 written_formed front device target payload (Err (NoErrno e)) = tt
 written_formed front device target payload (Err NoMem) = tt
+
+pub serves_write_attribute : (front : Front) (told told' : Option Machine) (desk : DeskRecord) (tales : List (Option Tale)) (device : List ℕ) (place : Place) (name : Option (List ℕ)) (payload : List ℕ) (dev : ℕ) (r : Result ⊤ No)
+    → Some dev ≡ find_device front device
+    → IfSome told (λ m. Comes m desk (write_attribute_at front m desk place name payload dev) (written_by (length payload) r) told' desk)
+    → Serves front told desk tales (Written device (Some (place, name)) payload) (written_by (length payload) r) told' desk tales
+serves_write_attribute front told told' desk tales device place name payload dev r e c = record {
+  alone = rw (sym e) tt;
+  formed = written_formed front device (place, name) payload r;
+  exact = all_comes front told told' desk desk _ (λ m. write_attribute_at front m desk place name payload dev) (written_by (length payload) r) (λ m. written_is front m desk device place name payload (Some dev) e) c;
+  moves = (refl, refl);
+}
+
+-- at a device that isn't there
+pub serves_unwritten : (front : Front) (told : Option Machine) (desk : DeskRecord) (tales : List (Option Tale)) (device : List ℕ) (place : Place) (name : Option (List ℕ)) (payload : List ℕ) → None ≡ find_device front device
+    → Serves front told desk tales (Written device (Some (place, name)) payload) (Refusal ENODEV) told desk tales
+serves_unwritten front told desk tales device place name payload e =
+    record { alone = rw (sym e) (inl refl); formed = tt; exact = all_refused front told desk _ ENODEV (λ m. written_is front m desk device place name payload None e); moves = (refl, refl) }
 
 -- a WRITE whose words name nothing
 nameless_is : (front : Front) (m : Machine) (desk : DeskRecord) (device payload : List ℕ) → act front m desk (Written device None payload) ≡ only (Refusal EINVAL) m desk

@@ -417,7 +417,8 @@ moved front desk desk' tales tales' (Said (Ok (Open device samples text cyclic))
 moved front desk desk' tales tales' (Said (Ok (Close device))) (Number n) a m =
     rw (ap (λ (d : DeskRecord). d.seats) m.gone, m.told) (closed front device n m.dev m.i desk.seats tales m.at a)
 moved front desk desk' tales tales' (Said (Ok (Remask device text))) (Number n) a m =
-    rw (ap (λ (d : DeskRecord). d.seats) m.under, m.told) (remasked front device text n m.i m.s (bare_remasked m.mask m.waiting m.s) m.t desk.seats tales m.named m.at m.here refl m.fresh a)
+    rw (ap (λ (d : DeskRecord). d.seats) m.2.under, m.2.told)
+    (remasked front device text n m.2.i m.2.s (bare_remasked m.2.mask m.2.waiting m.2.s) m.2.t desk.seats tales (m.1 ∙ ap (λ (k : ℕ). Some k) (sym m.2.its)) (ap (λ (k : ℕ). place_of k desk.seats) m.2.its ∙ m.2.at) m.2.here refl m.2.fresh a)
 moved front desk desk' tales tales' (Said (Ok (ReadBuf device asked))) NoMemory a m = same front (Said (Ok (ReadBuf device asked))) NoMemory _ _ _ _ (seats_in desk desk' m.0) m.1 (λ dev g. refl) a
 moved front desk desk' tales tales' (Said (Ok (ReadBuf device asked))) reply a m =
     rw (seats_in desk desk' m.0) (read_from front device asked (find_device front device) reply desk.seats tales tales' refl m.1 a)

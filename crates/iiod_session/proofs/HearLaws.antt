@@ -37,7 +37,7 @@ use Rattle.iiod_session.specs.Performs.{IsAllowed, IsReadOf, Performs}
 use Rattle.iiod_session.specs.Run.{State, CarriesBy, FedBy}
 use Rattle.iiod_session.specs.Seat.{SeatRecord}
 use Rattle.iiod_session.specs.Session.{IsAtOnce, IsKept, IsPlain, IsReady, piece_by, stream_by, unread_of}
-use Rattle.iiod_session.specs.Watch.{Hears, Scene, Tells, is_waiting, waits_in}
+use Rattle.iiod_session.specs.Watch.{Hears, Tells, is_waiting, waits_in}
 use Rattle.iiod_session.proofs.WatchLaws.{scene}
 use Rattle.iiod_session.proofs.FeedLaws.{fed_more, fed_none, fed_one, fed_then, feeds_more, feeds_of, feeds_on, feeds_then, goes_on}
 use Rattle.iiod_session.proofs.StreamLaws.{scan_end, scan_more, scan_nil, scan_rest, scanner_goes_on}

@@ -10,7 +10,7 @@ pub mod StreamLaws
 pub mod WatchLaws
 pub mod TellLaws
 pub mod HearLaws
-pub mod PlainLaws
+pub mod AnswerLaws
 pub mod NameLaws
 pub mod AttributeLaws
 pub mod ShortLaws

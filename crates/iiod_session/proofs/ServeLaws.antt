@@ -1,11 +1,10 @@
 -- One item and its answer.
-use Rattle.std.proofs.Common.{◌≡◌, ℕ, ◌+◌, ◌≤◌, Bool, List, ◌++◌, length, arith, inl, inr, Option, Some, None, IfSome, Result, Ok, Err, IfOk, OnOk, refl, ap, ◌∙◌}
+use Rattle.std.proofs.Common.{◌≡◌, ℕ, ◌+◌, ◌≤◌, Bool, List, ◌++◌, length, arith, inl, inr, Option, Some, None, IfSome, Result, Ok, Err, IfOk, OnOk, refl, sym, ap, ◌∙◌}
 use Rattle.std.specs.Prelude.{⊤}
 use Rattle.iio_base.specs.declared.Mem.{Mem}
 use Rattle.iio_text.specs.declared.errors.Errno.{Errno}
 use Rattle.iio_text.specs.declared.errors.Errno.TheVariants.{EAGAIN, EBADF, ENODEV}
-use Rattle.iio_event.specs.declared.event.EventData.{EventData}
-use Rattle.iiod_grammar.specs.Command.{Open, Close, ReadBuf, GetTrig, SetTrig, SetBuffers, Remask, WriteBuf, EvOpen, EvRead, EvClose}
+use Rattle.iiod_grammar.specs.Command.{Command, Open, Close, Read, ReadBuf, GetTrig, SetTrig, SetBuffers, Remask, WriteBuf, EvOpen, EvRead, EvClose}
 use Rattle.iiod_grammar.specs.Stream.{Item, Said}
 use Rattle.iiod_reply.specs.Reply.{Reply, Nothing, Number, Refusal, Line, Value, Raw, Block, NoMemory, text_of}
 use Rattle.iiod_session.specs.declared.answers.TheConstants.{SHORT_ANSWER}
@@ -17,12 +16,13 @@ use Rattle.iiod_session.specs.declared.manner.Manner.{Manner}
 use Rattle.iiod_session.specs.declared.manner.Manner.TheVariants.{Script, Server}
 use Rattle.iiod_session.specs.declared.manner.Performed.{Performed}
 use Rattle.iiod_session.specs.declared.manner.Performed.TheVariants.{Done, Waits}
-use Rattle.iiod_session.specs.Acts.{Acted, Acts, act, at_device, refused, open_at, close_at, read_at, ev_close_at, ev_open_at, ev_read_at, get_trigger_at, remask_at, set_buffers_at, set_trigger_at, write_buffer_at, zero_reply}
+use Rattle.iiod_session.specs.Acts.{Acted, Acts, act, at_device, refused, open_at, close_at, read_at, read_attribute_at, ev_close_at, ev_open_at, ev_read_at, get_trigger_at, remask_at, set_buffers_at, set_trigger_at, write_buffer_at, zero_reply}
+use Rattle.iiod_session.specs.Answers.{IsAt}
 use Rattle.iiod_session.specs.Desk.{Bare, DeskRecord, place_of, with_count, with_holding, without_holding}
-use Rattle.iiod_session.specs.Front.{Front, find_device, trigger_name}
+use Rattle.iiod_session.specs.Front.{Front, find_device}
 use Rattle.iiod_session.specs.Machine.{Machine}
-use Rattle.iiod_session.specs.Moves.{Accepts, AnswersAs, IsOrShort, Moves, ReadsBy, ReadsFrom, Serves, at_known, at_seat}
-use Rattle.iiod_session.specs.Performs.{AltersBy, AnswersRead, Comes, HasRoomAfter, IsAllowed, IsAnswerOf, IsFound, IsNowhere, IsWhole, LeavesBy, OpensBy, Performs, ReadAt, ReadServedAt, RemasksBy, event_by, reply_by, trigger_by}
+use Rattle.iiod_session.specs.Moves.{Accepts, AnswersAlone, AnswersAs, IsOrShort, Moves, ReadsBy, ReadsFrom, Serves, at_known, at_seat}
+use Rattle.iiod_session.specs.Performs.{AnswersRead, Comes, HasRoomAfter, IsAllowed, IsAnswerOf, IsFound, IsWhole, LeavesBy, OpensBy, Performs, ReadAt, ReadServedAt, RemasksBy, desk_by, reply_by}
 use Rattle.iiod_session.specs.Seat.{Tale}
 
 -- an outcome that is the item's
@@ -51,12 +51,7 @@ all_refused front (Some m) desk item e is = (m, refl, is m)
 
 -- ---- answers over any devices
 
--- at a device that isn't there, where a device is asked
-pub alone_at : (o : Option ℕ) (reply : Reply) → (o ≡ None → reply ≡ Refusal ENODEV) → IfSome (at_known (λ dev. None) o) (λ answer. IsOrShort answer reply)
-alone_at None reply h = inl (h refl)
-alone_at (Some dev) reply h = tt
-
--- ... and where the connection has no seat at it
+-- where the connection has no seat at the device
 seatless : (p : Option ℕ) (reply : Reply) → (p ≡ None → reply ≡ Refusal EBADF) → IfSome (at_seat p) (λ answer. IsOrShort answer reply)
 seatless None reply h = inl (h refl)
 seatless (Some i) reply h = tt
@@ -80,30 +75,85 @@ settles front item (Ok done) a = a
 settles front item (Err (NoErrno e)) a = tt
 settles front item (Err NoMem) a = tt
 
--- ... and refused at a device that isn't there
-nowhere_by : (front : Front) (device : List ℕ) (r : Result ⊤ No) → IsNowhere front device (Err (NoErrno ENODEV)) r → find_device front device ≡ None → reply_by r ≡ Refusal ENODEV
-nowhere_by front device r n e = ap reply_by (n e)
+-- ---- a command at a device
+
+-- what it makes at the device of that number
+abbrev pub on_device : Front → Machine → DeskRecord → Command → ℕ → Acted
+on_device front m desk (Open device samples text cyclic) = λ dev. open_at front m desk dev samples text cyclic
+on_device front m desk (Close device) = λ dev. close_at m desk (place_of dev desk.seats)
+on_device front m desk (Read device place name) = λ dev. read_attribute_at front m desk place name dev
+on_device front m desk (WriteBuf device bytes) = λ dev. write_buffer_at m desk dev
+on_device front m desk (GetTrig device) = λ dev. get_trigger_at front m desk dev
+on_device front m desk (SetTrig device name) = λ dev. set_trigger_at front m desk name dev
+on_device front m desk (SetBuffers device n) = λ dev. set_buffers_at m desk n dev
+on_device front m desk (Remask device text) = λ dev. remask_at front m desk text dev
+on_device front m desk (EvOpen device) = λ dev. ev_open_at m desk dev
+on_device front m desk (EvRead device) = λ dev. ev_read_at m desk dev
+on_device front m desk (EvClose device) = λ dev. ev_close_at m desk dev
+on_device front m desk command = λ dev. refused ENODEV m desk
+
+act_at : (front : Front) (m : Machine) (desk : DeskRecord) (o : Option ℕ) (command : Command) → IsAt front o command
+    → act front m desk (Said (Ok command)) ≡ at_device m desk (on_device front m desk command) o
+unfolding act
+act_at front m desk o (Open device samples text cyclic) e = ap (λ x. at_device m desk (λ dev. open_at front m desk dev samples text cyclic) x) (sym e)
+act_at front m desk o (Close device) e = ap (λ x. at_device m desk (λ dev. close_at m desk (place_of dev desk.seats)) x) (sym e)
+act_at front m desk o (Read device place name) e = ap (λ x. at_device m desk (λ dev. read_attribute_at front m desk place name dev) x) (sym e)
+act_at front m desk o (WriteBuf device bytes) e = ap (λ x. at_device m desk (λ dev. write_buffer_at m desk dev) x) (sym e)
+act_at front m desk o (GetTrig device) e = ap (λ x. at_device m desk (λ dev. get_trigger_at front m desk dev) x) (sym e)
+act_at front m desk o (SetTrig device name) e = ap (λ x. at_device m desk (λ dev. set_trigger_at front m desk name dev) x) (sym e)
+act_at front m desk o (SetBuffers device n) e = ap (λ x. at_device m desk (λ dev. set_buffers_at m desk n dev) x) (sym e)
+act_at front m desk o (Remask device text) e = ap (λ x. at_device m desk (λ dev. remask_at front m desk text dev) x) (sym e)
+act_at front m desk o (EvOpen device) e = ap (λ x. at_device m desk (λ dev. ev_open_at m desk dev) x) (sym e)
+act_at front m desk o (EvRead device) e = ap (λ x. at_device m desk (λ dev. ev_read_at m desk dev) x) (sym e)
+act_at front m desk o (EvClose device) e = ap (λ x. at_device m desk (λ dev. ev_close_at m desk dev) x) (sym e)
+act_at front m desk o command e = absurd e
+
+-- where there is none of its name
+unknown : (front : Front) (told : Option Machine) (desk : DeskRecord) (tales : List (Option Tale)) (command : Command) → IsAt front None command
+    → AnswersAlone front desk (Said (Ok command)) (Refusal ENODEV) → Moves front desk tales (Said (Ok command)) (Refusal ENODEV) desk tales
+    → Serves front told desk tales (Said (Ok command)) (Refusal ENODEV) told desk tales
+unknown front told desk tales command e alone moves =
+    record { alone = alone; formed = tt; exact = all_refused front told desk _ ENODEV (λ m. act_at front m desk None command e); moves = moves }
+
+pub serves_unknown : (front : Front) (told : Option Machine) (desk : DeskRecord) (tales : List (Option Tale)) (command : Command) → IsAt front None command
+    → Serves front told desk tales (Said (Ok command)) (Refusal ENODEV) told desk tales
+serves_unknown front told desk tales (Open device samples text cyclic) e = unknown front told desk tales (Open device samples text cyclic) e (rw (sym e) (inl refl)) (refl, refl)
+serves_unknown front told desk tales (Close device) e = unknown front told desk tales (Close device) e (rw (sym e) (inl refl)) (refl, refl)
+serves_unknown front told desk tales (Read device place name) e = unknown front told desk tales (Read device place name) e (rw (sym e) (inl refl)) (refl, refl)
+serves_unknown front told desk tales (WriteBuf device bytes) e = unknown front told desk tales (WriteBuf device bytes) e (rw (sym e) (inl refl)) (refl, refl)
+serves_unknown front told desk tales (GetTrig device) e = unknown front told desk tales (GetTrig device) e (rw (sym e) (inl refl)) (refl, refl)
+serves_unknown front told desk tales (SetTrig device name) e = unknown front told desk tales (SetTrig device name) e (rw (sym e) (inl refl)) (refl, refl)
+serves_unknown front told desk tales (SetBuffers device n) e = unknown front told desk tales (SetBuffers device n) e (rw (sym e) (inl refl)) (refl, refl)
+serves_unknown front told desk tales (Remask device text) e = unknown front told desk tales (Remask device text) e (rw (sym e) (inl refl)) (refl, refl)
+serves_unknown front told desk tales (EvOpen device) e = unknown front told desk tales (EvOpen device) e (rw (sym e) (inl refl)) (refl, refl)
+serves_unknown front told desk tales (EvRead device) e = unknown front told desk tales (EvRead device) e (rw (sym e) (inl refl)) (refl, refl)
+serves_unknown front told desk tales (EvClose device) e = unknown front told desk tales (EvClose device) e (rw (sym e) (inl refl)) (refl, refl)
+serves_unknown front told desk tales command e = absurd e
+
+-- where it is found
+pub serves_at : (front : Front) (told told' : Option Machine) (desk desk' : DeskRecord) (tales tales' : List (Option Tale)) (command : Command) (dev : ℕ) (reply : Reply) → IsAt front (Some dev) command
+    → AnswersAlone front desk (Said (Ok command)) reply → AnswersAs front (Said (Ok command)) reply
+    → IfSome told (λ m. Comes m desk (on_device front m desk command dev) reply told' desk')
+    → Moves front desk tales (Said (Ok command)) reply desk' tales'
+    → Serves front told desk tales (Said (Ok command)) reply told' desk' tales'
+serves_at front told told' desk desk' tales tales' command dev reply e alone formed c moves =
+    record { alone = alone; formed = formed; exact = all_comes front told told' desk desk' _ (λ m. on_device front m desk command dev) reply (λ m. act_at front m desk (Some dev) command e) c; moves = moves }
 
 -- ---- OPEN
 
-open_is : (front : Front) (desk : DeskRecord) (device : List ℕ) (samples : ℕ) (text : List ℕ) (cyclic : Bool) (dev : ℕ) → find_device front device ≡ Some dev → (m : Machine)
-    → act front m desk (Said (Ok (Open device samples text cyclic))) ≡ open_at front m desk dev samples text cyclic
-unfolding act
-open_is front desk device samples text cyclic dev e m = ap (λ o. at_device m desk (λ k. open_at front m desk k samples text cyclic) o) e
-
 pub serves_open : (front : Front) (told told' : Option Machine) (desk desk' : DeskRecord) (tales tales' : List (Option Tale)) (device : List ℕ) (samples : ℕ) (text : List ℕ) (cyclic : Bool) (dev : ℕ) (r : Result ⊤ No)
-    → find_device front device ≡ Some dev
+    → Some dev ≡ find_device front device
     → IfSome told (λ m. Comes m desk (open_at front m desk dev samples text cyclic) (reply_by r) told' desk')
     → OpensBy front dev samples text cyclic desk tales r desk' tales'
     → Serves front told desk tales (Said (Ok (Open device samples text cyclic))) (reply_by r) told' desk' tales'
 serves_open front told told' desk desk' tales tales' device samples text cyclic dev r e t j =
-    record { alone = rw e tt; formed = settles front (Said (Ok (Open device samples text cyclic))) r refl; exact = all_comes front told told' desk desk' _ (λ m. open_at front m desk dev samples text cyclic) (reply_by r) (open_is front desk device samples text cyclic dev e) t; moves = moved r j }
+    serves_at front told told' desk desk' tales tales' (Open device samples text cyclic) dev (reply_by r) e (rw (sym e) tt) (settles front (Said (Ok (Open device samples text cyclic))) r refl) t (moved r j)
   where
     moved : (r : Result ⊤ No) → OpensBy front dev samples text cyclic desk tales r desk' tales' → Moves front desk tales (Said (Ok (Open device samples text cyclic))) (reply_by r) desk' tales'
     moved (Ok n) j = record {
       s = record { dev = dev; number = j.2.number; mask = j.0.mask; capacity = j.0.capacity; discarded = 0 };
       t = j.2.t;
-      named = e;
+      named = sym e;
       free = j.2.free;
       wanted = j.1;
       added = j.2.added;
@@ -113,88 +163,36 @@ serves_open front told told' desk desk' tales tales' device samples text cyclic 
     moved (Err (NoErrno x)) j = j
     moved (Err NoMem) j = j
 
-unknown_open : (front : Front) (desk : DeskRecord) (device : List ℕ) (samples : ℕ) (text : List ℕ) (cyclic : Bool) → find_device front device ≡ None → (m : Machine)
-    → act front m desk (Said (Ok (Open device samples text cyclic))) ≡ refused ENODEV m desk
-unfolding act
-unknown_open front desk device samples text cyclic e m = ap (λ o. at_device m desk (λ k. open_at front m desk k samples text cyclic) o) e
-
-pub no_open : (front : Front) (told : Option Machine) (desk : DeskRecord) (tales : List (Option Tale)) (device : List ℕ) (samples : ℕ) (text : List ℕ) (cyclic : Bool) → find_device front device ≡ None
-    → Serves front told desk tales (Said (Ok (Open device samples text cyclic))) (Refusal ENODEV) told desk tales
-no_open front told desk tales device samples text cyclic e =
-    record { alone = rw e (inl refl); formed = tt; exact = all_refused front told desk _ ENODEV (unknown_open front desk device samples text cyclic e); moves = (refl, refl) }
-
 -- ---- CLOSE
 
-close_is : (front : Front) (desk : DeskRecord) (device : List ℕ) (dev : ℕ) → find_device front device ≡ Some dev → (m : Machine)
-    → act front m desk (Said (Ok (Close device))) ≡ close_at m desk (place_of dev desk.seats)
-unfolding act
-close_is front desk device dev e m = ap (λ o. at_device m desk (λ k. close_at m desk (place_of k desk.seats)) o) e
-
 pub serves_close : (front : Front) (told told' : Option Machine) (desk desk' : DeskRecord) (tales tales' : List (Option Tale)) (device : List ℕ) (dev : ℕ) (r : Result ⊤ No)
-    → find_device front device ≡ Some dev
+    → Some dev ≡ find_device front device
     → IfSome told (λ m. Comes m desk (close_at m desk (place_of dev desk.seats)) (reply_by r) told' desk')
     → (place_of dev desk.seats ≡ None → r ≡ Err (NoErrno EBADF))
     → LeavesBy dev desk tales r desk' tales'
     → Serves front told desk tales (Said (Ok (Close device))) (reply_by r) told' desk' tales'
 serves_close front told told' desk desk' tales tales' device dev r e t none j =
-    record { alone = rw e (seatless (place_of dev desk.seats) (reply_by r) (λ n. ap reply_by (none n))); formed = settles front (Said (Ok (Close device))) r refl; exact = all_comes front told told' desk desk' _ (λ m. close_at m desk (place_of dev desk.seats)) (reply_by r) (close_is front desk device dev e) t; moves = moved r j }
+    serves_at front told told' desk desk' tales tales' (Close device) dev (reply_by r) e (rw (sym e) (seatless (place_of dev desk.seats) (reply_by r) (λ n. ap reply_by (none n)))) (settles front (Said (Ok (Close device))) r refl) t (moved r j)
   where
     moved : (r : Result ⊤ No) → LeavesBy dev desk tales r desk' tales' → Moves front desk tales (Said (Ok (Close device))) (reply_by r) desk' tales'
-    moved (Ok n) j = record { dev = dev; i = j.0; named = e; at = j.1; gone = j.2; told = j.3 }
+    moved (Ok n) j = record { dev = dev; i = j.0; named = sym e; at = j.1; gone = j.2; told = j.3 }
     moved (Err (NoErrno x)) j = j
     moved (Err NoMem) j = j
 
-unknown_close : (front : Front) (desk : DeskRecord) (device : List ℕ) → find_device front device ≡ None → (m : Machine)
-    → act front m desk (Said (Ok (Close device))) ≡ refused ENODEV m desk
-unfolding act
-unknown_close front desk device e m = ap (λ o. at_device m desk (λ k. close_at m desk (place_of k desk.seats)) o) e
-
-pub no_close : (front : Front) (told : Option Machine) (desk : DeskRecord) (tales : List (Option Tale)) (device : List ℕ) → find_device front device ≡ None
-    → Serves front told desk tales (Said (Ok (Close device))) (Refusal ENODEV) told desk tales
-no_close front told desk tales device e = record { alone = rw e (inl refl); formed = tt; exact = all_refused front told desk _ ENODEV (unknown_close front desk device e); moves = (refl, refl) }
-
 -- ---- REMASK
 
-remask_is : (front : Front) (desk : DeskRecord) (device text : List ℕ) (dev : ℕ) → find_device front device ≡ Some dev → (m : Machine)
-    → act front m desk (Said (Ok (Remask device text))) ≡ remask_at front m desk text dev
-unfolding act
-remask_is front desk device text dev e m = ap (λ o. at_device m desk (λ k. remask_at front m desk text k) o) e
-
 pub serves_remask : (front : Front) (told told' : Option Machine) (desk desk' : DeskRecord) (tales tales' : List (Option Tale)) (device text : List ℕ) (dev : ℕ) (r : Result ⊤ No)
-    → find_device front device ≡ Some dev
+    → Some dev ≡ find_device front device
     → IfSome told (λ m. Comes m desk (remask_at front m desk text dev) (reply_by r) told' desk')
     → RemasksBy front dev text desk tales r desk' tales'
     → Serves front told desk tales (Said (Ok (Remask device text))) (reply_by r) told' desk' tales'
 serves_remask front told told' desk desk' tales tales' device text dev r e t j =
-    record { alone = rw e tt; formed = settles front (Said (Ok (Remask device text))) r refl; exact = all_comes front told told' desk desk' _ (λ m. remask_at front m desk text dev) (reply_by r) (remask_is front desk device text dev e) t; moves = moved r j }
+    serves_at front told told' desk desk' tales tales' (Remask device text) dev (reply_by r) e (rw (sym e) tt) (settles front (Said (Ok (Remask device text))) r refl) t (moved r j)
   where
     moved : (r : Result ⊤ No) → RemasksBy front dev text desk tales r desk' tales' → Moves front desk tales (Said (Ok (Remask device text))) (reply_by r) desk' tales'
-    moved (Ok n) j = record {
-      s = j.s;
-      i = j.i;
-      mask = j.mask;
-      waiting = j.waiting;
-      t = j.t;
-      named = rw j.its e;
-      at = rw j.its j.at;
-      here = j.here;
-      wanted = rw j.its j.wanted;
-      under = j.under;
-      told = j.told;
-      fresh = j.fresh;
-    }
+    moved (Ok n) j = (dev, sym e, j)
     moved (Err (NoErrno x)) j = j
     moved (Err NoMem) j = j
-
-unknown_remask : (front : Front) (desk : DeskRecord) (device text : List ℕ) → find_device front device ≡ None → (m : Machine)
-    → act front m desk (Said (Ok (Remask device text))) ≡ refused ENODEV m desk
-unfolding act
-unknown_remask front desk device text e m = ap (λ o. at_device m desk (λ k. remask_at front m desk text k) o) e
-
-pub no_remask : (front : Front) (told : Option Machine) (desk : DeskRecord) (tales : List (Option Tale)) (device text : List ℕ) → find_device front device ≡ None
-    → Serves front told desk tales (Said (Ok (Remask device text))) (Refusal ENODEV) told desk tales
-no_remask front told desk tales device text e =
-    record { alone = rw e (inl refl); formed = tt; exact = all_refused front told desk _ ENODEV (unknown_remask front desk device text e); moves = (refl, refl) }
 
 -- ---- READBUF
 
@@ -339,17 +337,12 @@ answers manner front told told' desk desk' tales tales' device asked dev before 
 
 -- ---- SETTRIG
 
-set_trigger_is : (front : Front) (m : Machine) (desk : DeskRecord) (device : List ℕ) (name : Option (List ℕ))
-    → act front m desk (Said (Ok (SetTrig device name))) ≡ at_device m desk (set_trigger_at front m desk name) (find_device front device)
-unfolding act
-set_trigger_is front m desk device name = refl
-
-pub serves_set_trigger : (front : Front) (told told' : Option Machine) (desk : DeskRecord) (tales : List (Option Tale)) (device : List ℕ) (name : Option (List ℕ)) (r : Result ⊤ No)
-    → IfSome told (λ m. Comes m desk (at_device m desk (set_trigger_at front m desk name) (find_device front device)) (reply_by r) told' desk)
-    → IsNowhere front device (Err (NoErrno ENODEV)) r
+pub serves_set_trigger : (front : Front) (told told' : Option Machine) (desk : DeskRecord) (tales : List (Option Tale)) (device : List ℕ) (name : Option (List ℕ)) (dev : ℕ) (r : Result ⊤ No)
+    → Some dev ≡ find_device front device
+    → IfSome told (λ m. Comes m desk (set_trigger_at front m desk name dev) (reply_by r) told' desk)
     → Serves front told desk tales (Said (Ok (SetTrig device name))) (reply_by r) told' desk tales
-serves_set_trigger front told told' desk tales device name r c none =
-    record { alone = alone_at (find_device front device) (reply_by r) (nowhere_by front device r none); formed = settles front (Said (Ok (SetTrig device name))) r refl; exact = all_comes front told told' desk desk _ (λ m. at_device m desk (set_trigger_at front m desk name) (find_device front device)) (reply_by r) (λ m. set_trigger_is front m desk device name) c; moves = moved r }
+serves_set_trigger front told told' desk tales device name dev r e c =
+    serves_at front told told' desk desk tales tales (SetTrig device name) dev (reply_by r) e (rw (sym e) tt) (settles front (Said (Ok (SetTrig device name))) r refl) c (moved r)
   where
     moved : (r : Result ⊤ No) → Moves front desk tales (Said (Ok (SetTrig device name))) (reply_by r) desk tales
     moved (Ok done) = (refl, refl)
@@ -358,121 +351,77 @@ serves_set_trigger front told told' desk tales device name r c none =
 
 -- ---- SET
 
-set_buffers_is : (front : Front) (m : Machine) (desk : DeskRecord) (device : List ℕ) (n : ℕ)
-    → act front m desk (Said (Ok (SetBuffers device n))) ≡ at_device m desk (set_buffers_at m desk n) (find_device front device)
-unfolding act
-set_buffers_is front m desk device n = refl
-
-pub serves_set_buffers : (front : Front) (told : Option Machine) (desk desk' : DeskRecord) (tales tales' : List (Option Tale)) (device : List ℕ) (n : ℕ) (r : Result ⊤ No)
-    → IfSome told (λ m. Comes m desk (at_device m desk (set_buffers_at m desk n) (find_device front device)) (reply_by r) told desk')
-    → AltersBy front device (λ dev. with_count dev n) desk r desk' → tales' ≡ tales
-    → IsNowhere front device (Err (NoErrno ENODEV)) r
+pub serves_set_buffers : (front : Front) (told : Option Machine) (desk desk' : DeskRecord) (tales tales' : List (Option Tale)) (device : List ℕ) (n dev : ℕ) (r : Result ⊤ No)
+    → Some dev ≡ find_device front device
+    → IfSome told (λ m. Comes m desk (set_buffers_at m desk n dev) (reply_by r) told desk')
+    → desk' ≡ desk_by (with_count dev n) desk r → tales' ≡ tales
     → Serves front told desk tales (Said (Ok (SetBuffers device n))) (reply_by r) told desk' tales'
-serves_set_buffers front told desk desk' tales tales' device n r c a t none =
-    record { alone = alone_at (find_device front device) (reply_by r) (nowhere_by front device r none); formed = settles front (Said (Ok (SetBuffers device n))) r refl; exact = all_comes front told told desk desk' _ (λ m. at_device m desk (set_buffers_at m desk n) (find_device front device)) (reply_by r) (λ m. set_buffers_is front m desk device n) c; moves = moved r a }
+serves_set_buffers front told desk desk' tales tales' device n dev r e c a t =
+    serves_at front told told desk desk' tales tales' (SetBuffers device n) dev (reply_by r) e (rw (sym e) tt) (settles front (Said (Ok (SetBuffers device n))) r refl) c (moved r a)
   where
-    moved : (r : Result ⊤ No) → AltersBy front device (λ dev. with_count dev n) desk r desk' → Moves front desk tales (Said (Ok (SetBuffers device n))) (reply_by r) desk' tales'
-    moved (Ok done) a = record { dev = a.0; named = a.1; made = a.2; told = t }
-    moved (Err (NoErrno e)) a = (a, t)
+    moved : (r : Result ⊤ No) → desk' ≡ desk_by (with_count dev n) desk r → Moves front desk tales (Said (Ok (SetBuffers device n))) (reply_by r) desk' tales'
+    moved (Ok done) a = record { dev = dev; named = sym e; made = a; told = t }
+    moved (Err (NoErrno x)) a = (a, t)
     moved (Err NoMem) a = (a, t)
 
 -- ---- GETTRIG
 
-get_trigger_is : (front : Front) (m : Machine) (desk : DeskRecord) (device : List ℕ)
-    → act front m desk (Said (Ok (GetTrig device))) ≡ at_device m desk (get_trigger_at front m desk) (find_device front device)
-unfolding act
-get_trigger_is front m desk device = refl
-
-pub serves_get_trigger : (front : Front) (told : Option Machine) (desk : DeskRecord) (tales : List (Option Tale)) (device : List ℕ) (reply : Reply)
-    → IfSome told (λ m. Comes m desk (at_device m desk (get_trigger_at front m desk) (find_device front device)) reply told desk)
-    → (find_device front device ≡ None → reply ≡ Refusal ENODEV) → AnswersAs front (Said (Ok (GetTrig device))) reply
+pub serves_get_trigger : (front : Front) (told : Option Machine) (desk : DeskRecord) (tales : List (Option Tale)) (device : List ℕ) (dev : ℕ) (reply : Reply)
+    → Some dev ≡ find_device front device
+    → IfSome told (λ m. Comes m desk (get_trigger_at front m desk dev) reply told desk) → AnswersAs front (Said (Ok (GetTrig device))) reply
     → Serves front told desk tales (Said (Ok (GetTrig device))) reply told desk tales
-serves_get_trigger front told desk tales device reply c none formed =
-    record { alone = alone_at (find_device front device) reply none; formed = formed; exact = all_comes front told told desk desk _ (λ m. at_device m desk (get_trigger_at front m desk) (find_device front device)) reply (λ m. get_trigger_is front m desk device) c; moves = (refl, refl) }
-
-pub trigger_formed : (front : Front) (device : List ℕ) (trigger : Result (Option ℕ) Errno) → AnswersAs front (Said (Ok (GetTrig device))) (trigger_by front trigger)
-trigger_formed front device (Ok None) = (None, refl)
-trigger_formed front device (Ok (Some t)) = (Some t, refl)
-trigger_formed front device (Err e) = tt
-
-pub trigger_allowed : (manner : Manner) (front : Front) (trigger : Result (Option ℕ) Errno) → IsAllowed manner (trigger_by front trigger)
-trigger_allowed manner front (Ok None) = allowed manner zero_reply tt
-trigger_allowed manner front (Ok (Some t)) = allowed manner (Value (trigger_name front t)) tt
-trigger_allowed manner front (Err e) = allowed manner (Refusal e) tt
+serves_get_trigger front told desk tales device dev reply e c formed =
+    serves_at front told told desk desk tales tales (GetTrig device) dev reply e (rw (sym e) tt) formed c (refl, refl)
 
 -- ---- EVOPEN
 
-ev_open_is : (front : Front) (m : Machine) (desk : DeskRecord) (device : List ℕ)
-    → act front m desk (Said (Ok (EvOpen device))) ≡ at_device m desk (ev_open_at m desk) (find_device front device)
-unfolding act
-ev_open_is front m desk device = refl
-
-pub serves_ev_open : (front : Front) (told told' : Option Machine) (desk desk' : DeskRecord) (tales tales' : List (Option Tale)) (device : List ℕ) (r : Result ⊤ No)
-    → IfSome told (λ m. Comes m desk (at_device m desk (ev_open_at m desk) (find_device front device)) (reply_by r) told' desk')
-    → AltersBy front device with_holding desk r desk' → tales' ≡ tales
-    → IsNowhere front device (Err (NoErrno ENODEV)) r
+pub serves_ev_open : (front : Front) (told told' : Option Machine) (desk desk' : DeskRecord) (tales tales' : List (Option Tale)) (device : List ℕ) (dev : ℕ) (r : Result ⊤ No)
+    → Some dev ≡ find_device front device
+    → IfSome told (λ m. Comes m desk (ev_open_at m desk dev) (reply_by r) told' desk')
+    → desk' ≡ desk_by (with_holding dev) desk r → tales' ≡ tales
     → Serves front told desk tales (Said (Ok (EvOpen device))) (reply_by r) told' desk' tales'
-serves_ev_open front told told' desk desk' tales tales' device r c a t none =
-    record { alone = alone_at (find_device front device) (reply_by r) (nowhere_by front device r none); formed = settles front (Said (Ok (EvOpen device))) r refl; exact = all_comes front told told' desk desk' _ (λ m. at_device m desk (ev_open_at m desk) (find_device front device)) (reply_by r) (λ m. ev_open_is front m desk device) c; moves = moved r a }
+serves_ev_open front told told' desk desk' tales tales' device dev r e c a t =
+    serves_at front told told' desk desk' tales tales' (EvOpen device) dev (reply_by r) e (rw (sym e) tt) (settles front (Said (Ok (EvOpen device))) r refl) c (moved r a)
   where
-    moved : (r : Result ⊤ No) → AltersBy front device with_holding desk r desk' → Moves front desk tales (Said (Ok (EvOpen device))) (reply_by r) desk' tales'
-    moved (Ok done) a = record { dev = a.0; named = a.1; made = a.2; told = t }
-    moved (Err (NoErrno e)) a = (a, t)
+    moved : (r : Result ⊤ No) → desk' ≡ desk_by (with_holding dev) desk r → Moves front desk tales (Said (Ok (EvOpen device))) (reply_by r) desk' tales'
+    moved (Ok done) a = record { dev = dev; named = sym e; made = a; told = t }
+    moved (Err (NoErrno x)) a = (a, t)
     moved (Err NoMem) a = (a, t)
 
 -- ---- EVCLOSE
 
-ev_close_is : (front : Front) (m : Machine) (desk : DeskRecord) (device : List ℕ)
-    → act front m desk (Said (Ok (EvClose device))) ≡ at_device m desk (ev_close_at m desk) (find_device front device)
-unfolding act
-ev_close_is front m desk device = refl
-
-pub serves_ev_close : (front : Front) (told told' : Option Machine) (desk desk' : DeskRecord) (tales tales' : List (Option Tale)) (device : List ℕ) (r : Result ⊤ No)
-    → IfSome told (λ m. Comes m desk (at_device m desk (ev_close_at m desk) (find_device front device)) (reply_by r) told' desk')
-    → AltersBy front device without_holding desk r desk' → tales' ≡ tales
-    → IsNowhere front device (Err (NoErrno ENODEV)) r
+pub serves_ev_close : (front : Front) (told told' : Option Machine) (desk desk' : DeskRecord) (tales tales' : List (Option Tale)) (device : List ℕ) (dev : ℕ) (r : Result ⊤ No)
+    → Some dev ≡ find_device front device
+    → IfSome told (λ m. Comes m desk (ev_close_at m desk dev) (reply_by r) told' desk')
+    → desk' ≡ desk_by (without_holding dev) desk r → tales' ≡ tales
     → Serves front told desk tales (Said (Ok (EvClose device))) (reply_by r) told' desk' tales'
-serves_ev_close front told told' desk desk' tales tales' device r c a t none =
-    record { alone = alone_at (find_device front device) (reply_by r) (nowhere_by front device r none); formed = settles front (Said (Ok (EvClose device))) r refl; exact = all_comes front told told' desk desk' _ (λ m. at_device m desk (ev_close_at m desk) (find_device front device)) (reply_by r) (λ m. ev_close_is front m desk device) c; moves = moved r a }
+serves_ev_close front told told' desk desk' tales tales' device dev r e c a t =
+    serves_at front told told' desk desk' tales tales' (EvClose device) dev (reply_by r) e (rw (sym e) tt) (settles front (Said (Ok (EvClose device))) r refl) c (moved r a)
   where
-    moved : (r : Result ⊤ No) → AltersBy front device without_holding desk r desk' → Moves front desk tales (Said (Ok (EvClose device))) (reply_by r) desk' tales'
-    moved (Ok done) a = record { dev = a.0; named = a.1; made = a.2; told = t }
-    moved (Err (NoErrno e)) a = (a, t)
+    moved : (r : Result ⊤ No) → desk' ≡ desk_by (without_holding dev) desk r → Moves front desk tales (Said (Ok (EvClose device))) (reply_by r) desk' tales'
+    moved (Ok done) a = record { dev = dev; named = sym e; made = a; told = t }
+    moved (Err (NoErrno x)) a = (a, t)
     moved (Err NoMem) a = (a, t)
 
 -- ---- EVREAD
 
-ev_read_is : (front : Front) (m : Machine) (desk : DeskRecord) (device : List ℕ)
-    → act front m desk (Said (Ok (EvRead device))) ≡ at_device m desk (ev_read_at m desk) (find_device front device)
-unfolding act
-ev_read_is front m desk device = refl
-
-pub serves_ev_read : (front : Front) (told told' : Option Machine) (desk : DeskRecord) (tales : List (Option Tale)) (device : List ℕ) (reply : Reply)
-    → IfSome told (λ m. Comes m desk (at_device m desk (ev_read_at m desk) (find_device front device)) reply told' desk)
-    → (find_device front device ≡ None → reply ≡ Refusal ENODEV) → AnswersAs front (Said (Ok (EvRead device))) reply
+pub serves_ev_read : (front : Front) (told told' : Option Machine) (desk : DeskRecord) (tales : List (Option Tale)) (device : List ℕ) (dev : ℕ) (reply : Reply)
+    → Some dev ≡ find_device front device
+    → IfSome told (λ m. Comes m desk (ev_read_at m desk dev) reply told' desk) → AnswersAs front (Said (Ok (EvRead device))) reply
     → Serves front told desk tales (Said (Ok (EvRead device))) reply told' desk tales
-serves_ev_read front told told' desk tales device reply c none formed =
-    record { alone = alone_at (find_device front device) reply none; formed = formed; exact = all_comes front told told' desk desk _ (λ m. at_device m desk (ev_read_at m desk) (find_device front device)) reply (λ m. ev_read_is front m desk device) c; moves = (refl, refl) }
-
-pub event_formed : (front : Front) (device : List ℕ) (r : Result (Option EventData) No) → AnswersAs front (Said (Ok (EvRead device))) (event_by r)
-event_formed front device (Ok None) = tt
-event_formed front device (Ok (Some event)) = (event, refl)
-event_formed front device (Err (NoErrno e)) = tt
-event_formed front device (Err NoMem) = tt
+serves_ev_read front told told' desk tales device dev reply e c formed =
+    serves_at front told told' desk desk tales tales (EvRead device) dev reply e (rw (sym e) tt) formed c (refl, refl)
 
 -- ---- WRITEBUF
 
-write_buffer_is : (front : Front) (m : Machine) (desk : DeskRecord) (device : List ℕ) (bytes : ℕ)
-    → act front m desk (Said (Ok (WriteBuf device bytes))) ≡ at_device m desk (write_buffer_at m desk) (find_device front device)
-unfolding act
-write_buffer_is front m desk device bytes = refl
+pub serves_write_buffer : (front : Front) (told : Option Machine) (desk : DeskRecord) (tales : List (Option Tale)) (device : List ℕ) (bytes dev : ℕ) (why : Errno)
+    → Some dev ≡ find_device front device
+    → IfSome told (λ m. Comes m desk (write_buffer_at m desk dev) (Refusal why) told desk)
+    → Serves front told desk tales (Said (Ok (WriteBuf device bytes))) (Refusal why) told desk tales
+serves_write_buffer front told desk tales device bytes dev why e c =
+    serves_at front told told desk desk tales tales (WriteBuf device bytes) dev (Refusal why) e (rw (sym e) tt) tt c (refl, refl)
 
-pub serves_write_buffer : (front : Front) (told : Option Machine) (desk : DeskRecord) (tales : List (Option Tale)) (device : List ℕ) (bytes : ℕ) (e : Errno)
-    → IfSome told (λ m. Comes m desk (at_device m desk (write_buffer_at m desk) (find_device front device)) (Refusal e) told desk)
-    → IsNowhere front device ENODEV e
-    → Serves front told desk tales (Said (Ok (WriteBuf device bytes))) (Refusal e) told desk tales
-serves_write_buffer front told desk tales device bytes e c none =
-    record { alone = alone_at (find_device front device) (Refusal e) (λ n. ap Refusal (none n)); formed = tt; exact = all_comes front told told desk desk _ (λ m. at_device m desk (write_buffer_at m desk) (find_device front device)) (Refusal e) (λ m. write_buffer_is front m desk device bytes) c; moves = (refl, refl) }
+-- ---- the room for an answer
 
 unchanged : (before after : List ℕ) (capacity capacity' : ℕ) → after ≡ before → capacity ≤ capacity' → length before + SHORT_ANSWER ≤ capacity → length after + SHORT_ANSWER ≤ capacity'
 unchanged before after capacity capacity' same grows room =

@@ -1,6 +1,6 @@
 -- Answers by a number alone are short.
-use Rattle.std.proofs.Common.{ℕ, ◌+◌, ◌^◌, ◌<◌, ◌≤◌, List, [], ◌∷◌, ◌++◌, length, length-append, arith}
-use Rattle.std.specs.Prelude.{ℤ, pos, negsuc}
+use Rattle.std.proofs.Common.{ℕ, ◌+◌, ◌^◌, ◌<◌, ◌≤◌, List, [], ◌∷◌, length, length-append, arith}
+use Rattle.std.specs.Prelude.{ℤ, negsuc}
 use Rattle.std.specs.Fmt.{decimal, signed_decimal}
 use Rattle.std.specs.Int.Signed.{mag}
 use Rattle.std.proofs.lemmas.Fmt.{length-decimal-le, length_signed_le}
@@ -10,9 +10,6 @@ use Rattle.iiod_reply.specs.Reply.{Number, Refusal, Value, length_text, line, nu
 
 short_text : (z : ℤ) → mag z + 1 < 10 ^ 2 → mag z < 2 ^ 63 → length (number_text z) ≤ 16
 short_text z few small = omega (arith, length_signed_le 2 z few small, length-append (signed_decimal z) (10 ∷ []))
-
-pub short_zero : length (text_of (Number (pos 0))) ≤ 16
-short_zero = short_text (pos 0) (omega arith) (omega arith)
 
 pub short_memory : length (text_of (Number (negsuc 11))) ≤ 16
 short_memory = short_text (negsuc 11) (omega arith) (omega arith)
@@ -31,12 +28,6 @@ short_refusal EFBIG = short_text (negsuc 26) (omega arith) (omega arith)
 short_refusal ENOSPC = short_text (negsuc 27) (omega arith) (omega arith)
 short_refusal ERANGE = short_text (negsuc 33) (omega arith) (omega arith)
 short_refusal ENOSYS = short_text (negsuc 37) (omega arith) (omega arith)
-
--- a count of bytes is no longer
-pub short_count : (n : ℕ) → n < 2 ^ 64 → length (text_of (Number (pos n))) ≤ 21
-short_count n small =
-    let digits = length-decimal-le 20 n (omega arith) (omega (arith, small)) small in
-    omega (arith, digits, length-append (decimal n) (10 ∷ []))
 
 -- the answer with a short value
 pub short_value : (bytes : List ℕ) → length bytes ≤ 32 → length (text_of (Value bytes)) ≤ 36

@@ -1,6 +1,5 @@
 -- What a watch is told beside, and what is left without it.
-use Rattle.std.proofs.Common.{◌≡◌, ◌≢◌, ℕ, Bool, true, false, List, [], ◌∷◌, refl, sym, ap, ◌∙◌, Option, Some, None, Result, Ok, Err, IfOk}
-use Rattle.iio_base.specs.declared.Mem.{Mem}
+use Rattle.std.proofs.Common.{ℕ, Bool, List, [], ◌∷◌, ap, Option}
 use Rattle.iiod_grammar.specs.Stream.{Item, Scanned}
 use Rattle.iiod_reply.specs.Reply.{Reply}
 use Rattle.iiod_session.specs.declared.manner.Going.{Going}
@@ -9,7 +8,7 @@ use Rattle.iiod_session.specs.declared.manner.Manner.{Manner}
 use Rattle.iiod_session.specs.Front.{Front}
 use Rattle.iiod_session.specs.Machine.{Machine}
 use Rattle.iiod_session.specs.Run.{State, Carries, Run, RunBy, Stands}
-use Rattle.iiod_session.specs.Watch.{Hears, IsHeard, IsPut, Scene}
+use Rattle.iiod_session.specs.Watch.{Hears, IsHeard, Scene}
 
 abbrev pub scene : {W : Type 0} → State → W → Bool → Scene W
 scene a w told = record { state = a; watch = w; told = told }

@@ -16,5 +16,5 @@ pub mod Run
 pub mod Watch
 pub mod PendingWrite
 pub mod Session
-pub mod Plain
+pub mod Answers
 pub mod Targets

@@ -69,20 +69,24 @@ pub record Leaves (front : Front) (device : List ℕ) (desk : DeskRecord) (tales
   pub gone : desk' ≡ with_seats (remove desk.seats i) desk
   pub told : tales' ≡ remove tales i
 
--- a seat under another mask, that of the REMASK's text, with its capacity as it was; what it tells begins anew
-pub record Remasks (front : Front) (device text : List ℕ) (desk : DeskRecord) (tales : List (Option Tale)) (desk' : DeskRecord) (tales' : List (Option Tale)) : Type 0 where
+-- a seat of the device under another mask, that of the REMASK's text, with its capacity as it was; what it tells begins anew
+pub record RemasksAt (front : Front) (dev : ℕ) (text : List ℕ) (desk : DeskRecord) (tales : List (Option Tale)) (desk' : DeskRecord) (tales' : List (Option Tale)) : Type 0 where
   pub s : Bare
   pub i : ℕ
   pub mask : ℕ
   pub waiting : ℕ
   pub t : Option Tale
-  pub named : find_device front device ≡ Some s.dev
-  pub at : place_of s.dev desk.seats ≡ Some i
+  pub its : s.dev ≡ dev
+  pub at : place_of dev desk.seats ≡ Some i
   pub here : slice_get desk.seats i ≡ Some s
-  pub wanted : mask_of text (count_of (shape_at front s.dev)) ≡ Some mask
+  pub wanted : mask_of text (count_of (shape_at front dev)) ≡ Some mask
   pub under : desk' ≡ with_seats (slice_set desk.seats i (bare_remasked mask waiting s)) desk
   pub told : tales' ≡ slice_set tales i t
   pub fresh : t ≡ option_map (λ (x : Tale). first_tale) t
+
+-- the same at the device of that name
+abbrev pub Remasks : Front → (device text : List ℕ) → DeskRecord → List (Option Tale) → DeskRecord → List (Option Tale) → Type 0
+Remasks front device text desk tales desk' tales' = (dev : ℕ) × (find_device front device ≡ Some dev) × RemasksAt front dev text desk tales desk' tales'
 
 -- what the connection has besides is altered
 pub record Alters (front : Front) (device : List ℕ) (change : ℕ → DeskRecord → DeskRecord) (desk : DeskRecord) (tales : List (Option Tale)) (desk' : DeskRecord) (tales' : List (Option Tale)) : Type 0 where

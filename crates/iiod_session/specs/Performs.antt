@@ -1,15 +1,12 @@
 -- What the functions below a command promise. Cited by private functions alone.
-use Rattle.std.specs.Prelude.{◌≡◌, ℕ, ◌+◌, ◌≤◌, Bool, List, [], ◌∷◌, ◌++◌, length, remove, slice_get, slice_set, Option, Some, None, option_map, IfSome, IsOk, Result, Ok, Err, ⊤}
+use Rattle.std.specs.Prelude.{◌≡◌, ℕ, ◌+◌, ◌≤◌, Bool, List, [], ◌∷◌, ◌++◌, length, remove, slice_set, Option, Some, None, option_map, IfSome, IsOk, Result, Ok, Err, ⊤}
 use Rattle.iio_base.specs.declared.Mem.{Mem}
-use Rattle.iio_text.specs.declared.errors.Errno.{Errno}
 use Rattle.iio_text.specs.declared.errors.Errno.TheVariants.{EAGAIN, ENODEV}
-use Rattle.iio_event.specs.Code.{event_bytes}
-use Rattle.iio_event.specs.declared.event.EventData.{EventData}
 use Rattle.iio_layout.specs.Shape.{count_of}
 use Rattle.iio_mask.specs.Text.{mask_of}
 use Rattle.iiod_grammar.specs.Command.{ReadBuf}
 use Rattle.iiod_grammar.specs.Stream.{Item, Said}
-use Rattle.iiod_reply.specs.Reply.{Reply, Raw, Refusal, NoMemory, text_of}
+use Rattle.iiod_reply.specs.Reply.{Reply, Refusal, NoMemory, text_of}
 use Rattle.iiod_session.specs.declared.answers.TheConstants.{SHORT_ANSWER}
 use Rattle.iiod_session.specs.declared.iio.No.{No}
 use Rattle.iiod_session.specs.declared.iio.No.TheVariants.{Errno as NoErrno, Mem as NoMem}
@@ -23,8 +20,8 @@ use Rattle.iiod_session.specs.Front.{Front, find_device, shape_at}
 use Rattle.iiod_session.specs.Machine.{Machine}
 use Rattle.iiod_session.specs.Seat.{Tale, first_tale}
 use Rattle.iiod_session.specs.Desk.{Bare, DeskRecord, IsWanted, Wanted, bare_remasked, buffers_of, place_of, with_seats}
-use Rattle.iiod_session.specs.Acts.{Acted, read_at, read_at_seat, remask_seat, trigger_reply, zero_reply}
-use Rattle.iiod_session.specs.Moves.{ReadMoves, ReadsBy, Serves}
+use Rattle.iiod_session.specs.Acts.{Acted, read_at, read_at_seat, remask_seat, zero_reply}
+use Rattle.iiod_session.specs.Moves.{ReadMoves, ReadsBy, RemasksAt, Serves}
 
 -- the reply to an answer by 0 or a refusal
 abbrev pub reply_by : Result ⊤ No → Reply
@@ -56,10 +53,6 @@ abbrev pub IsFound : Reply → Type 0
 IsFound (Refusal EAGAIN) = ⊥
 IsFound reply = Unit {0}
 
--- at a device that isn't there a command is answered by this
-abbrev pub IsNowhere : {A : Type 0} → Front → List ℕ → (refusal answer : A) → Type 0
-IsNowhere front device refusal answer = find_device front device ≡ None → answer ≡ refusal
-
 -- ---- seats
 
 -- a seat more at a device where there was none, by what its OPEN asks for
@@ -88,22 +81,7 @@ LeavesBy dev desk tales (Ok done) desk' tales' =
     (i : ℕ) × (place_of dev desk.seats ≡ Some i) × (desk' ≡ with_seats (remove desk.seats i) desk) × (tales' ≡ remove tales i)
 LeavesBy dev desk tales (Err e) desk' tales' = (desk' ≡ desk) × (tales' ≡ tales)
 
--- a seat under another mask, by what its REMASK asks for
-pub record RemasksAt (front : Front) (dev : ℕ) (text : List ℕ) (desk : DeskRecord) (tales : List (Option Tale)) (desk' : DeskRecord) (tales' : List (Option Tale)) : Type 0 where
-  pub s : Bare
-  pub i : ℕ
-  pub mask : ℕ
-  pub waiting : ℕ
-  pub t : Option Tale
-  pub its : s.dev ≡ dev
-  pub at : place_of dev desk.seats ≡ Some i
-  pub here : slice_get desk.seats i ≡ Some s
-  pub wanted : mask_of text (count_of (shape_at front dev)) ≡ Some mask
-  pub under : desk' ≡ with_seats (slice_set desk.seats i (bare_remasked mask waiting s)) desk
-  pub told : tales' ≡ slice_set tales i t
-  pub fresh : t ≡ option_map (λ (x : Tale). first_tale) t
-
--- ... or every seat as it was
+-- a seat under another mask, or every seat as it was
 abbrev pub RemasksBy : Front → (dev : ℕ) → (text : List ℕ) → DeskRecord → List (Option Tale) → Result ⊤ No → DeskRecord → List (Option Tale) → Type 0
 RemasksBy front dev text desk tales (Ok done) desk' tales' = RemasksAt front dev text desk tales desk' tales'
 RemasksBy front dev text desk tales (Err e) desk' tales' = (desk' ≡ desk) × (tales' ≡ tales)
@@ -199,20 +177,3 @@ AnswersRead manner dev (Err mem) before after p = (after ≡ before ++ text_of N
 abbrev pub desk_by : (DeskRecord → DeskRecord) → DeskRecord → Result ⊤ No → DeskRecord
 desk_by change desk (Ok done) = change desk
 desk_by change desk (Err why) = desk
-
--- at the device of that name, where the command isn't refused
-abbrev pub AltersBy : Front → List ℕ → (ℕ → DeskRecord → DeskRecord) → DeskRecord → Result ⊤ No → DeskRecord → Type 0
-AltersBy front device change desk (Ok done) desk' = (dev : ℕ) × (find_device front device ≡ Some dev) × (desk' ≡ change dev desk)
-AltersBy front device change desk (Err why) desk' = desk' ≡ desk
-
--- the reply to a GETTRIG
-abbrev pub trigger_by : Front → Result (Option ℕ) Errno → Reply
-trigger_by front (Ok trigger) = trigger_reply front trigger
-trigger_by front (Err e) = Refusal e
-
--- the reply to an EVREAD
-abbrev pub event_by : Result (Option EventData) No → Reply
-event_by (Ok None) = Refusal EAGAIN
-event_by (Ok (Some event)) = Raw (event_bytes event)
-event_by (Err (NoErrno e)) = Refusal e
-event_by (Err NoMem) = NoMemory

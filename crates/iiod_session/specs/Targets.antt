@@ -1,15 +1,12 @@
 -- What READ and WRITE name, and what they answer, as contracts see it of the code. Cited by private functions alone.
-use Rattle.std.specs.Prelude.{ℕ, ◌≤◌, pos, ⊤, List, length, Option, Result, Ok, Err, string_bytes}
-use Rattle.std.specs.Fmt.{decimal, signed_decimal}
+use Rattle.std.specs.Prelude.{ℕ, pos, ⊤, List, Option, Result, Ok, Err}
 use Rattle.std.specs.Option.{ok_or}
 use Rattle.iio_base.specs.Refusals.{◌>>=◌}
 use Rattle.iio_text.specs.declared.errors.Errno.{Errno}
 use Rattle.iio_text.specs.declared.errors.Errno.TheVariants.{ENOENT}
 use Rattle.iio_attr.specs.declared.attributes.Scope.{Scope}
 use Rattle.iio_attr.specs.Attributes.{find_of}
-use Rattle.iiod_reply.specs.Reply.{Reply, Number, Refusal, Value, NoMemory}
-use Rattle.iiod_session.specs.declared.attributes.AttrText.{AttrText}
-use Rattle.iiod_session.specs.declared.attributes.AttrText.TheVariants as text
+use Rattle.iiod_reply.specs.Reply.{Reply, Number, Refusal, NoMemory}
 use Rattle.iiod_session.specs.declared.iio.No.{No}
 use Rattle.iiod_session.specs.declared.iio.No.TheVariants.{Errno as NoErrno, Mem as NoMem}
 use Rattle.iiod_session.specs.declared.targets.Assignment.{Assignment as CodeAssignment}
@@ -39,20 +36,6 @@ named_in scope channel name = do
   Ok (record { channel = channel; attribute = a })
 
 -- ---- replies
-
--- to a READ
-abbrev pub text_by : Result AttrText No → Reply
-text_by (Ok (text.Fixed digits)) = Value (string_bytes digits)
-text_by (Ok (text.Int n)) = Value (signed_decimal n)
-text_by (Ok (text.Count n)) = Value (decimal n)
-text_by (Ok (text.Name name)) = Value name
-text_by (Err (NoErrno e)) = Refusal e
-text_by (Err NoMem) = NoMemory
-
--- a text for which a READ's room is enough
-abbrev pub IsShortText : AttrText → Type 0
-IsShortText (text.Fixed digits) = length (string_bytes digits) ≤ 32
-IsShortText value = Unit {0}
 
 -- to a WRITE of `count` bytes
 abbrev pub written_by : ℕ → Result ⊤ No → Reply

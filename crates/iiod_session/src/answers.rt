@@ -1,26 +1,68 @@
-//! Answers, appended to what was answered before.
+//! What a command is answered, and the bytes of answers, appended to what was answered before.
 
-ghost use Rattle.std.specs.Prelude.{◌≡◌, ◌<◌, ◌≤◌, ◌+◌, ◌^◌, ◌++◌, length, pos, vec_capacity, IfOk, IsOk, OnErr, OnOk};
-ghost use Rattle.iiod_reply.specs.Reply.{Appends, FitsInRoom, Line, Number, Raw, Refusal, text_of};
+ghost use Rattle.std.specs.Prelude.{◌≡◌, ◌≤◌, ◌+◌, ◌++◌, length, vec_capacity, Ok, Err, IfOk, IsOk, OnErr, OnOk};
+ghost use Rattle.iiod_reply.specs.Reply.{Appends, FitsInRoom, Line, Raw, Refusal, text_of};
+ghost use Rattle.iiod_session.specs.Answers.{Fits, IsLong, Prints, answer_by, reply_of};
 ghost use Rattle.iiod_session.specs.Performs.{AnswersInRoom, IsAllowed, reply_by};
-ghost use Rattle.iiod_session.specs.Plain.{EndsPush};
-ghost use Rattle.iiod_session.specs.declared.answers.TheConstants.{SHORT_ANSWER};
+ghost use Rattle.iiod_session.specs.declared.answers.TheConstants.{ANSWER_ROOM, SHORT_ANSWER};
 ghost use Rattle.iiod_session.specs.declared.manner.Manner.{Manner};
 ghost use Rattle.iiod_session.specs.declared.manner.Performed.{Performed};
 
-use crate::iio::No;
+use crate::iio::{Iio, No};
 use crate::manner::{Manner, Performed};
+use iio_attr::Name;
 use iio_base::Mem;
+use iio_event::EventData;
 use iio_text::Errno;
-use iiod_reply::number;
+use iiod_reply::{number, value};
 use itoa::Buffer;
 
-/// The most bytes that an answer by a number alone has: 20 digits, and an LF after them. This room is taken first, so that a
-/// server can answer want of memory.
+/// The most bytes that an answer by a number alone has: 20 digits, and an LF after them.
 pub(crate) const SHORT_ANSWER: usize = 20 + 1;
+
+/// The most bytes that an answer has, but for READBUF's and for the texts of HELP, VERSION, PRINT and GETTRIG, which change
+/// nothing: the count, the longest value, and an LF after each. This room is taken before a command is performed, so that what
+/// was done is answered.
+pub(crate) const ANSWER_ROOM: usize = 2 + 1 + 32 + 1;
 
 // What want of memory is answered with.
 const ENOMEM: i64 = 12;
+
+/// What a command is answered, where it isn't refused.
+#[derive(Drop)]
+pub(crate) enum Answer {
+    /// 0, or how many bytes a WRITE has.
+    Number(usize),
+    /// The line that names the profile.
+    Help,
+    /// The version.
+    Version,
+    /// The context.
+    Context,
+    /// The digits of an attribute's stored number.
+    Fixed(String),
+    /// An attribute that is a whole number.
+    Int(i64),
+    /// A number of a queue.
+    Count(u64),
+    /// A device's name.
+    Name(Name),
+    /// The name of the trigger of that number.
+    Trigger(u32),
+    /// An event.
+    Event(EventData),
+}
+
+/// That number, where a call isn't refused.
+pub(crate) fn answered(count: usize, called: Result<(), No>) -> Result<Answer, No>
+    ensures value { result ≡ answer_by count called }
+    ensures fits { Fits result }
+{
+    match called {
+        Ok(()) => Ok(Answer::Number(count)),
+        Err(no) => Err(no),
+    }
+}
 
 // Appends bytes. After `Mem`, `out` is unchanged.
 fn push(out: &mut Vec<u8>, bytes: &[u8]) -> Result<(), Mem>
@@ -63,55 +105,30 @@ pub(crate) fn push_refusal(out: &mut Vec<u8>, errno: Errno) -> Result<(), Mem>
     push(out, refusal(errno))
 }
 
-/// 0, or minus an error's number. In a script want of memory ends the call.
-pub(crate) fn push_answer(
-    manner: Manner,
-    out: &mut Vec<u8>,
-    answer: Result<(), No>,
-) -> Result<(), Mem>
-    ensures text { OnOk result (out.new.items ≡ out.old.items ++ text_of (reply_by answer)) }
-    ensures allowed { OnOk result (IsAllowed manner (reply_by answer)) }
+/// Why a command is refused. In a script want of memory ends the call.
+pub(crate) fn push_no(manner: Manner, no: No, out: &mut Vec<u8>) -> Result<(), Mem>
+    ensures text { OnOk result (out.new.items ≡ out.old.items ++ text_of (reply_by (Err no))) }
+    ensures allowed { OnOk result (IsAllowed manner (reply_by (Err no))) }
     ensures answers { AnswersInRoom manner out.old.items (vec_capacity out.old) result }
 {
-    match answer {
-        Ok(()) => number(0, out),
-        Err(No::Errno(errno)) => push_refusal(out, errno),
-        Err(No::Mem) => match manner {
+    match no {
+        No::Errno(errno) => push_refusal(out, errno),
+        No::Mem => match manner {
             Manner::Script => Err(Mem),
             Manner::Server => number(-ENOMEM, out),
         },
     }
 }
 
-/// `push_answer`, as the end of a command.
-pub(crate) fn finish(
-    manner: Manner,
-    out: &mut Vec<u8>,
-    answer: Result<(), No>,
-) -> Result<Performed, Mem>
+/// `push_no`, as the end of a command.
+pub(crate) fn finish(manner: Manner, no: No, out: &mut Vec<u8>) -> Result<Performed, Mem>
     ensures done { IfOk result (λ p. p ≡ Performed.Done) }
-    ensures text { OnOk result (out.new.items ≡ out.old.items ++ text_of (reply_by answer)) }
-    ensures allowed { OnOk result (IsAllowed manner (reply_by answer)) }
+    ensures text { OnOk result (out.new.items ≡ out.old.items ++ text_of (reply_by (Err no))) }
+    ensures allowed { OnOk result (IsAllowed manner (reply_by (Err no))) }
     ensures answers { AnswersInRoom manner out.old.items (vec_capacity out.old) result }
 {
-    push_answer(manner, out, answer)?;
+    push_no(manner, no, out)?;
     Ok(Performed::Done)
-}
-
-/// The end of a command that changes nothing and whose answer was appended; where there was no memory for it, `out` is
-/// unchanged.
-pub(crate) fn finish_push(
-    manner: Manner,
-    out: &mut Vec<u8>,
-    pushed: Result<(), Mem>,
-) -> Result<Performed, Mem>
-    ensures ends { IfOk result (EndsPush manner pushed out.old.items out.new.items) }
-    ensures answers { manner ≡ Manner.Server → OnErr pushed (length out.old.items + SHORT_ANSWER ≤ vec_capacity out.old) → IsOk result }
-{
-    match pushed {
-        Ok(()) => Ok(Performed::Done),
-        Err(Mem) => finish(manner, out, Err(No::Mem)),
-    }
 }
 
 // Appends bytes in the room that is there for them.
@@ -123,8 +140,8 @@ fn append(bytes: &[u8], out: &mut Vec<u8>)
     let _ = out.extend_from_slice(bytes);
 }
 
-/// A text that is a line of its own. After `Mem`, `out` is unchanged.
-pub(crate) fn push_line(out: &mut Vec<u8>, text: &[u8]) -> Result<(), Mem>
+// A text that is a line of its own. After `Mem`, `out` is unchanged.
+fn push_line(out: &mut Vec<u8>, text: &[u8]) -> Result<(), Mem>
     ensures text { Appends (text_of (Line text.now)) out.old.items result out.new.items }
     ensures room { FitsInRoom (text_of (Line text.now)) out.old.items (vec_capacity out.old) result }
     ensures capacity { vec_capacity out.old ≤ vec_capacity out.new }
@@ -135,17 +152,9 @@ pub(crate) fn push_line(out: &mut Vec<u8>, text: &[u8]) -> Result<(), Mem>
     Ok(())
 }
 
-/// A number of bytes. After `Mem`, `out` is unchanged.
-pub(crate) fn push_count(out: &mut Vec<u8>, count: usize) -> Result<(), Mem>
-    ensures text { Appends (text_of (Number (pos count))) out.old.items result out.new.items }
-    ensures room { FitsInRoom (text_of (Number (pos count))) out.old.items (vec_capacity out.old) result }
-    ensures capacity { vec_capacity out.old ≤ vec_capacity out.new }
-{
-    push_line(out, Buffer::new().format(count).as_bytes())
-}
-
-/// Bytes, with their number in a line before them. After `Mem`, `out` is unchanged.
-pub(crate) fn push_raw(out: &mut Vec<u8>, bytes: &[u8]) -> Result<(), Mem>
+// Bytes, with their number in a line before them. After `Mem`, `out` is unchanged.
+#[inline(always)]
+fn push_raw(out: &mut Vec<u8>, bytes: &[u8]) -> Result<(), Mem>
     ensures text { Appends (text_of (Raw bytes.now)) out.old.items result out.new.items }
     ensures room { FitsInRoom (text_of (Raw bytes.now)) out.old.items (vec_capacity out.old) result }
     ensures capacity { vec_capacity out.old ≤ vec_capacity out.new }
@@ -157,4 +166,48 @@ pub(crate) fn push_raw(out: &mut Vec<u8>, bytes: &[u8]) -> Result<(), Mem>
     append(b"\n", out);
     append(bytes, out);
     Ok(())
+}
+
+// The text of an answer. After `Mem`, `out` is unchanged.
+fn push_text<I: Iio>(iio: &I, answer: Answer, out: &mut Vec<u8>) -> Result<(), Mem>
+    requires fits { Fits (Ok answer) }
+    requires room { length out.old.items + ANSWER_ROOM ≤ vec_capacity out.old }
+    ensures text { Appends (text_of (reply_of (I.front (I.kept iio.now)) (Ok answer))) out.old.items result out.new.items }
+    ensures room { OnErr result (IsLong (Ok answer)) }
+    ensures capacity { vec_capacity out.old ≤ vec_capacity out.new }
+{
+    match answer {
+        Answer::Number(n) => push_line(out, Buffer::new().format(n).as_bytes()),
+        Answer::Help => push_line(out, b"Commands of libiio 0.25 iiod, profile iiosim0"),
+        Answer::Version => push_line(out, b"0.25.iiosim0"),
+        Answer::Context => value(iio.context(), out),
+        Answer::Fixed(digits) => value(digits.as_bytes(), out),
+        Answer::Int(n) => value(Buffer::new().format(n).as_bytes(), out),
+        Answer::Count(n) => value(Buffer::new().format(n).as_bytes(), out),
+        Answer::Name(name) => value(name.bytes(), out),
+        Answer::Trigger(trigger) => value(iio.trigger_name(trigger), out),
+        Answer::Event(event) => push_raw(out, &event.bytes()),
+    }
+}
+
+/// The answer to a command, in the room that was taken first. Where a long text finds no memory, that is answered in its place.
+#[inline(always)]
+pub(crate) fn push_answer<I: Iio>(
+    manner: Manner,
+    iio: &I,
+    answer: Result<Answer, No>,
+    out: &mut Vec<u8>,
+) -> Result<(), Mem>
+    requires fits { Fits answer }
+    requires room { length out.old.items + ANSWER_ROOM ≤ vec_capacity out.old }
+    ensures prints { OnOk result (Prints manner (I.front (I.kept iio.now)) answer out.old.items out.new.items) }
+    ensures answers { manner ≡ Manner.Server → IsOk result }
+{
+    match answer {
+        Err(no) => push_no(manner, no, out),
+        Ok(answer) => match push_text(iio, answer, out) {
+            Ok(()) => Ok(()),
+            Err(Mem) => push_no(manner, No::Mem, out),
+        },
+    }
 }

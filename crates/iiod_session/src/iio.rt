@@ -1,8 +1,10 @@
 //! What a session needs of the devices.
 
 ghost use Rattle.std.specs.Prelude.{◌≡◌, ◌≢◌, ℕ, ◌+◌, ◌*◌, ◌^◌, ◌≤◌, ◌<◌, length, Option, Some, option_map, vec_capacity, IfOk, IfSome, Ok, Err};
+ghost use Rattle.iiod_session.specs.Opening.{no_of, remask_no};
 
 use iio_attr::{Attr, Scope, Value};
+use iio_device::{JoinFault, RemaskFault};
 use iio_event::EventData;
 use iio_layout::Shape;
 use iio_mask::Mask;
@@ -15,6 +17,30 @@ pub enum No {
     Errno(Errno),
     /// For want of memory.
     Mem,
+}
+
+/// What a fault of joining is answered with.
+pub fn no_of(fault: JoinFault) -> No
+    ensures { result ≡ no_of fault }
+{
+    match fault {
+        JoinFault::Gone => No::Errno(Errno::ENODEV),
+        JoinFault::BadMask | JoinFault::NoTrigger | JoinFault::NoUnion => No::Errno(Errno::EINVAL),
+        JoinFault::NoPlace => No::Errno(Errno::ENOSPC),
+        JoinFault::Mem => No::Mem,
+    }
+}
+
+/// What a fault of another mask is answered with.
+pub fn remask_no(fault: RemaskFault) -> No
+    ensures { result ≡ remask_no fault }
+{
+    match fault {
+        RemaskFault::Gone => No::Errno(Errno::ENODEV),
+        RemaskFault::NotLive => No::Errno(Errno::EBADF),
+        RemaskFault::BadMask | RemaskFault::NoUnion => No::Errno(Errno::EINVAL),
+        RemaskFault::Mem => No::Mem,
+    }
 }
 
 /// What became of a take.

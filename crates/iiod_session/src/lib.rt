@@ -13,7 +13,6 @@ mod limits;
 mod manner;
 mod pending_write;
 mod perform;
-mod plain;
 mod reading;
 mod seats;
 mod session;
@@ -23,7 +22,7 @@ mod wanted;
 mod watch;
 
 pub use desk::{FIRST_BUFFERS, MAX_BUFFERS};
-pub use iio::{Bells, Counts, Iio, No, Took};
+pub use iio::{Bells, Counts, Iio, No, Took, no_of, remask_no};
 pub use iio_base::Mem;
 pub use limits::MAX_SCANS;
 pub use manner::{Going, Manner};

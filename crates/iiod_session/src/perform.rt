@@ -1,74 +1,118 @@
 //! One item of a connection.
 
-ghost use Rattle.std.specs.Prelude.{◌≡◌, option_map, vec_capacity, Ok, Err, IfOk};
+ghost use Rattle.std.specs.Prelude.{◌≡◌, ◌<◌, length, option_map, vec_capacity, Ok, Err, IfOk, IfSome, OnOk};
 ghost use Rattle.iiod_grammar.specs.Stream.{Said, Written};
 ghost use Rattle.iiod_grammar.specs.View.{command_view, target_view};
+ghost use Rattle.iiod_session.specs.Answers.{Fits, IsAt, ServesBy};
 ghost use Rattle.iiod_session.specs.Desk.{IsDesk, desk_of, tales_of};
 ghost use Rattle.iiod_session.specs.Performs.{AnswersInRoom, Performs};
+ghost use Rattle.iiod_session.specs.Session.{IsAtOnce};
 ghost use Rattle.iiod_session.specs.declared.manner.Performed.{Performed};
 
-use crate::answers::SHORT_ANSWER;
-use crate::attributes::{read, write};
-use crate::buffers::{close, open, read_buffer, remask, set_buffers, write_buffer};
+use crate::answers::{ANSWER_ROOM, Answer, answered, finish, push_answer, push_no};
+use crate::attributes::{read_attribute_at, write_attribute};
+use crate::buffers::{set_buffers_at, write_buffer_refusal};
 use crate::desk::Desk;
-use crate::events::{ev_close, ev_open, ev_read};
-use crate::iio::Iio;
+use crate::events::{ev_close_at, ev_open_at, ev_read_at};
+use crate::iio::{Iio, No};
 use crate::manner::{Manner, Performed};
-use crate::plain::{help, print, refuse, timeout, version};
-use crate::triggers::{get_trigger, set_trigger};
+use crate::seats::{close_at, open_at, remask_at};
+use crate::triggers::{get_trigger_at, set_trigger_at};
 use iio_base::Mem;
+use iio_text::Errno;
 use iiod_grammar::{Command, Place, Refused};
 use std::alloc::Global;
 
-// A command.
-fn perform_command<I: Iio>(
+// A command at the device of that number, which it names, or at none.
+#[inline(always)]
+fn at_device<I: Iio>(
     alloc: Global,
-    manner: Manner,
+    dev: Option<u32>,
     desk: &mut Desk<I::Seat>,
     iio: &mut I,
     command: &Command<'_>,
-    out: &mut Vec<u8>,
-) -> Result<Performed, Mem>
+) -> Result<Answer, No>
+    requires within { IfSome dev (λ k. k < length (I.front (I.kept iio.old)).devices) }
+    requires at { IsAt (I.front (I.kept iio.old)) dev (command_view command.now) }
     requires desk { IsDesk I.seen (I.front (I.kept iio.old)) desk.old }
     ensures kept { I.kept iio.new ≡ I.kept iio.old }
     ensures desk { IsDesk I.seen (I.front (I.kept iio.new)) desk.new }
-    ensures served { IfOk result (Performs manner (I.front (I.kept iio.old)) (I.told iio.old) (I.told iio.new)
-        (desk_of I.seen desk.old) (tales_of I.seen desk.old.held.items) (Said (Ok (command_view command.now)))
-        (desk_of I.seen desk.new) (tales_of I.seen desk.new.held.items) out.old.items out.new.items) }
-    ensures answers { AnswersInRoom manner out.old.items (vec_capacity out.old) result }
+    ensures fits { Fits result }
+    ensures served { ServesBy (I.front (I.kept iio.old)) (I.told iio.old) (desk_of I.seen desk.old) (tales_of I.seen desk.old.held.items)
+        (Said (Ok (command_view command.now))) result (I.told iio.new) (desk_of I.seen desk.new) (tales_of I.seen desk.new.held.items) }
 {
-    match *command {
-        Command::Help => help(manner, out),
-        Command::Exit | Command::Write { .. } => Ok(Performed::Done),
-        Command::Version => version(manner, out),
-        Command::Print => print(manner, iio, out),
-        Command::Timeout { ms } => timeout(manner, ms, out),
-        Command::Open {
-            dev,
-            samples,
-            mask,
-            cyclic,
-        } => open(manner, desk, iio, dev, samples, mask, cyclic, out),
-        Command::Close { dev } => close(manner, desk, iio, dev, out),
-        Command::Read { dev, place, attr } => {
-            read(alloc, manner, desk, iio, dev, place, attr, out)
-        }
-        Command::ReadBuf { dev, bytes } => read_buffer(manner, desk, iio, dev, bytes, out),
-        Command::WriteBuf { dev, bytes } => write_buffer(manner, desk, iio, dev, bytes, out),
-        Command::GetTrig { dev } => get_trigger(manner, desk, iio, dev, out),
-        Command::SetTrig { dev, trigger } => set_trigger(manner, desk, iio, dev, trigger, out),
-        Command::SetBuffers { dev, count } => set_buffers(manner, desk, iio, dev, count, out),
-        Command::Remask { dev, mask } => remask(manner, desk, iio, dev, mask, out),
-        Command::EvOpen { dev } => ev_open(manner, desk, iio, dev, out),
-        Command::EvRead { dev } => ev_read(manner, desk, iio, dev, out),
-        Command::EvClose { dev } => ev_close(manner, desk, iio, dev, out),
+    match dev {
+        None => Err(No::Errno(Errno::ENODEV)),
+        Some(dev) => match *command {
+            Command::Open {
+                samples,
+                mask,
+                cyclic,
+                ..
+            } => answered(0, open_at(desk, iio, dev, samples, mask, cyclic)),
+            Command::Close { .. } => answered(0, close_at(desk, iio, dev)),
+            Command::Read { place, attr, .. } => read_attribute_at(
+                alloc, desk, iio, dev, place, attr,
+            ),
+            Command::WriteBuf { .. } => Err(No::Errno(write_buffer_refusal(iio, dev))),
+            Command::GetTrig { .. } => get_trigger_at(iio, dev),
+            Command::SetTrig { trigger, .. } => answered(0, set_trigger_at(iio, dev, trigger)),
+            Command::SetBuffers { count, .. } => answered(0, set_buffers_at(desk, iio, dev, count)),
+            Command::Remask { mask, .. } => answered(0, remask_at(desk, iio, dev, mask)),
+            Command::EvOpen { .. } => answered(0, ev_open_at(desk, iio, dev)),
+            Command::EvRead { .. } => ev_read_at(desk, iio, dev),
+            Command::EvClose { .. } => answered(0, ev_close_at(desk, iio, dev)),
+            Command::Help
+            | Command::Exit
+            | Command::Version
+            | Command::Print
+            | Command::Timeout { .. }
+            | Command::Write { .. }
+            | Command::ReadBuf { .. } => Ok(Answer::Number(0)),
+        },
     }
 }
 
-/// A command is performed, and answered at the end of `out`. EXIT and WRITE get no answer here: the one ends the
-/// connection, the other is performed with its payload.
+// A command that is answered at once: not EXIT, WRITE or READBUF.
+#[inline(always)]
+fn answer_to<I: Iio>(
+    alloc: Global,
+    desk: &mut Desk<I::Seat>,
+    iio: &mut I,
+    command: &Command<'_>,
+) -> Result<Answer, No>
+    requires at_once { IsAtOnce (Ok (command_view command.now)) }
+    requires desk { IsDesk I.seen (I.front (I.kept iio.old)) desk.old }
+    ensures kept { I.kept iio.new ≡ I.kept iio.old }
+    ensures desk { IsDesk I.seen (I.front (I.kept iio.new)) desk.new }
+    ensures fits { Fits result }
+    ensures served { ServesBy (I.front (I.kept iio.old)) (I.told iio.old) (desk_of I.seen desk.old) (tales_of I.seen desk.old.held.items)
+        (Said (Ok (command_view command.now))) result (I.told iio.new) (desk_of I.seen desk.new) (tales_of I.seen desk.new.held.items) }
+{
+    match *command {
+        Command::Help => Ok(Answer::Help),
+        Command::Version => Ok(Answer::Version),
+        Command::Print => Ok(Answer::Context),
+        Command::Timeout { .. } => Ok(Answer::Number(0)),
+        Command::Exit | Command::Write { .. } | Command::ReadBuf { .. } => Ok(Answer::Number(0)),
+        Command::Open { dev, .. } => at_device(alloc, iio.find(dev), desk, iio, command),
+        Command::Close { dev } => at_device(alloc, iio.find(dev), desk, iio, command),
+        Command::Read { dev, .. } => at_device(alloc, iio.find(dev), desk, iio, command),
+        Command::WriteBuf { dev, .. } => at_device(alloc, iio.find(dev), desk, iio, command),
+        Command::GetTrig { dev } => at_device(alloc, iio.find(dev), desk, iio, command),
+        Command::SetTrig { dev, .. } => at_device(alloc, iio.find(dev), desk, iio, command),
+        Command::SetBuffers { dev, .. } => at_device(alloc, iio.find(dev), desk, iio, command),
+        Command::Remask { dev, .. } => at_device(alloc, iio.find(dev), desk, iio, command),
+        Command::EvOpen { dev } => at_device(alloc, iio.find(dev), desk, iio, command),
+        Command::EvRead { dev } => at_device(alloc, iio.find(dev), desk, iio, command),
+        Command::EvClose { dev } => at_device(alloc, iio.find(dev), desk, iio, command),
+    }
+}
+
+/// A command that is answered at once, not EXIT, WRITE or READBUF, is performed, and answered at the end of `out`.
 ///
 /// A server answers want of memory, as long as there is the room for a short answer; a script ends with `Mem`.
+#[inline(always)]
 pub(crate) fn perform<I: Iio>(
     alloc: Global,
     manner: Manner,
@@ -76,20 +120,24 @@ pub(crate) fn perform<I: Iio>(
     iio: &mut I,
     command: &Command<'_>,
     out: &mut Vec<u8>,
-) -> Result<Performed, Mem>
+) -> Result<(), Mem>
     requires desk { IsDesk I.seen (I.front (I.kept iio.old)) desk.old }
+    requires at_once { IsAtOnce (Ok (command_view command.now)) }
     ensures kept { I.kept iio.new ≡ I.kept iio.old }
     ensures desk { IsDesk I.seen (I.front (I.kept iio.new)) desk.new }
-    ensures served { IfOk result (Performs manner (I.front (I.kept iio.old)) (I.told iio.old) (I.told iio.new)
+    ensures served { OnOk result (Performs manner (I.front (I.kept iio.old)) (I.told iio.old) (I.told iio.new)
         (desk_of I.seen desk.old) (tales_of I.seen desk.old.held.items) (Said (Ok (command_view command.now)))
-        (desk_of I.seen desk.new) (tales_of I.seen desk.new.held.items) out.old.items out.new.items) }
+        (desk_of I.seen desk.new) (tales_of I.seen desk.new.held.items) out.old.items out.new.items Performed.Done) }
     ensures answers { AnswersInRoom manner out.old.items (vec_capacity out.old) result }
 {
-    out.reserve(SHORT_ANSWER)?;
-    perform_command(alloc, manner, desk, iio, command, out)
+    if out.reserve(ANSWER_ROOM).is_err() {
+        return push_no(manner, No::Mem, out);
+    }
+    let answer = answer_to(alloc, desk, iio, command);
+    push_answer(manner, iio, answer, out)
 }
 
-/// A line that is no command is answered at the end of `out`, as by [`perform`].
+/// A line that is no command is answered at the end of `out`, as by [`perform`]: by `EINVAL`, but for a line without a word.
 pub(crate) fn perform_refused<I: Iio>(
     manner: Manner,
     desk: &Desk<I::Seat>,
@@ -102,7 +150,12 @@ pub(crate) fn perform_refused<I: Iio>(
         (desk_of I.seen desk.now) (tales_of I.seen desk.now.held.items) out.old.items out.new.items) }
     ensures answers { AnswersInRoom manner out.old.items (vec_capacity out.old) result }
 {
-    refuse(manner, why, out)
+    match why {
+        Refused::Empty => Ok(Performed::Done),
+        Refused::Unknown | Refused::Shape | Refused::Number => {
+            finish(manner, No::Errno(Errno::EINVAL), out)
+        }
+    }
 }
 
 /// A WRITE is performed with its payload, and answered at the end of `out`, as by [`perform`].
@@ -126,6 +179,10 @@ pub(crate) fn perform_written<I: Iio>(
         (desk_of I.seen desk.new) (tales_of I.seen desk.new.held.items) out.old.items out.new.items) }
     ensures answers { AnswersInRoom manner out.old.items (vec_capacity out.old) result }
 {
-    out.reserve(SHORT_ANSWER)?;
-    write(manner, desk, iio, device, target, payload, out)
+    if out.reserve(ANSWER_ROOM).is_err() {
+        return finish(manner, No::Mem, out);
+    }
+    let answer = write_attribute(desk, iio, device, target, payload);
+    push_answer(manner, iio, answer, out)?;
+    Ok(Performed::Done)
 }

@@ -86,9 +86,9 @@ impl<S> Session<S> {
     /// manner Server `Waits` comes where a READBUF for at least one scan finds nothing at a device that is plugged: it isn't
     /// answered, and the next feed tries it again, before further bytes. In manner Script it is answered -11.
     ///
-    /// After `Mem` the session has ended too: all seats are closed and all holdings of events have ended. In manner Server it
-    /// comes only where there is no room for a short answer or for bytes that are kept: want of memory in a command is answered
-    /// -12 and changes nothing.
+    /// After `Mem` the session has ended too: all seats are closed, and no holding of events is left in the session. In manner
+    /// Server it comes only where there is no room for a short answer or for bytes that are kept, of which no clause speaks: want
+    /// of memory in a command is answered -12 and changes nothing.
     pub fn feed<I: Iio<Seat = S>>(
         &mut self,
         alloc: Global,

@@ -12,10 +12,10 @@ pub returns-in-Err-clause-acts : goal.returns-in-Err-clause-acts
 returns-in-Err-clause-acts g c =
     let id = id_of c.args.seat.now.number c.args.seat.now.mask in
     let view = view_by (driver_of (λ b. (g.dyn-1.0.entry b.vtable).1.driver b.value)) c.args.device.now in
-    faulty id c.args.mask c.args.seat.now.capacity view view c.in-Err.fault c.no_of.result
+    faulty id c.args.mask c.args.seat.now.capacity view view c.in-Err.fault c.remask_no.result
     (good_mask c.args.device.now.core.roster.shape c.args.mask.bits c.requires.below c.requires.channel)
     (knows_by id c.args.mask c.args.seat.now.capacity view view (under_is id _ c.args.device.now.core.roster.sound.numbers c.requires.there))
-    c.in-Err.ensures c.no_of.ensures refl
+    c.in-Err.ensures c.remask_no.ensures refl
 
 pub returns-in-Ok-remask-clause-acts : goal.returns-in-Ok-remask-clause-acts
 returns-in-Ok-remask-clause-acts g c =

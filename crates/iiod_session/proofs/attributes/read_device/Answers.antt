@@ -7,7 +7,7 @@ pub returns-in-Err-print_fixed-clause-told : goal.returns-in-Err-print_fixed-cla
 returns-in-Err-print_fixed-clause-told g c = λ desk.
     said_short _ _ _ desk _ (named_of_code c.args.target) c.in-Ok-Number.v (rw c.in-Ok-Number.field-0-is at c.in-Ok-Number.ensures.told)
 
-pub returns-in-Ok-clause-short : goal.returns-in-Ok-clause-short
-returns-in-Ok-clause-short g c =
+pub returns-in-Ok-clause-text : goal.returns-in-Ok-clause-text
+returns-in-Ok-clause-text g c =
     let small : c.in-Ok-Number.v.whole < 2 ^ 32 = search rules in
     rw c.in-Ok.ensures.text (short_fixed c.in-Ok-Number.v small)

@@ -1,14 +1,17 @@
-use Rattle.std.proofs.Common.{rules}
-use Rattle.std.specs.Option.{option_copied}
-use Rattle.iiod_grammar.specs.View.{place_view}
-use Rattle.iiod_session.specs.Acts.{write_attribute_at}
+use Rattle.std.proofs.Common.{rules, sym}
 use Rattle.iiod_session.specs.Desk.{desk_of}
-use Rattle.iiod_session.proofs.SettleLaws.{somewhere}
+use Rattle.iiod_session.proofs.AnswerLaws.{by_count, by_no}
+use Rattle.iiod_session.proofs.AttributeLaws.{serves_nameless, serves_unwritten, serves_write_attribute}
 use Rattle.iiod_session.proofs.attributes.write_attribute.Goals as goal
 
-pub returns-in-Some-clause-told : goal.returns-in-Some-clause-told
-returns-in-Some-clause-told g c =
-    let desk = desk_of g.I.Iio.seen c.args.desk.now in
-    somewhere _ _ _ desk desk c.args.device.now c.in-Some.dev
-    (λ m. write_attribute_at (g.I.Iio.front (g.I.Iio.kept c.args.iio.now)) m desk (place_view c.args.place) (option_copied c.args.name) c.args.payload.now) _ (search rules)
-    (c.write_attribute_at.ensures.told desk (search rules))
+pub returns-in-None-clause-served : goal.returns-in-None-clause-served
+returns-in-None-clause-served g c = rw c.in-None.is (by_no _ _ _ _ _ _ _ _ _ (serves_nameless _ _ _ _ _ _))
+
+pub returns-in-None-find-clause-served : goal.returns-in-None-find-clause-served
+returns-in-None-find-clause-served g c = rw c.in-Some.is (by_no _ _ _ _ _ _ _ _ _ (serves_unwritten _ _ _ _ _ _ _ _ (sym (search rules))))
+
+pub returns-in-Some-find-clause-served : goal.returns-in-Some-find-clause-served
+returns-in-Some-find-clause-served g c =
+    let told = c.write_attribute_at-written.ensures.told (desk_of g.I.Iio.seen c.args.desk.now) (search rules) in
+    rw (c.in-Some.is, c.answered.ensures.value)
+    (by_count _ _ _ _ _ _ _ _ _ c.write_attribute_at-written.result (serves_write_attribute _ _ _ _ _ _ _ _ _ _ c.write_attribute_at-written.result (sym (search rules)) told))

@@ -1,8 +1,10 @@
-use Rattle.std.proofs.Common.{Err}
-use Rattle.iiod_grammar.specs.Stream.{Said}
-use Rattle.iiod_session.specs.Desk.{desk_of, tales_of}
-use Rattle.iiod_session.proofs.PlainLaws.{kept}
+use Rattle.iiod_session.proofs.AnswerLaws.{empty_performs, has_word, serves_refused}
+use Rattle.iiod_session.proofs.ServeLaws.{finished}
 use Rattle.iiod_session.proofs.perform.perform_refused.Goals as goal
 
-pub returns-clause-served : goal.returns-clause-served
-returns-clause-served g c = kept _ (g.I.Iio.front (g.I.Iio.kept c.args.iio.now)) (g.I.Iio.told c.args.iio.now) (desk_of g.I.Iio.seen c.args.desk.now) (tales_of g.I.Iio.seen c.args.desk.now.held.items) (Said (Err c.args.why)) _ _ _ c.refuse.ensures.keeps
+pub returns-in-Empty-clause-served : goal.returns-in-Empty-clause-served
+returns-in-Empty-clause-served g c = rw c.in-Empty.is (empty_performs _ _ _ _ _ _)
+
+pub returns-in-Unknown-clause-served : goal.returns-in-Unknown-clause-served
+returns-in-Unknown-clause-served g c =
+    finished _ _ _ _ _ _ _ _ _ _ _ _ _ (serves_refused _ _ _ _ c.args.why (has_word c.args.why c.in-Unknown.is)) c.finish.ensures.done c.finish.ensures.text c.finish.ensures.allowed tt

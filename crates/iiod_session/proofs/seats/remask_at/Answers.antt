@@ -1,4 +1,4 @@
-use Rattle.std.proofs.Common.{rules, sym}
+use Rattle.std.proofs.Common.{rules}
 use Rattle.std.proofs.lemmas.List.Elements.{All-set}
 use Rattle.iiod_session.specs.Desk.{IsHeld, desk_of}
 use Rattle.iiod_session.proofs.SeatsLaws.{apart_under_mask, remask_comes, remasks_by}

@@ -1,8 +1,0 @@
-use Rattle.iiod_session.proofs.PlainLaws.{answered_in_room, version_keeps}
-use Rattle.iiod_session.proofs.plain.version.Goals as goal
-
-pub returns-clause-keeps : goal.returns-clause-keeps
-returns-clause-keeps c = version_keeps _ _ _ _ _ _ c.push_line-pushed.ensures.text c.finish_push.ensures.ends
-
-pub returns-clause-answers : goal.returns-clause-answers
-returns-clause-answers c = answered_in_room _ _ _ _ _ _ _ _ c.push_line-pushed.ensures.text c.push_line-pushed.ensures.capacity c.finish_push.ensures.answers
