@@ -194,6 +194,7 @@ pub fn read_step(alloc: Global, desc: &Desc, line: &[u8]) -> Result<Option<Step>
 }
 
 /// The step that a line says, as by `read_step`. The step of a feed takes `room` for its bytes, whatever was in it.
+#[inline(always)]
 pub(crate) fn read_step_into(
     alloc: Global,
     room: &mut Vec<u8>,

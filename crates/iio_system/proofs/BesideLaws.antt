@@ -1,17 +1,17 @@
 -- The connections beside the watched one, one after another.
-use Rattle.std.proofs.Common.{◌≡◌, ℕ, ◌+◌, ◌<◌, ◌&&◌, ◌||◌, Bool, true, false, cond, List, [], ◌∷◌, length, drop, get_or, Option, Some, None, option_map, is_some, refl, sym, ap, ◌∙◌}
+use Rattle.std.proofs.Common.{◌≡◌, ℕ, ◌+◌, ◌<◌, ◌&&◌, ◌||◌, Bool, true, false, cond, List, [], ◌∷◌, ◌++◌, length, drop, get_or, Option, Some, None, option_map, is_some, refl, sym, ap, ◌∙◌}
 use Rattle.std.specs.Borrow.{Bor}
 use Rattle.std.specs.Option.{option_copied}
 use Rattle.std.specs.Str.{bytes_eq}
 use Rattle.std.proofs.lemmas.List.{at_drop_more}
-use Rattle.iiod_session.specs.Desk.{desk_of, place_of, seats_of}
+use Rattle.iiod_session.specs.Desk.{DeskRecord, desk_of, place_of, seats_of}
 use Rattle.iiod_session.specs.Seat.{SeatRecord}
 use Rattle.iiod_session.specs.Session.{SessionRecord}
 use Rattle.iio_device.specs.Site.{is_empty}
 use Rattle.iio_history.proofs.BenchPlaces.{open_same}
 use Rattle.iio_worlds.specs.Stance.{has_seat, none_seated, one_seated}
 use Rattle.iio_system.specs.declared.connection.Connection.{Connection}
-use Rattle.iio_system.specs.Guard.{desk_by, desk_named, desks_besides, with_desk}
+use Rattle.iio_system.specs.Guard.{connection_named, desk_by, desk_named, desks_besides, with_desk}
 
 or_none : (h x : Bool) → (h || x) ≡ ((h || false) || x)
 or_none true x = refl
@@ -21,6 +21,14 @@ and_all : (h x : Bool) → (h && x) ≡ ((h && true) && x)
 and_all true x = refl
 and_all false x = refl
 
+or_more : (a b c : Bool) → (a || (b || c)) ≡ ((a || b) || c)
+or_more true b c = refl
+or_more false b c = refl
+
+and_more : (a b c : Bool) → (a && (b && c)) ≡ ((a && b) && c)
+and_more true b c = refl
+and_more false b c = refl
+
 or_last : (h : Bool) → h ≡ (h || false)
 or_last true = refl
 or_last false = refl
@@ -29,13 +37,25 @@ and_last : (h : Bool) → h ≡ (h && true)
 and_last true = refl
 and_last false = refl
 
+seated_join : (ds es : List DeskRecord) (k : ℕ) → one_seated (ds ++ es) k ≡ (one_seated ds k || one_seated es k)
+seated_join [] es k = refl
+seated_join (d ∷ ds) es k = ap (λ (b : Bool). has_seat k d || b) (seated_join ds es k) ∙ or_more (has_seat k d) (one_seated ds k) (one_seated es k)
+
+none_join : (ds es : List DeskRecord) → none_seated (ds ++ es) ≡ (none_seated ds && none_seated es)
+none_join [] es = refl
+none_join (d ∷ ds) es = ap (λ (b : Bool). is_empty d.seats && b) (none_join ds es) ∙ and_more (is_empty d.seats) (none_seated ds) (none_seated es)
+
 module _ {S : Type 0} (seen : S → SeatRecord) where
+  -- the desk of a session, where there is one
+  abbrev pub session_desk : Option (SessionRecord S) → Option DeskRecord
+  session_desk o = option_map (λ (x : SessionRecord S). desk_of seen x.desk) o
+
   -- a session has a seat at a device where it has a place
   pub held_is : (x : SessionRecord S) (dev : ℕ) (b : Bool) → b ≡ is_some (place_of dev (seats_of seen x.desk.held.items)) → b ≡ has_seat dev (desk_of seen x.desk)
   held_is x dev b is = is ∙ open_same dev (seats_of seen x.desk.held.items)
 
   -- a session that is lent
-  pub lent_desk : (own : Option (Bor (SessionRecord S))) → desk_by seen own ≡ option_map (λ (x : SessionRecord S). desk_of seen x.desk) (option_copied own)
+  pub lent_desk : (own : Option (Bor (SessionRecord S))) → desk_by seen own ≡ session_desk (option_copied own)
   lent_desk None = refl
   lent_desk (Some x) = refl
 
@@ -107,9 +127,107 @@ module _ {S : Type 0} (seen : S → SeatRecord) where
       ∙ none_first a c (drop (i + 1) cs)
       ∙ ap (λ (x : Bool). x && none_seated (desks_besides seen a (drop (i + 1) cs))) (sym first)
 
-  pub named_on : (a : List ℕ) (cs : List (Connection S)) (i : ℕ) (c : Connection S) (b : Bool) → i < length cs → c ≡ get_or cs i c → b ≡ bytes_eq c.name a
-      → desk_named seen a (drop i cs) ≡ cond b (option_map (λ (x : SessionRecord S). desk_of seen x.desk) c.session) (desk_named seen a (drop (i + 1) cs))
-  named_on a cs i c b within is first =
-      at_drop_more (λ ds. desk_named seen a ds) cs i c within
-      ∙ ap (λ (e : Connection S). desk_named seen a (e ∷ drop (i + 1) cs)) (sym is)
-      ∙ ap (λ (x : Bool). cond x (option_map (λ (y : SessionRecord S). desk_of seen y.desk) c.session) (desk_named seen a (drop (i + 1) cs))) (sym first)
+  -- ---- in two parts
+
+  desks_parts : (a : List ℕ) (cs ds : List (Connection S)) → desks_besides seen a (cs ++ ds) ≡ desks_besides seen a cs ++ desks_besides seen a ds
+  desks_parts a [] ds = refl
+  desks_parts a (c ∷ cs) ds = by (bytes_eq c.name a) c.session (desks_parts a cs ds)
+    where
+      by : (b : Bool) (o : Option (SessionRecord S)) → desks_besides seen a (cs ++ ds) ≡ desks_besides seen a cs ++ desks_besides seen a ds
+          → cond b (desks_besides seen a (cs ++ ds)) (with_desk seen o (desks_besides seen a (cs ++ ds)))
+          ≡ cond b (desks_besides seen a cs) (with_desk seen o (desks_besides seen a cs)) ++ desks_besides seen a ds
+      by true o rest = rest
+      by false None rest = rest
+      by false (Some x) rest = ap (λ (es : List DeskRecord). desk_of seen x.desk ∷ es) rest
+
+  seated_parts : (a : List ℕ) (cs ds : List (Connection S)) (k : ℕ)
+      → (one_seated (desks_besides seen a cs) k || one_seated (desks_besides seen a ds) k) ≡ one_seated (desks_besides seen a (cs ++ ds)) k
+  seated_parts a cs ds k = sym (ap (λ (es : List DeskRecord). one_seated es k) (desks_parts a cs ds) ∙ seated_join (desks_besides seen a cs) (desks_besides seen a ds) k)
+
+  none_parts : (a : List ℕ) (cs ds : List (Connection S))
+      → (none_seated (desks_besides seen a cs) && none_seated (desks_besides seen a ds)) ≡ none_seated (desks_besides seen a (cs ++ ds))
+  none_parts a cs ds = sym (ap none_seated (desks_parts a cs ds) ∙ none_join (desks_besides seen a cs) (desks_besides seen a ds))
+
+  -- one has the device open where one of the first part has, or else one of the second
+  pub seated_before : (a : List ℕ) (cs ds : List (Connection S)) (k : ℕ) (x : Bool) → x ≡ true → x ≡ one_seated (desks_besides seen a cs) k → x ≡ one_seated (desks_besides seen a (cs ++ ds)) k
+  seated_before a cs ds k x is first = is ∙ ap (λ (b : Bool). b || one_seated (desks_besides seen a ds) k) (sym is ∙ first) ∙ seated_parts a cs ds k
+
+  pub seated_after : (a : List ℕ) (cs ds : List (Connection S)) (k : ℕ) (x y : Bool) → x ≡ false → x ≡ one_seated (desks_besides seen a cs) k → y ≡ one_seated (desks_besides seen a ds) k
+      → y ≡ one_seated (desks_besides seen a (cs ++ ds)) k
+  seated_after a cs ds k x y is first second = second ∙ ap (λ (b : Bool). b || one_seated (desks_besides seen a ds) k) (sym is ∙ first) ∙ seated_parts a cs ds k
+
+  -- and none has any where none of the first part has, and none of the second
+  pub none_before : (a : List ℕ) (cs ds : List (Connection S)) (x : Bool) → x ≡ false → x ≡ none_seated (desks_besides seen a cs) → x ≡ none_seated (desks_besides seen a (cs ++ ds))
+  none_before a cs ds x is first = is ∙ ap (λ (b : Bool). b && none_seated (desks_besides seen a ds)) (sym is ∙ first) ∙ none_parts a cs ds
+
+  pub none_after : (a : List ℕ) (cs ds : List (Connection S)) (x y : Bool) → x ≡ true → x ≡ none_seated (desks_besides seen a cs) → y ≡ none_seated (desks_besides seen a ds)
+      → y ≡ none_seated (desks_besides seen a (cs ++ ds))
+  none_after a cs ds x y is first second = second ∙ ap (λ (b : Bool). b && none_seated (desks_besides seen a ds)) (sym is ∙ first) ∙ none_parts a cs ds
+
+  -- ---- the first one of a name
+
+  abbrev desk_at : Option (Connection S) → Option DeskRecord
+  desk_at o = elim o [ None ↦ None | Some c ↦ session_desk c.session ]
+
+  desk_found : (a : List ℕ) (cs : List (Connection S)) → desk_at (connection_named a cs) ≡ desk_named seen a cs
+  desk_found a [] = refl
+  desk_found a (c ∷ cs) = by (bytes_eq c.name a) (desk_found a cs)
+    where
+      by : (b : Bool) → desk_at (connection_named a cs) ≡ desk_named seen a cs → desk_at (cond b (Some c) (connection_named a cs)) ≡ cond b (session_desk c.session) (desk_named seen a cs)
+      by true rest = refl
+      by false rest = rest
+
+  -- its session, as it is lent
+  pub lent_found : (a : List ℕ) (cs : List (Connection S)) (c : Bor (Connection S)) (own : Option (Bor (SessionRecord S))) (found : Option (Bor (Connection S)))
+      → found ≡ Some c → option_copied found ≡ connection_named a cs → option_copied own ≡ c.now.session → desk_by seen own ≡ desk_named seen a cs
+  lent_found a cs c own found is named same = lent_desk own ∙ ap session_desk same ∙ ap desk_at (ap option_copied (sym is) ∙ named) ∙ desk_found a cs
+
+  pub lent_nowhere : (a : List ℕ) (cs : List (Connection S)) (own : Option (Bor (SessionRecord S))) (found : Option (Bor (Connection S)))
+      → found ≡ None → option_copied found ≡ connection_named a cs → own ≡ None → desk_by seen own ≡ desk_named seen a cs
+  lent_nowhere a cs own found is named none = ap (λ (o : Option (Bor (SessionRecord S))). desk_by seen o) none ∙ ap desk_at (ap option_copied (sym is) ∙ named) ∙ desk_found a cs
+
+  -- ---- all but one
+
+  -- one of that name counts as nobody
+  pub besides_between : (a : List ℕ) (cs ds : List (Connection S)) (c : Connection S) → bytes_eq c.name a ≡ true → desks_besides seen a (cs ++ ds) ≡ desks_besides seen a (cs ++ c ∷ ds)
+  besides_between a [] ds c is = rw is refl
+  besides_between a (e ∷ cs) ds c is = ap (λ (es : List DeskRecord). cond (bytes_eq e.name a) es (with_desk seen e.session es)) (besides_between a cs ds c is)
+
+  -- and one of another isn't the first of that name
+  pub named_between : (a : List ℕ) (cs ds : List (Connection S)) (c : Connection S) → bytes_eq c.name a ≡ false → desk_named seen a (cs ++ ds) ≡ desk_named seen a (cs ++ c ∷ ds)
+  named_between a [] ds c is = rw is refl
+  named_between a (e ∷ cs) ds c is = ap (λ (o : Option DeskRecord). cond (bytes_eq e.name a) (session_desk e.session) o) (named_between a cs ds c is)
+
+-- ---- the first one of a name
+
+module _ {S : Type 0} (a : List ℕ) where
+  abbrev or_else : Option (Connection S) → Option (Connection S) → Option (Connection S)
+  or_else None other = other
+  or_else (Some c) other = Some c
+
+  named_parts : (cs ds : List (Connection S)) → or_else (connection_named a cs) (connection_named a ds) ≡ connection_named a (cs ++ ds)
+  named_parts [] ds = refl
+  named_parts (c ∷ cs) ds = by (bytes_eq c.name a) (named_parts cs ds)
+    where
+      by : (b : Bool) → or_else (connection_named a cs) (connection_named a ds) ≡ connection_named a (cs ++ ds)
+          → or_else (cond b (Some c) (connection_named a cs)) (connection_named a ds) ≡ cond b (Some c) (connection_named a (cs ++ ds))
+      by true rest = refl
+      by false rest = rest
+
+  -- it is the first part's, or else the second's
+  pub named_before : (cs ds : List (Connection S)) (c : Bor (Connection S)) (found : Option (Bor (Connection S))) → found ≡ Some c → option_copied found ≡ connection_named a cs
+      → Some c.now ≡ connection_named a (cs ++ ds)
+  named_before cs ds c found is named = ap (λ (o : Option (Connection S)). or_else o (connection_named a ds)) (ap option_copied (sym is) ∙ named) ∙ named_parts cs ds
+
+  pub named_after : (cs ds : List (Connection S)) (found other : Option (Bor (Connection S))) → found ≡ None → option_copied found ≡ connection_named a cs
+      → option_copied other ≡ connection_named a ds → option_copied other ≡ connection_named a (cs ++ ds)
+  named_after cs ds found other is named last =
+      last ∙ ap (λ (o : Option (Connection S)). or_else o (connection_named a ds)) (ap option_copied (sym is) ∙ named) ∙ named_parts cs ds
+
+  -- and from a place on
+  pub named_on : (cs : List (Connection S)) (i : ℕ) (c : Connection S) (b : Bool) → i < length cs → c ≡ get_or cs i c → b ≡ bytes_eq c.name a
+      → connection_named a (drop i cs) ≡ cond b (Some c) (connection_named a (drop (i + 1) cs))
+  named_on cs i c b within is first =
+      at_drop_more (λ ds. connection_named a ds) cs i c within
+      ∙ ap (λ (e : Connection S). connection_named a (e ∷ drop (i + 1) cs)) (sym is)
+      ∙ ap (λ (x : Bool). cond x (Some c) (connection_named a (drop (i + 1) cs))) (sym first)

@@ -214,20 +214,7 @@ module _ {S : Type 0} (seen : S → SeatRecord) (front : Front) (m : Told) where
     none = λ is. ap none_seated (besides is) ∙ sym (none_besides ls cs are a apart);
   }
 
--- one whose name is the watched one's counts as nobody, and another's isn't the watched one
 module _ {S : Type 0} (seen : S → SeatRecord) where
-  pub besides_set : (a : List ℕ) (cs : List (Connection S)) (i : ℕ) (c d : Connection S) → bytes_eq (get_or cs i d).name a ≡ true → bytes_eq c.name a ≡ true
-      → desks_besides seen a (set cs i c) ≡ desks_besides seen a cs
-  besides_set a [] i c d was is = refl
-  besides_set a (x ∷ xs) zero c d was is = rw (was, is) refl
-  besides_set a (x ∷ xs) (suc i) c d was is = ap (λ ds. cond (bytes_eq x.name a) ds (with_desk seen x.session ds)) (besides_set a xs i c d was is)
-
-  pub named_set : (a : List ℕ) (cs : List (Connection S)) (i : ℕ) (c d : Connection S) → bytes_eq (get_or cs i d).name a ≡ false → bytes_eq c.name a ≡ false
-      → desk_named seen a (set cs i c) ≡ desk_named seen a cs
-  named_set a [] i c d was is = refl
-  named_set a (x ∷ xs) zero c d was is = rw (was, is) refl
-  named_set a (x ∷ xs) (suc i) c d was is = ap (λ o. cond (bytes_eq x.name a) (option_map (λ (y : SessionRecord S). desk_of seen y.desk) x.session) o) (named_set a xs i c d was is)
-
   -- ---- the whole
 
   -- what is said, by what is open

@@ -1,5 +1,5 @@
 -- Whether a step keeps to the rules of bystanders, over the told state.
-use Rattle.std.proofs.Common.{◌≡◌, ℕ, suc, ◌+◌, ◌*◌, ◌-◌, ◌^◌, ◌<◌, ◌||◌, not, Bool, true, false, List, length, get_or, set, Option, Some, None, Result, Ok, Err, IfOk, refl, sym, ap, ◌∙◌, subst, arith, []}
+use Rattle.std.proofs.Common.{◌≡◌, ℕ, suc, ◌+◌, ◌*◌, ◌-◌, ◌^◌, ◌<◌, ◌||◌, not, Bool, true, false, List, ◌∷◌, ◌++◌, length, get_or, Option, Some, None, Result, Ok, Err, IfOk, refl, sym, ap, ◌∙◌, subst, arith, []}
 use Rattle.std.specs.List.{position}
 use Rattle.std.specs.Str.{bytes_eq}
 use Rattle.std.proofs.lemmas.List.Quantifiers.{position-Some}
@@ -28,13 +28,14 @@ use Rattle.iio_system.specs.Seat.{seen_of}
 use Rattle.iio_system.specs.Standing.{Holds, IsNew, Meets, MeetsFeed, MeetsStep, StandsFor}
 use Rattle.iio_system.specs.Step.{cost_of, step_view}
 use Rattle.iio_system.specs.System.{IsServed}
-use Rattle.iio_system.proofs.BackLaws.{named_there}
+use Rattle.iio_system.proofs.BesideLaws.{besides_between, named_between}
 use Rattle.iio_system.proofs.FedLaws.{begun_line, is_hearing, live_user}
 use Rattle.iio_system.proofs.FeedLaws.{line_there}
-use Rattle.iio_system.proofs.GuardLaws.{besides_set, meets_ended, meets_lost, meets_those, named_set}
+use Rattle.iio_system.proofs.GuardLaws.{meets_ended, meets_lost, meets_those}
 use Rattle.iio_system.proofs.ItemLemmas.{items_few, room_less}
 use Rattle.iio_system.proofs.NameLaws.{is_named, line_at, no_line, none_named}
 use Rattle.iio_system.proofs.NewLaws.{new_begun, new_hearing, new_live}
+use Rattle.iio_system.proofs.SplitLaws.{StandsAt, named_there, there}
 
 module _ {X : Type 0} {V : X → Type 0} (driver : Plug X V → Driver) where
   -- ---- a feed
@@ -62,20 +63,18 @@ module _ {X : Type 0} {V : X → Type 0} (driver : Plug X V → Driver) where
           (is_hearing seen_of s m (front_of b) (Some (machine_of driver b)) cs name bytes l x holds.stands here served (line_there name m.lines l here)
           (room_less _ _ m.stations (omega (arith, items_few l.begun bytes)) room)))
 
-  -- the same, where it is taken out while it is fed
-  pub meets_back : DesksDecide → (b : Bench X V) (cs others : List (Connection Seat)) (i : ℕ) (c hole : Connection Seat) (own : List ℕ) (session : Option (SessionRecord Seat)) (a name bytes : List ℕ) (r : Result Bool Mem)
-      → position (is_named name) cs ≡ Some i → c ≡ get_or cs i c → hole.name ≡ c.name → own ≡ name → session ≡ c.session → others ≡ set cs i hole
-      → IfOk r (MeetsBeside seen_of a own bytes (front_of b) (Some (machine_of driver b)) session others)
+  -- the same, where the others are those before it and those after it: the watched one skips itself, and isn't another
+  pub meets_between : DesksDecide → (b : Bench X V) (cs before : List (Connection Seat)) (c : Connection Seat) (after : List (Connection Seat)) (a name bytes : List ℕ) (r : Result Bool Mem)
+      → StandsAt name cs before c after
+      → IfOk r (MeetsBeside seen_of a c.name bytes (front_of b) (Some (machine_of driver b)) c.session (before ++ after))
       → IfOk r (MeetsFeed driver a name bytes b cs)
-  meets_back decides b cs others i c hole own session a name bytes r at is left named same rest fed =
-      let there : c.name ≡ name = named_there cs i c name at is in
-      let was : (e : Bool) → bytes_eq name a ≡ e → bytes_eq (get_or cs i c).name a ≡ e = λ e h. ap (λ (x : Connection Seat). bytes_eq x.name a) (sym is) ∙ ap (λ (w : List ℕ). bytes_eq w a) there ∙ h in
-      let now : (e : Bool) → bytes_eq name a ≡ e → bytes_eq hole.name a ≡ e = λ e h. ap (λ (w : List ℕ). bytes_eq w a) (left ∙ there) ∙ h in
-      meets_there decides b cs others i c a name bytes r at is
-      (λ other. ap (λ (xs : List (Connection Seat)). desk_named seen_of a xs) rest ∙ named_set seen_of a cs i hole c (was false other) (now false other))
-      (λ mine. ap (λ (xs : List (Connection Seat)). desks_besides seen_of a xs) rest ∙ besides_set seen_of a cs i hole c (was true mine) (now true mine))
-      (subst (λ (o : Option (SessionRecord Seat)). IfOk r (MeetsBeside seen_of a name bytes (front_of b) (Some (machine_of driver b)) o others)) same
-      (subst (λ (n : List ℕ). IfOk r (MeetsBeside seen_of a n bytes (front_of b) (Some (machine_of driver b)) session others)) named fed))
+  meets_between decides b cs before c after a name bytes r at fed =
+      let own : c.name ≡ name = named_there name cs before c after at in
+      let called : (e : Bool) → bytes_eq name a ≡ e → bytes_eq c.name a ≡ e = λ e h. ap (λ (w : List ℕ). bytes_eq w a) own ∙ h in
+      meets_there decides b cs (before ++ after) (length before) c a name bytes r (sym at.place) (there name cs before c after at)
+      (λ other. named_between seen_of a before after c (called false other) ∙ ap (λ (xs : List (Connection Seat)). desk_named seen_of a xs) (sym at.parts))
+      (λ mine. besides_between seen_of a before after c (called true mine) ∙ ap (λ (xs : List (Connection Seat)). desks_besides seen_of a xs) (sym at.parts))
+      (subst (λ (n : List ℕ). IfOk r (MeetsBeside seen_of a n bytes (front_of b) (Some (machine_of driver b)) c.session (before ++ after))) own fed)
 
   -- of one that comes
   pub meets_new : DesksDecide → (b : Bench X V) (cs : List (Connection Seat)) (c : Connection Seat) (a name bytes : List ℕ) (r : Result Bool Mem)

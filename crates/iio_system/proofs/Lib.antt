@@ -34,5 +34,5 @@ pub mod WatchLaws
 pub mod BesideLaws
 pub mod SaidLaws
 pub mod GuardLaws
-pub mod BackLaws
+pub mod SplitLaws
 pub mod GuardedLaws

@@ -1,6 +1,6 @@
 -- What is known while a connection is fed of what the others have open, by the desks of their sessions; and whether what it
 -- says keeps to the rules of bystanders.
-use Rattle.std.specs.Prelude.{◌≡◌, ℕ, ◌&&◌, nat_lt, Bool, true, List, [], ◌∷◌, Option, Some, None, option_map, Ok, if◌then◌else◌}
+use Rattle.std.specs.Prelude.{◌≡◌, ℕ, ◌&&◌, nat_lt, Bool, true, List, [], ◌∷◌, ◌++◌, Option, Some, None, option_map, Ok, if◌then◌else◌}
 use Rattle.std.specs.Borrow.{Bor}
 use Rattle.std.specs.Str.{bytes_eq}
 use Rattle.iio_text.specs.declared.errors.Errno.TheVariants.{EFBIG}
@@ -17,6 +17,7 @@ use Rattle.iio_history.specs.Told.{Told}
 use Rattle.iio_worlds.specs.Stance.{Opens, item_meets, items_meet, opens_by}
 use Rattle.iio_system.specs.declared.connection.Connection.{Connection}
 use Rattle.iio_system.specs.declared.guard.Guard.{Guard}
+use Rattle.iio_system.specs.declared.others.Others.{Others}
 use Rattle.iio_system.specs.declared.seat.Seat.{Seat}
 use Rattle.iio_system.specs.Connection.{IsHearing}
 use Rattle.iio_system.specs.Seat.{seen_of}
@@ -26,6 +27,11 @@ module _ {W : Type 0} (makes : Front → Option Machine → ℕ → Item → W �
   abbrev pub TellsAll : List Item → W → W → Type 0
   TellsAll [] w v = v ≡ w
   TellsAll (item ∷ items) w v = (u : W) × (told : Option Machine) × (who : ℕ) × makes front told who item w u × TellsAll items u v
+
+-- the first connection of that name
+abbrev pub connection_named : {S : Type 0} → List ℕ → List (Connection S) → Option (Connection S)
+connection_named name [] = None
+connection_named name (c ∷ cs) = if bytes_eq c.name name then Some c else connection_named name cs
 
 module _ {S : Type 0} (seen : S → SeatRecord) where
   -- of a connection that is fed a watch is told the items; of one that has ended none
@@ -65,9 +71,13 @@ item_by Exit = End None
 item_by (Write device target count) = if nat_lt MAX_PAYLOAD count then End (Some EFBIG) else Written device target []
 item_by said = Said (Ok said)
 
+-- all connections but one, in their order
+abbrev pub connections_of : Others → List (Connection Seat)
+connections_of x = x.before.now ++ x.after.now
+
 -- what a guard knows to be open
 abbrev pub opens_at : Front → Guard → Opens
-opens_at front x = opens_by front (desk_by seen_of x.own) (desks_besides seen_of x.watched.now x.others.now)
+opens_at front x = opens_by front (desk_by seen_of x.own) (desks_besides seen_of x.watched.now (connections_of x.others))
 
 -- a guard once it was told an item
 abbrev pub guards : Front → Option Machine → (who : ℕ) → Item → Guard → Guard → Type 0

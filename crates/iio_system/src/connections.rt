@@ -1,6 +1,6 @@
 //! The connections of a script at the bench.
 
-ghost use Rattle.std.specs.Prelude.{◌≡◌, ◌<◌, ◌≤◌, true, None, Some, IfOk, OnOk, is_some, length, map, position};
+ghost use Rattle.std.specs.Prelude.{◌≡◌, ◌++◌, ◌<◌, ◌≤◌, true, None, Some, IfOk, OnOk, is_some, length, map, position};
 ghost use Rattle.std.specs.Str.{bytes_eq};
 ghost use Rattle.iio_history.specs.Script.{max_names};
 ghost use Rattle.iio_history.specs.Transcript.{Drop, Feed};
@@ -16,6 +16,7 @@ use crate::bench::Bench;
 use crate::connection::{Connection, feed_at};
 use crate::guard::{Guard, may_end};
 use crate::lines::push_drop;
+use crate::others::Others;
 use crate::seat::Seat;
 use iio_attr::Name;
 use iio_base::Mem;
@@ -122,7 +123,8 @@ fn feed_beside(
     bench: &mut Bench,
     watched: &[u8],
     connection: &mut Connection<Seat>,
-    others: &[Connection<Seat>],
+    before: &[Connection<Seat>],
+    after: &[Connection<Seat>],
     bytes: &[u8],
     answers: &mut Vec<u8>,
     out: &mut Vec<u8>,
@@ -134,8 +136,9 @@ fn feed_beside(
     ensures fed { OnOk result (Feeds seen_of connection.old.name bytes.now (front_of bench.old) (Some (machine_of ⟦<Plug as Sensor>⟧.driver bench.old))
         (Some (machine_of ⟦<Plug as Sensor>⟧.driver bench.new)) out.old.items out.new.items connection.old.session connection.new.session) }
     ensures meets { IfOk result (MeetsBeside seen_of watched.now connection.old.name bytes.now (front_of bench.old)
-        (Some (machine_of ⟦<Plug as Sensor>⟧.driver bench.old)) connection.old.session others.now) }
+        (Some (machine_of ⟦<Plug as Sensor>⟧.driver bench.old)) connection.old.session (before.now ++ after.now)) }
 {
+    let others = Others { before, after };
     let mut watch = Guard::new(watched, &connection.name, others);
     feed_at(alloc, bench, &mut watch, connection, bytes, answers, out)?;
     Ok(watch.meets)
@@ -174,51 +177,12 @@ fn guard_first(
         watched,
         &mut connection,
         connections,
+        &[],
         bytes,
         answers,
         out,
     );
     connections.push_reserved(connection);
-    fed
-}
-
-// The same with one that is there. It is taken out for as long.
-fn guard_there(
-    alloc: Global,
-    bench: &mut Bench,
-    connections: &mut Vec<Connection<Seat>>,
-    at: usize,
-    watched: &[u8],
-    name: &Name,
-    bytes: &[u8],
-    answers: &mut Vec<u8>,
-    out: &mut Vec<u8>,
-) -> Result<bool, Mem>
-    requires at { position (λ c. bytes_eq c.name name.now) connections.old.items ≡ Some at }
-    requires owned { AreOwning seen_of (front_of bench.old) connections.old.items }
-    ensures kept { kept_of bench.new ≡ kept_of bench.old }
-    ensures owned { AreOwning seen_of (front_of bench.new) connections.new.items }
-    ensures count { length connections.new.items ≡ length connections.old.items }
-    ensures names { OnOk result (map name_by connections.new.items ≡ names_with (map name_by connections.old.items) (Feed name.now bytes.now)) }
-    ensures makes { OnOk result (MakesFeed ⟦<Plug as Sensor>⟧.driver name.now bytes.now bench.old bench.new connections.old.items connections.new.items out.old.items out.new.items) }
-    ensures meets { IfOk result (MeetsFeed ⟦<Plug as Sensor>⟧.driver watched.now name.now bytes.now bench.old connections.old.items) }
-{
-    stance_law();
-    let mut connection = Connection {
-        name: name.copy(),
-        session: connections[at].session.take(),
-    };
-    let fed = feed_beside(
-        alloc,
-        bench,
-        watched,
-        &mut connection,
-        connections,
-        bytes,
-        answers,
-        out,
-    );
-    connections[at] = connection;
     fed
 }
 
@@ -244,19 +208,9 @@ pub(crate) fn feed_guarded(
     ensures makes { OnOk result (MakesFeed ⟦<Plug as Sensor>⟧.driver name.now bytes.now bench.old bench.new connections.old.items connections.new.items out.old.items out.new.items) }
     ensures meets { IfOk result (MeetsFeed ⟦<Plug as Sensor>⟧.driver watched.now name.now bytes.now bench.old connections.old.items) }
 {
-    match place(connections, name) {
-        Some(at) => guard_there(
-            alloc,
-            bench,
-            connections,
-            at,
-            watched,
-            name,
-            bytes,
-            answers,
-            out,
-        ),
-        None => guard_first(
+    stance_law();
+    let Some(at) = place(connections, name) else {
+        return guard_first(
             alloc,
             bench,
             connections,
@@ -265,8 +219,15 @@ pub(crate) fn feed_guarded(
             bytes,
             answers,
             out,
-        ),
-    }
+        );
+    };
+    let (before, rest) = connections.split_at_mut(at);
+    let Some((connection, after)) = rest.split_first_mut() else {
+        unreachable!()
+    };
+    feed_beside(
+        alloc, bench, watched, connection, before, after, bytes, answers, out,
+    )
 }
 
 // Closes a session's seats, and ends its holdings of events.
@@ -337,7 +298,7 @@ pub(crate) fn drop_guarded(
     ensures meets { IfOk result (Meets ⟦<Plug as Sensor>⟧.driver watched.now (Drop name.now) bench.old connections.old.items) }
 {
     stance_law();
-    let meets = may_end(connections, watched, name.is(watched));
+    let meets = may_end(&Others::all(connections), watched, name.is(watched));
     drop_named(bench, connections, name, out)?;
     Ok(meets)
 }

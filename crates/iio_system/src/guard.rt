@@ -1,6 +1,6 @@
 //! Whether what a connection says keeps to the rules of bystanders.
 
-ghost use Rattle.std.specs.Prelude.{◌≡◌, ◌∷◌, ◌||◌, [], true, not, Ok, Option};
+ghost use Rattle.std.specs.Prelude.{◌≡◌, ◌||◌, true, not, Ok, Option};
 ghost use Rattle.std.specs.Str.{bytes_eq};
 ghost use Rattle.iiod_grammar.specs.Stream.{Item, Said};
 ghost use Rattle.iiod_grammar.specs.View.{command_view};
@@ -10,11 +10,11 @@ ghost use Rattle.iiod_session.specs.Watch.{IsSeen};
 ghost use Rattle.iio_worlds.specs.Bystanders.{may_say};
 ghost use Rattle.iio_worlds.specs.Stance.{by_number, item_meets, may_part, none_seated, one_seated, opens_by, own_has};
 ghost use Rattle.iio_system.specs.Bench.{front_of};
-ghost use Rattle.iio_system.specs.Guard.{desk_by, desk_named, desks_besides, item_by, opens_at};
+ghost use Rattle.iio_system.specs.Guard.{connections_of, desk_by, desk_named, desks_besides, item_by, opens_at};
 ghost use Rattle.iio_system.specs.Seat.{seen_of};
 
 use crate::bench::Bench;
-use crate::connection::Connection;
+use crate::others::Others;
 use crate::seat::Seat;
 use iio_attr::Name;
 use iiod_grammar::{Command, MAX_PAYLOAD};
@@ -29,19 +29,7 @@ pub(crate) struct Guard<'a> {
     watched: &'a [u8],
     // The session of the watched connection, where it isn't fed.
     own: Option<&'a Session<Seat>>,
-    others: &'a [Connection<Seat>],
-}
-
-// The session of the connection of that name.
-fn session_of<'a>(connections: &'a [Connection<Seat>], name: &[u8]) -> Option<&'a Session<Seat>>
-    ensures { desk_by seen_of result ≡ desk_named seen_of name.now connections.now }
-{
-    for connection in connections {
-        if connection.name.is(name) {
-            return connection.session.as_ref();
-        }
-    }
-    None
+    others: Others<'a>,
 }
 
 // Whether a connection has the device of that number open.
@@ -64,71 +52,21 @@ fn own_has(bench: &Bench, own: Option<&Session<Seat>>, device: &[u8]) -> bool
     }
 }
 
-// Whether a connection of another name has the device of that number open.
-fn other_holds(connection: &Connection<Seat>, watched: &[u8], dev: u32) -> bool
-    ensures { result ≡ one_seated (desks_besides seen_of watched.now (connection.now ∷ [])) dev }
-{
-    if connection.name.is(watched) {
-        return false;
-    }
-    match &connection.session {
-        None => false,
-        Some(session) => session.holds(dev),
-    }
-}
-
-// Whether one of these has.
-fn one_holds(others: &[Connection<Seat>], watched: &[u8], dev: u32) -> bool
-    ensures { result ≡ one_seated (desks_besides seen_of watched.now others.now) dev }
-{
-    for other in others {
-        if other_holds(other, watched, dev) {
-            return true;
-        }
-    }
-    false
-}
-
 // Whether one of these has the device of that name open.
-fn one_has(bench: &Bench, others: &[Connection<Seat>], watched: &[u8], device: &[u8]) -> bool
-    ensures { result ≡ by_number (find_device (front_of bench.now) device.now) (one_seated (desks_besides seen_of watched.now others.now)) }
+fn one_has(bench: &Bench, others: &Others<'_>, watched: &[u8], device: &[u8]) -> bool
+    ensures { result ≡ by_number (find_device (front_of bench.now) device.now) (one_seated (desks_besides seen_of watched.now (connections_of others.now))) }
 {
     match bench.find(device) {
         None => false,
-        Some(dev) => one_holds(others, watched, dev),
+        Some(dev) => others.one_holds(watched, dev),
     }
-}
-
-// Whether a connection of another name has no device open.
-fn other_holds_nothing(connection: &Connection<Seat>, watched: &[u8]) -> bool
-    ensures { result ≡ none_seated (desks_besides seen_of watched.now (connection.now ∷ [])) }
-{
-    if connection.name.is(watched) {
-        return true;
-    }
-    match &connection.session {
-        None => true,
-        Some(session) => session.holds_nothing(),
-    }
-}
-
-// Whether none of these has, but for those of that name.
-fn none_holds(others: &[Connection<Seat>], watched: &[u8]) -> bool
-    ensures { result ≡ none_seated (desks_besides seen_of watched.now others.now) }
-{
-    for other in others {
-        if !other_holds_nothing(other, watched) {
-            return false;
-        }
-    }
-    true
 }
 
 /// Whether the watched connection may do this: it may end where none of the others has a device open.
-pub(crate) fn may_end(others: &[Connection<Seat>], watched: &[u8], ends: bool) -> bool
-    ensures { result ≡ (not ends || none_seated (desks_besides seen_of watched.now others.now)) }
+pub(crate) fn may_end(others: &Others<'_>, watched: &[u8], ends: bool) -> bool
+    ensures { result ≡ (not ends || none_seated (desks_besides seen_of watched.now (connections_of others.now))) }
 {
-    !ends || none_holds(others, watched)
+    !ends || others.none_holds(watched)
 }
 
 // Whether another connection may say this command.
@@ -168,19 +106,14 @@ fn may_say(bench: &Bench, own: Option<&Session<Seat>>, item: &Seen<'_>) -> bool
 }
 
 // Whether the watched connection itself may say this command.
-fn may_leave(
-    bench: &Bench,
-    others: &[Connection<Seat>],
-    watched: &[u8],
-    command: &Command<'_>,
-) -> bool
-    ensures { (own : Option DeskRecord) → result ≡ may_part (opens_by (front_of bench.now) own (desks_besides seen_of watched.now others.now)) (item_by (command_view command.now)) }
+fn may_leave(bench: &Bench, others: &Others<'_>, watched: &[u8], command: &Command<'_>) -> bool
+    ensures { (own : Option DeskRecord) → result ≡ may_part (opens_by (front_of bench.now) own (desks_besides seen_of watched.now (connections_of others.now))) (item_by (command_view command.now)) }
 {
     match *command {
         Command::Close { dev } | Command::Remask { dev, .. } => {
             !one_has(bench, others, watched, dev)
         }
-        Command::Exit => none_holds(others, watched),
+        Command::Exit => others.none_holds(watched),
         Command::Write { count, .. } => may_end(others, watched, count > MAX_PAYLOAD),
         Command::Help
         | Command::Version
@@ -200,12 +133,12 @@ fn may_leave(
 }
 
 // Whether the watched connection itself may say this.
-fn may_part(bench: &Bench, others: &[Connection<Seat>], watched: &[u8], item: &Seen<'_>) -> bool
-    ensures { (own : Option DeskRecord) (x : Item) → IsSeen x item.now → result ≡ may_part (opens_by (front_of bench.now) own (desks_besides seen_of watched.now others.now)) x }
+fn may_part(bench: &Bench, others: &Others<'_>, watched: &[u8], item: &Seen<'_>) -> bool
+    ensures { (own : Option DeskRecord) (x : Item) → IsSeen x item.now → result ≡ may_part (opens_by (front_of bench.now) own (desks_besides seen_of watched.now (connections_of others.now))) x }
 {
     match *item {
         Seen::Refused => true,
-        Seen::TooLong => none_holds(others, watched),
+        Seen::TooLong => others.none_holds(watched),
         Seen::Command(command) => may_leave(bench, others, watched, &command),
     }
 }
@@ -213,18 +146,18 @@ fn may_part(bench: &Bench, others: &[Connection<Seat>], watched: &[u8], item: &S
 impl<'a> Guard<'a> {
     /// A guard that was told nothing yet, of a feed of the connection of that name. Where that isn't the watched one, it is
     /// among the others, if it is there.
-    pub(crate) fn new(watched: &'a [u8], name: &Name, others: &'a [Connection<Seat>]) -> Guard<'a>
+    pub(crate) fn new(watched: &'a [u8], name: &Name, others: Others<'a>) -> Guard<'a>
         ensures meets { result.meets ≡ true }
         ensures mine { result.mine ≡ bytes_eq name.now watched.now }
         ensures watched { result.watched.now ≡ watched.now }
-        ensures own { desk_by seen_of result.own ≡ desk_named seen_of watched.now others.now }
-        ensures others { result.others.now ≡ others.now }
+        ensures own { desk_by seen_of result.own ≡ desk_named seen_of watched.now (connections_of others.entry) }
+        ensures others { result.others ≡ others.entry }
     {
         Guard {
             meets: true,
             mine: name.is(watched),
             watched,
-            own: session_of(others, watched),
+            own: others.session_of(watched),
             others,
         }
     }
@@ -234,7 +167,7 @@ impl<'a> Guard<'a> {
         ensures { (x : Item) → IsSeen x item.now → result ≡ item_meets (opens_at (front_of bench.now) self.now) self.now.mine x }
     {
         if self.mine {
-            return may_part(bench, self.others, self.watched, item);
+            return may_part(bench, &self.others, self.watched, item);
         }
         may_say(bench, self.own, item)
     }

@@ -12,6 +12,7 @@ mod iio;
 mod joining;
 mod lines;
 mod moves;
+mod others;
 mod quoted;
 mod remasking;
 mod seat;

@@ -1,4 +1,4 @@
-use Rattle.std.proofs.Common.{rules, ◌≡◌, [], ◌∷◌, ◌++◌, length, sym, ◌∙◌, subst, ℕ}
+use Rattle.std.proofs.Common.{rules, append-nil, ◌≡◌, [], ◌∷◌, ◌++◌, length, sym, ◌∙◌, subst, ℕ}
 use Rattle.iio_system.specs.Standing.{IsNew}
 use Rattle.iio_system.proofs.GuardedLaws.{meets_new}
 use Rattle.iio_system.proofs.PlayLaws.{feeds_new, front_kept, more_fit, more_owned, names_new, on_ok}
@@ -34,6 +34,6 @@ returns-clause-makes g c =
 pub returns-clause-meets : goal.returns-clause-meets
 returns-clause-meets g c =
     let many : c.len.result ≡ length c.args.connections.now.items = search rules in
-    let others : c.deref.result.now ≡ c.args.connections.now.items = search rules in
+    let others : c.deref.result.now ++ [] ≡ c.args.connections.now.items = append-nil c.deref.result.now ∙ search rules in
     meets_new _ c.stance_law.ensures.desks c.args.bench.now c.args.connections.now.items c.in_ok-connection.connection c.args.watched.now c.args.name.now c.args.bytes.now c.feed_beside-fed.result
     c.requires.absent (subst (λ (n : ℕ). IsNew c.args.name.now n c.in_ok-connection.connection) many c.in_ok-connection.ensures) (rw others at c.feed_beside-fed.ensures.meets)

@@ -1,7 +1,7 @@
 use Rattle.std.proofs.Common.{sym, ◌∙◌}
 use Rattle.iio_system.specs.Seat.{seen_of}
 use Rattle.iio_system.proofs.BesideLaws.{ended_seated, held_is, live_seated, same_seated}
-use Rattle.iio_system.proofs.guard.other_holds.Goals as goal
+use Rattle.iio_system.proofs.others.other_holds.Goals as goal
 
 pub returns-then-is : goal.returns-then-is
 returns-then-is c = same_seated seen_of c.args.watched.now c.args.connection.now c.args.dev (sym c.is.ensures ∙ c.if-is.true)

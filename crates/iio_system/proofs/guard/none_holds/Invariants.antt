@@ -1,8 +1,0 @@
-use Rattle.std.proofs.Common.{◌≡◌, drop}
-use Rattle.iio_worlds.specs.Stance.{none_seated}
-use Rattle.iio_system.specs.Guard.{desks_besides}
-use Rattle.iio_system.specs.Seat.{seen_of}
-use Rattle.iio_system.proofs.guard.none_holds.Given as goal
-
-abbrev pub invariant-loop-other : goal.invariant-loop-other
-invariant-loop-other l = none_seated (desks_besides seen_of l.watched (drop l.other-index l.others)) ≡ none_seated (desks_besides seen_of l.watched l.others)
