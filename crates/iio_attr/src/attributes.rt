@@ -7,7 +7,7 @@ ghost use Rattle.iio_attr.specs.Table.{is_row, find_row};
 
 use Access::{ReadOnly, Stored, Switch};
 use Scope::{Buffer, Channel, Device};
-use iio_text::{Errno, Fixed, Form, read_fixed};
+use iio_text::{Errno, Fixed, Form, is_word, read_fixed};
 
 /// What an attribute belongs to.
 #[derive(Clone, Copy, Debug, PartialEq, Eq)]
@@ -113,7 +113,7 @@ static TABLE: [Row; 15] = [
 fn is_row(row: &Row, scope: Scope, name: &[u8]) -> bool
     ensures { result ≡ is_row row.now scope name.now }
 {
-    row.1 == scope && row.2 == name
+    row.1 == scope && is_word(name, row.2)
 }
 
 // The attribute of the first row of that name in that scope.

@@ -31,6 +31,7 @@ impl Sensor for Plug {
         }
     }
 
+    #[inline(always)]
     fn raw(&mut self, shape: &Shape, c: u32, t: i64) -> Result<i64, Fault> {
         match self {
             Plug::Own(recorded) => recorded.raw(shape, c, t),

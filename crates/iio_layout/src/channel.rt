@@ -96,6 +96,7 @@ fn write_suffix(out: &mut Vec<u8>, suffix: Suffix) -> Result<(), Mem>
 
 /// The ID that a text spells: the word of a kind, and after it nothing, a number from 0 to 65535 without leading
 /// zeros, or `_x`, `_y`, `_z`. `None` comes exactly where it spells none.
+#[inline(always)]
 pub fn read_id(text: &[u8]) -> Option<(Kind, Suffix)>
     ensures value { result ≡ id_of text.now }
     ensures spelled { IfSome result (λ id. text.now ≡ id_text id.0 id.1) }

@@ -78,6 +78,7 @@ impl Sensor for Recorded {
         Ok(())
     }
 
+    #[inline(always)]
     fn raw(&mut self, shape: &Shape, c: u32, t: i64) -> Result<i64, Fault> {
         self.asks.count();
         self.come = come_near(&self.rows.moments, self.come, t);

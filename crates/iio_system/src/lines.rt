@@ -261,7 +261,8 @@ pub(crate) fn push_feed(out: &mut Vec<u8>, name: &Name, answers: &[u8]) -> Resul
 {
     push_feed_head(out, name)?;
     escape_to(out, answers)?;
-    out.extend_from_slice(b"\"\n")?;
+    out.push(b'"')?;
+    out.push(b'\n')?;
     Ok(())
 }
 

@@ -17,7 +17,7 @@ pub use crate::decimals::{print_fixed, read_fixed};
 pub use crate::errors::Errno;
 pub use crate::escapes::{between_quotes, escape, escape_to, unescape, unescape_into};
 pub use crate::faults::{LineFault, Unescape};
-pub use crate::lines::{MAX_LINE_BYTES, first_word, fits_line, line_len, next_line};
+pub use crate::lines::{MAX_LINE_BYTES, copy_line, first_word, fits_line, line_len, next_line};
 pub use crate::numbers::{read_int, read_number};
 pub use crate::refusals::{Why, ensure};
 pub use crate::values::{Fixed, Form};

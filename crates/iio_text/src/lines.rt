@@ -1,12 +1,13 @@
 //! The lines of a text, and the checks that come before all others.
 
-ghost use Rattle.std.specs.Prelude.{◌≡◌, ◌+◌, ◌<◌, ◌≤◌, ◌↔◌, [], ◌∷◌, length, Ok, IsNone, IfSome, IfNone, IfOk, IfErr, Err};
+ghost use Rattle.std.specs.Prelude.{◌≡◌, ◌+◌, ◌<◌, ◌≤◌, ◌↔◌, [], ◌∷◌, length, take, Ok, IsNone, IfSome, IfNone, IfOk, IfErr, Err};
 ghost use Rattle.std.specs.List.{list_all, position_or_len};
 ghost use Rattle.std.specs.Simd.Lanes.{chunk};
 ghost use Rattle.iio_text.specs.Words.{words_of, is_space, IsFirstWord};
 ghost use Rattle.iio_text.specs.Lines.{is_line_end, lines_of, is_printable, fits_line, is_comment, words_of_line};
 
 use crate::refusals::{Why, ensure};
+use crate::runs::{ByteTest, copy_before};
 use crate::words::next_word;
 use memchr::memchr;
 use std::simd::prelude::*;
@@ -29,6 +30,37 @@ pub fn line_len(text: &[u8]) -> usize
         Some(len) => len,
         None => text.len(),
     }
+}
+
+// Whether a byte ends a line.
+#[derive(Drop)]
+struct LineEnd;
+
+impl ByteTest for LineEnd {
+    ghost passes = { λ _ byte. is_line_end byte };
+
+    #[inline(always)]
+    fn passes_at(&self, byte: u8) -> bool {
+        byte == b'\n'
+    }
+
+    #[inline(always)]
+    fn passing_in_lanes(&self, text: &[u8], place: usize) -> u64 {
+        let lanes = u8x16::from_slice(&text[place..]);
+        lanes.simd_eq(u8x16::splat(b'\n')).to_bitmask()
+    }
+}
+
+/// Copies the bytes of a text before its first LF, or all where it has none, to the front of a room, and answers how many
+/// these are.
+#[inline]
+pub fn copy_line(text: &[u8], room: &mut [u8]) -> usize
+    requires { length text.now ≤ length room.old }
+    ensures within { result ≤ length text.now }
+    ensures value { result ≡ position_or_len is_line_end text.now }
+    ensures copied { take result room.new ≡ take result text.now }
+{
+    copy_before(&LineEnd, text, room)
 }
 
 /// Takes the first line, without its LF, off a text, and gives the text after it too. LF ends a line, and a last line

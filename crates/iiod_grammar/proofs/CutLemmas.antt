@@ -1,9 +1,11 @@
 -- The first piece of bytes that were begun and further ones.
-use Rattle.std.proofs.Common.{◌≡◌, ℕ, ◌+◌, ◌-◌, ◌<◌, ◌≤◌, ◌==◌, not, true, List, [], ◌∷◌, ◌++◌, length, take, get_or, Some, None, refl, sym, ap, ◌∙◌, arith, length-append}
+use Rattle.std.proofs.Common.{◌≡◌, ℕ, ◌+◌, ◌-◌, ◌<◌, ◌≤◌, ◌==◌, Bool, not, cond, true, false, zero, suc, List, [], ◌∷◌, ◌++◌, length, take, drop, get_or, Some, None, refl, sym, ap, subst, ◌∙◌, inl, inr, arith, length-append}
 use Rattle.std.specs.List.{position_or_len}
-use Rattle.std.proofs.lemmas.Bool.{and_parts, lt-ltb, le-ltb, le-leb, leb-true, eq-eqb}
+use Rattle.std.proofs.lemmas.Bool.{cases_lt, and_parts, lt-ltb, le-ltb, le-leb, leb-true, eq-eqb}
+use Rattle.std.proofs.lemmas.List.{take_all, take-append-drop}
 use Rattle.std.proofs.lemmas.List.Folds.{prefix_len-append}
 use Rattle.std.proofs.Math.Seq.{take-append-add}
+use Rattle.iio_text.proofs.RunLemmas.{place_front}
 use Rattle.iiod_grammar.specs.Command.{without_returns}
 use Rattle.iiod_grammar.specs.Lines.{is_lf, cut, NotYet, WholeLine, WholePayload, Overlong, is_begun}
 
@@ -56,3 +58,26 @@ line_blank begun bytes none some lf = rw none (line_whole [] bytes 0 refl (first
 
 pub line_begun : (begun : List ℕ) → is_begun None begun ≡ true → length begun ≤ 1024
 line_begun begun h = leb-true (length begun) 1024 (and_parts _ _ h).1
+
+-- ---- the first LF among the first bytes
+
+front_step : (t : Bool) (n m k : ℕ) → cond (not t) (1 + n) 0 < suc k → (n < k → m ≡ n) → cond (not t) (1 + m) 0 ≡ cond (not t) (1 + n) 0
+front_step true n m k h more = refl
+front_step false n m k h more = let e = more (omega arith) in omega arith
+
+front_short : (xs : List ℕ) (n : ℕ) → position_or_len is_lf (take n xs) < n → position_or_len is_lf xs ≡ position_or_len is_lf (take n xs)
+front_short [] zero h = absurd (omega arith)
+front_short [] (suc n) h = refl
+front_short (x ∷ xs) zero h = absurd (omega arith)
+front_short (x ∷ xs) (suc n) h = front_step (is_lf x) (position_or_len is_lf (take n xs)) (position_or_len is_lf xs) n h (front_short xs n)
+
+-- where it isn't after them, or they are all
+pub front_place : (xs : List ℕ) (n end : ℕ) → end ≡ position_or_len is_lf (take n xs) → (n ≤ end → length xs ≤ n) → position_or_len is_lf xs ≡ end
+front_place xs n end is more = elim (cases_lt end n) [
+  | inl short ↦ front_short xs n (omega (arith, is, short)) ∙ sym is
+  | inr past ↦ ap (position_or_len is_lf) (sym (take_all n xs (more past))) ∙ sym is
+]
+
+-- it is never after the first one of all
+pub front_before : (xs : List ℕ) (n : ℕ) → position_or_len is_lf (take n xs) ≤ position_or_len is_lf xs
+front_before xs n = subst (λ (t : List ℕ). position_or_len is_lf (take n xs) ≤ position_or_len is_lf t) (take-append-drop n xs) (place_front is_lf (take n xs) (drop n xs))

@@ -3,6 +3,7 @@
 
 mod blanks;
 mod command;
+mod kept;
 mod line;
 mod lines;
 mod stream;

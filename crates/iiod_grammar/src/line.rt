@@ -317,7 +317,7 @@ fn read_write_buffer<'a>(words: &mut Words<'a>) -> Result<Command<'a>, Refused>
 /// elsewhere is a byte of a word. Numbers have one to ten digits, leading zeros allowed, and are at most 4,294,967,295.
 ///
 /// Of several refusals the first in the order of [`Refused`] is the answer.
-#[inline]
+#[inline(always)]
 pub fn read_line(line: &[u8]) -> Result<Command<'_>, Refused>
     ensures { line_view result ≡ command_of line.now }
 {

@@ -7,9 +7,9 @@ ghost use Rattle.iiod_grammar.specs.Taking.{Takes};
 ghost use Rattle.iiod_grammar.specs.declared.lines.Ready.{Ready};
 ghost use Rattle.iiod_grammar.specs.declared.lines.TheConstants.{MAX_PAYLOAD};
 
+use crate::kept::Kept;
 use crate::line::len_without_returns;
 use iio_base::Mem;
-use iio_text::line_len;
 use std::alloc::Global;
 use std::marker::Model;
 
@@ -36,7 +36,7 @@ pub enum Ready {
 #[derive(Debug, Drop)]
 pub struct Lines {
     // The bytes of the piece that isn't whole, or the whole piece.
-    kept: Vec<u8>,
+    kept: Kept,
     is_whole: bool,
     wanted: Option<u32>,
     overlong: bool,
@@ -50,13 +50,13 @@ impl Model for Lines {
     ghost Value = { LinesRecord };
 
     ghost view = { λ x. record {
-      begun = if x.is_whole then [] else x.kept.items;
+      begun = if x.is_whole then [] else x.kept;
       wanted = x.wanted;
-      piece = if x.is_whole then x.kept.items else [];
+      piece = if x.is_whole then x.kept else [];
       overlong = x.overlong;
     } };
 
-    ghost invariant = { λ x. (MAX_PAYLOAD ≤ vec_capacity x.kept) × (is_begun x.wanted (if x.is_whole then [] else x.kept.items) ≡ true) };
+    ghost invariant = { λ x. is_begun x.wanted (if x.is_whole then [] else x.kept) ≡ true };
 }
 
 impl Lines {
@@ -66,7 +66,7 @@ impl Lines {
         ensures { IfOk result (λ lines. lines ≡ new_lines) }
     {
         Ok(Lines {
-            kept: Vec::with_capacity(alloc, MAX_PAYLOAD as usize)?,
+            kept: Kept::new(alloc)?,
             is_whole: false,
             wanted: None,
             overlong: false,
@@ -75,6 +75,7 @@ impl Lines {
 
     /// Takes bytes up to the end of one piece, and says how many it took and what is ready. The bytes of a piece that isn't
     /// whole are kept, so it doesn't matter how the stream is cut. A payload of no bytes is ready at once.
+    #[inline(always)]
     pub fn feed(&mut self, bytes: &[u8]) -> (usize, Ready)
         ensures taken { result.0 ≡ (feed_of self.old bytes.now).taken }
         ensures ready { result.1 ≡ (feed_of self.old bytes.now).ready }
@@ -94,7 +95,11 @@ impl Lines {
     pub fn piece(&self) -> &[u8]
         ensures { result.now ≡ self.now.piece }
     {
-        if self.is_whole { &self.kept } else { b"" }
+        if self.is_whole {
+            self.kept.bytes()
+        } else {
+            b""
+        }
     }
 
     /// Says that the next piece is a payload of `count` bytes. No bytes of that piece were fed yet.
@@ -118,7 +123,7 @@ impl Lines {
             return (0, Ready::TooLong);
         }
         if self.is_whole {
-            self.kept.clear();
+            self.kept.truncate(0);
             self.is_whole = false;
         }
         let (taken, ready) = match self.wanted {
@@ -137,57 +142,46 @@ impl Lines {
     }
 }
 
-// Appends bytes in the room that is there for them.
-fn keep(kept: &mut Vec<u8>, bytes: &[u8])
-    requires { length kept.old.items + length bytes.now ≤ vec_capacity kept.old }
-    ensures items { kept.new.items ≡ kept.old.items ++ bytes.now }
-    ensures room { vec_capacity kept.old ≤ vec_capacity kept.new }
-{
-    let _ = kept.extend_from_slice(bytes);
-}
-
 // Takes bytes to those of a line.
-fn take_line(kept: &mut Vec<u8>, bytes: &[u8]) -> (usize, Ready)
-    requires begun { is_begun None kept.old.items ≡ true }
-    requires room { MAX_PAYLOAD ≤ vec_capacity kept.old }
-    ensures takes { Takes None kept.old.items bytes.now result.0 result.1 kept.new.items }
+fn take_line(kept: &mut Kept, bytes: &[u8]) -> (usize, Ready)
+    requires begun { is_begun None kept.old ≡ true }
+    ensures takes { Takes None kept.old bytes.now result.0 result.1 kept.new }
     ensures within { result.0 ≤ length bytes.now }
     ensures some { result.1 ≡ Ready.Line → 0 < result.0 }
-    ensures room { MAX_PAYLOAD ≤ vec_capacity kept.new }
 {
     if bytes.is_empty() {
         return (0, Ready::More);
     }
-    if kept.is_empty() && bytes[0] == b'\n' {
+    let begun = kept.len();
+    if begun == 0 && bytes[0] == b'\n' {
         return (1, Ready::Line);
     }
-    let end = line_len(bytes);
-    if kept.len() + end > MAX_LINE {
+    let looked_at = bytes.len().min(MAX_LINE + 1 - begun);
+    let end = kept.keep_line(&bytes[..looked_at]);
+    if begun + end > MAX_LINE {
+        kept.truncate(begun);
         return (0, Ready::TooLong);
     }
-    keep(kept, &bytes[..end]);
     if end == bytes.len() {
         return (end, Ready::More);
     }
-    let len = len_without_returns(kept);
+    let len = len_without_returns(kept.bytes());
     kept.truncate(len);
     (end + 1, Ready::Line)
 }
 
 // Takes bytes to those of a payload of `count` bytes.
-fn take_payload(kept: &mut Vec<u8>, count: u32, bytes: &[u8]) -> (usize, Ready)
-    requires begun { is_begun (Some count) kept.old.items ≡ true }
-    requires room { MAX_PAYLOAD ≤ vec_capacity kept.old }
-    ensures takes { Takes (Some count) kept.old.items bytes.now result.0 result.1 kept.new.items }
+fn take_payload(kept: &mut Kept, count: u32, bytes: &[u8]) -> (usize, Ready)
+    requires begun { is_begun (Some count) kept.old ≡ true }
+    ensures takes { Takes (Some count) kept.old bytes.now result.0 result.1 kept.new }
     ensures within { result.0 ≤ length bytes.now }
     ensures some { result.1 ≡ Ready.Line → 0 < result.0 }
-    ensures room { MAX_PAYLOAD ≤ vec_capacity kept.new }
 {
     let missing = count as usize - kept.len();
     if bytes.len() < missing {
-        keep(kept, bytes);
+        kept.keep(bytes);
         return (bytes.len(), Ready::More);
     }
-    keep(kept, &bytes[..missing]);
+    kept.keep(&bytes[..missing]);
     (missing, Ready::Payload)
 }

@@ -124,7 +124,9 @@ pub fn block_closing(came: usize, asked: u32, out: &mut Vec<u8>) -> Result<(), M
     ensures room { FitsInRoom (closing_text came asked) out.old.items (vec_capacity out.old) result }
     ensures capacity { vec_capacity out.old ≤ vec_capacity out.new }
 {
-    out.extend_from_slice(closing(came, asked))?;
+    let closing = closing(came, asked);
+    out.reserve(closing.len())?;
+    append(closing, out);
     Ok(())
 }
 
@@ -209,11 +211,31 @@ fn remove(out: &mut Vec<u8>, at: usize, count: usize)
     out.truncate(out.len() - count);
 }
 
+// The most bytes that are few: a call that copies them would cost more than they do.
+const FEW: usize = 4;
+
 // Appends bytes in the room that is there for them.
+#[inline(always)]
 fn append(bytes: &[u8], out: &mut Vec<u8>)
     requires { length out.old.items + length bytes.now ≤ vec_capacity out.old }
     ensures items { out.new.items ≡ out.old.items ++ bytes.now }
     ensures room { vec_capacity out.old ≤ vec_capacity out.new }
 {
-    let _ = out.extend_from_slice(bytes);
+    if bytes.len() <= FEW {
+        append_each(bytes, out);
+    } else {
+        let _ = out.extend_from_slice(bytes);
+    }
+}
+
+// Appends bytes one by one in the room that is there for them.
+#[inline(always)]
+fn append_each(bytes: &[u8], out: &mut Vec<u8>)
+    requires { length out.old.items + length bytes.now ≤ vec_capacity out.old }
+    ensures items { out.new.items ≡ out.old.items ++ bytes.now }
+    ensures room { vec_capacity out.old ≤ vec_capacity out.new }
+{
+    for byte in bytes {
+        out.push_reserved(*byte);
+    }
 }

@@ -131,13 +131,33 @@ pub(crate) fn finish(manner: Manner, no: No, out: &mut Vec<u8>) -> Result<Perfor
     Ok(Performed::Done)
 }
 
+// The most bytes that are few: a call that copies them would cost more than they do.
+const FEW: usize = 4;
+
 // Appends bytes in the room that is there for them.
+#[inline(always)]
 fn append(bytes: &[u8], out: &mut Vec<u8>)
     requires { length out.old.items + length bytes.now ≤ vec_capacity out.old }
     ensures items { out.new.items ≡ out.old.items ++ bytes.now }
     ensures room { vec_capacity out.old ≤ vec_capacity out.new }
 {
-    let _ = out.extend_from_slice(bytes);
+    if bytes.len() <= FEW {
+        append_each(bytes, out);
+    } else {
+        let _ = out.extend_from_slice(bytes);
+    }
+}
+
+// Appends bytes one by one in the room that is there for them.
+#[inline(always)]
+fn append_each(bytes: &[u8], out: &mut Vec<u8>)
+    requires { length out.old.items + length bytes.now ≤ vec_capacity out.old }
+    ensures items { out.new.items ≡ out.old.items ++ bytes.now }
+    ensures room { vec_capacity out.old ≤ vec_capacity out.new }
+{
+    for byte in bytes {
+        out.push_reserved(*byte);
+    }
 }
 
 // A text that is a line of its own. After `Mem`, `out` is unchanged.

@@ -20,6 +20,7 @@ mod targets;
 mod triggers;
 mod wanted;
 mod watch;
+mod word;
 
 pub use desk::{FIRST_BUFFERS, MAX_BUFFERS};
 pub use iio::{Bells, Counts, Iio, No, Took, no_of, remask_no};

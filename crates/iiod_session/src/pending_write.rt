@@ -4,6 +4,7 @@ ghost use Rattle.std.specs.Prelude.{◌≡◌, option_map, OnOk};
 ghost use Rattle.iiod_grammar.specs.View.{place_view, target_view};
 ghost use Rattle.iiod_session.specs.PendingWrite.{PendingRecord, place_by, target_of_parts};
 
+use crate::word::Word;
 use iio_base::Mem;
 use iiod_grammar::Place;
 use std::alloc::Global;
@@ -23,12 +24,12 @@ pub(crate) enum PlaceKind {
 /// after another.
 #[derive(Drop)]
 pub(crate) struct PendingWrite {
-    device: Vec<u8>,
+    device: Word,
     // None where the words name nothing.
     kind: Option<PlaceKind>,
-    channel: Vec<u8>,
+    channel: Word,
     has_attribute: bool,
-    attribute: Vec<u8>,
+    attribute: Word,
     // The bytes that a READBUF asks for.
     asked: u32,
 }
@@ -39,8 +40,8 @@ impl Model for PendingWrite {
     ghost Value = { PendingRecord };
 
     ghost view = { λ x. record {
-      device = x.device.items;
-      target = target_of_parts x.kind x.channel.items x.has_attribute x.attribute.items;
+      device = x.device;
+      target = target_of_parts x.kind x.channel x.has_attribute x.attribute;
       asked = x.asked;
     } };
 }
@@ -71,24 +72,15 @@ fn join_place(kind: PlaceKind, channel: &[u8]) -> Place<'_>
     }
 }
 
-// Puts a word into a room, in place of the one that stood there.
-fn replace(room: &mut Vec<u8>, word: &[u8]) -> Result<(), Mem>
-    ensures { OnOk result (room.new.items ≡ word.now) }
-{
-    room.clear();
-    room.extend_from_slice(word)?;
-    Ok(())
-}
-
 impl PendingWrite {
     /// No command yet.
     pub(crate) fn new(alloc: Global) -> PendingWrite {
         PendingWrite {
-            device: Vec::new(alloc),
+            device: Word::new(alloc),
             kind: None,
-            channel: Vec::new(alloc),
+            channel: Word::new(alloc),
             has_attribute: false,
-            attribute: Vec::new(alloc),
+            attribute: Word::new(alloc),
             asked: 0,
         }
     }
@@ -101,23 +93,23 @@ impl PendingWrite {
     ) -> Result<(), Mem>
         ensures { OnOk result (self.new ≡ record { device = device.now; target = option_map target_view target.entry; asked = self.old.asked }) }
     {
-        replace(&mut self.device, device)?;
+        self.device.set(device)?;
         let Some((place, attribute)) = target else {
             self.kind = None;
             return Ok(());
         };
         let (kind, channel) = split_place(place);
         self.kind = Some(kind);
-        replace(&mut self.channel, channel)?;
+        self.channel.set(channel)?;
         self.has_attribute = attribute.is_some();
-        replace(&mut self.attribute, attribute.unwrap_or(b""))
+        self.attribute.set(attribute.unwrap_or(b""))
     }
 
     /// Keeps what a READBUF asks for.
     pub(crate) fn keep_read(&mut self, device: &[u8], asked: u32) -> Result<(), Mem>
         ensures { OnOk result ((self.new.device ≡ device.now) × (self.new.asked ≡ asked)) }
     {
-        replace(&mut self.device, device)?;
+        self.device.set(device)?;
         self.asked = asked;
         Ok(())
     }
@@ -133,7 +125,7 @@ impl PendingWrite {
     pub(crate) fn device(&self) -> &[u8]
         ensures { result.now ≡ self.now.device }
     {
-        &self.device
+        self.device.bytes()
     }
 
     /// What is to be written.
@@ -144,10 +136,10 @@ impl PendingWrite {
             return None;
         };
         let attribute = if self.has_attribute {
-            Some(self.attribute.as_slice())
+            Some(self.attribute.bytes())
         } else {
             None
         };
-        Some((join_place(kind, &self.channel), attribute))
+        Some((join_place(kind, self.channel.bytes()), attribute))
     }
 }

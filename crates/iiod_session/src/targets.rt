@@ -70,6 +70,7 @@ pub(crate) fn is_of_buffer(place: Place<'_>, name: Option<&[u8]>) -> bool
 
 /// What READ names. `ENODEV` comes where the device is unplugged, and `EBADF` where a buffer's attribute is named and the
 /// connection doesn't have the device open; where it has, a buffer's attribute is found also if the device is unplugged.
+#[inline(always)]
 pub(crate) fn found(
     shape: &Shape,
     is_plugged: bool,
@@ -80,16 +81,16 @@ pub(crate) fn found(
     ensures { named_view result ≡ found shape.now is_plugged is_open (place_view place.entry) (option_copied name.entry) }
 {
     let of_buffer = is_of_buffer(place, name);
-    if of_buffer && is_open {
-        return named_at(shape, place, name);
+    if !(of_buffer && is_open) {
+        ensure(is_plugged, Errno::ENODEV)?;
+        ensure(!of_buffer, Errno::EBADF)?;
     }
-    ensure(is_plugged, Errno::ENODEV)?;
-    ensure(!of_buffer, Errno::EBADF)?;
     named_at(shape, place, name)
 }
 
 /// What WRITE sets, and to which value. `ENODEV` comes where the device is unplugged, then the refusals of [`found`], then
 /// those of [`check`].
+#[inline(always)]
 pub(crate) fn write_found(
     shape: &Shape,
     is_plugged: bool,

@@ -28,7 +28,8 @@ returns-in-Read-clause-served g c =
     rw c.in-Read.is
     (by_text _ _ _ _ _ _ _ _ c.read_attribute_at.result c.read_attribute_at.ensures.text
     (serves_read_attribute _ _ _ _ _ _ _ _ _ _ c.in-Some.dev _ here c.read_attribute_at.ensures.told c.read_attribute_at.ensures.same c.read_attribute_at.ensures.tales
-    (text_formed _ c.in-Read.dev.now (place_view c.in-Read.place) (option_copied c.in-Read.attr) c.read_attribute_at.result c.read_attribute_at.ensures.text)))
+    (text_formed _ c.in-Read.dev.now (place_view c.in-Read.place) (option_copied c.in-Read.attr)
+    c.read_attribute_at.result c.read_attribute_at.ensures.text)))
 
 pub returns-in-Read-clause-fits : goal.returns-in-Read-clause-fits
 returns-in-Read-clause-fits g c = text_fits c.read_attribute_at.result c.read_attribute_at.ensures.text

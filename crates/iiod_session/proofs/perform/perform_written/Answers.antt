@@ -8,8 +8,12 @@ use Rattle.iiod_session.proofs.perform.perform_written.Goals as goal
 
 pub returns-then-is_err-clause-served : goal.returns-then-is_err-clause-served
 returns-then-is_err-clause-served g c =
+    let device = c.args.device.now in
+    let target = option_map target_view c.args.target in
+    let payload = c.args.payload.now in
+    let short = short_written _ (desk_of g.I.Iio.seen c.args.desk.now) device target payload in
     finished _ _ _ _ _ _ _ _ _ _ _ _ _
-    (serves_short _ _ _ _ (Written c.args.device.now (option_map target_view c.args.target) c.args.payload.now) (short_written _ (desk_of g.I.Iio.seen c.args.desk.now) c.args.device.now (option_map target_view c.args.target) c.args.payload.now) (refl, refl))
+    (serves_short _ _ _ _ (Written device target payload) short (refl, refl))
     c.finish.ensures.done (rw c.reserve.ensures.items at c.finish.ensures.text) c.finish.ensures.allowed tt
 
 pub returns-clause-served : goal.returns-clause-served
