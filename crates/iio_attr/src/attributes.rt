@@ -20,7 +20,7 @@ pub enum Scope {
     Buffer,
 }
 
-/// An attribute. The names are those of the kernel's sysfs-bus-iio, but `Overruns`.
+/// An attribute. The names are those of the kernel's sysfs-bus-iio, but `Overruns`, `Discarded` and `Underruns`.
 #[derive(Clone, Copy, Debug, PartialEq, Eq)]
 pub enum Attr {
     /// The device's name.
@@ -53,6 +53,8 @@ pub enum Attr {
     Length,
     /// How many scans were discarded by exchanges of the mask.
     Discarded,
+    /// How often an output device was due and no scan waited for it.
+    Underruns,
 }
 
 /// What may be written to an attribute.
@@ -71,7 +73,7 @@ enum Access {
 struct Row(Attr, Scope, &'static [u8], Access);
 
 // The attributes, in the order of `Attr`.
-static TABLE: [Row; 15] = [
+static TABLE: [Row; 16] = [
     Row(Attr::Name, Device, b"name", ReadOnly),
     Row(
         Attr::SamplingFrequency,
@@ -107,6 +109,7 @@ static TABLE: [Row; 15] = [
     Row(Attr::DataAvailable, Buffer, b"data_available", ReadOnly),
     Row(Attr::Length, Buffer, b"length", ReadOnly),
     Row(Attr::Discarded, Buffer, b"discarded", ReadOnly),
+    Row(Attr::Underruns, Buffer, b"underruns", ReadOnly),
 ];
 
 // Whether a row is the one of that name in that scope.

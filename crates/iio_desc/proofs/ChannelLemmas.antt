@@ -1,5 +1,5 @@
 -- A channel more.
-use Rattle.std.proofs.Common.{◌≡◌, ◌+◌, Bool, true, false, List, [], ◌∷◌, ◌++◌, length, get_or, AllPairs, sum_by, Option, Some, None, is_none, ◌&&◌, ◌==◌, refl, ap, ◌∙◌, zero-add}
+use Rattle.std.proofs.Common.{◌≡◌, ℕ, ◌+◌, Bool, true, false, List, [], ◌∷◌, ◌++◌, length, get_or, AllPairs, sum_by, Option, Some, None, is_none, ◌&&◌, ◌==◌, refl, ap, ◌∙◌, zero-add}
 use Rattle.std.proofs.Math.Dec.{eqb-suc-zero}
 use Rattle.std.proofs.lemmas.Bool.{false≢true}
 use Rattle.std.proofs.lemmas.List.Sums.{sum_by-append}
@@ -9,10 +9,14 @@ use Rattle.iio_scan_type.specs.declared.Endian.{Endian}
 use Rattle.iio_scan_type.specs.Format.{Format}
 use Rattle.iio_layout.specs.declared.channel.Kind.{Kind}
 use Rattle.iio_layout.specs.declared.channel.Suffix.{Suffix}
-use Rattle.iio_layout.specs.declared.channel.Direction.TheVariants.{Input}
+use Rattle.iio_layout.specs.declared.channel.Direction.{Direction}
 use Rattle.iio_layout.specs.declared.channel.Channel.{Channel}
 use Rattle.iio_layout.specs.Id.{same_id}
 use Rattle.iio_layout.specs.Shape.{id_at, same_channel}
+use Rattle.iio_text.specs.Words.{two_of}
+use Rattle.iio_layout.specs.Id.{id_of}
+use Rattle.iio_scan_type.specs.Text.{type_of}
+use Rattle.iio_desc.specs.DeviceLines.{channel_added, channel_line, has_id}
 use Rattle.iio_desc.specs.PartialDevice.{PartialDevice, has_only_channels}
 use Rattle.iio_desc.proofs.ListLemmas.{none_at}
 
@@ -21,11 +25,11 @@ other_channel : (a c : Channel) → same_id (id_at a) (id_at c) ≡ false → sa
 other_channel a c h = rw h refl
 
 -- channels stay distinct with one more that has an ID of its own
-pub distinct_push : (channels : List Channel) (id : Kind × Suffix) (ty : Format) → AllPairs (λ (a b : Channel). same_channel a b ≡ false) channels
+pub distinct_push : (channels : List Channel) (id : Kind × Suffix) (direction : Direction) (ty : Format) → AllPairs (λ (a b : Channel). same_channel a b ≡ false) channels
     → list_any (λ c. same_id (id_at c) id) channels ≡ false
-    → AllPairs (λ (a b : Channel). same_channel a b ≡ false) (channels ++ (record { kind = id.0; suffix = id.1; direction = Input; ty = ty }) ∷ [])
-distinct_push channels id ty distinct own =
-    let new : Channel = record { kind = id.0; suffix = id.1; direction = Input; ty = ty } in
+    → AllPairs (λ (a b : Channel). same_channel a b ≡ false) (channels ++ (record { kind = id.0; suffix = id.1; direction = direction; ty = ty }) ∷ [])
+distinct_push channels id direction ty distinct own =
+    let new : Channel = record { kind = id.0; suffix = id.1; direction = direction; ty = ty } in
     all_pairs_push (λ (a b : Channel). same_channel a b ≡ false) channels new distinct
     (λ k d lt. other_channel (get_or channels k d) new (none_at (λ c. same_id (id_at c) id) channels own k d lt))
 
@@ -59,3 +63,8 @@ only_channels s h =
     let driver = both (length s.listed == 0 && length s.moments == 0) (is_none s.driver) attrs.0 in
     let moments = both (length s.listed == 0) (length s.moments == 0) driver.0 in
     record { stamp = no_stamp s.stamp stamp.0; listed = no_item s.listed moments.0; moments = no_item s.moments moments.1; attrs = no_item s.attrs attrs.1 }
+
+-- a line that names another channel
+pub channel_line_is : (s : PartialDevice) (words : List (List ℕ)) (name format : List ℕ) (id : Kind × Suffix) (ty : Format) → has_only_channels s ≡ true → two_of words ≡ Some (name, format)
+    → id_of name ≡ Some id → has_id s id ≡ false → type_of format ≡ Some ty → channel_line s words ≡ channel_added s id ty
+channel_line_is s words name format id ty only two named free typed = rw (only, two, named, free, typed) refl

@@ -1,17 +1,20 @@
 -- A device that has no further line, among those before it.
-use Rattle.std.proofs.Common.{◌≡◌, ℕ, ◌+◌, ◌<◌, ◌&&◌, Bool, true, false, not, nat_lt, List, [], ◌∷◌, ◌++◌, length, get_or, AllPairs, Option, Some, None, sum_by, zero-add, ap, subst, sym, refl, ◌∙◌, ltb-true}
+use Rattle.std.proofs.Common.{◌≡◌, ℕ, ◌+◌, ◌<◌, ◌&&◌, Bool, true, false, not, nat_lt, List, [], ◌∷◌, ◌++◌, length, get_or, AllPairs, Option, Some, None, sum_by, zero-add, ap, subst, sym, refl, ◌∙◌, ltb-true, append-nil}
 use Rattle.std.proofs.lemmas.List.Quantifiers.{all_pairs_push}
 use Rattle.std.proofs.lemmas.List.Sums.{sum_by-append}
 use Rattle.std.specs.List.{list_any}
 use Rattle.std.specs.Option.{option_map_or}
 use Rattle.std.specs.Prelude.{All, IfSome}
-use Rattle.std.proofs.lemmas.List.Elements.{All-push}
+use Rattle.std.proofs.lemmas.List.Elements.{All-head, All-push}
 use Rattle.iio_layout.specs.Rows.{IsRecording}
-use Rattle.iio_desc.specs.Description.{DeviceRecord}
+use Rattle.iio_desc.specs.Description.{DeviceRecord, OutputRecord}
 use Rattle.iio_desc.specs.DeviceLines.{drives, is_free}
-use Rattle.iio_desc.specs.PartialDevice.{PartialDevice, device_of}
+use Rattle.iio_layout.specs.declared.channel.Direction.{Direction}
+use Rattle.iio_layout.specs.declared.channel.Direction.TheVariants.{Input, Output}
+use Rattle.iio_desc.specs.PartialDesc.{device_by, output_by}
+use Rattle.iio_desc.specs.PartialDevice.{PartialDevice, device_of, output_of}
 use Rattle.iio_desc.specs.View.{FitsCurrent}
-use Rattle.iio_desc.specs.WellFormed.{IsWellFormedDevice, IsWrite, share_driver}
+use Rattle.iio_desc.specs.WellFormed.{IsWellFormedDevice, IsWellFormedOutput, IsWrite, share_driver}
 use Rattle.iio_desc.proofs.ListLemmas.{none_at}
 
 both : (a b : Bool) → (a && b) ≡ true → (a ≡ true) × (b ≡ true)
@@ -34,11 +37,12 @@ not_shared drivers devices (Some k) h i v within =
     none_at (drives k) devices (is_false (list_any (drives k) devices) (both (nat_lt k drivers) (not (list_any (drives k) devices)) h).1) i v within
 
 -- the devices stay well formed with it
-pub sound_push : (triggers drivers earlier : ℕ) (devices : List DeviceRecord) (s : PartialDevice) (d : DeviceRecord) → All (IsWellFormedDevice triggers drivers) devices
-    → FitsCurrent triggers drivers earlier devices s → d ≡ device_of s → IsRecording d.rows → All (IsWrite (length d.shape.channels)) d.attrs
+sound_device : (triggers drivers earlier : ℕ) (devices : List DeviceRecord) (s : PartialDevice) (d : DeviceRecord) → All (IsWellFormedDevice triggers drivers) devices
+    → FitsCurrent triggers drivers earlier devices s → d ≡ device_of s → 0 < length s.channels → IsRecording d.rows → All (IsWrite (length d.shape.channels)) d.attrs
     → All (IsWellFormedDevice triggers drivers) (devices ++ d ∷ [])
-sound_push triggers drivers earlier devices s d sound fits is recording writes =
+sound_device triggers drivers earlier devices s d sound fits is some recording writes =
     let own : IsWellFormedDevice triggers drivers (device_of s) = record {
+      some = some;
       attached = fits.attached;
       driven = handed_in drivers devices s.driver fits.driven;
       recording = subst (λ (v : DeviceRecord). IsRecording v.rows) is recording;
@@ -48,16 +52,38 @@ sound_push triggers drivers earlier devices s d sound fits is recording writes =
     All-push (IsWellFormedDevice triggers drivers) devices d sound (subst (λ (v : DeviceRecord). IsWellFormedDevice triggers drivers v) (sym is) own)
 
 -- and no two have one driver
-pub apart_push : (triggers drivers earlier : ℕ) (devices : List DeviceRecord) (s : PartialDevice) (d : DeviceRecord) → AllPairs (λ a b. share_driver a b ≡ false) devices
+apart_device : (triggers drivers earlier : ℕ) (devices : List DeviceRecord) (s : PartialDevice) (d : DeviceRecord) → AllPairs (λ a b. share_driver a b ≡ false) devices
     → FitsCurrent triggers drivers earlier devices s → d ≡ device_of s → AllPairs (λ a b. share_driver a b ≡ false) (devices ++ d ∷ [])
-apart_push triggers drivers earlier devices s d apart fits is =
+apart_device triggers drivers earlier devices s d apart fits is =
     all_pairs_push (λ a b. share_driver a b ≡ false) devices d apart
     (λ i v within. subst (λ (n : DeviceRecord). share_driver (get_or devices i v) n ≡ false) (sym is) (not_shared drivers devices s.driver fits.driven i v within))
 
--- how many rows there are with it
-pub rows_push : (earlier rows : ℕ) (devices : List DeviceRecord) (s : PartialDevice) (d : DeviceRecord) → earlier ≡ sum_by (λ (v : DeviceRecord). length v.rows.moments) devices
-    → rows ≡ length s.moments → d ≡ device_of s → earlier + rows ≡ sum_by (λ (v : DeviceRecord). length v.rows.moments) (devices ++ d ∷ [])
-rows_push earlier rows devices s d counted many is =
-    let own : length d.rows.moments ≡ rows = ap (λ (v : DeviceRecord). length v.rows.moments) is ∙ sym many in
-    sym (sum_by-append (λ (v : DeviceRecord). length v.rows.moments) devices (d ∷ [])
-    ∙ rw (own, ← counted) (ap (λ n. earlier + n) (zero-add rows)))
+-- ---- a device of either kind
+
+-- it is of one of them
+pub one_of_kind : (s : PartialDevice) (by : Direction) → length (device_by by s) + length (output_by by s) ≡ 1
+one_of_kind s Input = refl
+one_of_kind s Output = refl
+
+module _ (triggers drivers earlier : ℕ) (devices : List DeviceRecord) (s : PartialDevice) where
+  pub sound_push : (by : Direction) → All (IsWellFormedDevice triggers drivers) devices → FitsCurrent triggers drivers earlier devices s → 0 < length s.channels
+      → All (λ (d : DeviceRecord). IsRecording d.rows) (device_by by s) → All (λ (d : DeviceRecord). All (IsWrite (length d.shape.channels)) d.attrs) (device_by by s)
+      → All (IsWellFormedDevice triggers drivers) (devices ++ device_by by s)
+  sound_push Input sound fits some recording writes =
+      sound_device triggers drivers earlier devices s (device_of s) sound fits refl some (All-head (λ (d : DeviceRecord). IsRecording d.rows) (device_of s) [] recording)
+      (All-head (λ (d : DeviceRecord). All (IsWrite (length d.shape.channels)) d.attrs) (device_of s) [] writes)
+  sound_push Output sound fits some recording writes = rw (append-nil devices) sound
+
+  pub apart_push : (by : Direction) → AllPairs (λ a b. share_driver a b ≡ false) devices → FitsCurrent triggers drivers earlier devices s → AllPairs (λ a b. share_driver a b ≡ false) (devices ++ device_by by s)
+  apart_push Input apart fits = apart_device triggers drivers earlier devices s (device_of s) apart fits refl
+  apart_push Output apart fits = rw (append-nil devices) apart
+
+  pub rows_push : (by : Direction) → earlier ≡ sum_by (λ (d : DeviceRecord). length d.rows.moments) devices
+      → earlier + sum_by (λ (d : DeviceRecord). length d.rows.moments) (device_by by s) ≡ sum_by (λ (d : DeviceRecord). length d.rows.moments) (devices ++ device_by by s)
+  rows_push by counted = ap (λ n. n + sum_by (λ (d : DeviceRecord). length d.rows.moments) (device_by by s)) counted ∙ sym (sum_by-append (λ (d : DeviceRecord). length d.rows.moments) devices (device_by by s))
+
+  pub outputs_push : (by : Direction) (outputs : List OutputRecord) → All (IsWellFormedOutput triggers) outputs → FitsCurrent triggers drivers earlier devices s → 0 < length s.channels
+      → All (IsWellFormedOutput triggers) (outputs ++ output_by by s)
+  outputs_push Input outputs sound fits some = rw (append-nil outputs) sound
+  outputs_push Output outputs sound fits some =
+      All-push (IsWellFormedOutput triggers) outputs (output_of s) sound (record { some = some; unstamped = refl; unlisted = refl; attached = fits.attached })

@@ -2,6 +2,7 @@ mod ChannelLemmas
 mod DeviceLemmas
 pub mod ListLemmas
 mod MaskLemmas
+mod PositionLemmas
 mod ReaderLemmas
 mod RefusalLemmas
 mod RowLemmas

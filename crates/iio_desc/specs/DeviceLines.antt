@@ -22,12 +22,11 @@ use Rattle.iio_mask.specs.Text.{mask_of}
 use Rattle.iio_layout.specs.declared.shape.TheConstants.{MAX_CHANNELS}
 use Rattle.iio_layout.specs.declared.channel.Kind.{Kind}
 use Rattle.iio_layout.specs.declared.channel.Suffix.{Suffix}
-use Rattle.iio_layout.specs.declared.channel.Direction.TheVariants.{Input}
 use Rattle.iio_layout.specs.Id.{id_of, same_id}
 use Rattle.iio_layout.specs.Shape.{id_at, channel_of}
 use Rattle.iio_desc.specs.declared.limits.TheConstants.{MAX_MASKS, MAX_ROWS}
 use Rattle.iio_desc.specs.Description.{DeviceRecord}
-use Rattle.iio_desc.specs.PartialDevice.{PartialDevice, shape_of, row_width, channel_count, has_channels, may_list, has_only_channels, may_drive}
+use Rattle.iio_desc.specs.PartialDevice.{PartialDevice, shape_of, row_width, channel_count, may_go_on, may_list, has_only_channels, may_drive}
 
 -- a word that is `-`, or that is looked up
 abbrev pub unless_dash : (List ℕ → Option ℕ) → List ℕ → Option (Option ℕ)
@@ -39,9 +38,15 @@ unless_dash find word = if bytes_eq word (codes "-") then Some None else option_
 abbrev pub has_id : PartialDevice → Kind × Suffix → Bool
 has_id device id = list_any (λ channel. same_id (id_at channel) id) device.channels
 
--- one channel more; all channels of a description are inputs
+-- one channel more, of the device's direction
 abbrev pub with_channel : PartialDevice → Kind × Suffix → Format → PartialDevice
-with_channel device id format = record device { channels = device.channels ++ (record { kind = id.0; suffix = id.1; direction = Input; ty = format }) ∷ [] }
+with_channel device id format = record device { channels = device.channels ++ (record { kind = id.0; suffix = id.1; direction = device.direction; ty = format }) ∷ [] }
+
+-- ... where there may be one more
+abbrev pub channel_added : PartialDevice → Kind × Suffix → Format → Result PartialDevice Why
+channel_added device id format = do
+  ensure (nat_lt (length device.channels) MAX_CHANNELS) Limit
+  Ok (with_channel device id format)
 
 -- `channel ID TYPE`
 abbrev pub channel_line : PartialDevice → List (List ℕ) → Result PartialDevice Why
@@ -51,8 +56,7 @@ channel_line device words = do
   id ← ok_or (id_of id) Name
   ensure (not (has_id device id)) Taken
   format ← ok_or (type_of format) BadType
-  ensure (nat_lt (length device.channels) MAX_CHANNELS) Limit
-  Ok (with_channel device id format)
+  channel_added device id format
 
 -- ---- the timestamp
 
@@ -69,7 +73,7 @@ stamp_of (word ∷ other ∷ words) = Err Count
 -- `timestamp`, `timestamp be` or `timestamp le`
 abbrev pub stamp_line : PartialDevice → List (List ℕ) → Result PartialDevice Why
 stamp_line device words = do
-  ensure (has_channels device && has_only_channels device) Order
+  ensure (may_go_on device && has_only_channels device) Order
   endian ← stamp_of words
   ensure (nat_lt (length device.channels) MAX_CHANNELS) Limit
   Ok (record device { stamp = Some endian })
@@ -97,7 +101,7 @@ masks_of channels count (word ∷ words) = before (listed_of channels count word
 -- `masks H ..`
 abbrev pub masks_line : PartialDevice → List (List ℕ) → Result PartialDevice Why
 masks_line device words = do
-  ensure (has_channels device && may_list device) Order
+  ensure (may_go_on device && may_list device) Order
   ensure (nat_lt 0 (length words)) Count
   masks ← ok_or (masks_of (length device.channels) (channel_count device) words) Mask
   ensure (nat_le (length masks) MAX_MASKS) Limit
@@ -132,7 +136,7 @@ counted_row width moments words = do
 -- `row T v ..`; the devices before have `earlier` rows
 abbrev pub row_line : ℕ → PartialDevice → List (List ℕ) → Result PartialDevice Why
 row_line earlier device words = do
-  ensure (has_channels device && is_none device.driver) Order
+  ensure (may_go_on device && is_none device.driver) Order
   (moment, values) ← counted_row (row_width device) device.moments words
   ensure (nat_lt (earlier + length device.moments) MAX_ROWS) Limit
   Ok (record device { moments = device.moments ++ moment ∷ []; values = device.values ++ values })
@@ -158,7 +162,7 @@ driver_of drivers devices word = option_and_then (λ k. free_driver drivers devi
 -- `driver K`, of `drivers` handed-in drivers, after these devices
 abbrev pub driver_line : ℕ → List DeviceRecord → PartialDevice → List (List ℕ) → Result PartialDevice Why
 driver_line drivers devices device words = do
-  ensure (has_channels device && may_drive device) Order
+  ensure (may_go_on device && may_drive device) Order
   word ← ok_or (one_of words) Count
   driver ← ok_or (driver_of drivers devices word) Driver
   Ok (record device { driver = Some driver })
@@ -173,7 +177,7 @@ scope_at (Some channel) = scope.Channel
 -- `attr CHANNEL NAME VALUE`, where CHANNEL is `-` for the device's own attributes
 abbrev pub attr_line : PartialDevice → List (List ℕ) → Result PartialDevice Why
 attr_line device words = do
-  ensure (has_channels device) Order
+  ensure (may_go_on device) Order
   (id, name, text) ← ok_or (three_of words) Count
   channel ← ok_or (unless_dash (channel_of (shape_of device)) id) Attr
   attr ← ok_or (find_of (scope_at channel) name) Attr

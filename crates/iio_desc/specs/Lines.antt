@@ -11,14 +11,16 @@ use Rattle.iio_text.specs.Lines.{words_of_line}
 use Rattle.iio_text.specs.Numbers.{int_of}
 use Rattle.iio_text.specs.Escape.{quoted_of}
 use Rattle.iio_attr.specs.Name.{is_name}
+use Rattle.iio_layout.specs.declared.channel.Direction.{Direction}
+use Rattle.iio_layout.specs.declared.channel.Direction.TheVariants as direction
 use Rattle.iio_desc.specs.declared.keywords.Keyword.{Keyword}
-use Rattle.iio_desc.specs.declared.keywords.Keyword.TheVariants.{Context, Trigger, Device, Channel, Timestamp, Masks, Row, Driver, Attr}
+use Rattle.iio_desc.specs.declared.keywords.Keyword.TheVariants.{Context, Trigger, Device, Output, Channel, Timestamp, Masks, Row, Driver, Attr}
 use Rattle.iio_trigger.specs.declared.limits.TheConstants.{MAX_PLACES}
 use Rattle.iio_desc.specs.declared.limits.TheConstants.{MAX_TRIGGERS, MAX_DEVICES}
 use Rattle.iio_desc.specs.Description.{Description, trigger_number}
 use Rattle.iio_desc.specs.DeviceLines.{unless_dash, channel_line, stamp_line, masks_line, row_line, driver_line, attr_line}
 use Rattle.iio_desc.specs.PartialDevice.{PartialDevice, new_device}
-use Rattle.iio_desc.specs.PartialDesc.{PartialDesc, all_devices, device_count, earlier_rows, is_taken, is_current_whole}
+use Rattle.iio_desc.specs.PartialDesc.{PartialDesc, all_devices, all_outputs, device_count, earlier_rows, is_taken, is_current_whole}
 
 -- `context "TEXT"`; all from the second word on is the quoted text
 abbrev pub context_line : PartialDesc → List (List ℕ) → List ℕ → Result PartialDesc Why
@@ -46,16 +48,16 @@ trigger_line desc words = do
   ensure (nat_lt (length desc.triggers) MAX_TRIGGERS) why.Limit
   Ok (record desc { triggers = desc.triggers ++ (record { name = name; places = places }) ∷ [] })
 
--- `device NAME TRIGGER`, where TRIGGER is `-` for none
-abbrev pub device_line : PartialDesc → List (List ℕ) → Result PartialDesc Why
-device_line desc words = do
+-- `device NAME TRIGGER` or `output NAME TRIGGER`, where TRIGGER is `-` for none
+abbrev pub device_line : PartialDesc → Direction → List (List ℕ) → Result PartialDesc Why
+device_line desc direction words = do
   ensure (is_current_whole desc.current) why.Order
   (name, trigger) ← ok_or (two_of words) why.Count
   ensure (is_name name) why.Name
   ensure (not (is_taken desc name)) why.Taken
   trigger ← ok_or (unless_dash (trigger_number desc.triggers) trigger) why.Trigger
   ensure (nat_lt (device_count desc) MAX_DEVICES) why.Limit
-  Ok (record desc { devices = all_devices desc; current = Some (new_device name trigger) })
+  Ok (record desc { devices = all_devices desc; outputs = all_outputs desc; current = Some (new_device direction name trigger) })
 
 -- a line of the device whose lines are being read
 abbrev pub part_line : PartialDesc → (PartialDevice → Result PartialDevice Why) → Result PartialDesc Why
@@ -70,7 +72,7 @@ part_line desc line = do
 abbrev pub keywords : List (List ℕ × Keyword)
 keywords =
     (codes "row", Row) ∷ (codes "channel", Channel) ∷ (codes "timestamp", Timestamp) ∷ (codes "masks", Masks) ∷ (codes "attr", Attr)
-    ∷ (codes "driver", Driver) ∷ (codes "device", Device) ∷ (codes "trigger", Trigger) ∷ (codes "context", Context) ∷ []
+    ∷ (codes "driver", Driver) ∷ (codes "device", Device) ∷ (codes "output", Output) ∷ (codes "trigger", Trigger) ∷ (codes "context", Context) ∷ []
 
 -- the line that a word begins, among some
 abbrev pub keyword_among : List (List ℕ × Keyword) → List ℕ → Option Keyword
@@ -84,7 +86,8 @@ keyword_of word = keyword_among keywords word
 abbrev pub keyword_line : PartialDesc → Keyword → List (List ℕ) → List ℕ → Result PartialDesc Why
 keyword_line desc Context words text = context_line desc words text
 keyword_line desc Trigger words text = trigger_line desc words
-keyword_line desc Device words text = device_line desc words
+keyword_line desc Device words text = device_line desc direction.Input words
+keyword_line desc Output words text = device_line desc direction.Output words
 keyword_line desc Channel words text = part_line desc (λ device. channel_line device words)
 keyword_line desc Timestamp words text = part_line desc (λ device. stamp_line device words)
 keyword_line desc Masks words text = part_line desc (λ device. masks_line device words)
@@ -120,7 +123,7 @@ after_line desc line = do
 abbrev pub desc_of : PartialDesc → Result Description Why
 desc_of desc = do
   ensure (is_current_whole desc.current) why.Order
-  Ok (record { context = unwrap_or desc.context []; triggers = desc.triggers; devices = all_devices desc })
+  Ok (record { context = unwrap_or desc.context []; triggers = desc.triggers; devices = all_devices desc; outputs = all_outputs desc; averages = [] })
 
 -- whether a line ends the description: its first word is `%%`
 abbrev pub begins_end : List (List ℕ) → Bool

@@ -2,11 +2,15 @@
 use Rattle.std.specs.Prelude.{ℕ, ◌==◌, ◌&&◌, nat_lt, Bool, ℤ, List, [], length, is_none, Option, None}
 use Rattle.iio_scan_type.specs.declared.Endian.{Endian}
 use Rattle.iio_layout.specs.declared.channel.Channel.{Channel}
-use Rattle.iio_layout.specs.Shape.{ShapeRecord, width_of, count_of}
+use Rattle.iio_layout.specs.declared.channel.Direction.{Direction}
+use Rattle.iio_layout.specs.declared.channel.Direction.TheVariants.{Input}
+use Rattle.iio_layout.specs.Shape.{ShapeRecord, same_direction, width_of, count_of}
 use Rattle.iio_desc.specs.declared.description.AttrDesc.{AttrDesc}
-use Rattle.iio_desc.specs.Description.{DeviceRecord}
+use Rattle.iio_desc.specs.Description.{DeviceRecord, OutputRecord}
 
+-- that of its channels is `Output` where its own line was `output`
 pub record PartialDevice : Type 0 where
+  pub direction : Direction
   pub name : List ℕ
   pub trigger : Option ℕ
   pub channels : List Channel
@@ -18,8 +22,8 @@ pub record PartialDevice : Type 0 where
   pub attrs : List AttrDesc
 
 -- a device whose own line was read alone
-abbrev pub new_device : List ℕ → Option ℕ → PartialDevice
-new_device name trigger = record { name = name; trigger = trigger; channels = []; stamp = None; listed = []; moments = []; values = []; driver = None; attrs = [] }
+abbrev pub new_device : Direction → List ℕ → Option ℕ → PartialDevice
+new_device direction name trigger = record { direction = direction; name = name; trigger = trigger; channels = []; stamp = None; listed = []; moments = []; values = []; driver = None; attrs = [] }
 
 -- the shape that it has so far
 abbrev pub shape_of : PartialDevice → ShapeRecord
@@ -44,11 +48,19 @@ device_of device = record {
   attrs = device.attrs;
 }
 
+-- the output device, where it has no further line: it has channels alone
+abbrev pub output_of : PartialDevice → OutputRecord
+output_of device = record { name = device.name; trigger = device.trigger; shape = record { channels = device.channels; stamp = None; listed = [] } }
+
 -- ---- which lines may stand next
 
 -- whether it has a channel
 abbrev pub has_channels : PartialDevice → Bool
 has_channels device = nat_lt 0 (length device.channels)
+
+-- whether other lines than channels may follow: never at an output device
+abbrev pub may_go_on : PartialDevice → Bool
+may_go_on device = same_direction device.direction Input && has_channels device
 
 -- whether it has no masks, row, driver or attr line yet
 abbrev pub may_list : PartialDevice → Bool

@@ -11,10 +11,11 @@ use Rattle.iio_desc.specs.Description.{DeviceRecord}
 use Rattle.iio_desc.specs.DeviceLines.{is_free}
 use Rattle.iio_desc.specs.PartialDesc.{PartialDesc, device_count, earlier_rows}
 use Rattle.iio_desc.specs.PartialDevice.{PartialDevice, row_width}
-use Rattle.iio_desc.specs.WellFormed.{HasPlaces, IsWrite, IsWellFormedDevice, share_driver}
+use Rattle.iio_desc.specs.WellFormed.{HasPlaces, IsWrite, IsWellFormedDevice, IsWellFormedOutput, share_driver}
 
 abbrev pub partial_device : DeviceInside → PartialDevice
 partial_device b = record {
+  direction = b.direction;
   name = b.name;
   trigger = b.trigger;
   channels = b.channels.items;
@@ -44,6 +45,7 @@ partial_desc b = record {
   context = option_map (λ context. context.items) b.context;
   triggers = b.triggers.items;
   devices = b.devices.items;
+  outputs = b.outputs.items;
   current = b.current;
 }
 
@@ -60,6 +62,7 @@ pub record IsSound (b : Inside) : Type 0 where
   pub places : All HasPlaces b.triggers.items
   pub devices : device_count (partial_desc b) ≤ MAX_DEVICES
   pub sound : All (IsWellFormedDevice (length b.triggers.items) b.drivers) b.devices.items
+  pub outputs : All (IsWellFormedOutput (length b.triggers.items)) b.outputs.items
   pub apart : AllPairs (λ v u. share_driver v u ≡ false) b.devices.items
   pub earlier : b.earlier ≡ earlier_rows (partial_desc b)
   pub rows : b.earlier ≤ MAX_ROWS

@@ -1,6 +1,6 @@
 //! The lines of a description, by what they say.
 
-ghost use Rattle.std.specs.Prelude.{◌≡◌, ◌+◌, ◌<◌, ◌≤◌, length, Some, Ok, IfSome, IfOk, IfErr, OnOk, OnErr, true};
+ghost use Rattle.std.specs.Prelude.{◌≡◌, ◌+◌, ◌<◌, ◌≤◌, ◌++◌, length, vec_capacity, sum_by, All, Some, Ok, IfSome, IfOk, IfErr, OnOk, OnErr, true};
 ghost use Rattle.std.specs.List.{list_any};
 ghost use Rattle.std.specs.Option.{ok_or};
 ghost use Rattle.std.specs.Str.{bytes_eq};
@@ -12,15 +12,17 @@ ghost use Rattle.iio_desc.specs.declared.limits.TheConstants.{MAX_ROWS};
 ghost use Rattle.iio_desc.specs.Description.{trigger_number};
 ghost use Rattle.iio_desc.specs.DeviceLines.{unless_dash, channel_line, stamp_line, masks_line, row_line, driver_line, attr_line};
 ghost use Rattle.iio_desc.specs.Lines.{after_line, context_line, desc_at_end, desc_of, device_line, keyword_line, part_line, places_of, trigger_line};
-ghost use Rattle.iio_desc.specs.PartialDesc.{all_devices, device_count, earlier_rows, is_current_named, is_current_whole, is_taken, new_desc};
-ghost use Rattle.iio_desc.specs.PartialDevice.{new_device};
-ghost use Rattle.iio_desc.specs.WellFormed.{IsWellFormed};
+ghost use Rattle.iio_desc.specs.PartialDesc.{all_devices, all_outputs, device_count, devices_of, earlier_rows, is_current_named, is_current_whole, is_taken, new_desc, outputs_of};
+ghost use Rattle.iio_desc.specs.PartialDevice.{has_channels, new_device};
+ghost use Rattle.iio_desc.specs.WellFormed.{IsWellFormed, IsWrite};
+ghost use Rattle.iio_layout.specs.Rows.{IsRecording};
 
-use crate::description::{Desc, DeviceDesc, TriggerDesc, trigger_number};
+use crate::description::{Desc, DeviceDesc, OutDesc, TriggerDesc, trigger_number};
 use crate::device_builder::DeviceBuilder;
 use crate::keywords::Keyword;
 use crate::limits::{MAX_DEVICES, MAX_TRIGGERS};
 use iio_attr::Name;
+use iio_layout::Direction;
 use iio_text::{
     LineFault, Unescape, Why, between_quotes, count_words, ensure, first_word, from_word, read_int,
     two_words, unescape,
@@ -41,6 +43,7 @@ pub(crate) struct DescBuilder {
     devices: Vec<DeviceDesc>,
     // How many rows those devices have.
     earlier: usize,
+    outputs: Vec<OutDesc>,
     current: Option<DeviceBuilder>,
 }
 
@@ -78,6 +81,18 @@ fn has_device(devices: &[DeviceDesc], name: &[u8]) -> bool
     ensures { result ≡ list_any (λ d. bytes_eq d.name name.now) devices.now }
 {
     devices.iter().any(|d| is_device_named(d, name))
+}
+
+fn is_output_named(device: &OutDesc, name: &[u8]) -> bool
+    ensures { result ≡ bytes_eq device.now.name name.now }
+{
+    device.name.is(name)
+}
+
+fn has_output(outputs: &[OutDesc], name: &[u8]) -> bool
+    ensures { result ≡ list_any (λ d. bytes_eq d.name name.now) outputs.now }
+{
+    outputs.iter().any(|d| is_output_named(d, name))
 }
 
 fn is_current_named(current: &Option<DeviceBuilder>, name: &[u8]) -> bool
@@ -138,6 +153,38 @@ fn read_quoted(alloc: Global, text: &[u8]) -> Result<Vec<u8>, LineFault>
     }
 }
 
+// How many rows the devices have more with one that has no further line.
+fn rows_of(device: &DeviceBuilder) -> usize
+    ensures value { result ≡ sum_by (λ d. length d.rows.moments) (devices_of (Some device.now)) }
+    ensures within { result ≤ length device.now.moments }
+{
+    match device.direction() {
+        Direction::Input => device.row_count(),
+        Direction::Output => 0,
+    }
+}
+
+// Puts a device that has no further line to those of its kind, among which there is room.
+fn put(
+    alloc: Global,
+    devices: &mut Vec<DeviceDesc>,
+    outputs: &mut Vec<OutDesc>,
+    device: DeviceBuilder,
+)
+    requires whole { has_channels device ≡ true }
+    requires room { length devices.old.items < vec_capacity devices.old }
+    requires room_of_outputs { length outputs.old.items < vec_capacity outputs.old }
+    ensures devices { devices.new.items ≡ devices.old.items ++ devices_of (Some device) }
+    ensures outputs { outputs.new.items ≡ outputs.old.items ++ outputs_of (Some device) }
+    ensures recording { All (λ d. IsRecording d.rows) (devices_of (Some device)) }
+    ensures writes { All (λ d. All (IsWrite (length d.shape.channels)) d.attrs) (devices_of (Some device)) }
+{
+    match device.direction() {
+        Direction::Input => devices.push_reserved(device.into_device()),
+        Direction::Output => outputs.push_reserved(device.into_output(alloc)),
+    }
+}
+
 impl DescBuilder {
     /// Before the first line, with `drivers` handed-in drivers.
     pub(crate) fn new(alloc: Global, drivers: u32) -> DescBuilder
@@ -150,6 +197,7 @@ impl DescBuilder {
             triggers: Vec::new(alloc),
             devices: Vec::new(alloc),
             earlier: 0,
+            outputs: Vec::new(alloc),
             current: None,
         }
     }
@@ -160,6 +208,7 @@ impl DescBuilder {
     {
         has_trigger(self.triggers.as_slice(), name)
             || has_device(self.devices.as_slice(), name)
+            || has_output(self.outputs.as_slice(), name)
             || is_current_named(&self.current, name)
     }
 
@@ -183,7 +232,7 @@ impl DescBuilder {
     pub(crate) fn device_count(&self) -> usize
         ensures { result ≡ device_count self.now }
     {
-        self.devices.len() + usize::from(self.current.is_some())
+        self.devices.len() + self.outputs.len() + usize::from(self.current.is_some())
     }
 
     // `context "TEXT"`
@@ -213,26 +262,32 @@ impl DescBuilder {
     }
 
     // The next device, where there may be one more.
-    fn begin_device(&mut self, name: Name, trigger: Option<u32>) -> Result<(), AllocError>
+    fn begin_device(
+        &mut self,
+        direction: Direction,
+        name: Name,
+        trigger: Option<u32>,
+    ) -> Result<(), AllocError>
         requires whole { is_current_whole self.old.current ≡ true }
         requires attached { IfSome trigger (λ number. number < length self.old.triggers) }
         requires few { device_count self.old < MAX_DEVICES }
-        ensures ok { OnOk result (self.new ≡ record self.old { devices = all_devices self.old; current = Some (new_device name trigger) }) }
+        ensures ok { OnOk result (self.new ≡ record self.old { devices = all_devices self.old; outputs = all_outputs self.old; current = Some (new_device direction name trigger) }) }
         ensures kept { OnErr result (self.new ≡ self.old) }
     {
         self.devices.reserve(1)?;
-        let next = DeviceBuilder::new(self.alloc, name, trigger);
+        self.outputs.reserve(1)?;
+        let next = DeviceBuilder::new(self.alloc, direction, name, trigger);
         let before = mem::replace(&mut self.current, Some(next));
         if let Some(device) = before {
-            self.earlier += device.row_count();
-            self.devices.push_reserved(device.into_device());
+            self.earlier += rows_of(&device);
+            put(self.alloc, &mut self.devices, &mut self.outputs, device);
         }
         Ok(())
     }
 
-    // `device NAME TRIGGER`
-    fn device_line(&mut self, words: &[u8]) -> Result<(), LineFault>
-        ensures line { Becomes result self.old self.new (device_line self.old (words_of is_space words.now)) }
+    // `device NAME TRIGGER`, or `output NAME TRIGGER`
+    fn device_line(&mut self, direction: Direction, words: &[u8]) -> Result<(), LineFault>
+        ensures line { Becomes result self.old self.new (device_line self.old direction (words_of is_space words.now)) }
         ensures drivers { self.new.drivers ≡ self.old.drivers }
     {
         ensure(is_current_whole(&self.current), Why::Order)?;
@@ -241,7 +296,7 @@ impl DescBuilder {
         ensure(!self.is_taken(name.bytes()), Why::Taken)?;
         let trigger = read_trigger(self.triggers.as_slice(), trigger).ok_or(Why::Trigger)?;
         ensure(self.device_count() < MAX_DEVICES, Why::Limit)?;
-        self.begin_device(name, trigger)?;
+        self.begin_device(direction, name, trigger)?;
         Ok(())
     }
 
@@ -324,7 +379,8 @@ impl DescBuilder {
             Keyword::Masks => self.masks_line(words),
             Keyword::Attr => self.attr_line(words),
             Keyword::Driver => self.driver_line(words),
-            Keyword::Device => self.device_line(words),
+            Keyword::Device => self.device_line(Direction::Input, words),
+            Keyword::Output => self.device_line(Direction::Output, words),
             Keyword::Trigger => self.trigger_line(words),
             Keyword::Context => self.context_line(words),
         }
@@ -354,16 +410,21 @@ impl DescBuilder {
             triggers,
             mut devices,
             earlier: _,
+            mut outputs,
             current,
         } = self;
         ensure(is_current_whole(&current), Why::Order)?;
         if let Some(device) = current {
-            devices.push(device.into_device())?;
+            devices.reserve(1)?;
+            outputs.reserve(1)?;
+            put(alloc, &mut devices, &mut outputs, device);
         }
         Ok(Desc {
             context: context.unwrap_or(Vec::new(alloc)),
             triggers,
             devices,
+            outputs,
+            averages: Vec::new(alloc),
         })
     }
 

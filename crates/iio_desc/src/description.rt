@@ -43,24 +43,66 @@ impl Model for DeviceDesc {
     ghost view = { λ d. record { name = d.name; trigger = d.trigger; shape = d.shape; rows = d.rows; driver = d.driver; attrs = d.attrs.items } };
 }
 
-/// A whole description, in the order of its lines. It has at most 16 triggers and 16 devices.
+/// An output device: the number of its trigger, where it has one, and its shape.
+#[derive(Debug, Drop)]
+pub struct OutDesc {
+    pub name: Name,
+    pub trigger: Option<u32>,
+    pub shape: Shape,
+}
+
+impl Model for OutDesc {
+    ghost use Rattle.iio_desc.specs.Description.{OutputRecord};
+
+    ghost Value = { OutputRecord };
+
+    ghost view = { λ d. record { name = d.name; trigger = d.trigger; shape = d.shape } };
+}
+
+/// An averaging device: the number of the device whose captures it averages, and how many make a mean.
+#[derive(Debug, Drop)]
+pub struct AverageDesc {
+    pub name: Name,
+    pub base: u32,
+    pub window: u32,
+}
+
+impl Model for AverageDesc {
+    ghost use Rattle.iio_desc.specs.Description.{AverageRecord};
+
+    ghost Value = { AverageRecord };
+
+    ghost view = { λ d. record { name = d.name; base = d.base; window = d.window } };
+}
+
+/// A whole description, each kind of devices in the order of its lines. It has at most 16 triggers and 16 devices. Output
+/// devices have the numbers after all devices, and averaging devices those after these. No line makes an averaging
+/// device yet.
 #[derive(Debug, Drop)]
 pub struct Desc {
     pub context: Vec<u8>,
     pub triggers: Vec<TriggerDesc>,
     pub devices: Vec<DeviceDesc>,
+    pub outputs: Vec<OutDesc>,
+    pub averages: Vec<AverageDesc>,
 }
 
 impl Model for Desc {
-    ghost use Rattle.std.specs.Prelude.{◌≤◌, length};
+    ghost use Rattle.std.specs.Prelude.{◌+◌, ◌≤◌, length};
     ghost use Rattle.iio_desc.specs.Description.{Description};
     ghost use Rattle.iio_desc.specs.declared.limits.TheConstants.{MAX_TRIGGERS, MAX_DEVICES};
 
     ghost Value = { Description };
 
-    ghost view = { λ d. record { context = d.context.items; triggers = d.triggers.items; devices = d.devices.items } };
+    ghost view = { λ d. record {
+      context = d.context.items;
+      triggers = d.triggers.items;
+      devices = d.devices.items;
+      outputs = d.outputs.items;
+      averages = d.averages.items;
+    } };
 
-    ghost invariant = { λ d. (length d.triggers.items ≤ MAX_TRIGGERS) × (length d.devices.items ≤ MAX_DEVICES) };
+    ghost invariant = { λ d. (length d.triggers.items ≤ MAX_TRIGGERS) × (length d.devices.items + length d.outputs.items + length d.averages.items ≤ MAX_DEVICES) };
 }
 
 /// The number of the trigger of that name.
@@ -78,6 +120,20 @@ fn device_number(devices: &[DeviceDesc], name: &[u8]) -> Option<usize>
     devices.iter().position(|d| d.name.is(name))
 }
 
+fn output_number(outputs: &[OutDesc], name: &[u8]) -> Option<usize>
+    ensures value { result ≡ position (λ d. bytes_eq d.name name.now) outputs.now }
+    ensures within { IfSome result (λ number. number < length outputs.now) }
+{
+    outputs.iter().position(|d| d.name.is(name))
+}
+
+fn average_number(averages: &[AverageDesc], name: &[u8]) -> Option<usize>
+    ensures value { result ≡ position (λ d. bytes_eq d.name name.now) averages.now }
+    ensures within { IfSome result (λ number. number < length averages.now) }
+{
+    averages.iter().position(|d| d.name.is(name))
+}
+
 impl Desc {
     ghost use Rattle.std.specs.Prelude.{◌≡◌};
     ghost use Rattle.iio_desc.specs.Description.{find_trigger, find_device};
@@ -92,13 +148,20 @@ impl Desc {
         }
     }
 
-    /// The number of the device of that name. None exactly where no device has it.
+    /// The number of the device of that name, of whichever kind. None exactly where no device has it.
     pub fn find_device(&self, name: &[u8]) -> Option<u32>
         ensures { result ≡ find_device self.now name.now }
     {
-        match device_number(self.devices.as_slice(), name) {
+        if let Some(number) = device_number(self.devices.as_slice(), name) {
+            return Some(number as u32);
+        }
+        let devices = self.devices.len();
+        if let Some(number) = output_number(self.outputs.as_slice(), name) {
+            return Some((devices + number) as u32);
+        }
+        match average_number(self.averages.as_slice(), name) {
             None => None,
-            Some(number) => Some(number as u32),
+            Some(number) => Some((devices + self.outputs.len() + number) as u32),
         }
     }
 }

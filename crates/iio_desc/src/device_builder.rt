@@ -8,14 +8,15 @@ ghost use Rattle.iio_text.specs.LineFault.{Tells, Gives, Becomes};
 ghost use Rattle.iio_text.specs.Words.{words_of, is_space};
 ghost use Rattle.iio_layout.specs.Id.{id_of, same_id};
 ghost use Rattle.iio_layout.specs.Rows.{IsRecording};
-ghost use Rattle.iio_layout.specs.Shape.{channel_of, id_at};
+ghost use Rattle.iio_layout.specs.Shape.{channel_of, id_at, same_direction};
+ghost use Rattle.iio_layout.specs.declared.channel.Direction.TheVariants as direction;
 ghost use Rattle.iio_desc.specs.Description.{DeviceRecord};
-ghost use Rattle.iio_desc.specs.DeviceLines.{attr_line, channel_line, driver_line, driver_of, drives, endian_of, has_id, ints_of, is_free, listable, listed_of, masks_line, masks_of, rises, row_line, row_of, counted_row, scope_at, stamp_line, stamp_of, unless_dash, with_channel};
-ghost use Rattle.iio_desc.specs.PartialDevice.{channel_count, device_of, has_channels, has_only_channels, may_drive, may_list, new_device, row_width, shape_of};
+ghost use Rattle.iio_desc.specs.DeviceLines.{attr_line, channel_added, channel_line, driver_line, driver_of, drives, endian_of, has_id, ints_of, is_free, listable, listed_of, masks_line, masks_of, rises, row_line, row_of, counted_row, scope_at, stamp_line, stamp_of, unless_dash, with_channel};
+ghost use Rattle.iio_desc.specs.PartialDevice.{channel_count, device_of, has_channels, has_only_channels, may_drive, may_go_on, may_list, new_device, output_of, row_width, shape_of};
 ghost use Rattle.iio_desc.specs.View.{KeepsPlace};
 ghost use Rattle.iio_desc.specs.WellFormed.{IsWrite};
 
-use crate::description::{AttrDesc, DeviceDesc};
+use crate::description::{AttrDesc, DeviceDesc, OutDesc};
 use crate::limits::{MAX_MASKS, MAX_ROWS};
 use iio_attr::{Name, Scope, Value, check, find, writable};
 use iio_layout::{Channel, Direction, Kind, MAX_CHANNELS, Rows, Shape, Suffix, read_id};
@@ -27,9 +28,11 @@ use iio_text::{
 use std::alloc::{AllocError, Global};
 use std::marker::Model;
 
-/// The device whose lines are being read.
+/// The device or output device whose lines are being read.
 #[derive(Drop)]
 pub(crate) struct DeviceBuilder {
+    // That of its channels.
+    direction: Direction,
     name: Name,
     trigger: Option<u32>,
     channels: Vec<Channel>,
@@ -264,10 +267,16 @@ fn scope_at(channel: Option<u32>) -> Scope
 
 impl DeviceBuilder {
     /// A device whose own line was read alone.
-    pub(crate) fn new(alloc: Global, name: Name, trigger: Option<u32>) -> DeviceBuilder
-        ensures { result ≡ new_device name trigger }
+    pub(crate) fn new(
+        alloc: Global,
+        direction: Direction,
+        name: Name,
+        trigger: Option<u32>,
+    ) -> DeviceBuilder
+        ensures { result ≡ new_device direction name trigger }
     {
         DeviceBuilder {
+            direction,
             name,
             trigger,
             channels: Vec::new(alloc),
@@ -295,6 +304,20 @@ impl DeviceBuilder {
         !self.channels.is_empty()
     }
 
+    /// The direction of its channels.
+    pub(crate) fn direction(&self) -> Direction
+        ensures { result ≡ self.now.direction }
+    {
+        self.direction
+    }
+
+    // Whether other lines than channels may follow: never at an output device.
+    fn may_go_on(&self) -> bool
+        ensures { result ≡ may_go_on self.now }
+    {
+        self.direction == Direction::Input && self.has_channels()
+    }
+
     /// How many rows it has.
     pub(crate) fn row_count(&self) -> usize
         ensures { result ≡ length self.now.moments }
@@ -310,6 +333,7 @@ impl DeviceBuilder {
         ensures writes { All (IsWrite (length result.shape.channels)) result.attrs }
     {
         let DeviceBuilder {
+            direction: _,
             name,
             trigger,
             channels,
@@ -332,6 +356,31 @@ impl DeviceBuilder {
             },
             driver,
             attrs,
+        }
+    }
+
+    /// The output device, where it has no further line.
+    pub(crate) fn into_output(self, alloc: Global) -> OutDesc
+        requires { has_channels self ≡ true }
+        ensures { result ≡ output_of self }
+    {
+        let DeviceBuilder {
+            direction: _,
+            name,
+            trigger,
+            channels,
+            stamp: _,
+            listed: _,
+            moments: _,
+            values: _,
+            width: _,
+            driver: _,
+            attrs: _,
+        } = self;
+        OutDesc {
+            name,
+            trigger,
+            shape: Shape::new(channels, None, Vec::new(alloc)).unwrap(),
         }
     }
 
@@ -379,10 +428,24 @@ impl DeviceBuilder {
         self.channels.push(Channel {
             kind: id.0,
             suffix: id.1,
-            direction: Direction::Input,
+            direction: self.direction,
             ty,
         })?;
         self.width += u32::from(ty.repeat());
+        Ok(())
+    }
+
+    // The same, where there may be one more.
+    fn add_channel(&mut self, id: (Kind, Suffix), ty: ScanType) -> Result<(), LineFault>
+        requires own { has_id self.old id ≡ false }
+        requires fresh { has_only_channels self.old ≡ true }
+        ensures line { Becomes result self.old self.new (channel_added self.old id ty) }
+        ensures place { OnOk result (KeepsPlace self.old self.new) }
+    {
+        if self.channels.len() >= MAX_CHANNELS {
+            return Err(LineFault::Why(Why::Limit));
+        }
+        self.push_channel(id, ty)?;
         Ok(())
     }
 
@@ -396,11 +459,7 @@ impl DeviceBuilder {
         let id = read_id(id).ok_or(Why::Name)?;
         ensure(!has_channel(self.channels.as_slice(), id), Why::Taken)?;
         let format = read_type(format).ok_or(Why::BadType)?;
-        if self.channels.len() >= MAX_CHANNELS {
-            return Err(LineFault::Why(Why::Limit));
-        }
-        self.push_channel(id, format)?;
-        Ok(())
+        self.add_channel(id, format)
     }
 
     /// `timestamp`, `timestamp be` or `timestamp le`
@@ -408,7 +467,7 @@ impl DeviceBuilder {
         ensures line { Becomes result self.old self.new (stamp_line self.old (words_of is_space words.now)) }
         ensures place { KeepsPlace self.old self.new }
     {
-        ensure(self.has_channels() && self.has_only_channels(), Why::Order)?;
+        ensure(self.may_go_on() && self.has_only_channels(), Why::Order)?;
         let endian = read_stamp(words)?;
         ensure(self.channels.len() < MAX_CHANNELS, Why::Limit)?;
         self.stamp = Some(endian);
@@ -420,7 +479,7 @@ impl DeviceBuilder {
         ensures line { Becomes result self.old self.new (masks_line self.old (words_of is_space words.now)) }
         ensures place { KeepsPlace self.old self.new }
     {
-        ensure(self.has_channels() && self.may_list(), Why::Order)?;
+        ensure(self.may_go_on() && self.may_list(), Why::Order)?;
         let room = count_words(words);
         ensure(room > 0, Why::Count)?;
         let channels = self.channels.len() as u32;
@@ -438,7 +497,7 @@ impl DeviceBuilder {
         ensures driver { self.new.driver ≡ self.old.driver }
         ensures within { earlier + length self.new.moments ≤ MAX_ROWS }
     {
-        ensure(self.has_channels() && self.driver.is_none(), Why::Order)?;
+        ensure(self.may_go_on() && self.driver.is_none(), Why::Order)?;
         self.moments.reserve(1)?;
         let start = self.values.len();
         let width = self.width as usize;
@@ -463,7 +522,7 @@ impl DeviceBuilder {
         ensures free { OnOk result (IfSome self.new.driver (λ k. is_free drivers devices.now k ≡ true)) }
         ensures moments { self.new.moments ≡ self.old.moments }
     {
-        ensure(self.has_channels() && self.may_drive(), Why::Order)?;
+        ensure(self.may_go_on() && self.may_drive(), Why::Order)?;
         let word = one_word(words).ok_or(Why::Count)?;
         let driver = read_driver(drivers, devices, word).ok_or(Why::Driver)?;
         self.driver = Some(driver);
@@ -489,7 +548,7 @@ impl DeviceBuilder {
         ensures line { Becomes result self.old self.new (attr_line self.old (words_of is_space words.now)) }
         ensures place { KeepsPlace self.old self.new }
     {
-        ensure(self.has_channels(), Why::Order)?;
+        ensure(self.may_go_on(), Why::Order)?;
         let (id, name, text) = three_words(words).ok_or(Why::Count)?;
         let channel = self.read_channel(id).ok_or(Why::Attr)?;
         let attr = find(scope_at(channel), name).ok_or(Why::Attr)?;

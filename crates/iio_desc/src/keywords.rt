@@ -12,6 +12,8 @@ pub enum Keyword {
     Trigger,
     /// `device NAME TRIGGER`
     Device,
+    /// `output NAME TRIGGER`
+    Output,
     /// `channel ID TYPE`
     Channel,
     /// `timestamp`, `timestamp be` or `timestamp le`
@@ -45,6 +47,8 @@ impl Keyword {
             Some(Keyword::Driver)
         } else if word == b"device".as_slice() {
             Some(Keyword::Device)
+        } else if word == b"output".as_slice() {
+            Some(Keyword::Output)
         } else if word == b"trigger".as_slice() {
             Some(Keyword::Trigger)
         } else if word == b"context".as_slice() {

@@ -9,8 +9,8 @@ mod keywords;
 mod limits;
 mod reader;
 
-pub use crate::description::{AttrDesc, Desc, DeviceDesc, TriggerDesc};
-pub use crate::limits::{MAX_DEVICES, MAX_MASKS, MAX_ROWS, MAX_TRIGGERS};
+pub use crate::description::{AttrDesc, AverageDesc, Desc, DeviceDesc, OutDesc, TriggerDesc};
+pub use crate::limits::{MAX_DEVICES, MAX_MASKS, MAX_ROWS, MAX_TRIGGERS, MAX_WINDOW};
 pub use crate::reader::{DescFault, DescReader, is_end, read_desc};
 pub use iio_attr::Name;
 pub use iio_base::Mem;

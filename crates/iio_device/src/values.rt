@@ -72,7 +72,8 @@ fn write_channel<P: Sensor>(stored: &mut Stored, plug: &mut P, c: u32, attr: Att
         | Attr::Overruns
         | Attr::DataAvailable
         | Attr::Length
-        | Attr::Discarded => {}
+        | Attr::Discarded
+        | Attr::Underruns => {}
     }
 }
 
@@ -155,7 +156,8 @@ fn read_channel<P: Sensor>(stored: &Stored, plug: &P, c: u32, attr: Attr) -> Val
         | Attr::Overruns
         | Attr::DataAvailable
         | Attr::Length
-        | Attr::Discarded => Value::Number(values.calibscale),
+        | Attr::Discarded
+        | Attr::Underruns => Value::Number(values.calibscale),
     }
 }
 

@@ -78,6 +78,7 @@ channels_from i (f ∷ fs) = record { kind = Voltage; suffix = Number i; directi
 
 abbrev pub device : List Format → Option Endian → List ℤ → List ℤ → PartialDevice
 device formats stamp moments values = record {
+  direction = Input;
   name = codes "dev0";
   trigger = Some 0;
   channels = channels_from 0 formats;
@@ -90,12 +91,12 @@ device formats stamp moments values = record {
 }
 
 abbrev pub so_far : ℕ → PartialDevice → PartialDesc
-so_far drivers d = record { drivers = drivers; context = None; triggers = t0 ∷ []; devices = []; current = Some d }
+so_far drivers d = record { drivers = drivers; context = None; triggers = t0 ∷ []; devices = []; outputs = []; current = Some d }
 
 reads_device : (drivers : ℕ) → Reads drivers (codes "trigger t0 2\ndevice dev0 t0\n") (so_far drivers (device [] None [] []))
 reads_device drivers =
     reads_more drivers (codes "trigger t0 2\n") (codes "device dev0 t0") _ _
-    (reads_more drivers [] (codes "trigger t0 2") (new_desc drivers) (record { drivers = drivers; context = None; triggers = t0 ∷ []; devices = []; current = None })
+    (reads_more drivers [] (codes "trigger t0 2") (new_desc drivers) (record { drivers = drivers; context = None; triggers = t0 ∷ []; devices = []; outputs = []; current = None })
     (reads_none drivers) refl refl refl)
     refl refl refl
 
@@ -382,22 +383,22 @@ pub record Opens (drivers : ℕ) (text : List ℕ) : Type 0 where
   pub short : length text ≤ 5000
 
 -- the line that ends it
-ended : (drivers lines number : ℕ) (d : PartialDevice) (rest : List (List ℕ)) → has_channels d ≡ true
+ended : (drivers lines number : ℕ) (d : PartialDevice) (rest : List (List ℕ)) → d.direction ≡ Input → has_channels d ≡ true
     → head_from false (Ok (record { lines = lines; desc = so_far drivers d })) number (codes "%%" ∷ rest)
-    ≡ Described (record { context = []; triggers = t0 ∷ []; devices = device_of d ∷ [] }) (number + 1) rest
-ended drivers lines number d rest some = rw some refl
+    ≡ Described (record { context = []; triggers = t0 ∷ []; devices = device_of d ∷ []; outputs = []; averages = [] }) (number + 1) rest
+ended drivers lines number d rest inward some = rw (some, inward) refl
 
 described : (drivers : ℕ) (formats : List Format) (text : List ℕ) → HasEight formats → HasRows drivers 64 formats text → Opens drivers (text ++ codes "%%\n")
 described drivers formats text eight has =
     let d = device formats (Some Little) has.moments has.values in
     let reads = has.reads in record {
-      desc = record { context = []; triggers = t0 ∷ []; devices = device_of d ∷ [] };
+      desc = record { context = []; triggers = t0 ∷ []; devices = device_of d ∷ []; outputs = []; averages = [] };
       first = reads.number + 1;
       triggers = refl;
       head = λ more.
           ap (λ t. head_from false (new_reader drivers) 1 (lines_of t)) (append_assoc text (codes "%%\n") more)
           ∙ reads.reads (codes "%%\n" ++ more)
-          ∙ ended drivers reads.lines reads.number d (lines_of more) eight.some;
+          ∙ ended drivers reads.lines reads.number d (lines_of more) refl eight.some;
       short = let old = has.short in omega (arith, length-append text (codes "%%\n"));
     }
 

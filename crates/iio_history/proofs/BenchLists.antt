@@ -1,10 +1,12 @@
 -- Lists that a map with places changes at one place, or nowhere; names and their places.
-use Rattle.std.proofs.Common.{◌≡◌, ℕ, zero, suc, ◌+◌, ◌<◌, ◌≤◌, ◌==◌, ◌||◌, Bool, true, false, List, [], ◌∷◌, ◌++◌, map, Some, option_map, slice_get, min, take, drop, length, cond, inl, inr, refl, sym, ap, ◌∙◌, subst, arith}
+use Rattle.std.proofs.Common.{◌≡◌, ℕ, zero, suc, ◌+◌, ◌<◌, ◌≤◌, ◌==◌, ◌||◌, Bool, true, false, List, [], ◌∷◌, ◌++◌, map, Option, None, Some, option_map, slice_get, min, take, drop, length, cond, inl, inr, refl, sym, ap, ◌∙◌, subst, arith}
 use Rattle.std.proofs.lemmas.Bool.{cases_lt}
 use Rattle.std.proofs.lemmas.Bool.Decides.{nat_tests}
 use Rattle.std.proofs.lemmas.List.{drop_all, take_all}
 use Rattle.std.proofs.lemmas.Slice.Eq.{bytes_eq-Decides}
 use Rattle.std.specs.Str.{bytes_eq}
+use Rattle.iio_base.specs.Refusals.{first_refusal}
+use Rattle.iio_text.specs.declared.errors.Errno.{Errno}
 use Rattle.iio_device.specs.Site.{at_place}
 use Rattle.iio_history.specs.Places.{map_from}
 use Rattle.iio_history.specs.Bench.{Every, place_in, is_in}
@@ -42,6 +44,36 @@ one_place v f g k i (suc j) (x ∷ xs) y place kept is at =
 pub all_kept : {A B : Type 0} (v : A → B) (f : ℕ → A → A) (i : ℕ) (xs : List A) → ((j : ℕ) (x : A) → v (f j x) ≡ v x) → map v (map_from f i xs) ≡ map v xs
 all_kept v f i [] kept = refl
 all_kept v f i (x ∷ xs) kept = ap (λ y. y ∷ map v (map_from f (suc i) xs)) (kept i x) ∙ ap (λ ys. v x ∷ ys) (all_kept v f (suc i) xs kept)
+
+placed_behind : {A : Type 0} (g : A → A) (k i : ℕ) (xs : List A) → k < i → map_from (λ n x. cond (k == n) (g x) x) i xs ≡ xs
+placed_behind g k i [] after = refl
+placed_behind g k i (x ∷ xs) after =
+    let other : (k == i) ≡ false = grind (arith, nat_tests) in
+    ap (λ (b : Bool). cond b (g x) x ∷ map_from (λ n y. cond (k == n) (g y) y) (suc i) xs) other ∙ ap (λ (ys : List _). x ∷ ys) (placed_behind g k (suc i) xs (omega arith))
+
+-- a change at one place is one of all places
+pub placed_from : {A : Type 0} (g : A → A) (k j i : ℕ) (xs : List A) → k ≡ j + i → at_place j g xs ≡ map_from (λ n x. cond (k == n) (g x) x) i xs
+placed_from g k j i [] place = refl
+placed_from g k zero i (x ∷ xs) place =
+    let here : (k == i) ≡ true = grind (arith, nat_tests) in
+    ap (λ (ys : List _). g x ∷ ys) (sym (placed_behind g k (suc i) xs (omega (arith, place)))) ∙ ap (λ (b : Bool). cond b (g x) x ∷ map_from (λ n y. cond (k == n) (g y) y) (suc i) xs) (sym here)
+placed_from g k (suc j) i (x ∷ xs) place =
+    let other : (k == i) ≡ false = grind (arith, nat_tests) in
+    ap (λ (ys : List _). x ∷ ys) (placed_from g k j (suc i) xs (omega (arith, place))) ∙ ap (λ (b : Bool). cond b (g x) x ∷ map_from (λ n y. cond (k == n) (g y) y) (suc i) xs) (sym other)
+
+pub twice_from : {A B C : Type 0} (f : ℕ → B → C) (g : ℕ → A → B) (i : ℕ) (xs : List A) → map_from f i (map_from g i xs) ≡ map_from (λ n x. f n (g n x)) i xs
+twice_from f g i [] = refl
+twice_from f g i (x ∷ xs) = ap (λ (ys : List _). f i (g i x) ∷ ys) (twice_from f g (suc i) xs)
+
+-- each place is changed in both views
+pub each_from : {A B : Type 0} (v : A → B) (f : ℕ → A → A) (g : ℕ → B → B) (i : ℕ) (xs : List A) → ((j : ℕ) (x : A) → slice_get xs j ≡ Some x → v (f (j + i) x) ≡ g (j + i) (v x))
+    → map v (map_from f i xs) ≡ map_from g i (map v xs)
+each_from v f g i [] each = refl
+each_from v f g i (x ∷ xs) each =
+    let here : 0 + i ≡ i = omega arith in
+    ap (λ y. y ∷ map v (map_from f (suc i) xs)) (ap (λ (n : ℕ). v (f n x)) (sym here) ∙ each 0 x refl ∙ ap (λ (n : ℕ). g n (v x)) here)
+    ∙ ap (λ ys. g i (v x) ∷ ys)
+    (each_from v f g (suc i) xs (λ j y at. let place : suc j + i ≡ j + suc i = omega arith in ap (λ (n : ℕ). v (f n y)) (sym place) ∙ each (suc j) y at ∙ ap (λ (n : ℕ). g n (v y)) place))
 
 -- what stands at a place afterwards
 pub get_from : {A B : Type 0} (f : ℕ → A → B) (i : ℕ) (xs : List A) (k : ℕ) → slice_get (map_from f i xs) k ≡ option_map (f (k + i)) (slice_get xs k)
@@ -138,3 +170,19 @@ still_in (n ∷ ns) more a there = by (bytes_eq n a) there (still_in ns more a)
     by : (x : Bool) → (x || is_in ns a) ≡ true → (is_in ns a ≡ true → is_in (ns ++ more) a ≡ true) → (x || is_in (ns ++ more) a) ≡ true
     by true there rest = refl
     by false there rest = rest there
+
+-- ---- refusals
+
+-- the first of two lists
+abbrev pub first_of_two : Option Errno → Option Errno → Option Errno
+first_of_two None later = later
+first_of_two (Some e) later = Some e
+
+pub first_appended : (xs bs : List (Bool × Errno)) → first_refusal (xs ++ bs) ≡ first_of_two (first_refusal xs) (first_refusal bs)
+first_appended [] bs = refl
+first_appended (a ∷ xs) bs = by a.0 (first_appended xs bs)
+  where
+    by : (b : Bool) → first_refusal (xs ++ bs) ≡ first_of_two (first_refusal xs) (first_refusal bs)
+        → cond b (Some a.1) (first_refusal (xs ++ bs)) ≡ first_of_two (cond b (Some a.1) (first_refusal xs)) (first_refusal bs)
+    by true h = refl
+    by false h = h

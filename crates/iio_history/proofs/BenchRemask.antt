@@ -4,7 +4,7 @@ use Rattle.std.specs.Prelude.{unwrap_or}
 use Rattle.std.specs.Option.{ok_or}
 use Rattle.iio_base.specs.Refusals.{ensure, ◌>>=◌, first_refusal, unless_refused}
 use Rattle.iio_text.specs.declared.errors.Errno.{Errno}
-use Rattle.iio_text.specs.declared.errors.Errno.TheVariants.{EBADF, EINVAL, ENODEV}
+use Rattle.iio_text.specs.declared.errors.Errno.TheVariants.{EBADF, EINVAL, ENODEV, ENOSYS}
 use Rattle.iio_mask.specs.Text.{mask_of}
 use Rattle.iio_layout.specs.Active.{has_data}
 use Rattle.iio_layout.specs.Layout.{scan_size}
@@ -16,38 +16,37 @@ use Rattle.iiod_grammar.specs.Command.{Remask}
 use Rattle.iiod_grammar.specs.Stream.{Item, Said}
 use Rattle.iiod_reply.specs.Reply.{Reply, Refusal}
 use Rattle.iio_kfifo.specs.declared.limits.TheConstants.{MAX_BYTES}
-use Rattle.iiod_session.specs.Acts.{Acted, act, refused, remask_at, remask_place, remask_seat, remask_wanted, remasked_seat as session_remasked, zero_reply}
+use Rattle.iiod_session.specs.Acts.{Acted, act, refused, remask_at, remask_place, remask_seat, remask_wanted, remasked_seat as session_remasked, where_known, zero_reply}
+use Rattle.iio_desc.specs.Kind.{is_input}
 use Rattle.iiod_session.specs.Calls.{remask_of, remask_refusals as bench_refusals, remasked as bench_remasked, unless, with_mask}
-use Rattle.iiod_session.specs.Desk.{Bare, DeskRecord, bare_id, bare_remasked, mask_wanted, more_discarded, place_of, with_seats}
-use Rattle.iiod_session.specs.Front.{shape_at}
-use Rattle.iiod_session.specs.Machine.{Member as MachineMember, MemberId, Station as MachineStation, masks_of, member_in, queue_of, scans_in, station_at, with_station, without}
+use Rattle.iiod_session.specs.Desk.{Bare, DeskRecord, bare_remasked, mask_wanted, more_discarded, place_of, with_seats}
+use Rattle.iiod_session.specs.Front.{kind_at, shape_at}
+use Rattle.iiod_session.specs.Machine.{Member as MachineMember, Station as MachineStation, masks_of, member_in, queue_of, scans_in, station_at, with_station, without}
 use Rattle.iiod_session.specs.Opening.{mask_refusals}
 use Rattle.iio_history.specs.Who.{Who, Conn, same}
-use Rattle.iio_history.specs.Event.{Event, Heard}
+use Rattle.iio_history.specs.Event.{Heard}
 use Rattle.iio_history.specs.Registry.{Setup, Member, Device, is_named, mask_of_member, member_of, without_members}
-use Rattle.iio_history.specs.Opening.{Remasked, remask_answer, remask_refusals, remasked}
+use Rattle.iio_history.specs.Opening.{Remasked, remask_answer, remasked}
 use Rattle.iio_history.specs.Act.{Act, Nothing, Remasking, accepted, only as only_act}
 use Rattle.iio_history.specs.Queue.{new_queue}
 use Rattle.iio_history.specs.Told.{Seat, Station, Told, device_of, member_of_seat, registry_of}
 use Rattle.iio_history.specs.Machine.{remasked_seat, station_after, station_by, step, without_seats}
 use Rattle.iio_history.specs.Reply.{Known, replied, reply, seat_of}
-use Rattle.iio_history.specs.Bench.{IsAct, IsBench, IsDeskOf, bare_by, bench_by, front_of, machine_of, names_of, numbered, place_in, seat_at, seat_in, site_by}
-use Rattle.iio_history.proofs.RegistryLaws.{NoneApplies, passed}
-use Rattle.iio_history.proofs.WhoLaws.{same_is, same_self}
-use Rattle.iio_history.proofs.BenchLists.{get_first, itself, same_number}
+use Rattle.iio_history.specs.Bench.{IsAct, IsBench, IsDeskOf, bare_by, bench_by, front_of, machine_of, names_of, numbered, place_in, seat_at, seat_in}
+use Rattle.iio_history.proofs.WhoLaws.{same_is}
+use Rattle.iio_history.proofs.BenchLists.{first_appended, first_of_two, get_first, itself, same_number}
 use Rattle.iio_history.proofs.BenchSeats.{TellSame, id_of_seat, left_same, lost_same, masks_same, member_same, scans_same}
 use Rattle.iio_history.proofs.BenchSteps.{bench_at, named_by, names_kept, shape_same}
 use Rattle.iio_history.proofs.BenchDesks.{counts_kept, HolderStays, holds_kept, keeps_spared, seat_kept, users_after}
 use Rattle.iio_history.proofs.BenchPlaces.{is_at, place_none, put_apart, put_at}
-use Rattle.iio_history.proofs.BenchPlain.{Acts, Names, at_named, keeps_else, known_is, state_changed, unchanged, unknown_is, where_plugged}
+use Rattle.iio_history.proofs.BenchPlain.{Acts, Names, at_named, keeps_else, known_is, state_changed, unchanged, unknown_is, where_kind, where_plugged}
 use Rattle.iio_history.proofs.BenchBuffers.{own_seat, station_is, tells}
 use Rattle.iio_history.proofs.BenchKept.{left_members}
-use Rattle.iio_history.proofs.BenchOpen.{first_appended, first_of_two}
 
 -- ---- members
 
 -- the membership of a seat that is found, or none
-member_found : (who : Who) (xs : List Seat) → member_of who (map member_of_seat xs) ≡ option_map member_of_seat (seat_of who xs)
+pub member_found : (who : Who) (xs : List Seat) → member_of who (map member_of_seat xs) ≡ option_map member_of_seat (seat_of who xs)
 member_found who [] = refl
 member_found who (x ∷ xs) = by (same who x.member.who) (member_found who xs)
   where
@@ -141,14 +140,23 @@ module _ (s : Setup) (m : Told) (name : List ℕ) (desk : DeskRecord) (device te
     is_refused e is =
         unchanged s m name (Said (Ok (Remask device text))) device k st Nothing (acts (Err e) is) desk (Refusal e) d (reply_is (Err e) is) refl (keeps_spared (Conn name) k Nothing st tt) (λ u. refl)
 
-    plugged_answer : st.site.plugged ≡ true → (o : Option Seat) → seat_of (Conn name) st.seats ≡ o → remask_answer (device_of st) (Conn name) text ≡ answer_by (device_of st) text (option_map member_of_seat o)
-    plugged_answer plugged o is =
-        ap (λ (b : Bool). ensure b ENODEV >>= (λ plugged. answer_by (device_of st) text (member_of (Conn name) (device_of st).members))) plugged
+    plugged_answer : is_input st.kind ≡ true → st.site.plugged ≡ true → (o : Option Seat) → seat_of (Conn name) st.seats ≡ o → remask_answer (device_of st) (Conn name) text ≡ answer_by (device_of st) text (option_map member_of_seat o)
+    plugged_answer input plugged o is =
+        ap (λ (b : Bool). ensure b ENODEV >>= (λ plugged. ensure (is_input st.kind) ENOSYS >>= (λ input. answer_by (device_of st) text (member_of (Conn name) (device_of st).members)))) plugged
+        ∙ ap (λ (b : Bool). ensure b ENOSYS >>= (λ input. answer_by (device_of st) text (member_of (Conn name) (device_of st).members))) input
         ∙ ap (answer_by (device_of st) text) (member_found (Conn name) st.seats ∙ ap (option_map member_of_seat) is)
+
+    gone_answer : st.site.plugged ≡ false → remask_answer (device_of st) (Conn name) text ≡ Err ENODEV
+    gone_answer gone = ap (λ (b : Bool). ensure b ENODEV >>= (λ plugged. ensure (is_input st.kind) ENOSYS >>= (λ input. answer_by (device_of st) text (member_of (Conn name) (device_of st).members)))) gone
+
+    barred_answer : is_input st.kind ≡ false → st.site.plugged ≡ true → remask_answer (device_of st) (Conn name) text ≡ Err ENOSYS
+    barred_answer other plugged =
+        ap (λ (b : Bool). ensure b ENODEV >>= (λ plugged. ensure (is_input st.kind) ENOSYS >>= (λ input. answer_by (device_of st) text (member_of (Conn name) (device_of st).members)))) plugged
+        ∙ ap (λ (b : Bool). ensure b ENOSYS >>= (λ input. answer_by (device_of st) text (member_of (Conn name) (device_of st).members))) other
 
     -- ---- at a seat
 
-    module _ (plugged : st.site.plugged ≡ true) (y : Seat) (is : seat_of (Conn name) st.seats ≡ Some y) where
+    module _ (input : is_input st.kind ≡ true) (plugged : st.site.plugged ≡ true) (y : Seat) (is : seat_of (Conn name) st.seats ≡ Some y) where
       abbrev mask : ℕ
       mask = unwrap_or (mask_of text (count_of st.shape)) 0
 
@@ -178,7 +186,7 @@ module _ (s : Setup) (m : Told) (name : List ℕ) (desk : DeskRecord) (device te
 
       answer_is : (a b : Option Errno) → first_refusal own_list ≡ a → first_refusal union_list ≡ b → remask_answer (device_of st) (Conn name) text ≡ unless_refused made (first_of_two a b)
       answer_is a b first second =
-          plugged_answer plugged (Some y) is
+          plugged_answer input plugged (Some y) is
           ∙ ap (λ (x : Bool). unless_refused made (first_refusal (mask_refusals x (not (has_data st.shape mask)) (nat_lt MAX_BYTES (y.member.capacity * scan_size st.shape mask)) ++ union_list))) (no_mask (mask_of text (count_of st.shape)))
           ∙ ap (unless_refused made) (first_appended own_list union_list ∙ ap (λ (o : Option Errno). first_of_two o (first_refusal union_list)) first ∙ ap (first_of_two a) second)
 
@@ -264,23 +272,24 @@ module _ (s : Setup) (m : Told) (name : List ℕ) (desk : DeskRecord) (device te
       at_seat : (i : ℕ) → slice_get desk.seats i ≡ Some (bare_by k y) → IsAct s m name (Said (Ok (Remask device text))) (remask_seat (front_of s) (machine_of m) desk text i (Some (bare_by k y)))
       at_seat i here = subst (λ (r : Result ℕ Errno). IsAct s m name (Said (Ok (Remask device text))) (remask_wanted (front_of s) (machine_of m) desk i (bare_by k y) r)) (sym wanted_is) (by_own i here (first_refusal own_list) refl)
 
-    by_seat : st.site.plugged ≡ true → (o : Option Seat) → seat_of (Conn name) st.seats ≡ o → IsAct s m name (Said (Ok (Remask device text))) (remask_place (front_of s) (machine_of m) desk text (place_of k desk.seats))
-    by_seat plugged None is =
+    by_seat : is_input st.kind ≡ true → st.site.plugged ≡ true → (o : Option Seat) → seat_of (Conn name) st.seats ≡ o → IsAct s m name (Said (Ok (Remask device text))) (remask_place (front_of s) (machine_of m) desk text (place_of k desk.seats))
+    by_seat input plugged None is =
         subst (λ (p : Option ℕ). IsAct s m name (Said (Ok (Remask device text))) (remask_place (front_of s) (machine_of m) desk text p)) (sym (place_none k desk.seats (own_seat m name desk k st None d at is)))
-        (is_refused EBADF (plugged_answer plugged None is))
-    by_seat plugged (Some y) is =
+        (is_refused EBADF (plugged_answer input plugged None is))
+    by_seat input plugged (Some y) is =
         let f = is_at k desk.seats (bare_by k y) d.apart (own_seat m name desk k st (Some y) d at is) in
         subst (λ (p : Option ℕ). IsAct s m name (Said (Ok (Remask device text))) (remask_place (front_of s) (machine_of m) desk text p)) (sym f.place)
-        (subst (λ (b : Option Bare). IsAct s m name (Said (Ok (Remask device text))) (remask_seat (front_of s) (machine_of m) desk text f.i b)) (sym f.here) (at_seat plugged y is f.i f.here))
+        (subst (λ (b : Option Bare). IsAct s m name (Said (Ok (Remask device text))) (remask_seat (front_of s) (machine_of m) desk text f.i b)) (sym f.here) (at_seat input plugged y is f.i f.here))
 
-    remask_here : IsAct s m name (Said (Ok (Remask device text))) (remask_at (front_of s) (machine_of m) desk text k)
+    remask_here : IsAct s m name (Said (Ok (Remask device text))) (where_known (is_input (kind_at (front_of s) k)) (machine_of m) desk k (remask_at (front_of s) (machine_of m) desk text k))
     remask_here =
-        where_plugged m k st desk _ (IsAct s m name (Said (Ok (Remask device text)))) at (λ plugged. by_seat plugged (seat_of (Conn name) st.seats) refl)
-        (λ gone. is_refused ENODEV (ap (λ (b : Bool). ensure b ENODEV >>= (λ plugged. answer_by (device_of st) text (member_of (Conn name) (device_of st).members))) gone))
+        where_kind s m k st desk is_input _ (IsAct s m name (Said (Ok (Remask device text)))) bench at
+        (λ input. where_plugged m k st desk _ (IsAct s m name (Said (Ok (Remask device text)))) at (λ plugged. by_seat input plugged (seat_of (Conn name) st.seats) refl) (λ gone. is_refused ENODEV (gone_answer gone)))
+        (λ other plugged. is_refused ENOSYS (barred_answer other plugged)) (λ other gone. is_refused ENODEV (gone_answer gone))
 
 pub remask_is : (s : Setup) (m : Told) (name : List ℕ) (desk : DeskRecord) (device text : List ℕ) → IsBench s m → IsDeskOf m name desk
     → IsAct s m name (Said (Ok (Remask device text))) (act (front_of s) (machine_of m) desk (Said (Ok (Remask device text))))
 unfolding act
 remask_is s m name desk device text bench d =
-    at_named s m name desk (Said (Ok (Remask device text))) device (λ k. remask_at (front_of s) (machine_of m) desk text k) bench d (names s m name desk device text)
+    at_named s m name desk (Said (Ok (Remask device text))) device (λ k. where_known (is_input (kind_at (front_of s) k)) (machine_of m) desk k (remask_at (front_of s) (machine_of m) desk text k)) bench d (names s m name desk device text)
     (λ k st found at. remask_here s m name desk device text k st bench d found at)

@@ -89,7 +89,7 @@ id_of_seat x = record { number = x.number; mask = x.member.mask }
 own_id : (x : Seat) → true ≡ is_id_of (id_of_seat x) (numbered x)
 own_id x = sym (ap (λ (b : Bool). b && (x.member.mask == x.member.mask)) (itself x.number) ∙ itself x.member.mask)
 
-tell_id : (own : Bool) (x y : Seat) → own ≡ (x.number == y.number) → (own ≡ true → x ≡ y) → own ≡ is_id_of (id_of_seat y) (numbered x)
+pub tell_id : (own : Bool) (x y : Seat) → own ≡ (x.number == y.number) → (own ≡ true → x ≡ y) → own ≡ is_id_of (id_of_seat y) (numbered x)
 tell_id true x y tell one = subst (λ (z : Seat). true ≡ is_id_of (id_of_seat z) (numbered x)) (one refl) (own_id x)
 tell_id false x y tell one = ap (λ (b : Bool). b && (x.member.mask == y.member.mask)) tell
 

@@ -1,5 +1,5 @@
 -- The handling of an entry in both views of a device, and the ends of queues that are there.
-use Rattle.std.proofs.Common.{◌≡◌, ℕ, zero, suc, ◌+◌, ◌-◌, ◌^◌, ◌≤◌, Bool, true, false, List, [], ◌∷◌, ◌++◌, map, drop, length, Option, Some, slice_get, refl, sym, ap, ◌∙◌, arith, cond}
+use Rattle.std.proofs.Common.{◌≡◌, ℕ, zero, suc, ◌+◌, ◌-◌, ◌^◌, ◌≤◌, Bool, true, false, List, [], ◌∷◌, ◌++◌, map, drop, length, Option, Some, None, slice_get, refl, sym, ap, ◌∙◌, arith, cond}
 use Rattle.std.specs.Prelude.{◌==◌, ◌&&◌, not, nat_lt, ℤ}
 use Rattle.std.specs.List.{AllZip}
 use Rattle.std.proofs.lemmas.Bool.Decides.{nat_tests}
@@ -26,6 +26,9 @@ use Rattle.iio_device.specs.Members.{WasOffered, masks_of}
 use Rattle.iio_device.specs.Roster.{Standing}
 use Rattle.iio_device.specs.Site.{Site, captured, is_current, is_empty}
 use Rattle.iiod_session.specs.Machine.{Machine, Member, Station, masks_of as plain_masks, with_station}
+use Rattle.iio_desc.specs.Kind.{Input}
+use Rattle.iio_derive.specs.Window.{no_window}
+use Rattle.iio_output.specs.Last.{first_last}
 use Rattle.iio_history.specs.Registry.{Capture}
 use Rattle.iio_history.specs.BenchMoves.{asked_once, entry_made, offered_to}
 use Rattle.iio_history.specs.Devices.{AreMet, IsAt, IsMet, entry_by, handled_answer, left_after, member_with, members_met, queue_waited, queue_waits, station_met, station_of, station_with, writer_waited, writer_waits}
@@ -60,15 +63,15 @@ module _ {Q : Type 0} (taken lost size capacity : Q → ℕ) (offer_gives : Q �
       → offered_to shape c (member_with lost capacity (waited a.tail b.tail) a) ≡ member_with lost capacity (waits b.tail) b
   offered_by shape c a b Taken same bounded is =
       let room : nat_lt (length (waited a.tail b.tail)) (capacity a.tail) ≡ true = let h = is.0 in grind (arith, nat_tests) in
-      rw room (ap (λ (scans : List (List ℕ)). (let x : Member = record { number = a.number; mask = a.mask.bits; capacity = capacity a.tail; scans = scans; lost = lost a.tail } in x)) (sym is.2)
-      ∙ ap (λ (n : ℕ). (let x : Member = record { number = a.number; mask = a.mask.bits; capacity = n; scans = waits b.tail; lost = lost a.tail } in x)) (sym bounded)
-      ∙ ap (λ (n : ℕ). (let x : Member = record { number = a.number; mask = a.mask.bits; capacity = capacity b.tail; scans = waits b.tail; lost = n } in x)) (sym is.1)
+      rw room (ap (λ (scans : List (List ℕ)). (let x : Member = record { number = a.number; mask = a.mask.bits; capacity = capacity a.tail; scans = scans; lost = lost a.tail; cyclic = false; inner = None } in x)) (sym is.2)
+      ∙ ap (λ (n : ℕ). (let x : Member = record { number = a.number; mask = a.mask.bits; capacity = n; scans = waits b.tail; lost = lost a.tail; cyclic = false; inner = None } in x)) (sym bounded)
+      ∙ ap (λ (n : ℕ). (let x : Member = record { number = a.number; mask = a.mask.bits; capacity = capacity b.tail; scans = waits b.tail; lost = n; cyclic = false; inner = None } in x)) (sym is.1)
       ∙ ap (λ (m : Membership Q). member_with lost capacity (waits b.tail) m) (sym same))
   offered_by shape c a b Lost same bounded is =
       let full : nat_lt (length (waited a.tail b.tail)) (capacity a.tail) ≡ false = let h = is.0 in grind (arith, nat_tests) in
-      rw full (ap (λ (scans : List (List ℕ)). (let x : Member = record { number = a.number; mask = a.mask.bits; capacity = capacity a.tail; scans = scans; lost = lost a.tail + 1 } in x)) (sym is.2)
-      ∙ ap (λ (n : ℕ). (let x : Member = record { number = a.number; mask = a.mask.bits; capacity = n; scans = waits b.tail; lost = lost a.tail + 1 } in x)) (sym bounded)
-      ∙ ap (λ (n : ℕ). (let x : Member = record { number = a.number; mask = a.mask.bits; capacity = capacity b.tail; scans = waits b.tail; lost = n } in x)) (sym is.1)
+      rw full (ap (λ (scans : List (List ℕ)). (let x : Member = record { number = a.number; mask = a.mask.bits; capacity = capacity a.tail; scans = scans; lost = lost a.tail + 1; cyclic = false; inner = None } in x)) (sym is.2)
+      ∙ ap (λ (n : ℕ). (let x : Member = record { number = a.number; mask = a.mask.bits; capacity = n; scans = waits b.tail; lost = lost a.tail + 1; cyclic = false; inner = None } in x)) (sym bounded)
+      ∙ ap (λ (n : ℕ). (let x : Member = record { number = a.number; mask = a.mask.bits; capacity = capacity b.tail; scans = waits b.tail; lost = n; cyclic = false; inner = None } in x)) (sym is.1)
       ∙ ap (λ (m : Membership Q). member_with lost capacity (waits b.tail) m) (sym same))
 
   all_offered : (shape : ShapeRecord) (c : Capture) (xs ys : List (Membership Q)) → WereOffered shape c xs ys → OffersAreMet xs ys
@@ -115,7 +118,7 @@ module _ {Q : Type 0} (taken lost size capacity : Q → ℕ) (offer_gives : Q �
 
   pub handled_is : (e : Handed) (r : Handled) (d d' : DeviceView Q) → Handles taken lost size capacity offer_gives e r d d' → e.dev ≡ d.number → (d.standing.captures == 2 ^ 64 - 1) ≡ false
       → d.standing.active ≡ active_for d.standing.shape (masks_of d.standing.members) → AreMet lost capacity waits waited offer_gives r d d'
-      → (r ≡ handled_answer e (station_met lost capacity waits waited r d d')) × (entry_made d.standing.shape (Some (entry_by e)) (station_met lost capacity waits waited r d d') ≡ after d')
+      → (r ≡ handled_answer e (station_met lost capacity waits waited r d d')) × (entry_made Input d.standing.shape (Some (entry_by e)) (station_met lost capacity waits waited r d d') ≡ after d')
   handled_is e Idle d d' h own fewer ruled met_is =
       let idle : is_current e.attachment d.site.attachment (after d).members d.site.plugged ≡ false
       = current_is e d (after d).members own fewer (empty_map (λ (m : Membership Q). member_with lost capacity (waits m.tail) m) d.standing.members) ∙ h.0 in
@@ -139,11 +142,11 @@ module _ {Q : Type 0} (taken lost size capacity : Q → ℕ) (offer_gives : Q �
       rw due (
         ap (λ (k : ℕ). Captured k) many ∙ sym (on_false (ask_fails d.site.driver) Fault (Captured (length ms)) h.1),
         on_false (ask_fails d.site.driver) (asked_once d.standing.shape e.t (station_with lost capacity ms d)) _ h.1
-            ∙ ap (λ (site : Site ℕ). (let st : Station = record { next = d.standing.next; captures = d.standing.captures + 1; totals = d.totals; members = map (offered_to d.standing.shape c) ms; site = site } in st))
+            ∙ ap (λ (site : Site ℕ). (let st : Station = record { next = d.standing.next; captures = d.standing.captures + 1; totals = d.totals; members = map (offered_to d.standing.shape c) ms; site = site; last = first_last d.standing.shape; window = no_window } in st))
             (asked_is e.t d ms ruled (met_masks d.standing.shape c d.standing.members d'.standing.members zip))
-            ∙ ap (λ (xs : List Member). (let st : Station = record { next = d.standing.next; captures = d.standing.captures + 1; totals = d.totals; members = xs; site = captured e.t d.standing.active d.site } in st))
+            ∙ ap (λ (xs : List Member). (let st : Station = record { next = d.standing.next; captures = d.standing.captures + 1; totals = d.totals; members = xs; site = captured e.t d.standing.active d.site; last = first_last d.standing.shape; window = no_window } in st))
             (all_offered d.standing.shape c d.standing.members d'.standing.members zip met_is)
-            ∙ ap (λ (s : Standing Q). (let st : Station = record { next = s.next; captures = s.captures; totals = d.totals; members = (after d').members; site = captured e.t d.standing.active d.site } in st)) (sym h.2.1)
+            ∙ ap (λ (s : Standing Q). (let st : Station = record { next = s.next; captures = s.captures; totals = d.totals; members = (after d').members; site = captured e.t d.standing.active d.site; last = first_last s.shape; window = no_window } in st)) (sym h.2.1)
             ∙ ap after (sym h.3),
       )
 
@@ -152,10 +155,10 @@ module _ {Q : Type 0} (taken lost size capacity : Q → ℕ) (offer_gives : Q �
       → d.standing.active ≡ active_for d.standing.shape (masks_of d.standing.members) → AreMet lost capacity waits waited offer_gives r d d'
       → slice_get m.stations dev ≡ Some (station_met lost capacity waits waited r d d')
       → (r ≡ handled_answer e (station_met lost capacity waits waited r d d'))
-      × IsAt lost capacity waits (with_station (entry_made d.standing.shape (Some (entry_by e))) dev m) dev d'
+      × IsAt lost capacity waits (with_station (entry_made Input d.standing.shape (Some (entry_by e))) dev m) dev d'
   handlings_agree m dev e r d d' h own fewer ruled met_is here =
       let is = handled_is e r d d' h own fewer ruled met_is in
-      (is.0, at_changed m dev (station_met lost capacity waits waited r d d') (entry_made d.standing.shape (Some (entry_by e))) here ∙ ap (λ (st : Station). Some st) is.1)
+      (is.0, at_changed m dev (station_met lost capacity waits waited r d d') (entry_made Input d.standing.shape (Some (entry_by e))) here ∙ ap (λ (st : Station). Some st) is.1)
 
 -- ---- queues in one hand
 

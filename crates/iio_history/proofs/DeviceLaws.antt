@@ -32,8 +32,11 @@ use Rattle.iio_device.specs.Sensing.{sensed, with_sensed}
 use Rattle.iio_device.specs.Site.{Site, at_place, attached, is_empty, sampled, site_written, unplugged, with_monitor}
 use Rattle.iio_device.specs.Stored.{attr_value}
 use Rattle.iio_device.specs.Totals.{with_left, with_lost}
-use Rattle.iiod_session.specs.Calls.{Outcome, attr_answer, closed, ev_close_of, ev_open_of, ev_read_of, has_no_place, is_attached, is_full, is_raw, joined, left, open_of, open_refusals, read_attr_of, set_trigger_of, unless, write_attr_of}
-use Rattle.iiod_session.specs.Front.{Front, device_name, shape_at}
+use Rattle.iiod_session.specs.Calls.{Outcome, all_joined, attr_answer, closed, ev_close_of, ev_open_of, ev_read_of, has_no_place, inner_gone, inner_left, is_attached, is_full, is_raw, joined, left, open_of, open_refusals, own_host, read_attr_of, set_trigger_of, unless, unless_made, window_left, with_inner, without_inner, write_attr_of}
+use Rattle.iio_desc.specs.Kind.{Kind, Input, is_input, is_over}
+use Rattle.iio_derive.specs.Window.{Window, no_window}
+use Rattle.iio_history.proofs.BenchLists.{get_first}
+use Rattle.iiod_session.specs.Front.{Front, device_name, kind_at, shape_at}
 use Rattle.iiod_session.specs.Machine.{Machine, Member, Station, lost_by, masks_of as plain_masks, no_station, station_at, with_site, with_station, without}
 use Rattle.iiod_session.specs.Opening.{errno_of, join_refusals}
 use Rattle.iio_history.specs.BenchMoves.{look_made}
@@ -54,6 +57,29 @@ at_changed m dev st change e = get_changed m.stations dev st change e
 pub station_here : (m : Machine) (dev : ℕ) (st : Station) → slice_get m.stations dev ≡ Some st → station_at m dev ≡ st
 unfolding station_at
 station_here m dev st e = ap (λ (o : Option Station). unwrap_or o no_station) e
+
+-- a machine whose devices each change by its number
+pub at_joined : (front : Front) (m : Machine) (dev : ℕ) (st : Station) (change : Station → Station) → slice_get m.stations dev ≡ Some st → slice_get (all_joined front dev change m).stations dev ≡ Some (change st)
+at_joined front m dev st change here =
+    let own : (dev == dev) ≡ true = grind (arith, nat_tests) in
+    get_first (λ k x. cond (dev == k) (change x) (with_inner front dev k x)) m.stations dev
+    ∙ ap (λ (o : Option Station). option_map (λ (x : Station). cond (dev == dev) (change x) (with_inner front dev dev x)) o) here
+    ∙ ap (λ (b : Bool). Some (cond b (change st) (with_inner front dev dev st))) own
+
+-- the leaving of a member of an input device moves no inner member
+at_left : (front : Front) (m : Machine) (dev : ℕ) → kind_at front dev ≡ Input → slice_get (inner_left front dev m).stations dev ≡ slice_get m.stations dev
+at_left front m dev input = get_first (λ k x. without_inner front m dev k x) m.stations dev ∙ by (slice_get m.stations dev)
+  where
+    by : (o : Option Station) → option_map (λ (x : Station). without_inner front m dev dev x) o ≡ o
+    by None = refl
+    by (Some x) = ap (λ (kind : Kind). Some (cond (is_over kind dev && is_input (kind_at front dev) && is_empty (station_at m dev).members) (inner_gone dev x) x)) input
+
+no_window_left : (xs ys : List Member) → window_left xs ys no_window ≡ no_window
+no_window_left xs ys = by (not (is_empty xs) && is_empty ys)
+  where
+    by : (b : Bool) → cond b no_window no_window ≡ no_window
+    by true = refl
+    by false = refl
 
 pub empty_map : {A B : Type 0} (f : A → B) (xs : List A) → is_empty (map f xs) ≡ is_empty xs
 empty_map f [] = refl
@@ -87,38 +113,38 @@ module _ {Q : Type 0} (lost capacity : Q → ℕ) (waits : Q → List (List ℕ)
       by true false = record { answered = refl; device = here }
       by false e = record { answered = refl; device = here }
 
-  pub samples_agree : (front : Front) (m : Machine) (dev c : ℕ) (d : DeviceView Q) → IsAt lost capacity waits m dev d → shape_at front dev ≡ d.standing.shape
+  pub samples_agree : (front : Front) (m : Machine) (dev c : ℕ) (d : DeviceView Q) → IsAt lost capacity waits m dev d → kind_at front dev ≡ Input → shape_at front dev ≡ d.standing.shape
       → Does lost capacity waits (read_attr_of front m dev (Some c) attr.Raw) (raw_value (raw_answer c m.clock d)) dev (after_raw d)
   unfolding read_attr_of
-  samples_agree front m dev c d here shaped =
-      rw (station_here m dev (seen d) here, shaped, empty_map (λ (x : Membership Q). member_with lost capacity (waits x.tail) x) d.standing.members) (by (value_of d.site.driver d.standing.shape m.clock c 0) d.site.plugged (is_empty d.standing.members) (ask_fails d.site.driver))
+  samples_agree front m dev c d here input shaped =
+      rw (station_here m dev (seen d) here, input, shaped, empty_map (λ (x : Membership Q). member_with lost capacity (waits x.tail) x) d.standing.members) (by (value_of d.site.driver d.standing.shape m.clock c 0) d.site.plugged (is_empty d.standing.members) (ask_fails d.site.driver))
     where
       by : (sample : ℤ) (p e f : Bool)
           → Does lost capacity waits
-          (let o : Outcome Value = record { answer = ensure p ENODEV >>= (λ plugged. ensure e EBUSY >>= (λ free. ensure (not f) EIO >>= (λ answered. Ok (Int sample)))); machine = cond (p && e) (with_station (with_site sampled) dev m) m } in o)
+          (let o : Outcome Value = record { answer = ensure p ENODEV >>= (λ plugged. ensure e EBUSY >>= (λ free. ensure (not f) EIO >>= (λ answered. Ok (Int sample)))); machine = cond (p && e && true) (with_station (with_site sampled) dev m) m } in o)
           (raw_value (ensure p raw.Gone >>= (λ plugged. ensure e raw.Busy >>= (λ free. ensure (not f) raw.Fault >>= (λ answered. Ok sample))))) dev (cond (p && e) (at_site (sampled d.site) d) d)
       by sample true true true = record { answered = refl; device = at_changed m dev (seen d) (with_site sampled) here }
       by sample true true false = record { answered = refl; device = at_changed m dev (seen d) (with_site sampled) here }
       by sample true false f = record { answered = refl; device = here }
       by sample false e f = record { answered = refl; device = here }
 
-  answer_kept : (name : List ℕ) (shape : ShapeRecord) (clock : ℤ) (channel : Option ℕ) (a : Attr) (st : Station) → is_raw channel a ≡ false → attr_answer name shape clock channel a st ≡ Ok (attr_value name channel a st.site)
-  answer_kept name shape clock None a st e = refl
-  answer_kept name shape clock (Some c) attr.Raw st e = absurd (cc)
-  answer_kept name shape clock (Some c) a st e = refl
+  answer_kept : (name : List ℕ) (kind : Kind) (shape : ShapeRecord) (clock : ℤ) (channel : Option ℕ) (a : Attr) (st : Station) → is_raw channel a ≡ false → attr_answer name kind shape clock channel a st ≡ Ok (attr_value name channel a st.site)
+  answer_kept name kind shape clock None a st e = refl
+  answer_kept name kind shape clock (Some c) attr.Raw st e = absurd (cc)
+  answer_kept name kind shape clock (Some c) a st e = refl
 
   pub reads_agree : (front : Front) (m : Machine) (dev : ℕ) (channel : Option ℕ) (a : Attr) (d : DeviceView Q) → IsAt lost capacity waits m dev d → device_name front dev ≡ d.name
       → is_raw channel a ≡ false → d.site.plugged ≡ true → Does lost capacity waits (read_attr_of front m dev channel a) (Ok (attr_value d.name channel a d.site)) dev d
   unfolding read_attr_of
   reads_agree front m dev channel a d here named kept plugged =
       rw (station_here m dev (seen d) here, named)
-      (by d.site.plugged (is_raw channel a) (is_empty (seen d).members) _ _ plugged kept (answer_kept d.name (shape_at front dev) m.clock channel a (seen d) kept))
+      (by d.site.plugged (is_raw channel a) (is_empty (seen d).members) (is_input (kind_at front dev)) _ _ plugged kept (answer_kept d.name (kind_at front dev) (shape_at front dev) m.clock channel a (seen d) kept))
     where
-      by : (p k e : Bool) (x y : Result Value Errno) → p ≡ true → k ≡ false → x ≡ y
-          → Does lost capacity waits (let o : Outcome Value = record { answer = ensure p ENODEV >>= (λ there. x); machine = cond (k && p && e) (with_station (with_site sampled) dev m) m } in o) y dev d
-      by true false e x y p k same = record { answered = same; device = here }
-      by true true e x y p k same = absurd (cc)
-      by false k' e x y p k same = absurd (cc)
+      by : (p k e i : Bool) (x y : Result Value Errno) → p ≡ true → k ≡ false → x ≡ y
+          → Does lost capacity waits (let o : Outcome Value = record { answer = ensure p ENODEV >>= (λ there. x); machine = cond (k && p && e && i) (with_station (with_site sampled) dev m) m } in o) y dev d
+      by true false e i x y p k same = record { answered = same; device = here }
+      by true true e i x y p k same = absurd (cc)
+      by false k' e i x y p k same = absurd (cc)
 
   pub looks_agree : (m : Machine) (dev : ℕ) (t : ℤ) (d : DeviceView Q) → IsAt lost capacity waits m dev d
       → IsAt lost capacity waits (with_station (look_made d.standing.shape t) dev m) dev (after_sense t d)
@@ -227,6 +253,11 @@ module _ {Q : Type 0} (lost capacity : Q → ℕ) (waits : Q → List (List ℕ)
   lost_here : (n : ℕ) (r : Option Q) (ms : List (Membership Q)) → option_map (λ (m : Membership Q). m.tail) (membership_of n ms) ≡ r → option_map lost r ≡ lost_by n (map member ms)
   lost_here n r ms e = ap (λ (o : Option Q). option_map lost o) (sym e) ∙ sym (lost_told n ms)
 
+  window_first : (n : ℕ) (d : DeviceView Q) → left n (station d) ≡ (let st : Station = record (station d) { totals = with_left (lost_by n (map member d.standing.members)) d.totals; members = without n (map member d.standing.members) } in st)
+  window_first n d =
+      ap (λ (w : Window). (let st : Station = record (station d) { totals = with_left (lost_by n (map member d.standing.members)) d.totals; members = without n (map member d.standing.members); window = w } in st))
+      (no_window_left (map member d.standing.members) (without n (map member d.standing.members)))
+
   pub left_is : (n : ℕ) (r : Option Q) (d d' : DeviceView Q) (s s' : State) → LeavesDevice lost n r d d' s s' → (option_map lost r ≡ lost_by n (station d).members) × (left n (station d) ≡ station d')
   left_is n None d d' s s' j =
       let told : option_map lost None ≡ lost_by n (map member d.standing.members)
@@ -234,24 +265,26 @@ module _ {Q : Type 0} (lost capacity : Q → ℕ) (waits : Q → List (List ℕ)
       let same : without n (map member d.standing.members) ≡ map member d.standing.members
       = without_is n d.standing.members ∙ ap (λ (ms : List (Membership Q)). map member ms) (filter_none (λ (m : Membership Q). m.number == n) d.standing.members j.0) in (
         told,
-        ap (λ (o : Option ℕ). (let st : Station = record (station d) { totals = with_left o d.totals; members = without n (map member d.standing.members) } in st)) (sym told)
+        window_first n d
+            ∙ ap (λ (o : Option ℕ). (let st : Station = record (station d) { totals = with_left o d.totals; members = without n (map member d.standing.members) } in st)) (sym told)
             ∙ ap (λ (ms : List Member). (let st : Station = record (station d) { members = ms } in st)) same
             ∙ ap station (sym j.1),
       )
   left_is n (Some tail) d d' s s' j =
       let told : option_map lost (Some tail) ≡ lost_by n (map member d.standing.members) = lost_here n (Some tail) d.standing.members j.0 in (
         told,
-        ap (λ (o : Option ℕ). (let st : Station = record (station d) { totals = with_left o d.totals; members = without n (map member d.standing.members) } in st)) (sym told)
+        window_first n d
+            ∙ ap (λ (o : Option ℕ). (let st : Station = record (station d) { totals = with_left o d.totals; members = without n (map member d.standing.members) } in st)) (sym told)
             ∙ ap (λ (ms : List Member). (let st : Station = record (station d) { totals = with_lost (lost tail) d.totals; members = ms } in st)) (without_is n d.standing.members)
             ∙ ap station (sym j.1),
       )
 
-  pub leaves_agree : (m : Machine) (dev n : ℕ) (r : Option Q) (d d' : DeviceView Q) (s s' : State) → LeavesDevice lost n r d d' s s' → IsAt lost capacity waits m dev d
-      → (option_map lost r ≡ lost_by n (station d).members) × IsAt lost capacity waits (closed m dev n) dev d'
+  pub leaves_agree : (front : Front) (m : Machine) (dev n : ℕ) (r : Option Q) (d d' : DeviceView Q) (s s' : State) → LeavesDevice lost n r d d' s s' → IsAt lost capacity waits m dev d → kind_at front dev ≡ Input
+      → (option_map lost r ≡ lost_by n (station d).members) × IsAt lost capacity waits (closed front m dev n) dev d'
   unfolding closed
-  leaves_agree m dev n r d d' s s' j here =
+  leaves_agree front m dev n r d d' s s' j here input =
       let is = left_is n r d d' s s' j in
-      (is.0, at_changed m dev (station d) (left n) here ∙ ap (λ (st : Station). Some st) is.1)
+      (is.0, at_left front (with_station (left n) dev m) dev input ∙ at_changed m dev (station d) (left n) here ∙ ap (λ (st : Station). Some st) is.1)
 
   -- ---- joins
 
@@ -263,49 +296,56 @@ module _ {Q : Type 0} (lost capacity : Q → ℕ) (waits : Q → List (List ℕ)
   full_by true x y z h = rw (h refl) refl
   full_by false x y z h = refl
 
+  or_twice : (x z : Bool) → ((x || z) || z) ≡ (x || z)
+  or_twice true z = refl
+  or_twice false true = refl
+  or_twice false false = refl
+
   refusals_are : (front : Front) (m : Machine) (d : DeviceView Q) (mask : ℕ) (s : State) (r : Option JoinFault) → is_bad_mask d.standing.shape mask ≡ false → SamePlaces front m d s
-      → first_refusal (join_faults d mask (Some s)) ≡ r → first_refusal (open_refusals front m.stations d.standing.shape (station d) mask) ≡ option_and_then errno_of r
+      → first_refusal (join_faults d mask (Some s)) ≡ r → first_refusal (open_refusals front m.stations Input (own_host (station d) d.standing.shape mask) (station d)) ≡ option_and_then errno_of r
   refusals_are front m d mask s r good places e =
       let same : first_refusal ((not d.site.plugged, fault.Gone) ∷ (false, fault.BadMask)
       ∷ member_faults (is_none d.site.trigger) (is_without_union d.standing.shape (masks_of d.standing.members) mask) (is_full_view d (Some s))) ≡ r
       = rw good at e in
-      let full : is_full front m.stations (station d) ≡ is_full_view d (Some s)
-      = rw (empty_map member d.standing.members) (full_by (is_empty d.standing.members) (lacks_place d.number s) (has_no_place front m.stations d.site.trigger) (d.standing.next == 2 ^ 64 - 1) places) in
+      let full : is_full front m.stations (own_host (station d) d.standing.shape mask) (station d) ≡ is_full_view d (Some s)
+      = rw (empty_map member d.standing.members) (or_twice (is_empty d.standing.members && has_no_place front m.stations d.site.trigger) (d.standing.next == 2 ^ 64 - 1)
+      ∙ full_by (is_empty d.standing.members) (lacks_place d.number s) (has_no_place front m.stations d.site.trigger) (d.standing.next == 2 ^ 64 - 1) places) in
       rw (masks_are d.standing.members, full) (agree (not d.site.plugged) (is_none d.site.trigger) (is_without_union d.standing.shape (masks_of d.standing.members) mask) (is_full_view d (Some s)) r same)
 
   -- the device with a member more
-  pub joined_is : (mask : Mask) (tail : Q) (d : DeviceView Q) → IsNewEnd lost waits tail → joined mask.bits (capacity tail) (station d) ≡ station (device_joined mask tail d)
+  pub joined_is : (mask : Mask) (tail : Q) (d : DeviceView Q) → IsNewEnd lost waits tail → joined mask.bits (capacity tail) false None (station d) ≡ station (device_joined mask tail d)
   joined_is mask tail d fresh = rw (map-append member d.standing.members, fresh.none, fresh.unlost, empty_map member d.standing.members) refl
 
-  open_is : (front : Front) (m : Machine) (dev mask cap : ℕ) (d : DeviceView Q) (r : Option Errno) → IsAt lost capacity waits m dev d → shape_at front dev ≡ d.standing.shape
-      → first_refusal (open_refusals front m.stations d.standing.shape (station d) mask) ≡ r → open_of front m dev mask cap ≡ unless (joined mask cap) dev m (unless_refused d.standing.next r)
+  open_is : (front : Front) (m : Machine) (dev mask cap : ℕ) (d : DeviceView Q) (r : Option Errno) → IsAt lost capacity waits m dev d → kind_at front dev ≡ Input → shape_at front dev ≡ d.standing.shape
+      → first_refusal (open_refusals front m.stations Input (own_host (station d) d.standing.shape mask) (station d)) ≡ r
+      → open_of front m dev mask cap false ≡ unless_made (all_joined front dev (joined mask cap false None)) m (unless_refused d.standing.next r)
   unfolding open_of
-  open_is front m dev mask cap d r here shaped e = rw (station_here m dev (station d) here, shaped, e) refl
+  open_is front m dev mask cap d r here input shaped e = rw (station_here m dev (station d) here, input, shaped, e) refl
 
   stated : (f : JoinFault) (o : Option JoinFault) → IsRefusal f o → option_and_then errno_of o ≡ errno_of f
   stated f None e = rw e refl
   stated f (Some g) e = rw e refl
 
-  refused_is : (o : Outcome ℕ) (m : Machine) (dev next : ℕ) (change : Station → Station) (d d' : DeviceView Q) (r : Option Errno) → IsAt lost capacity waits m dev d → d' ≡ d
-      → o ≡ unless change dev m (unless_refused next r) → IsRefused lost capacity waits o m r dev d'
+  refused_is : (o : Outcome ℕ) (m : Machine) (dev next : ℕ) (change : Machine → Machine) (d d' : DeviceView Q) (r : Option Errno) → IsAt lost capacity waits m dev d → d' ≡ d
+      → o ≡ unless_made change m (unless_refused next r) → IsRefused lost capacity waits o m r dev d'
   refused_is o m dev next change d d' None here same e = rw same (here)
   refused_is o m dev next change d d' (Some x) here same e = rw (e, same) (record { answered = refl; device = here })
 
   pub joins_agree : (front : Front) (m : Machine) (dev : ℕ) (mask : Mask) (tail : Q) (r : Result MemberNumber (JoinRefused Q)) (d d' : DeviceView Q) (s s' : State)
-      → JoinsDevice mask tail r d d' s s' → IsAt lost capacity waits m dev d → shape_at front dev ≡ d.standing.shape
+      → JoinsDevice mask tail r d d' s s' → IsAt lost capacity waits m dev d → kind_at front dev ≡ Input → shape_at front dev ≡ d.standing.shape
       → is_bad_mask d.standing.shape mask.bits ≡ false → SamePlaces front m d s → IsNewEnd lost waits tail
-      → IsJoined lost capacity waits (open_of front m dev mask.bits (capacity tail)) m r dev d'
-  joins_agree front m dev mask tail (Ok x) d d' s s' j here shaped good places fresh =
-      let o = open_is front m dev mask.bits (capacity tail) d None here shaped (refusals_are front m d mask.bits s None good places j.0) in
+      → IsJoined lost capacity waits (open_of front m dev mask.bits (capacity tail) false) m r dev d'
+  joins_agree front m dev mask tail (Ok x) d d' s s' j here input shaped good places fresh =
+      let o = open_is front m dev mask.bits (capacity tail) d None here input shaped (refusals_are front m d mask.bits s None good places j.0) in
       record {
         answered = ap (λ (y : Outcome ℕ). y.answer) o ∙ ap (λ (n : ℕ). (let r : Result ℕ Errno = Ok n in r)) (sym j.1);
-        device = ap (λ (y : Outcome ℕ). slice_get y.machine.stations dev) o ∙ at_changed m dev (station d) (joined mask.bits (capacity tail)) here
+        device = ap (λ (y : Outcome ℕ). slice_get y.machine.stations dev) o ∙ at_joined front m dev (station d) (joined mask.bits (capacity tail) false None) here
             ∙ ap (λ (st : Station). Some st) (joined_is mask tail d fresh ∙ ap station (sym j.2));
       }
-  joins_agree front m dev mask tail (Err x) d d' s s' j here shaped good places fresh =
+  joins_agree front m dev mask tail (Err x) d d' s s' j here input shaped good places fresh =
       let refusal = first_refusal (join_faults d mask.bits (Some s)) in
-      let o = open_is front m dev mask.bits (capacity tail) d (errno_of x.fault) here shaped (refusals_are front m d mask.bits s refusal good places refl ∙ stated x.fault refusal j.0) in
-      refused_is (open_of front m dev mask.bits (capacity tail)) m dev d.standing.next (joined mask.bits (capacity tail)) d d' (errno_of x.fault) here j.2 o
+      let o = open_is front m dev mask.bits (capacity tail) d (errno_of x.fault) here input shaped (refusals_are front m d mask.bits s refusal good places refl ∙ stated x.fault refusal j.0) in
+      refused_is (open_of front m dev mask.bits (capacity tail) false) m dev d.standing.next (all_joined front dev (joined mask.bits (capacity tail) false None)) d d' (errno_of x.fault) here j.2 o
 
   -- ---- places
 

@@ -3,6 +3,11 @@ pub mod WhoLaws
 pub mod StreamLaws
 pub mod MemberLaws
 pub mod RegistryLaws
+pub mod KindLaws
+pub mod ActLaws
+pub mod EmptiedLaws
+pub mod GivenLaws
+pub mod MeanLaws
 pub mod ToldLaws
 pub mod TranscriptLaws
 pub mod OutstandingLaws
@@ -21,11 +26,14 @@ pub mod BenchPlain
 pub mod BenchSet
 pub mod BenchEvents
 pub mod BenchBuffers
+pub mod BenchClose
 pub mod BenchAttributes
 pub mod BenchOpen
 pub mod BenchRemask
+pub mod BenchWrite
 pub mod BenchItems
 pub mod BenchOthers
+pub mod BenchLeaving
 pub mod BenchEnds
 pub mod BenchFeeds
 pub mod BenchMoves
@@ -33,4 +41,7 @@ pub mod DeviceLaws
 pub mod DeviceRemasks
 pub mod DeviceHandlings
 pub mod DeviceMoves
+pub mod InnerLaws
 mod Rows
+mod BenchRows
+mod LawRows

@@ -3,15 +3,16 @@ use Rattle.std.proofs.Common.{◌≡◌, ℕ, ◌/◌, Bool, true, false, List, 
 use Rattle.iio_layout.specs.Shape.{ShapeRecord}
 use Rattle.iio_layout.specs.Layout.{scan_size}
 use Rattle.iiod_session.specs.Desk.{more_discarded}
-use Rattle.iio_history.specs.Who.{Who, same, is_among}
+use Rattle.iio_history.specs.Who.{Who, Conn, Inner, same, is_among}
 use Rattle.iio_history.specs.Registry.{Member, Capture, is_member, without_members}
-use Rattle.iio_history.specs.Act.{Act, Joining, Remasking, Leaving, Ending, Reading, Capturing}
+use Rattle.iio_history.specs.Act.{Act, Joining, Remasking, Leaving, Ending, Reading, Capturing, Writing, Giving}
 use Rattle.iio_history.specs.Fold.{with_mask, members_after}
-use Rattle.iio_history.specs.Log.{Logged, Taken, logged}
-use Rattle.iio_history.specs.Queue.{new_queue, private_queue}
+use Rattle.iio_history.specs.Log.{Logged, Taken, Offered, logged, logged_capture}
+use Rattle.iio_history.specs.Queue.{new_queue, offered, private_queue}
+use Rattle.iio_layout.specs.Scan.{scan_of}
 use Rattle.iio_history.specs.Membership.{numbered, discarded_by}
 use Rattle.iio_history.specs.Told.{Seat, member_of_seat}
-use Rattle.iio_history.specs.Machine.{offered_seat, read_seat, remasked_seat, without_seats, seats_after}
+use Rattle.iio_history.specs.Machine.{emptied, offered_seat, read_seat, wrote_seat, gave_seat, remasked_seat, without_seats, seats_after}
 use Rattle.iio_history.proofs.WhoLaws.{same_self, either}
 
 -- what the history tells of each membership of a device: its log, by the size of its scans, its number, and how many scans
@@ -52,7 +53,17 @@ IsSound shape book waiting act ms = Unit {0}
 captured : (shape : ShapeRecord) (c : Capture) (joinings waiting : ℕ) (book : Book) (ms : List Member)
     → map (seat_by shape (book_after (Capturing c) joinings waiting book)) ms ≡ map (offered_seat shape c) (map (seat_by shape book) ms)
 captured shape c joinings waiting book [] = refl
-captured shape c joinings waiting book (m ∷ ms) = ap (λ (xs : List Seat). offered_seat shape c (seat_by shape book m) ∷ xs) (captured shape c joinings waiting book ms)
+captured shape c joinings waiting book (m ∷ ms) =
+    ap (λ (x : Seat). x ∷ map (seat_by shape (book_after (Capturing c) joinings waiting book)) ms) (by_who m.who)
+    ∙ ap (λ (xs : List Seat). offered_seat shape c (seat_by shape book m) ∷ xs) (captured shape c joinings waiting book ms)
+  where
+    log : List Logged
+    log = book.log m.who (scan_size shape m.mask)
+
+    by_who : (w : Who) → seat_with shape (logged_capture w c log) (book.number m.who) (book.discarded m.who) m
+        ≡ record { member = m; number = book.number m.who; queue = emptied w (offered m.capacity (scan_of shape m.mask c.values c.moment) (private_queue shape m log)); discarded = book.discarded m.who }
+    by_who (Conn name) = refl
+    by_who (Inner j) = refl
 
 left_one : (shape : ShapeRecord) (book : Book) (b : Bool) (m : Member) (rest : List Member) (seats : List Seat) → map (seat_by shape book) rest ≡ seats
     → map (seat_by shape book) (cond b rest (m ∷ rest)) ≡ cond b seats (seat_by shape book m ∷ seats)
@@ -85,6 +96,30 @@ read shape joinings waiting book who bytes [] = refl
 read shape joinings waiting book who bytes (m ∷ ms) =
     ap (λ (x : Seat). x ∷ map (seat_by shape (book_after (Reading who bytes) joinings waiting book)) ms) (read_one shape joinings waiting book who bytes m)
     ∙ ap (λ (xs : List Seat). read_seat shape who bytes (seat_by shape book m) ∷ xs) (read shape joinings waiting book who bytes ms)
+
+wrote_one : (shape : ShapeRecord) (joinings waiting : ℕ) (book : Book) (who : Who) (scans : List (List ℕ)) (m : Member)
+    → seat_by shape (book_after (Writing who scans) joinings waiting book) m ≡ wrote_seat who scans (seat_by shape book m)
+wrote_one shape joinings waiting book who scans m = by_who (same who m.who)
+  where
+    log : List Logged
+    log = book.log m.who (scan_size shape m.mask)
+
+    by_who : (b : Bool) → seat_with shape (cond b (Offered scans ∷ log) log) (book.number m.who) (book.discarded m.who) m
+        ≡ cond b (seat_with shape (Offered scans ∷ log) (book.number m.who) (book.discarded m.who) m) (seat_with shape log (book.number m.who) (book.discarded m.who) m)
+    by_who true = refl
+    by_who false = refl
+
+wrote : (shape : ShapeRecord) (joinings waiting : ℕ) (book : Book) (who : Who) (scans : List (List ℕ)) (ms : List Member)
+    → map (seat_by shape (book_after (Writing who scans) joinings waiting book)) ms ≡ map (wrote_seat who scans) (map (seat_by shape book) ms)
+wrote shape joinings waiting book who scans [] = refl
+wrote shape joinings waiting book who scans (m ∷ ms) =
+    ap (λ (x : Seat). x ∷ map (seat_by shape (book_after (Writing who scans) joinings waiting book)) ms) (wrote_one shape joinings waiting book who scans m)
+    ∙ ap (λ (xs : List Seat). wrote_seat who scans (seat_by shape book m) ∷ xs) (wrote shape joinings waiting book who scans ms)
+
+gave : (shape : ShapeRecord) (joinings waiting : ℕ) (book : Book) (ms : List Member)
+    → map (seat_by shape (book_after Giving joinings waiting book)) ms ≡ map gave_seat (map (seat_by shape book) ms)
+gave shape joinings waiting book [] = refl
+gave shape joinings waiting book (m ∷ ms) = ap (λ (xs : List Seat). gave_seat (seat_by shape book m) ∷ xs) (gave shape joinings waiting book ms)
 
 remasked_one : (shape : ShapeRecord) (joinings waiting : ℕ) (book : Book) (n : Member) (mask : ℕ) (m : Member)
     → (same n.who m.who ≡ true → m ≡ n) → waiting ≡ length (seat_by shape book n).queue.scans
@@ -132,6 +167,8 @@ seats_are shape (Leaving gone) joinings waiting book ms sound = left shape book 
 seats_are shape (Ending gone) joinings waiting book ms sound = left shape book gone ms
 seats_are shape (Reading who bytes) joinings waiting book ms sound = read shape joinings waiting book who bytes ms
 seats_are shape (Capturing c) joinings waiting book ms sound = captured shape c joinings waiting book ms
+seats_are shape (Writing who scans) joinings waiting book ms sound = wrote shape joinings waiting book who scans ms
+seats_are shape Giving joinings waiting book ms sound = gave shape joinings waiting book ms
 seats_are shape act joinings waiting book ms sound = refl
 
 -- the members of the seats are the members

@@ -1,9 +1,14 @@
 -- Worked inputs: what the definitions say that each prints. Each is a description, a script and the printed text.
-use Rattle.std.proofs.Common.{◌≡◌, ℕ, pos, List, [], ◌∷◌, ◌++◌, refl, codes, None}
+use Rattle.std.proofs.Common.{◌≡◌, ℕ, pos, List, [], ◌∷◌, ◌++◌, map, refl, codes, None, Ok, Err}
 use Rattle.std.specs.Fmt.{digits}
 use Rattle.iio_sensor.specs.Driver.{Driver}
 use Rattle.iio_sensor.specs.Ramp.{number_at}
-use Rattle.iio_history.specs.Outcome.{outcome_of}
+use Rattle.hex.specs.Hex.{encode_with}
+use Rattle.iio_text.specs.Lines.{lines_of}
+use Rattle.iio_desc.specs.Description.{Description, DeviceRecord, OutputRecord}
+use Rattle.iio_desc.specs.DescReader.{read_of}
+use Rattle.iio_history.specs.Script.{Finished, script_from}
+use Rattle.iio_history.specs.Outcome.{outcome_of, outcome_of_script}
 
 -- a ramp of which these asks fail
 abbrev ramp : List ℕ → Driver
@@ -16,7 +21,7 @@ prints input = (outcome_of (ramp [] ∷ ramp [] ∷ ramp (2 ∷ []) ∷ []) inpu
 abbrev plays : List ℕ → List ℕ → List ℕ
 plays description script = prints (description ++ codes "%%\n" ++ script)
 
-abbrev adc : List ℕ
+abbrev pub adc : List ℕ
 adc = codes "trigger t0 2\ndevice adc0 t0\nchannel voltage0 le:u12/16>>4\nchannel voltage1 le:u12/16>>4\nchannel accel_x be:s16/16>>0\ntimestamp\nrow 0 1 2 -3\n"
 
 leave_narrows_union : plays adc (codes "A \"OPEN adc0 1 00000005\\n\"\nB \"OPEN adc0 1 00000003\\n\"\nfire t0 1000\nB \"CLOSE adc0\\n\"\nfire t0 2000\nA \"READBUF adc0 8\\n\"\n")
@@ -129,6 +134,67 @@ remask_begins_anew : plays (codes "trigger t0 2\ndevice y t0\nchannel voltage0 l
     ≡ codes "A \"0\\n0\\n\"\npoll t0 accepted 1\nhandle t0 y captured\npoll t0 accepted 1\nhandle t0 y captured\nA \"0\\n1\\n0\\n1\\n1\\n\"\npoll t0 accepted 1\nhandle t0 y captured\nA \"1\\n00000002\\nB-22\\n-22\\n-22\\n-19\\n-22\\n\"\nB \"-22\\n\"\nA \"0\\n0\\n1\\n0\\n\"\ny unplugged\nA \"-19\\n\"\n"
 unfolding digits
 remask_begins_anew = refl
+
+-- ---- output devices and averaging devices
+
+-- the description of a text, whose devices of the second one are output devices
+abbrev pub described : List ℕ → Description
+described text = elim (read_of 4 text) [ Ok d ↦ d | Err e ↦ record { context = []; triggers = []; devices = []; outputs = []; averages = [] } ]
+
+abbrev pub as_output : DeviceRecord → OutputRecord
+as_output d = record { name = d.name; trigger = d.trigger; shape = d.shape }
+
+abbrev pub with_outputs : List ℕ → List ℕ → Description
+with_outputs text outputs = record (described text) { outputs = map as_output (described outputs).devices }
+
+abbrev pub with_average : List ℕ → List ℕ → ℕ → Description
+with_average text name window = record (described text) { averages = record { name = name; base = 0; window = window } ∷ [] }
+
+abbrev plays_in : Description → List ℕ → List ℕ
+plays_in desc script = (outcome_of_script (record { desc = desc; drivers = [] }) (script_from desc Finished [] 1 (lines_of script))).printed
+
+abbrev pub dac : Description
+dac = with_outputs (codes "trigger t0 2\n") (codes "trigger t0 2\ndevice dac0 t0\nchannel voltage0 le:u16/16>>0\n")
+
+given_in_order : plays_in dac (codes "A \"OPEN dac0 2 00000001\\nWRITEBUF dac0 4\\n\\x01\\x00\\x02\\x00\"\nfire t0 1\nfire t0 2\nfire t0 3\nA \"READ dac0 BUFFER underruns\\nREAD dac0 OUTPUT voltage0 raw\\n\"\n")
+    ≡ codes "A \"0\\n4\\n\"\npoll t0 accepted 1\nhandle t0 dac0 given 0100\npoll t0 accepted 1\nhandle t0 dac0 given 0200\npoll t0 accepted 1\nhandle t0 dac0 underrun\nA \"1\\n1\\n1\\n2\\n\"\n"
+unfolding digits encode_with
+given_in_order = refl
+
+given_round : plays_in dac (codes "A \"OPEN dac0 2 00000001 CYCLIC\\nWRITEBUF dac0 4\\n\\x01\\x00\\x02\\x00\"\nfire t0 1\nfire t0 2\nfire t0 3\nA \"WRITEBUF dac0 4\\n\\x01\\x00\\x02\\x00READ dac0 BUFFER data_available\\n\"\n")
+    ≡ codes "A \"0\\n4\\n\"\npoll t0 accepted 1\nhandle t0 dac0 given 0100\npoll t0 accepted 1\nhandle t0 dac0 given 0200\npoll t0 accepted 1\nhandle t0 dac0 given 0100\nA \"-16\\n1\\n2\\n\"\n"
+unfolding digits encode_with
+given_round = refl
+
+-- what an output device refuses, and in which order; the rest of a payload that doesn't fit isn't taken
+refusals_of_outputs : plays_in dac (codes "A \"SET dac0 BUFFERS_COUNT 1\\nWRITEBUF dac0 2\\nabOPEN dac0 2 00000001\\nWRITEBUF dac0 3\\nabcWRITEBUF dac0 6\\nabcdefWRITEBUF dac0 2\\nabWRITEBUF dac0 0\\nWRITEBUF x 1\\na\"\nB \"OPEN dac0 2 00000001\\nWRITEBUF dac0 2\\nab\"\nA \"READBUF dac0 2\\nREMASK dac0 00000001\\nEVOPEN dac0\\nREAD dac0 BUFFER overruns\\nREAD dac0 INPUT voltage0 raw\\nREAD dac0 sampling_frequency\\nREAD dac0 name\\nWRITE dac0 OUTPUT voltage0 raw 1\\n1SETTRIG dac0\\n\"\nsense dac0 1\nunplug dac0\nA \"WRITEBUF dac0 2\\nab\"\nsense dac0 1\nA \"WRITEBUF dac0 65537\\n\"\n")
+    ≡ codes "A \"0\\n-9\\n0\\n-22\\n4\\n-11\\n0\\n-19\\n\"\nB \"-16\\n-9\\n\"\nA \"-38\\n-38\\n-38\\n-2\\n-2\\n-2\\n4\\ndac0\\n-13\\n-16\\n\"\ndac0 sensed 0\ndac0 unplugged\nA \"-19\\n\"\ndac0 gone\nA \"-27\\n\"\nA closed\n"
+unfolding digits encode_with
+refusals_of_outputs = refl
+
+-- an input device isn't written
+input_is_not_written : plays adc (codes "A \"OPEN adc0 1 00000001\\nWRITEBUF adc0 2\\nabREAD adc0 BUFFER underruns\\n\"\n") ≡ codes "A \"0\\n-38\\n-2\\n\"\n"
+unfolding digits
+input_is_not_written = refl
+
+abbrev pub avg : Description
+avg = with_average (adc ++ codes "row 2000 4 2 -4\n") (codes "avg0") 2
+
+means : plays_in avg (codes "A \"OPEN avg0 1 00000005\\n\"\nfire t0 1000\nfire t0 2000\nA \"READBUF avg0 4\\n\"\n")
+    ≡ codes "A \"0\\n\"\npoll t0 accepted 1\nhandle t0 adc0 captured\npoll t0 accepted 1\nhandle t0 adc0 captured\nA \"4\\n00000005\\n \\x00\\xff\\xfd\"\n"
+unfolding digits
+means = refl
+
+means_beside : plays_in avg (codes "A \"OPEN avg0 1 00000005\\n\"\nfire t0 1000\nB \"OPEN adc0 1 00000002\\n\"\nfire t0 2000\nA \"READBUF avg0 4\\n\"\nB \"READ adc0 INPUT voltage0 raw\\n\"\n")
+    ≡ codes "A \"0\\n\"\npoll t0 accepted 1\nhandle t0 adc0 captured\nB \"0\\n\"\npoll t0 accepted 1\nhandle t0 adc0 captured\nA \"4\\n00000005\\n \\x00\\xff\\xfd\"\nB \"-16\\n\"\n"
+unfolding digits
+means_beside = refl
+
+-- the inner member is there while somebody is; what an averaging device refuses; it goes with its base
+averages_in_turn : plays_in avg (codes "A \"OPEN avg0 1 00000005\\nREAD adc0 INPUT voltage0 raw\\nGETTRIG avg0\\nSETTRIG adc0\\nSETTRIG avg0\\nREMASK avg0 00000001\\nEVOPEN avg0\\nREAD avg0 name\\nREAD avg0 INPUT voltage0 raw\\nREAD avg0 BUFFER discarded\\nREAD avg0 BUFFER underruns\\nWRITEBUF avg0 1\\naOPEN avg0 1 00000001 CYCLIC\\n\"\nhandle t0 avg0\nsense avg0 5\nunplug avg0\nfire t0 1000\nA \"CLOSE avg0\\nREAD adc0 INPUT voltage0 raw\\nOPEN avg0 1 00000001\\n\"\nfire t0 1000\nA \"READ avg0 BUFFER data_available\\n\"\ndrop A\nfire t0 2000\nunplug adc0\nB \"OPEN avg0 1 00000001\\n\"\n")
+    ≡ codes "A \"0\\n-16\\n2\\nt0\\n-16\\n-38\\n-38\\n-38\\n4\\navg0\\n-2\\n1\\n0\\n-2\\n-38\\n-38\\n\"\nhandle t0 avg0 none\navg0 sensed 0\navg0 gone\npoll t0 accepted 1\nhandle t0 adc0 captured\nA \"0\\n1\\n1\\n0\\n\"\npoll t0 accepted 1\nhandle t0 adc0 captured\nA \"1\\n0\\n\"\nA dropped\npoll t0 accepted 0\nadc0 unplugged\nB \"-19\\n\"\n"
+unfolding digits
+averages_in_turn = refl
 
 -- ---- heads
 

@@ -1,22 +1,25 @@
 -- What an event is to a device.
-use Rattle.std.specs.Prelude.{ℕ, ◌==◌, ◌&&◌, not, Bool, true, false, List, [], ◌∷◌, Option, Some, None, Result, Ok, Err, if◌then◌else◌, ℤ, slice_get}
+use Rattle.std.specs.Prelude.{ℕ, ◌==◌, ◌&&◌, not, Bool, true, false, List, [], ◌∷◌, ◌++◌, is_ok, suc, Option, Some, None, Result, Ok, Err, if◌then◌else◌, ℤ, slice_get}
 use Rattle.iio_text.specs.declared.errors.Errno.{Errno}
 use Rattle.iio_text.specs.declared.values.Fixed.{Fixed}
 use Rattle.iio_attr.specs.declared.attributes.Attr.{Attr}
 use Rattle.iio_attr.specs.declared.attributes.Attr.TheVariants as attr
 use Rattle.iio_sensor.specs.Driver.{values_of, ask_fails}
+use Rattle.iio_desc.specs.Kind.{Kind, Input, Output, Average, is_input, is_output, is_over, is_unplugged_by}
+use Rattle.iio_desc.specs.Description.{find_device}
+use Rattle.iio_derive.specs.Window.{Window, full_mask, is_filled_by, means_of, sums_with}
 use Rattle.iio_device.specs.Site.{is_current, is_empty}
 use Rattle.iiod_grammar.specs.Command.{Place, Open, Close, Read, ReadBuf, SetTrig, Remask, EvOpen, EvRead, EvClose}
 use Rattle.iiod_session.specs.Attributes.{Assignment, Named, found as found_by, write_found as write_found_by}
-use Rattle.iio_history.specs.Who.{Who, Conn}
-use Rattle.iiod_grammar.specs.Stream.{Item, Said, Written, End}
+use Rattle.iio_history.specs.Who.{Who, Conn, Inner}
+use Rattle.iiod_grammar.specs.Stream.{Item, Said, Written, Streamed, End}
 use Rattle.iio_history.specs.Event.{Event, Heard, Dropped, Handled, Sensed, Unplugged}
-use Rattle.iio_history.specs.Registry.{Setup, Member, Device, Outline, outline_of, Registry, Capture, Entry, is_member, is_named, buffers_of, entries_at, entry_of}
-use Rattle.iio_history.specs.Opening.{open_answer, remask_answer, trigger_answer}
+use Rattle.iio_history.specs.Registry.{Setup, Member, Device, Outline, outline_of, Registry, Capture, Entry, is_member, is_named, buffers_of, entries_at, entry_of, is_left_empty}
+use Rattle.iio_history.specs.Opening.{open_answer, remask_answer, write_answer, trigger_answer}
 
 pub data Act : Type 0 where
   Nothing : Act
-  -- an accepted OPEN
+  -- an accepted OPEN, or the inner member's joining
   Joining : (member : Member) → Act
   -- an accepted REMASK
   Remasking : (member : Member) (mask : ℕ) → Act
@@ -26,8 +29,14 @@ pub data Act : Type 0 where
   Ending : (gone : List Who) → Act
   -- a READBUF that asks for `bytes` bytes
   Reading : (who : Who) (bytes : ℕ) → Act
-  -- an entry that is current is handled: its capture
+  -- an entry that is current is handled: its capture; of an averaging device the mean that is made with it
   Capturing : (capture : Capture) → Act
+  -- a capture of the base that counts towards the next mean
+  Gathering : (capture : Capture) → Act
+  -- a WRITEBUF offers these scans
+  Writing : (who : Who) (scans : List (List ℕ)) → Act
+  -- an entry that is current is handled at an output device: it is given the next scan, where one waits
+  Giving : Act
   -- the sensor's ask failed
   Failing : (moment : ℤ) → Act
   -- a READ of `raw`
@@ -55,11 +64,11 @@ accepted act (Err e) = Nothing
 
 -- what a READ names, for a connection that is a member or isn't
 abbrev pub found : Device → Who → Place → Option (List ℕ) → Result Named Errno
-found d who place name = found_by d.shape d.site.plugged (is_member who d.members) place name
+found d who place name = found_by d.kind d.shape d.site.plugged (is_member who d.members) place name
 
 -- a WRITE: what is set to which value
 abbrev pub write_found : Device → Who → Place → Option (List ℕ) → List ℕ → Result Assignment Errno
-write_found d who place name payload = write_found_by d.shape d.site.plugged (is_member who d.members) place name payload
+write_found d who place name payload = write_found_by d.kind d.shape d.site.plugged (is_member who d.members) place name payload
 
 abbrev pub setting : Assignment → Act
 setting x = Setting x.target x.value
@@ -68,48 +77,130 @@ abbrev pub is_raw : Attr → Bool
 is_raw attr.Raw = true
 is_raw a = false
 
--- a READ asks the sensor where it names `raw` and the device has no member
+-- a READ asks the sensor where it names `raw`, there is one, and the device has no member
 abbrev pub asking : Device → Named → Act
-asking d target = only (is_raw target.attribute && is_empty d.members) Asking
+asking d target = only (is_raw target.attribute && is_empty d.members && is_input d.kind) Asking
 
 -- ---- events
+
+-- the handling of an entry that is current
+abbrev pub current_entry : Kind → Outline → Entry → Act
+current_entry Output o e = Giving
+current_entry (Average base window) o e = Nothing
+current_entry Input o e =
+    if ask_fails o.site.driver then Failing e.moment
+    else Capturing (record { moment = e.moment; values = values_of o.site.driver o.shape e.moment })
 
 -- the handling of an entry
 abbrev pub handled_entry : Outline → Entry → Act
 handled_entry o e =
-    if not (is_current e.attachment o.site.attachment o.masks o.site.plugged) then Nothing
-    else if ask_fails o.site.driver then Failing e.moment
-    else Capturing (record { moment = e.moment; values = values_of o.site.driver o.shape e.moment })
+    if not (is_current e.attachment o.site.attachment o.masks o.site.plugged) then Nothing else current_entry o.kind o e
 
 abbrev pub handled_act : Outline → Option Entry → Act
 handled_act o None = Nothing
 handled_act o (Some e) = handled_entry o e
 
+-- ---- averaging devices: the inner member, and the means
+
+-- the inner member that averaging device j has at that base
+abbrev pub inner_member : ℕ → Device → Member
+inner_member j base = record { who = Inner j; mask = full_mask base.shape; capacity = 1; cyclic = false }
+
+-- an accepted OPEN of device j is to device k the inner member's joining, where that isn't there yet
+abbrev pub inner_joins : Kind → ℕ → ℕ → Device → Bool → Act
+inner_joins kind j k d is_accepted = only (is_accepted && is_over kind k && is_input d.kind && not (is_member (Inner j) d.members)) (Joining (inner_member j d))
+
+abbrev pub inner_joining : Setup → Registry → List ℕ → ℕ → List ℕ → Bool → ℕ → ℕ → Device → Act
+inner_joining s r name samples text cyclic j k d = elim (slice_get r.devices j) [
+  | None ↦ Nothing
+  | Some x ↦ inner_joins x.kind j k d (is_ok (open_answer s r x (Conn name) (buffers_of r.users name j) samples text cyclic))
+]
+
+-- an OPEN of device j, if any, is to device k
+abbrev pub open_act : Setup → Registry → List ℕ → ℕ → List ℕ → Bool → Option ℕ → ℕ → Device → Act
+open_act s r name samples text cyclic None k d = Nothing
+open_act s r name samples text cyclic (Some j) k d =
+    if j == k then accepted (λ m. Joining m) (open_answer s r d (Conn name) (buffers_of r.users name k) samples text cyclic)
+    else inner_joining s r name samples text cyclic j k d
+
+-- the inner member of device j at device k, where these leave j without a member
+abbrev pub inner_left : List Who → ℕ → ℕ → Device → List Who
+inner_left gone j k d = if is_over d.kind k && is_left_empty gone d.members then Inner j ∷ [] else []
+
+-- of all devices; `j` is the first one's number
+abbrev pub inners_left : List Who → ℕ → ℕ → List Device → List Who
+inners_left gone k j [] = []
+inners_left gone k j (d ∷ ds) = inner_left gone j k d ++ inners_left gone k (suc j) ds
+
+-- the inner members that leave device k
+abbrev pub inners_at : Registry → List Who → ℕ → Device → List Who
+inners_at r gone k d = if is_input d.kind then inners_left gone k 0 r.devices else []
+
+abbrev pub inner_left_at : Registry → List Who → ℕ → ℕ → Device → List Who
+inner_left_at r gone j k d = if is_input d.kind then elim (slice_get r.devices j) [ None ↦ [] | Some x ↦ inner_left gone j k x ] else []
+
+-- where nobody leaves it is nothing to the device
+abbrev pub leaving : List Who → Act
+leaving [] = Nothing
+leaving (who ∷ gone) = Leaving (who ∷ gone)
+
+-- a CLOSE of device j, if any, is to device k
+abbrev pub close_act : Registry → List ℕ → Option ℕ → ℕ → Device → Act
+close_act r name None k d = Nothing
+close_act r name (Some j) k d = if j == k then Leaving (Conn name ∷ []) else leaving (inner_left_at r (Conn name ∷ []) j k d)
+
+-- the end of a connection
+abbrev pub end_act : Registry → List ℕ → ℕ → Device → Act
+end_act r name k d = Ending (Conn name ∷ inners_at r (Conn name ∷ []) k d)
+
+-- the capture that the handling of an entry of a device makes
+abbrev pub capture_by : Act → Option Capture
+capture_by (Capturing c) = Some c
+capture_by act = None
+
+abbrev pub capture_at : Registry → ℕ → ℕ → Option Capture
+capture_at r trigger k = elim (slice_get r.devices k) [ None ↦ None | Some d ↦ capture_by (handled_act (outline_of d) (entry_of k (entries_at r.triggers trigger))) ]
+
+-- a capture of the base: with it, the last of so many, a mean is made at once
+abbrev pub gathering : ℕ → Window → Capture → Act
+gathering size w c = if is_filled_by size w then Capturing (record { moment = c.moment; values = means_of size (sums_with w c.values) }) else Gathering c
+
+abbrev pub gathered : ℕ → Device → Option Capture → Act
+gathered size d None = Nothing
+gathered size d (Some c) = if is_empty d.members then Nothing else gathering size d.window c
+
+-- the handling of an entry of `device` is to device k, by its kind
+abbrev pub handled_by : Registry → ℕ → ℕ → ℕ → Kind → Device → Act
+handled_by r trigger device k (Average base size) d = only (device == base) (gathered size d (capture_at r trigger base))
+handled_by r trigger device k kind d = only (device == k) (handled_act (outline_of d) (entry_of k (entries_at r.triggers trigger)))
+
+-- ---- items
+
 -- an item that names the device
 abbrev pub item_act : Setup → Registry → List ℕ → Item → ℕ → Device → Act
-item_act s r name (Said (Ok (Open device samples text cyclic))) k d =
-    only (is_named s device k) (accepted (λ m. Joining m) (open_answer s r d (Conn name) (buffers_of r.users name k) samples text cyclic))
-item_act s r name (Said (Ok (Close device))) k d = only (is_named s device k) (Leaving (Conn name ∷ []))
-item_act s r name (Said (Ok (ReadBuf device bytes))) k d = only (is_named s device k) (Reading (Conn name) bytes)
+item_act s r name (Said (Ok (Open device samples text cyclic))) k d = open_act s r name samples text cyclic (find_device s.desc device) k d
+item_act s r name (Said (Ok (Close device))) k d = close_act r name (find_device s.desc device) k d
+item_act s r name (Said (Ok (ReadBuf device bytes))) k d = only (is_named s device k && not (is_output d.kind)) (Reading (Conn name) bytes)
 item_act s r name (Said (Ok (Read device place attribute))) k d = only (is_named s device k) (accepted (asking d) (found d (Conn name) place attribute))
 item_act s r name (Written device (Some target) payload) k d =
     only (is_named s device k) (accepted setting (write_found d (Conn name) target.0 target.1 payload))
+item_act s r name (Streamed device payload) k d = only (is_named s device k) (accepted (λ scans. Writing (Conn name) scans) (write_answer d (Conn name) payload))
 item_act s r name (Said (Ok (SetTrig device trigger))) k d =
     only (is_named s device k) (accepted (λ t. Retriggering t) (trigger_answer s (outline_of d) trigger))
 item_act s r name (Said (Ok (Remask device text))) k d = only (is_named s device k) (accepted (λ x. Remasking x.member x.mask) (remask_answer d (Conn name) text))
-item_act s r name (Said (Ok (EvOpen device))) k d = only (is_named s device k && d.site.plugged) (Holding (Conn name))
-item_act s r name (Said (Ok (EvRead device))) k d = only (is_named s device k && d.site.plugged) (Draining (Conn name))
-item_act s r name (Said (Ok (EvClose device))) k d = only (is_named s device k && d.site.plugged) (Releasing (Conn name))
-item_act s r name (End refusal) k d = Ending (Conn name ∷ [])
+item_act s r name (Said (Ok (EvOpen device))) k d = only (is_named s device k && d.site.plugged && is_input d.kind) (Holding (Conn name))
+item_act s r name (Said (Ok (EvRead device))) k d = only (is_named s device k && d.site.plugged && is_input d.kind) (Draining (Conn name))
+item_act s r name (Said (Ok (EvClose device))) k d = only (is_named s device k && d.site.plugged && is_input d.kind) (Releasing (Conn name))
+item_act s r name (End refusal) k d = end_act r name k d
 item_act s r name item k d = Nothing
 
 -- what an event is to device k
 abbrev pub act_of : Setup → Registry → Event → ℕ → Device → Act
 act_of s r (Heard name item) k d = item_act s r name item k d
-act_of s r (Dropped name) k d = Ending (Conn name ∷ [])
-act_of s r (Handled trigger device) k d = only (device == k) (handled_act (outline_of d) (entry_of k (entries_at r.triggers trigger)))
+act_of s r (Dropped name) k d = end_act r name k d
+act_of s r (Handled trigger device) k d = handled_by r trigger device k d.kind d
 act_of s r (Sensed device moment) k d = only (device == k && d.site.plugged) (Sensing moment)
-act_of s r (Unplugged device) k d = only (device == k) Unplugging
+act_of s r (Unplugged device) k d = only (is_unplugged_by d.kind device k) Unplugging
 act_of s r e k d = Nothing
 
 abbrev pub act_at : Setup → Registry → Event → ℕ → Act

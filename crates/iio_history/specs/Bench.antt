@@ -5,18 +5,20 @@ use Rattle.std.specs.Str.{bytes_eq}
 use Rattle.iio_layout.specs.Active.{has_data}
 use Rattle.iio_layout.specs.Layout.{scan_size}
 use Rattle.iio_layout.specs.Shape.{ShapeRecord}
-use Rattle.iio_desc.specs.Description.{DeviceRecord}
+use Rattle.iio_desc.specs.Description.{DeviceHead, heads_of}
+use Rattle.iio_desc.specs.Kind.{Kind}
+use Rattle.iio_derive.specs.Window.{full_mask}
 use Rattle.iio_event.specs.Monitor.{MonitorRecord, is_holder}
 use Rattle.iio_device.specs.Site.{Site}
 use Rattle.iiod_grammar.specs.Stream.{Item}
 use Rattle.iiod_session.specs.Acts.{Acted}
 use Rattle.iiod_session.specs.Desk.{Bare, DeskRecord, buffers_of as desk_buffers}
-use Rattle.iiod_session.specs.Front.{DeviceFront, Front}
+use Rattle.iiod_session.specs.Front.{Front, first_front}
 use Rattle.iiod_session.specs.Machine.{Machine, Member as MachineMember, Station as MachineStation}
-use Rattle.iio_history.specs.Who.{Who, Conn, same}
+use Rattle.iio_history.specs.Who.{Who, Conn, Inner, same}
 use Rattle.iio_history.specs.Event.{Event, Heard}
-use Rattle.iio_history.specs.Registry.{Setup, buffers_of}
-use Rattle.iio_history.specs.Told.{Line, Seat, Station, Told, member_of_seat, registry_of}
+use Rattle.iio_history.specs.Registry.{Setup, Device, buffers_of}
+use Rattle.iio_history.specs.Told.{Line, Seat, Station, Told, device_of, member_of_seat, registry_of}
 use Rattle.iio_history.specs.Machine.{step}
 use Rattle.iio_history.specs.Reply.{reply, seat_of}
 use Rattle.iio_history.specs.Law.{AreApart}
@@ -40,15 +42,13 @@ is_in (n ∷ ns) name = bytes_eq n name || is_in ns name
 
 abbrev pub place_of_who : List (List ℕ) → Who → ℕ
 place_of_who names (Conn name) = place_in names name
+place_of_who names (Inner device) = 0
 
 -- ---- the machine
 
 -- what no call changes
-abbrev pub front_device : DeviceRecord → DeviceFront
-front_device d = record { name = d.name; shape = d.shape }
-
 abbrev pub front_of : Setup → Front
-front_of s = record { context = s.desc.context; triggers = s.desc.triggers; devices = map front_device s.desc.devices }
+front_of s = first_front s.desc
 
 -- the holder of the events goes by its number
 abbrev pub monitor_by : List (List ℕ) → MonitorRecord Who → MonitorRecord ℕ
@@ -66,8 +66,12 @@ site_by names site = record {
 }
 
 -- a member goes by its number
+abbrev pub inner_of : Who → Option ℕ
+inner_of (Conn name) = None
+inner_of (Inner device) = Some device
+
 abbrev pub numbered : Seat → MachineMember
-numbered x = record { number = x.number; mask = x.member.mask; capacity = x.member.capacity; scans = x.queue.scans; lost = x.queue.lost }
+numbered x = record { number = x.number; mask = x.member.mask; capacity = x.member.capacity; scans = x.queue.scans; lost = x.queue.lost; cyclic = x.member.cyclic; inner = inner_of x.member.who }
 
 abbrev pub bench_by : List (List ℕ) → Station → MachineStation
 bench_by names st = record {
@@ -76,6 +80,8 @@ bench_by names st = record {
   totals = st.totals;
   members = map numbered st.seats;
   site = site_by names st.site;
+  last = st.last;
+  window = st.window;
 }
 
 abbrev pub machine_of : Told → Machine
@@ -129,10 +135,12 @@ AreDistinct (n ∷ ns) = (is_in ns n ≡ false) × AreDistinct ns
 
 abbrev pub IsThere : List (List ℕ) → Who → Type 0
 IsThere names (Conn name) = is_in names name ≡ true
+IsThere names (Inner device) = Unit {0}
 
 abbrev pub IsHolderThere : List (List ℕ) → Option Who → Type 0
 IsHolderThere names None = Unit {0}
-IsHolderThere names (Some who) = IsThere names who
+IsHolderThere names (Some (Conn name)) = is_in names name ≡ true
+IsHolderThere names (Some (Inner device)) = ⊥
 
 -- a seat is of a connection that is there, has a channel's data in each scan, and its queue holds what it can hold
 pub record IsSeat (names : List (List ℕ)) (shape : ShapeRecord) (x : Seat) : Type 0 where
@@ -149,31 +157,45 @@ NumbersRise low high (x ∷ xs) = (low ≤ x.number) × NumbersRise (suc x.numbe
 abbrev pub HasSizes : ShapeRecord → Type 0
 HasSizes shape = (mask : ℕ) → has_data shape mask ≡ true → 1 ≤ scan_size shape mask
 
+-- all channels of a device have data among them
+abbrev pub HasFull : Device → Type 0
+HasFull d = has_data d.shape (full_mask d.shape) ≡ true
+
 -- no connection has two seats, and the numbers of seats are apart, below how many joined
 pub record IsStation (names : List (List ℕ)) (st : Station) : Type 0 where
   pub apart : AreApart (map member_of_seat st.seats)
   pub rising : NumbersRise 0 st.joinings st.seats
   pub sizes : HasSizes st.shape
+  pub full : HasFull (device_of st)
   pub seats : Every (IsSeat names st.shape) st.seats
   pub holder : IsHolderThere names st.site.monitor.holder
 
 abbrev pub shape_of_station : Station → ShapeRecord
 shape_of_station st = st.shape
 
-abbrev pub HasDeviceSizes : DeviceRecord → Type 0
-HasDeviceSizes d = HasSizes d.shape
+pub record HasDeviceSizes (d : DeviceHead) : Type 0 where
+  pub sizes : HasSizes d.shape
+  pub full : has_data d.shape (full_mask d.shape) ≡ true
 
-abbrev pub shape_of_device : DeviceRecord → ShapeRecord
-shape_of_device d = d.shape
+-- as its connections know it, but for the name
+abbrev pub kind_of_station : Station → Kind
+kind_of_station st = st.kind
+
+abbrev pub shape_of_head : DeviceHead → ShapeRecord
+shape_of_head d = d.shape
+
+abbrev pub kind_of_head : DeviceHead → Kind
+kind_of_head d = d.kind
 
 -- each connection has a buffers count of each device
 abbrev pub HasBuffers : Setup → Line → Type 0
-HasBuffers s l = length l.user.buffers ≡ length s.desc.devices
+HasBuffers s l = length l.user.buffers ≡ length (heads_of s.desc)
 
 pub record IsBench (s : Setup) (m : Told) : Type 0 where
   pub names : AreDistinct (names_of m)
   pub buffers : Every (HasBuffers s) m.lines
-  pub shapes : map shape_of_station m.stations ≡ map shape_of_device s.desc.devices
+  pub shapes : map shape_of_station m.stations ≡ map shape_of_head (heads_of s.desc)
+  pub kinds : map kind_of_station m.stations ≡ map kind_of_head (heads_of s.desc)
   pub stations : Every (IsStation (names_of m)) m.stations
 
 -- an event that a step can be: one of a connection that is there

@@ -5,6 +5,7 @@ use Rattle.iio_text.specs.declared.errors.Errno.{Errno}
 use Rattle.iio_scan_type.specs.Format.{size_of}
 use Rattle.iio_layout.specs.declared.channel.Channel.{Channel}
 use Rattle.iio_layout.specs.Shape.{ShapeRecord}
+use Rattle.iio_desc.specs.Description.{heads_of}
 use Rattle.iiod_grammar.specs.Stream.{Item, End}
 use Rattle.iiod_reply.specs.Reply.{Reply, NoMemory}
 use Rattle.iiod_session.specs.declared.manner.Manner.TheVariants.{Script}
@@ -23,7 +24,7 @@ use Rattle.iio_history.specs.Bench.{CanJoin, Every, HasDeviceSizes, HasSizes, Is
 -- ---- what holds of every told state
 
 abbrev pub FirstIsBench : Type 0
-FirstIsBench = (s : Setup) → Every HasDeviceSizes s.desc.devices → IsBench s (told s [])
+FirstIsBench = (s : Setup) → Every HasDeviceSizes (heads_of s.desc) → IsBench s (told s [])
 
 abbrev pub BenchIsKept : Type 0
 BenchIsKept = (s : Setup) (m : Told) (e : Event) → IsStep (names_of m) e → IsBench s m → IsBench s (step s m e)
@@ -34,7 +35,7 @@ AreSteps s [] = Unit {0}
 AreSteps s (e ∷ h) = IsStep (names_of (told s h)) e × AreSteps s h
 
 abbrev pub ToldIsBench : Type 0
-ToldIsBench = (s : Setup) (h : List Event) → Every HasDeviceSizes s.desc.devices → AreSteps s h → IsBench s (told s h)
+ToldIsBench = (s : Setup) (h : List Event) → Every HasDeviceSizes (heads_of s.desc) → AreSteps s h → IsBench s (told s h)
 
 -- where each channel's type has a byte, each scan with a channel's data has one
 abbrev pub SizesAreSome : Type 0
@@ -113,7 +114,7 @@ ArrivalIsNothing = (s : Setup) (m : Told) (name bytes : List ℕ) → IsBench s 
 
 -- the end of a connection closes its seats, and ends its holdings
 pub record IsLeft (s : Setup) (m : Told) (name : List ℕ) (desk : DeskRecord) (e : Event) : Type 0 where
-  pub state : left_machine (machine_of m) desk ≡ machine_of (step s m e)
+  pub state : left_machine (front_of s) (machine_of m) desk ≡ machine_of (step s m e)
   pub desk_then : IsDeskOf (step s m e) name (left_desk desk)
 
 abbrev pub EndsAreLeft : Type 0

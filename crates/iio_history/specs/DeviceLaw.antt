@@ -1,4 +1,4 @@
--- The law that joins each call of a device, over any queue's end, to the device that the plain state gives.
+-- The law that joins each call of an input device, over any queue's end, to the device that the plain state gives.
 use Rattle.std.specs.Prelude.{◌≡◌, ℕ, ℤ, ◌-◌, ◌^◌, ◌≤◌, ◌==◌, true, false, List, [], length, slice_get, Option, Some, IfSome, option_map, Result, Ok}
 use Rattle.iio_text.specs.declared.values.Fixed.{Fixed}
 use Rattle.iio_attr.specs.declared.attributes.Attr.{Attr}
@@ -21,7 +21,8 @@ use Rattle.iio_kfifo.specs.Ends.{Offers as WriterOffers, WriterEnd}
 use Rattle.iio_kfifo.specs.Offers.{accepted, lost_in}
 use Rattle.iio_kfifo.specs.Queue.{Offers as QueueOffers, Queue}
 use Rattle.iiod_session.specs.Calls.{closed, ev_close_of, ev_open_of, ev_read_of, has_no_place, is_attached, is_raw, open_of, read_attr_of, remask_of, set_trigger_of, write_attr_of}
-use Rattle.iiod_session.specs.Front.{Front, device_name, shape_at}
+use Rattle.iio_desc.specs.Kind.{Input}
+use Rattle.iiod_session.specs.Front.{Front, device_name, kind_at, shape_at}
 use Rattle.iiod_session.specs.Machine.{Machine, MemberId, lost_by, with_site, with_station}
 use Rattle.iio_history.specs.Event.{Handled as HandledAt, Sensed as SensedAt, Unplugged}
 use Rattle.iio_history.specs.Registry.{Setup, entries_at, entry_of}
@@ -47,16 +48,16 @@ module _ {Q : Type 0} where
   abbrev pub JoinsAgree : (lost capacity : Q → ℕ) → Type 0
   JoinsAgree lost capacity =
       (waits : Q → List (List ℕ)) (front : Front) (m : Machine) (dev : ℕ) (mask : Mask) (tail : Q) (r : Result MemberNumber (JoinRefused Q)) (old new : DeviceView Q) (trigger trigger' : State)
-      → JoinsDevice mask tail r old new trigger trigger' → IsAt lost capacity waits m dev old → shape_at front dev ≡ old.standing.shape
+      → JoinsDevice mask tail r old new trigger trigger' → IsAt lost capacity waits m dev old → kind_at front dev ≡ Input → shape_at front dev ≡ old.standing.shape
       → is_bad_mask old.standing.shape mask.bits ≡ false → SamePlaces front m old trigger → IsNewEnd lost waits tail
-      → IsJoined lost capacity waits (open_of front m dev mask.bits (capacity tail)) m r dev new
+      → IsJoined lost capacity waits (open_of front m dev mask.bits (capacity tail) false) m r dev new
 
   -- a leave is a CLOSE's
   abbrev pub LeavesAgree : (lost capacity : Q → ℕ) → Type 0
   LeavesAgree lost capacity =
-      (waits : Q → List (List ℕ)) (m : Machine) (dev number : ℕ) (r : Option Q) (old new : DeviceView Q) (trigger trigger' : State)
-      → LeavesDevice lost number r old new trigger trigger' → IsAt lost capacity waits m dev old
-      → (option_map lost r ≡ lost_by number (station_of lost capacity waits old).members) × IsAt lost capacity waits (closed m dev number) dev new
+      (waits : Q → List (List ℕ)) (front : Front) (m : Machine) (dev number : ℕ) (r : Option Q) (old new : DeviceView Q) (trigger trigger' : State)
+      → LeavesDevice lost number r old new trigger trigger' → IsAt lost capacity waits m dev old → kind_at front dev ≡ Input
+      → (option_map lost r ≡ lost_by number (station_of lost capacity waits old).members) × IsAt lost capacity waits (closed front m dev number) dev new
 
   -- a seat's mask is that of the member of its number, where there is one
   abbrev pub IsSeatAt : MemberId → DeviceView Q → Type 0
@@ -98,7 +99,7 @@ module _ {Q : Type 0} where
       → old.standing.active ≡ active_for old.standing.shape (masks_of old.standing.members) → AreMet lost capacity waits waited offer_gives r old new
       → slice_get m.stations dev ≡ Some (station_met lost capacity waits waited r old new)
       → (r ≡ handled_answer due (station_met lost capacity waits waited r old new))
-      × IsAt lost capacity waits (with_station (entry_made old.standing.shape (Some (entry_by due))) dev m) dev new
+      × IsAt lost capacity waits (with_station (entry_made Input old.standing.shape (Some (entry_by due))) dev m) dev new
 
   -- ---- attributes, the trigger, thresholds, the end
 
@@ -115,7 +116,7 @@ module _ {Q : Type 0} where
   -- `raw` is read at the moment that the clock shows
   abbrev pub SamplesAgree : (lost capacity : Q → ℕ) → Type 0
   SamplesAgree lost capacity =
-      (waits : Q → List (List ℕ)) (front : Front) (m : Machine) (dev c : ℕ) (d : DeviceView Q) → IsAt lost capacity waits m dev d → shape_at front dev ≡ d.standing.shape
+      (waits : Q → List (List ℕ)) (front : Front) (m : Machine) (dev c : ℕ) (d : DeviceView Q) → IsAt lost capacity waits m dev d → kind_at front dev ≡ Input → shape_at front dev ≡ d.standing.shape
       → Does lost capacity waits (read_attr_of front m dev (Some c) Raw) (raw_value (raw_answer c m.clock d)) dev (after_raw d)
 
   -- any other attribute, of a plugged device
@@ -158,7 +159,7 @@ module _ {Q : Type 0} where
 
   abbrev pub EndsAgree : (lost capacity : Q → ℕ) → Type 0
   EndsAgree lost capacity =
-      (waits : Q → List (List ℕ)) (s : Setup) (m : Told) (k : ℕ) (d : DeviceView Q) → IsAt lost capacity waits (machine_of m) k d
+      (waits : Q → List (List ℕ)) (s : Setup) (m : Told) (k : ℕ) (d : DeviceView Q) → IsBench s m → kind_at (front_of s) k ≡ Input → IsAt lost capacity waits (machine_of m) k d
       → IsAt lost capacity waits (machine_of (step s m (Unplugged k))) k (at_site (unplugged d.site) d)
 
   abbrev pub ToldLooksAgree : (lost capacity : Q → ℕ) → Type 0
@@ -169,7 +170,7 @@ module _ {Q : Type 0} where
   abbrev pub ToldHandlingsAgree : (taken lost size capacity : Q → ℕ) → (Q → List ℕ → Offered → Q → Type 0) → Type 0
   ToldHandlingsAgree taken lost size capacity offer_gives =
       (waits : Q → List (List ℕ)) (waited : Q → Q → List (List ℕ)) (s : Setup) (m : Told) (trigger k : ℕ) (due : Handed) (r : Handled) (old new : DeviceView Q)
-      → IsBench s m → shape_at (front_of s) k ≡ old.standing.shape → entry_of k (entries_at m.triggers trigger) ≡ Some (entry_by due)
+      → IsBench s m → kind_at (front_of s) k ≡ Input → shape_at (front_of s) k ≡ old.standing.shape → entry_of k (entries_at m.triggers trigger) ≡ Some (entry_by due)
       → Handles taken lost size capacity offer_gives due r old new → due.dev ≡ old.number → (old.standing.captures == 2 ^ 64 - 1) ≡ false
       → old.standing.active ≡ active_for old.standing.shape (masks_of old.standing.members) → AreMet lost capacity waits waited offer_gives r old new
       → slice_get (machine_of m).stations k ≡ Some (station_met lost capacity waits waited r old new)

@@ -1,6 +1,6 @@
--- What a device is to the plain state, by its own view, whatever queues its members have; and how the laws of its calls say what
--- becomes of it there. (Kernel, driver-api/iio: one device serves several buffers. What a queue's end tells is this project's own.)
-use Rattle.std.specs.Prelude.{◌≡◌, ℕ, ℤ, ⊤, ◌+◌, ◌≤◌, ◌<◌, not, List, [], ◌∷◌, ◌++◌, map, length, drop, slice_get, Option, Some, None, Result, Ok, Err, if◌then◌else◌}
+-- What an input device is to the plain state, by its own view, whatever queues its members have; and how the laws of its calls say
+-- what becomes of it there. No member of it is an inner one. (Kernel, driver-api/iio: one device serves several buffers. What a queue's end tells is this project's own.)
+use Rattle.std.specs.Prelude.{◌≡◌, ℕ, ℤ, ⊤, ◌+◌, ◌≤◌, ◌<◌, not, false, List, [], ◌∷◌, ◌++◌, map, length, drop, slice_get, Option, Some, None, Result, Ok, Err, if◌then◌else◌}
 use Rattle.std.specs.List.{AllZip}
 use Rattle.iio_text.specs.declared.errors.Errno.{Errno}
 use Rattle.iio_text.specs.declared.errors.Errno.TheVariants.{EBADF, EBUSY, EIO, ENODEV}
@@ -13,6 +13,8 @@ use Rattle.iio_kfifo.specs.Ends.{WriterEnd}
 use Rattle.iio_kfifo.specs.Offers.{accepted}
 use Rattle.iio_kfifo.specs.Queue.{Queue}
 use Rattle.iio_sensor.specs.Driver.{ask_fails}
+use Rattle.iio_output.specs.Last.{first_last}
+use Rattle.iio_derive.specs.Window.{no_window}
 use Rattle.iio_trigger.specs.Trigger.{Handed}
 use Rattle.iio_event.specs.declared.monitor.Held.{Held}
 use Rattle.iio_event.specs.declared.monitor.NotHolder.{NotHolder}
@@ -36,11 +38,11 @@ use Rattle.iio_history.specs.Registry.{Entry}
 module _ {Q : Type 0} (lost capacity : Q → ℕ) where
   -- a member for which these scans wait
   abbrev pub member_with : List (List ℕ) → Membership Q → Member
-  member_with scans m = record { number = m.number; mask = m.mask.bits; capacity = capacity m.tail; scans = scans; lost = lost m.tail }
+  member_with scans m = record { number = m.number; mask = m.mask.bits; capacity = capacity m.tail; scans = scans; lost = lost m.tail; cyclic = false; inner = None }
 
   -- a device that has these members
   abbrev pub station_with : List Member → DeviceView Q → Station
-  station_with members d = record { next = d.standing.next; captures = d.standing.captures; totals = d.totals; members = members; site = d.site }
+  station_with members d = record { next = d.standing.next; captures = d.standing.captures; totals = d.totals; members = members; site = d.site; last = first_last d.standing.shape; window = no_window }
 
   module _ (waits : Q → List (List ℕ)) where
     abbrev pub member_of : Membership Q → Member

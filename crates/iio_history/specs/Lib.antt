@@ -11,11 +11,13 @@ pub mod Input
 pub mod Law
 pub mod Log
 pub mod Machine
+pub mod Means
 pub mod Membership
 pub mod Monitor
 pub mod Numbered
 pub mod Opening
 pub mod Outcome
+pub mod Outgoing
 pub mod Places
 pub mod Played
 pub mod Queue

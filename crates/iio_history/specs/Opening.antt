@@ -1,15 +1,18 @@
 -- What decides an OPEN, a REMASK and a SETTRIG: the refusals in their order. (Which errno is the kernel's or libiio's, and
 -- which this project's own, is said in docs/FORMATS.md.)
-use Rattle.std.specs.Prelude.{ℕ, ◌*◌, ◌&&◌, not, nat_lt, Bool, false, List, [], ◌∷◌, ◌++◌, map, Option, Some, None, is_some, is_none, unwrap_or, Result, Ok}
+use Rattle.std.specs.Prelude.{ℕ, ◌*◌, ◌&&◌, not, nat_lt, Bool, true, false, List, [], ◌∷◌, ◌++◌, length, map, Option, Some, None, is_some, is_none, slice_get, unwrap_or, Result, Ok}
 use Rattle.std.specs.Option.{ok_or}
 use Rattle.iio_base.specs.Refusals.{ensure, ◌>>=◌, first_refusal, unless_refused}
 use Rattle.iio_text.specs.declared.errors.Errno.{Errno}
-use Rattle.iio_text.specs.declared.errors.Errno.TheVariants.{EBADF, EBUSY, ENODEV, EINVAL, ENOENT}
+use Rattle.iio_text.specs.declared.errors.Errno.TheVariants.{EBADF, EBUSY, ENODEV, EINVAL, ENOENT, ENOSYS}
 use Rattle.iio_mask.specs.Text.{mask_of}
 use Rattle.iio_layout.specs.Shape.{ShapeRecord, count_of}
 use Rattle.iio_layout.specs.Active.{has_data}
 use Rattle.iio_layout.specs.Layout.{scan_size}
 use Rattle.iio_desc.specs.Description.{find_trigger, place_count}
+use Rattle.iio_desc.specs.Kind.{Kind, Output, Average, is_average, is_input, is_output}
+use Rattle.iio_derive.specs.Window.{full_mask}
+use Rattle.iio_output.specs.Written.{is_bad_size, scans_of}
 use Rattle.iio_device.specs.Active.{is_without_union}
 use Rattle.iio_device.specs.Site.{is_empty}
 use Rattle.iio_kfifo.specs.declared.limits.TheConstants.{MAX_BYTES}
@@ -24,24 +27,53 @@ abbrev pub has_no_place : Setup → List Outline → Option ℕ → Bool
 has_no_place s outlines None = false
 has_no_place s outlines (Some trigger) = not (nat_lt (attached_count trigger outlines) (place_count s.desc trigger))
 
--- the refusals of an OPEN at a device, in their order; `is_open` is whether the connection has it open
-abbrev pub open_refusals : Setup → List Outline → Outline → Bool → Bool → Bool → ℕ → ℕ → List (Bool × Errno)
-open_refusals s outlines o is_open is_mask cyclic mask capacity =
-    asked_refusals (not o.site.plugged) cyclic (not is_mask) (not (has_data o.shape mask)) (is_excess capacity (scan_size o.shape mask)) is_open
-    ++ join_refusals (is_none o.site.trigger) (is_without_union o.shape o.masks mask) (is_empty o.masks && has_no_place s outlines o.site.trigger)
+-- whether there is no further membership for somebody: the connection has the device open, or anybody has an output device
+abbrev pub is_taken : Kind → Who → List Member → Bool
+is_taken Output who ms = not (is_empty ms)
+is_taken kind who ms = is_member who ms
 
-abbrev pub opened : Setup → List Outline → Outline → Bool → Bool → Bool → Member → Result Member Errno
-opened s outlines o is_open is_mask cyclic m =
-    unless_refused m (first_refusal (open_refusals s outlines o is_open is_mask cyclic m.mask m.capacity))
+-- where a new membership wants a trigger, a listed mask and a place: at the device itself; of an averaging device at its base,
+-- for the inner member, where there is none yet. The inner member's mask is the union, whatever masks are there
+pub record Host : Type 0 where
+  pub outline : Outline
+  pub mask : ℕ
+  pub beside : List ℕ
+  pub joins : Bool
+
+abbrev pub own_host : Device → ℕ → Host
+own_host d mask = record { outline = outline_of d; mask = mask; beside = (outline_of d).masks; joins = true }
+
+abbrev pub host_by : Kind → List Device → Device → ℕ → Host
+host_by (Average base window) ds d mask = elim (slice_get ds base) [
+  | None ↦ own_host d mask
+  | Some b ↦ record { outline = outline_of b; mask = full_mask b.shape; beside = []; joins = is_empty d.members }
+]
+host_by kind ds d mask = own_host d mask
+
+abbrev pub host_of : List Device → Device → ℕ → Host
+host_of ds d mask = host_by d.kind ds d mask
+
+-- the refusals of an OPEN at a device, in their order; `is_open` is whether it is taken
+abbrev pub open_refusals : Setup → List Outline → Host → Outline → Bool → Bool → Bool → ℕ → ℕ → List (Bool × Errno)
+open_refusals s outlines host o is_open is_mask cyclic mask capacity =
+    asked_refusals (not o.site.plugged) (cyclic && not (is_output o.kind)) (not is_mask) (not (has_data o.shape mask)) (is_excess capacity (scan_size o.shape mask)) is_open
+    ++ join_refusals (is_none host.outline.site.trigger) (host.joins && is_without_union host.outline.shape host.beside host.mask)
+    (host.joins && is_empty host.outline.masks && has_no_place s outlines host.outline.site.trigger)
+
+abbrev pub opened : Setup → List Outline → Host → Outline → Bool → Bool → Bool → Member → Result Member Errno
+opened s outlines host o is_open is_mask cyclic m =
+    unless_refused m (first_refusal (open_refusals s outlines host o is_open is_mask cyclic m.mask m.capacity))
 
 -- the membership that is asked for: the capacity is samples times the buffers count
-abbrev pub member_asked : Device → Who → ℕ → ℕ → List ℕ → Member
-member_asked d who buffers samples text = record { who = who; mask = unwrap_or (mask_of text (count_of d.shape)) 0; capacity = samples * buffers }
+abbrev pub member_asked : Device → Who → ℕ → ℕ → List ℕ → Bool → Member
+member_asked d who buffers samples text cyclic =
+    record { who = who; mask = unwrap_or (mask_of text (count_of d.shape)) 0; capacity = samples * buffers; cyclic = cyclic }
 
 -- the answer to an OPEN of a device
 abbrev pub open_answer : Setup → Registry → Device → Who → ℕ → ℕ → List ℕ → Bool → Result Member Errno
 open_answer s r d who buffers samples text cyclic =
-    opened s (outlines_of r) (outline_of d) (is_member who d.members) (is_some (mask_of text (count_of d.shape))) cyclic (member_asked d who buffers samples text)
+    let m = member_asked d who buffers samples text cyclic in
+    opened s (outlines_of r) (host_of r.devices d m.mask) (outline_of d) (is_taken d.kind who d.members) (is_some (mask_of text (count_of d.shape))) cyclic m
 
 -- ---- REMASK
 
@@ -65,8 +97,25 @@ remasked d text m =
 abbrev pub remask_answer : Device → Who → List ℕ → Result Remasked Errno
 remask_answer d who text = do
   plugged ← ensure d.site.plugged ENODEV
+  input ← ensure (is_input d.kind) ENOSYS
   m ← ok_or (member_of who d.members) EBADF
   remasked d text m
+
+-- ---- WRITEBUF
+
+-- the scans of a payload that a member offers
+abbrev pub offering : ShapeRecord → List ℕ → Member → Result (List (List ℕ)) Errno
+offering shape payload m = do
+  whole ← ensure (not (is_bad_size m.cyclic m.capacity (scan_size shape m.mask) (length payload))) EINVAL
+  Ok (scans_of (scan_size shape m.mask) payload)
+
+-- what a WRITEBUF offers to a device: what waits there decides the rest
+abbrev pub write_answer : Device → Who → List ℕ → Result (List (List ℕ)) Errno
+write_answer d who payload = do
+  plugged ← ensure d.site.plugged ENODEV
+  output ← ensure (is_output d.kind) ENOSYS
+  m ← ok_or (member_of who d.members) EBADF
+  offering d.shape payload m
 
 -- ---- SETTRIG
 
@@ -80,6 +129,7 @@ trigger_named s (Some name) = do
 abbrev pub trigger_answer : Setup → Outline → Option (List ℕ) → Result (Option ℕ) Errno
 trigger_answer s o name = do
   plugged ← ensure o.site.plugged ENODEV
+  own ← ensure (not (is_average o.kind)) ENOSYS
   trigger ← trigger_named s name
   free ← ensure (is_empty o.masks) EBUSY
   Ok trigger

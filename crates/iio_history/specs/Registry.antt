@@ -5,6 +5,8 @@ use Rattle.std.specs.Str.{bytes_eq}
 use Rattle.iio_layout.specs.Shape.{ShapeRecord}
 use Rattle.iio_sensor.specs.Driver.{Driver}
 use Rattle.iio_desc.specs.Description.{Description, find_device}
+use Rattle.iio_desc.specs.Kind.{Kind}
+use Rattle.iio_derive.specs.Window.{Window}
 use Rattle.iio_device.specs.Site.{Site, is_empty}
 use Rattle.iiod_session.specs.declared.desk.TheConstants.{FIRST_BUFFERS}
 use Rattle.iio_history.specs.Who.{Who, same, is_among}
@@ -16,21 +18,26 @@ pub record Setup : Type 0 where
   pub desc : Description
   pub drivers : List Driver
 
--- a membership of a device: whose it is, its mask, which is that of its OPEN or of its last REMASK, and how many scans its
--- queue holds
+-- a membership of a device: whose it is, its mask, which is that of its OPEN or of its last REMASK, how many scans its queue
+-- holds, and whether it is a writer of an output device whose scans come round again
 pub record Member : Type 0 where
   pub who : Who
   pub mask : ℕ
   pub capacity : ℕ
+  pub cyclic : Bool
 
--- a device: its shape, which nothing changes, and its members in the order of their joining
+-- a device: its kind and its shape, which nothing changes, and its members in the order of their joining
 pub record Device : Type 0 where
+  pub kind : Kind
   pub shape : ShapeRecord
   pub site : Site Who
+  -- an averaging device's captures of its base since its last mean
+  pub window : Window
   pub members : List Member
 
 -- what a device is to its trigger, to its sensor and to a new member: there are no names in it
 pub record Outline : Type 0 where
+  pub kind : Kind
   pub shape : ShapeRecord
   pub site : Site Who
   pub masks : List ℕ
@@ -68,7 +75,7 @@ abbrev pub mask_of_member : Member → ℕ
 mask_of_member m = m.mask
 
 abbrev pub outline_of : Device → Outline
-outline_of d = record { shape = d.shape; site = d.site; masks = map mask_of_member d.members }
+outline_of d = record { kind = d.kind; shape = d.shape; site = d.site; masks = map mask_of_member d.members }
 
 abbrev pub outlines_of : Registry → List Outline
 outlines_of r = map outline_of r.devices
@@ -86,6 +93,10 @@ member_of who (m ∷ ms) = if same who m.who then Some m else member_of who ms
 abbrev pub without_members : List Who → List Member → List Member
 without_members gone [] = []
 without_members gone (m ∷ ms) = if is_among m.who gone then without_members gone ms else m ∷ without_members gone ms
+
+-- whether the last membership ends where those of these end
+abbrev pub is_left_empty : List Who → List Member → Bool
+is_left_empty gone ms = not (is_empty ms) && is_empty (without_members gone ms)
 
 abbrev pub is_at : Option ℕ → ℕ → Bool
 is_at None k = false

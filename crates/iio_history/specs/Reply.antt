@@ -1,7 +1,7 @@
 -- The answer to an item of a connection, by what stands after a history: READBUF and the numbers of a buffer are by the
 -- member's queue, all else by the registry. (Commands and answers: libiio 0.25's iiod; docs/FORMATS.md says which part is
 -- this project's own.)
-use Rattle.std.specs.Prelude.{ℕ, ℤ, pos, ◌/◌, not, nat_lt, List, [], ◌∷◌, take, length, Option, Some, None, is_none, slice_get, Result, Ok, Err, if◌then◌else◌}
+use Rattle.std.specs.Prelude.{ℕ, ℤ, pos, ◌*◌, ◌/◌, ◌||◌, not, nat_lt, Bool, List, [], ◌∷◌, take, length, Option, Some, None, is_none, slice_get, slice_index_or, Result, Ok, Err, if◌then◌else◌}
 use Rattle.std.specs.Fmt.{decimal, signed_decimal}
 use Rattle.std.specs.Option.{ok_or}
 use Rattle.iio_base.specs.Refusals.{ensure, ◌>>=◌}
@@ -13,19 +13,21 @@ use Rattle.iio_layout.specs.Shape.{count_of}
 use Rattle.iio_layout.specs.Layout.{scan_size}
 use Rattle.iio_sensor.specs.Driver.{value_of, ask_fails}
 use Rattle.iiod_grammar.specs.declared.command.Refused.TheVariants.{Empty}
-use Rattle.iiod_grammar.specs.Command.{Place, Help, Version, Print, Timeout, Open, Close, Read, ReadBuf, WriteBuf, GetTrig, SetTrig, SetBuffers, Remask, EvOpen, EvRead, EvClose}
+use Rattle.iiod_grammar.specs.Command.{Place, Help, Version, Print, Timeout, Open, Close, Read, ReadBuf, GetTrig, SetTrig, SetBuffers, Remask, EvOpen, EvRead, EvClose}
 use Rattle.iiod_reply.specs.Reply.{Reply, Nothing, Number, Refusal, Value, Raw, Block}
 use Rattle.iio_desc.specs.Description.{find_device, device_name, trigger_name}
+use Rattle.iio_desc.specs.Kind.{Kind, Output, Average, is_input, is_output}
+use Rattle.iio_output.specs.Written.{is_full, is_standing, taken_of}
 use Rattle.iio_device.specs.Site.{is_empty}
 use Rattle.iiod_session.specs.Acts.{help_reply, is_buffers_count, version_reply, zero_reply}
 use Rattle.iiod_session.specs.Attributes.{is_of_buffer, buffer_number as queue_number}
 use Rattle.iio_history.specs.Who.{Who, Conn, same}
-use Rattle.iiod_grammar.specs.Stream.{Item, Said, Written, End}
+use Rattle.iiod_grammar.specs.Stream.{Item, Said, Written, Streamed, End}
 use Rattle.iio_event.specs.Code.{event_bytes}
 use Rattle.iio_event.specs.Monitor.{is_holder}
 use Rattle.iio_history.specs.Registry.{Setup, outline_of, buffers_of}
 use Rattle.iio_history.specs.Attributes.{value_text}
-use Rattle.iio_history.specs.Opening.{open_answer, remask_answer, trigger_answer}
+use Rattle.iio_history.specs.Opening.{open_answer, remask_answer, write_answer, trigger_answer}
 use Rattle.iio_history.specs.Act.{found, write_found}
 use Rattle.iio_history.specs.Told.{Seat, Station, Told, device_of, registry_of}
 
@@ -55,6 +57,20 @@ there s m name = do
   plugged ← ensure x.station.site.plugged ENODEV
   Ok x
 
+-- the device of that name, for a command that devices of some kinds alone know: the others answer that once they are plugged
+abbrev pub known_as : (Kind → Bool) → Setup → Told → List ℕ → Result Known Errno
+known_as knows s m name = do
+  x ← known s m name
+  plugged ← ensure (knows x.station.kind || x.station.site.plugged) ENODEV
+  own ← ensure (knows x.station.kind) ENOSYS
+  Ok x
+
+abbrev pub there_as : (Kind → Bool) → Setup → Told → List ℕ → Result Known Errno
+there_as knows s m name = do
+  x ← there s m name
+  own ← ensure (knows x.station.kind) ENOSYS
+  Ok x
+
 abbrev pub seat_of : Who → List Seat → Option Seat
 seat_of who [] = None
 seat_of who (x ∷ xs) = if same who x.member.who then Some x else seat_of who xs
@@ -78,6 +94,15 @@ buffer_value a seat = do
   x ← ok_or seat EBADF
   Ok (Value (decimal (buffer_number a x)))
 
+-- ---- WRITEBUF
+
+-- by what waits: a cycle stands; no room
+abbrev pub write_buffer : Station → Seat → List (List ℕ) → Result Reply Errno
+write_buffer st x scans = do
+  free ← ensure (not (is_standing x.member.cyclic x.queue.scans)) EBUSY
+  room ← ensure (not (is_full x.member.cyclic x.member.capacity x.queue.scans scans)) EAGAIN
+  Ok (Number (pos (scan_size st.shape x.member.mask * length (taken_of x.member.cyclic x.member.capacity x.queue.scans scans))))
+
 -- ---- attributes
 
 -- `raw` asks the sensor, where the device has no member
@@ -87,8 +112,13 @@ raw_value clock st c = do
   asked ← ensure (not (ask_fails st.site.driver)) EIO
   Ok (Value (signed_decimal (value_of st.site.driver st.shape clock c 0)))
 
+-- ... and of an output device it is the last one that it was given
+abbrev pub raw_by : Kind → ℤ → Station → ℕ → Result Reply Errno
+raw_by Output clock st c = Ok (Value (signed_decimal (slice_index_or st.last c (pos 0))))
+raw_by kind clock st c = raw_value clock st c
+
 abbrev pub attribute_value : Setup → ℤ → Known → Option ℕ → Attr → Result Reply Errno
-attribute_value s clock x (Some c) attr.Raw = raw_value clock x.station c
+attribute_value s clock x (Some c) attr.Raw = raw_by x.station.kind clock x.station c
 attribute_value s clock x channel a = Ok (Value (value_text (device_name s.desc x.number) channel a x.station.site))
 
 abbrev pub read_value : Setup → ℤ → Known → Who → Place → Option (List ℕ) → Result Reply Errno
@@ -97,6 +127,11 @@ read_value s clock x who place attribute = do
   if is_of_buffer place attribute
       then buffer_value target.attribute (seat_of who x.station.seats)
       else attribute_value s clock x target.channel target.attribute
+
+-- the trigger of a device; of an averaging device it is its base's
+abbrev pub trigger_of : Told → Kind → Station → Option ℕ
+trigger_of m (Average base window) st = elim (slice_get m.stations base) [ None ↦ None | Some b ↦ b.site.trigger ]
+trigger_of m kind st = st.site.trigger
 
 abbrev pub trigger_value : Setup → Option ℕ → Reply
 trigger_value s None = zero_reply
@@ -120,7 +155,7 @@ reply s m name (Said (Ok (Close device))) = replied (do
   seat ← ok_or (seat_of (Conn name) x.station.seats) EBADF
   Ok zero_reply)
 reply s m name (Said (Ok (ReadBuf device bytes))) = replied (do
-  x ← known s m device
+  x ← known_as (λ kind. not (is_output kind)) s m device
   seat ← ok_or (seat_of (Conn name) x.station.seats) EBADF
   read_buffer x.station seat bytes)
 reply s m name (Said (Ok (Read device place attribute))) = replied (do
@@ -131,12 +166,14 @@ reply s m name (Written device (Some target) payload) = replied (do
   x ← known s m device
   setting ← write_found (device_of x.station) (Conn name) target.0 target.1 payload
   Ok (Number (pos (length payload))))
-reply s m name (Said (Ok (WriteBuf device bytes))) = replied (do
-  x ← there s m device
-  Err ENOSYS)
+reply s m name (Streamed device payload) = replied (do
+  x ← known s m device
+  scans ← write_answer (device_of x.station) (Conn name) payload
+  seat ← ok_or (seat_of (Conn name) x.station.seats) EBADF
+  write_buffer x.station seat scans)
 reply s m name (Said (Ok (GetTrig device))) = replied (do
   x ← there s m device
-  Ok (trigger_value s x.station.site.trigger))
+  Ok (trigger_value s (trigger_of m x.station.kind x.station)))
 reply s m name (Said (Ok (SetTrig device trigger))) = replied (do
   x ← known s m device
   set ← trigger_answer s (outline_of (device_of x.station)) trigger
@@ -150,16 +187,16 @@ reply s m name (Said (Ok (Remask device text))) = replied (do
   remask ← remask_answer (device_of x.station) (Conn name) text
   Ok zero_reply)
 reply s m name (Said (Ok (EvOpen device))) = replied (do
-  x ← there s m device
+  x ← there_as is_input s m device
   free ← ensure (is_none x.station.site.monitor.holder) EBUSY
   Ok zero_reply)
 reply s m name (Said (Ok (EvRead device))) = replied (do
-  x ← there s m device
+  x ← there_as is_input s m device
   holder ← ensure (is_holder same (Conn name) x.station.site.monitor) EBADF
   event ← ok_or (slice_get x.station.site.monitor.events 0) EAGAIN
   Ok (Raw (event_bytes event)))
 reply s m name (Said (Ok (EvClose device))) = replied (do
-  x ← there s m device
+  x ← there_as is_input s m device
   holder ← ensure (is_holder same (Conn name) x.station.site.monitor) EBADF
   Ok zero_reply)
 reply s m name (End (Some e)) = Refusal e

@@ -1,8 +1,11 @@
 -- What stands after a history: the registry, with each member's private queue, and what each connection has begun.
-use Rattle.std.specs.Prelude.{ℕ, ◌+◌, ◌/◌, List, [], ◌∷◌, ◌++◌, map, take, slice_get, None, Some, if◌then◌else◌, ℤ}
+use Rattle.std.specs.Prelude.{ℕ, ◌+◌, ◌/◌, List, [], ◌∷◌, ◌++◌, map, take, slice_get, Option, None, Some, if◌then◌else◌, ℤ}
 use Rattle.std.specs.Str.{bytes_eq}
 use Rattle.iio_layout.specs.Shape.{ShapeRecord}
 use Rattle.iio_layout.specs.Layout.{scan_size}
+use Rattle.iio_desc.specs.Kind.{Kind}
+use Rattle.iio_derive.specs.Window.{Window}
+use Rattle.iio_output.specs.Last.{GivenScan, first_last, last_with}
 use Rattle.iio_device.specs.declared.totals.Totals.{Totals}
 use Rattle.iio_device.specs.Site.{Site}
 use Rattle.iio_device.specs.Totals.{no_totals, with_given, with_lost}
@@ -11,8 +14,8 @@ use Rattle.iio_history.specs.Who.{Who, same, is_among}
 use Rattle.iiod_grammar.specs.Stream.{Scanner, InLine, scanner_after}
 use Rattle.iio_history.specs.Event.{Event, Arrived}
 use Rattle.iio_history.specs.Registry.{Setup, Member, Device, Trigger, User, Registry}
-use Rattle.iio_history.specs.Act.{Act, Remasking, Leaving, Ending, Reading, Capturing, act_at, act_of}
-use Rattle.iio_history.specs.Fold.{registry_after}
+use Rattle.iio_history.specs.Act.{Act, Remasking, Leaving, Ending, Reading, Capturing, Giving, act_at, act_of}
+use Rattle.iio_history.specs.Fold.{registry_after, registry_first}
 use Rattle.iio_history.specs.Log.{membership_log}
 use Rattle.iio_history.specs.Queue.{Queue, private_queue}
 use Rattle.iio_history.specs.Membership.{joinings_of, number_of, discarded_of}
@@ -26,11 +29,15 @@ pub record Seat : Type 0 where
 
 -- a device, how many have joined it, how many captures it made, what its queues gave and lost in all, and its members
 pub record Station : Type 0 where
+  pub kind : Kind
   pub shape : ShapeRecord
+  pub window : Window
   pub joinings : ℕ
   pub captures : ℕ
   pub totals : Totals
   pub site : Site Who
+  -- at an output device, element 0 of each channel in the last scan that it was given of it
+  pub last : List ℤ
   pub seats : List Seat
 
 -- a connection, with what it sent that is not yet an item
@@ -50,7 +57,7 @@ abbrev pub member_of_seat : Seat → Member
 member_of_seat x = x.member
 
 abbrev pub device_of : Station → Device
-device_of st = record { shape = st.shape; site = st.site; members = map member_of_seat st.seats }
+device_of st = record { kind = st.kind; shape = st.shape; site = st.site; window = st.window; members = map member_of_seat st.seats }
 
 abbrev pub user_of : Line → User
 user_of l = l.user
@@ -82,6 +89,21 @@ totals_after shape (Remasking m mask) xs t = with_gone (m.who ∷ []) xs t
 totals_after shape (Leaving gone) xs t = with_gone gone xs t
 totals_after shape (Ending gone) xs t = with_gone gone xs t
 totals_after shape act xs t = t
+
+-- ---- what an output device is given
+
+-- what it would be given next, under the mask of its one member
+abbrev pub next_scan : ℕ → List (List ℕ) → Option GivenScan
+next_scan mask [] = None
+next_scan mask (scan ∷ scans) = Some (record { mask = mask; bytes = scan })
+
+abbrev pub next_given : List Seat → Option GivenScan
+next_given [] = None
+next_given (x ∷ xs) = next_scan x.member.mask x.queue.scans
+
+abbrev pub last_after : ShapeRecord → Act → List Seat → List ℤ → List ℤ
+last_after shape Giving xs last = last_with shape (next_given xs) last
+last_after shape act xs last = last
 
 -- ---- what the history tells
 
@@ -117,13 +139,24 @@ totals_of s k (e ∷ h) = elim (slice_get (registry_after s h).devices k) [
   | Some d ↦ totals_after d.shape (act_of s (registry_after s h) e k d) (map (seat_told s h k d.shape) d.members) (totals_of s k h)
 ]
 
+-- what was given last of each channel of device k
+abbrev pub last_of : Setup → ℕ → List Event → List ℤ
+last_of s k [] = elim (slice_get (registry_first s).devices k) [ None ↦ [] | Some d ↦ first_last d.shape ]
+last_of s k (e ∷ h) = elim (slice_get (registry_after s h).devices k) [
+  | None ↦ last_of s k h
+  | Some d ↦ last_after d.shape (act_of s (registry_after s h) e k d) (map (seat_told s h k d.shape) d.members) (last_of s k h)
+]
+
 abbrev pub station_told : Setup → List Event → ℕ → Device → Station
 station_told s h k d = record {
+  kind = d.kind;
   shape = d.shape;
+  window = d.window;
   joinings = joinings_of s k h;
   captures = captures_of s k h;
   totals = totals_of s k h;
   site = d.site;
+  last = last_of s k h;
   seats = map (seat_told s h k d.shape) d.members;
 }
 

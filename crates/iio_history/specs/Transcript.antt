@@ -1,9 +1,12 @@
 -- What the steps of a script print (this project's own).
-use Rattle.std.specs.Prelude.{ℕ, ℤ, List, [], ◌∷◌, ◌++◌, map, length, codes, Option, Some, None, slice_get, if◌then◌else◌}
+use Rattle.std.specs.Prelude.{ℕ, ℤ, ◌&&◌, not, List, [], ◌∷◌, ◌++◌, map, length, codes, Option, Some, None, slice_get, if◌then◌else◌}
 use Rattle.std.specs.Fmt.{decimal, signed_decimal}
 use Rattle.iio_text.specs.Escape.{quoted}
 use Rattle.iio_sensor.specs.Driver.{next_count}
 use Rattle.iio_desc.specs.Description.{trigger_name, device_name}
+use Rattle.iio_desc.specs.Kind.{Kind, Average, is_average}
+use Rattle.iio_output.specs.Last.{GivenScan}
+use Rattle.hex.specs.Hex.{encode_lower}
 use Rattle.iiod_reply.specs.Reply.{line, text_of}
 use Rattle.iio_device.specs.Sensing.{Sensed as Sensing, sensed}
 use Rattle.iio_device.specs.Site.{is_empty}
@@ -11,8 +14,8 @@ use Rattle.iio_history.specs.Who.{Who}
 use Rattle.iiod_grammar.specs.Stream.{Scanner, InLine, items_from}
 use Rattle.iio_history.specs.Event.{Event, Arrived, Heard, Dropped, Polled, Handled, Clock, Sensed, Unplugged}
 use Rattle.iio_history.specs.Registry.{Setup, Entry, Trigger, entries_at, entry_of, entries_from, outline_of, outlines_of, has_ended, is_live}
-use Rattle.iio_history.specs.Act.{Act, Capturing, Failing, handled_act}
-use Rattle.iio_history.specs.Told.{Line, Station, Told, device_of, registry_of, told}
+use Rattle.iio_history.specs.Act.{Act, Capturing, Failing, Giving, handled_act}
+use Rattle.iio_history.specs.Told.{Line, Seat, Station, Told, device_of, next_given, registry_of, told}
 use Rattle.iio_history.specs.Reply.{reply}
 use Rattle.std.specs.Str.{bytes_eq}
 
@@ -75,25 +78,35 @@ poll_words m trigger moment =
     then codes "accepted" ∷ decimal (length (poll_entries m trigger moment)) ∷ []
     else codes "missed" ∷ decimal (next_count (missed_at m.triggers trigger)) ∷ []
 
-abbrev pub act_word : Act → List ℕ
-act_word (Capturing c) = codes "captured"
-act_word (Failing moment) = codes "fault"
-act_word act = codes "idle"
+abbrev pub given_word : Option GivenScan → List ℕ
+given_word None = codes "underrun"
+given_word (Some x) = codes "given " ++ encode_lower x.bytes
+
+abbrev pub act_word : List Seat → Act → List ℕ
+act_word xs (Capturing c) = codes "captured"
+act_word xs Giving = given_word (next_given xs)
+act_word xs (Failing moment) = codes "fault"
+act_word xs act = codes "idle"
 
 abbrev pub handled_word : Option Station → Option Entry → List ℕ
-handled_word (Some st) (Some e) = act_word (handled_act (outline_of (device_of st)) (Some e))
+handled_word (Some st) (Some e) = act_word st.seats (handled_act (outline_of (device_of st)) (Some e))
 handled_word st e = codes "none"
 
 abbrev pub sensed_words : Sensing Who → List (List ℕ)
 sensed_words x = if x.fault then codes "fault" ∷ [] else codes "sensed" ∷ decimal x.count ∷ []
 
+-- an averaging device has no thresholds, and is never gone by itself
+abbrev pub sense_by : Kind → Station → ℤ → List (List ℕ)
+sense_by (Average base window) st moment = codes "sensed" ∷ decimal 0 ∷ []
+sense_by kind st moment = if st.site.plugged then sensed_words (sensed st.shape moment st.site) else codes "gone" ∷ []
+
 abbrev pub sense_words : Option Station → ℤ → List (List ℕ)
 sense_words None moment = codes "gone" ∷ []
-sense_words (Some st) moment = if st.site.plugged then sensed_words (sensed st.shape moment st.site) else codes "gone" ∷ []
+sense_words (Some st) moment = sense_by st.kind st moment
 
 abbrev pub unplug_word : Option Station → List ℕ
 unplug_word None = codes "gone"
-unplug_word (Some st) = if st.site.plugged then codes "unplugged" else codes "gone"
+unplug_word (Some st) = if st.site.plugged && not (is_average st.kind) then codes "unplugged" else codes "gone"
 
 abbrev pub event_text : Setup → Told → Event → List ℕ
 event_text s m (Heard name item) = text_of (reply s m name item)

@@ -1,7 +1,7 @@
 //! The history of the core, the plain state that it tells, and the laws that join the two, and that state and a session's.
 #![tactic(auto)]
 
-ghost use Rattle.iio_history.specs.Law.{StepIsTold, MachineIsTold, QueuesArePrivate, MembersAreApart, OthersAreAbsent, PlayedIsTranscript, OutstandingIs, ReadingIsOne};
+ghost use Rattle.iio_history.specs.Law.{StepIsTold, MachineIsTold, QueuesArePrivate, MembersAreApart, OutputHasOne, GivenIsWritten, InnerIsThere, InnerIsEmpty, PluggedIsBases, MeansAre, MeansAlone, OthersAreAbsent, PlayedIsTranscript, OutstandingIs, ReadingIsOne};
 ghost use Rattle.iio_history.specs.Numbered.{NumberedAreSteps};
 ghost use Rattle.iio_history.specs.BenchLaw.{FirstIsBench, BenchIsKept, ToldIsBench, SizesAreSome, NamesStay, ArrivedIsThere, LiveIsThere, RoomLasts, ItemsAreActs, ActsTell, DesksAreKept, NewIsDesk, ArrivalIsNothing, EndsAreLeft, FeedsAreActs, ScriptFeedsTell, FeedsKeepDesks};
 ghost use Rattle.iio_history.specs.BenchMoves.{UnpluggingIs, ClockIs, PollIs, LookIs, HandlingIs, TriggersAre, MovesPrint};
@@ -18,6 +18,13 @@ pub fn law()
     ensures machine { MachineIsTold }
     ensures queues { QueuesArePrivate }
     ensures apart { MembersAreApart }
+    ensures one { OutputHasOne }
+    ensures given { GivenIsWritten }
+    ensures inner { InnerIsThere }
+    ensures emptied { InnerIsEmpty }
+    ensures plugged { PluggedIsBases }
+    ensures means { MeansAre }
+    ensures alone { MeansAlone }
     ensures others { OthersAreAbsent }
     ensures outstanding { OutstandingIs }
     ensures transcript { PlayedIsTranscript }

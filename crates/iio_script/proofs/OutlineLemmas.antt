@@ -1,5 +1,5 @@
 -- A description with the names of another reads the same steps.
-use Rattle.std.proofs.Common.{◌≡◌, ℕ, ℤ, ◌+◌, Bool, true, false, not, nat_lt, cond, List, [], ◌∷◌, length, map, Option, Some, None, IfSome, Result, Ok, Err, refl, sym, ap, ◌∙◌}
+use Rattle.std.proofs.Common.{◌≡◌, ℕ, ℤ, ◌+◌, Bool, true, false, not, nat_lt, cond, List, [], ◌∷◌, ◌++◌, length, map, Option, Some, None, IfSome, Result, Ok, Err, refl, sym, ap, ◌∙◌}
 use Rattle.std.specs.Prelude.{position}
 use Rattle.std.specs.List.{position_or_len, prefix_len}
 use Rattle.std.specs.Option.{ok_or}
@@ -11,7 +11,7 @@ use Rattle.iio_text.specs.declared.refusals.Why.TheVariants as why
 use Rattle.iio_text.specs.Lines.{words_of_line}
 use Rattle.iio_text.specs.Words.{one_of, two_of}
 use Rattle.iiod_grammar.specs.Command.{entry_of}
-use Rattle.iio_desc.specs.Description.{Description, DeviceRecord, trigger_number}
+use Rattle.iio_desc.specs.Description.{AverageRecord, Description, DeviceHead, DeviceRecord, OutputRecord, average_head, heads_of, input_head, output_head, trigger_number}
 use Rattle.iio_history.specs.Script.{device_word, handle_step, moment_word, sense_step, step_by, step_of, step_of_words, step_words, trigger_step, trigger_word, unplug_step}
 use Rattle.iio_history.specs.Transcript.{Step, Fire, Handle, Poll, Sense, Unplug}
 use Rattle.iio_script.specs.Outline.{FindsSame}
@@ -127,11 +127,46 @@ same_position f xs ys name same =
     ap (λ (n : ℕ). cond (nat_lt n (length xs)) (Some n) None) first
     ∙ ap (λ (len : ℕ). cond (nat_lt (position_or_len (λ x. bytes_eq (f x) name) ys) len) (Some (position_or_len (λ x. bytes_eq (f x) name) ys)) None) (same_length f xs ys same)
 
+-- ... of the names of heads
+names_both : (xs ys : List DeviceHead) → map (λ (h : DeviceHead). h.name) (xs ++ ys) ≡ map (λ (h : DeviceHead). h.name) xs ++ map (λ (h : DeviceHead). h.name) ys
+names_both [] ys = refl
+names_both (x ∷ xs) ys = ap (λ (ns : List (List ℕ)). x.name ∷ ns) (names_both xs ys)
+
+names_through : {A : Type 0} (head : A → DeviceHead) (xs : List A) → map (λ (h : DeviceHead). h.name) (map head xs) ≡ map (λ x. (head x).name) xs
+names_through head [] = refl
+names_through head (x ∷ xs) = ap (λ (ns : List (List ℕ)). (head x).name ∷ ns) (names_through head xs)
+
+abbrev names_by_kind : Description → List (List ℕ)
+names_by_kind desc =
+    map (λ (d : DeviceRecord). d.name) desc.devices ++ (map (λ (d : OutputRecord). d.name) desc.outputs ++ map (λ (d : AverageRecord). d.name) desc.averages)
+
+head_names : (desc : Description) → map (λ (h : DeviceHead). h.name) (heads_of desc) ≡ names_by_kind desc
+head_names desc =
+    names_both (map input_head desc.devices) (map output_head desc.outputs ++ map (average_head desc.devices) desc.averages)
+    ∙ ap (λ (ns : List (List ℕ)). ns ++ map (λ (h : DeviceHead). h.name) (map output_head desc.outputs ++ map (average_head desc.devices) desc.averages)) (names_through input_head desc.devices)
+    ∙ ap (λ (ns : List (List ℕ)). map (λ (d : DeviceRecord). d.name) desc.devices ++ ns)
+    (names_both (map output_head desc.outputs) (map (average_head desc.devices) desc.averages)
+    ∙ ap (λ (ns : List (List ℕ)). ns ++ map (λ (h : DeviceHead). h.name) (map (average_head desc.devices) desc.averages)) (names_through output_head desc.outputs)
+    ∙ ap (λ (ns : List (List ℕ)). map (λ (d : OutputRecord). d.name) desc.outputs ++ ns) (names_through (average_head desc.devices) desc.averages))
+
+same_names : (one other : Description) → map (λ (d : DeviceRecord). d.name) one.devices ≡ map (λ (d : DeviceRecord). d.name) other.devices
+    → map (λ (d : OutputRecord). d.name) one.outputs ≡ map (λ (d : OutputRecord). d.name) other.outputs
+    → map (λ (d : AverageRecord). d.name) one.averages ≡ map (λ (d : AverageRecord). d.name) other.averages
+    → map (λ (h : DeviceHead). h.name) (heads_of one) ≡ map (λ (h : DeviceHead). h.name) (heads_of other)
+same_names one other devices outputs averages =
+    head_names one
+    ∙ ap (λ (ns : List (List ℕ)). ns ++ (map (λ (d : OutputRecord). d.name) one.outputs ++ map (λ (d : AverageRecord). d.name) one.averages)) devices
+    ∙ ap (λ (ns : List (List ℕ)). map (λ (d : DeviceRecord). d.name) other.devices ++ (ns ++ map (λ (d : AverageRecord). d.name) one.averages)) outputs
+    ∙ ap (λ (ns : List (List ℕ)). map (λ (d : DeviceRecord). d.name) other.devices ++ (map (λ (d : OutputRecord). d.name) other.outputs ++ ns)) averages
+    ∙ sym (head_names other)
+
 pub finds_same : (one other : Description) → one.triggers ≡ other.triggers → map (λ (d : DeviceRecord). d.name) one.devices ≡ map (λ (d : DeviceRecord). d.name) other.devices
+    → map (λ (d : OutputRecord). d.name) one.outputs ≡ map (λ (d : OutputRecord). d.name) other.outputs
+    → map (λ (d : AverageRecord). d.name) one.averages ≡ map (λ (d : AverageRecord). d.name) other.averages
     → FindsSame one other
-finds_same one other triggers devices = record {
+finds_same one other triggers devices outputs averages = record {
   triggers = λ name. ap (λ ts. trigger_number ts name) triggers;
-  devices = λ name. same_position (λ (d : DeviceRecord). d.name) one.devices other.devices name devices;
+  devices = λ name. same_position (λ (h : DeviceHead). h.name) (heads_of one) (heads_of other) name (same_names one other devices outputs averages);
   trigger_count = ap length triggers;
-  device_count = same_length (λ (d : DeviceRecord). d.name) one.devices other.devices devices;
+  device_count = same_length (λ (h : DeviceHead). h.name) (heads_of one) (heads_of other) (same_names one other devices outputs averages);
 }

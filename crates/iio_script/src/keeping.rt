@@ -3,6 +3,7 @@
 ghost use Rattle.std.specs.Prelude.{◌≡◌, ◌+◌, ◌*◌, ◌^◌, ◌≤◌, ◌<◌, [], ◌++◌, true, ℕ, Err, IfOk, IfSome, IfNone, None, List, OnOk, length, map, if◌then◌else◌};
 ghost use Rattle.iio_base.specs.Faults.{Rose};
 ghost use Rattle.iio_io.specs.Bytes.{TakesAtMost};
+ghost use Rattle.iio_desc.specs.Description.{heads_of};
 ghost use Rattle.iio_desc.specs.WellFormed.{IsWellFormed};
 ghost use Rattle.iio_device.specs.declared.plug.Plug.TheVariants.{Given};
 ghost use Rattle.iio_history.specs.Event.{Event};
@@ -117,7 +118,7 @@ fn keep_line(
     offence: &mut Option<u32>,
 ) -> Result<Option<Why>, Mem>
     requires triggers { length names.now.triggers ≡ length (front_of system.old.bench).triggers }
-    requires devices { length names.now.devices ≡ length (front_of system.old.bench).devices }
+    requires devices { length (heads_of names.now) ≡ length (front_of system.old.bench).devices }
     requires few { system.old.used ≤ 1048577 * number }
     ensures front { front_of system.new.bench ≡ front_of system.old.bench }
     ensures used { IfOk result (λ _. system.new.used ≤ system.old.used + 1048577) }
@@ -165,7 +166,7 @@ fn keep_steps<S: Source>(
     input: &mut S,
 ) -> Result<Keeping, ReadEnd>
     requires triggers { length names.now.triggers ≡ length (front_of system.old.bench).triggers }
-    requires devices { length names.now.devices ≡ length (front_of system.old.bench).devices }
+    requires devices { length (heads_of names.now) ≡ length (front_of system.old.bench).devices }
     requires unfed { names_by system.old ≡ [] }
     requires unused { system.old.used ≡ 0 }
     requires begun { first ≤ lines.old.given + 1 }

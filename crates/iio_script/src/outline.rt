@@ -4,7 +4,7 @@ ghost use Rattle.std.specs.Prelude.{◌≡◌, IfOk, map};
 ghost use Rattle.iio_script.specs.Outline.{FindsSame};
 
 use iio_base::Mem;
-use iio_desc::{Desc, DeviceDesc, TriggerDesc};
+use iio_desc::{AverageDesc, Desc, DeviceDesc, OutDesc, TriggerDesc};
 use iio_layout::Rows;
 use std::alloc::Global;
 
@@ -37,6 +37,34 @@ fn outline_devices(alloc: Global, devices: &[DeviceDesc]) -> Result<Vec<DeviceDe
     Ok(outlines)
 }
 
+fn outline_outputs(alloc: Global, outputs: &[OutDesc]) -> Result<Vec<OutDesc>, Mem>
+    ensures { IfOk result (λ v. map (λ d. d.name) v.items ≡ map (λ d. d.name) outputs.now) }
+{
+    let mut outlines = Vec::new(alloc);
+    for device in outputs {
+        outlines.push(OutDesc {
+            name: device.name.copy(),
+            trigger: None,
+            shape: device.shape.copy(alloc)?,
+        })?;
+    }
+    Ok(outlines)
+}
+
+fn copy_averages(alloc: Global, averages: &[AverageDesc]) -> Result<Vec<AverageDesc>, Mem>
+    ensures { IfOk result (λ v. map (λ d. d.name) v.items ≡ map (λ d. d.name) averages.now) }
+{
+    let mut copies = Vec::new(alloc);
+    for device in averages {
+        copies.push(AverageDesc {
+            name: device.name.copy(),
+            base: device.base,
+            window: device.window,
+        })?;
+    }
+    Ok(copies)
+}
+
 fn copy_triggers(alloc: Global, triggers: &[TriggerDesc]) -> Result<Vec<TriggerDesc>, Mem>
     ensures { IfOk result (λ v. v.items ≡ triggers.now) }
 {
@@ -50,7 +78,8 @@ fn copy_triggers(alloc: Global, triggers: &[TriggerDesc]) -> Result<Vec<TriggerD
     Ok(copies)
 }
 
-/// A description with the triggers of another, and with devices of the same names, which have no rows and no attributes.
+/// A description with the triggers of another, and with devices of the same names and kinds, which have no rows and no
+/// attributes.
 pub fn outline(alloc: Global, desc: &Desc) -> Result<Desc, Mem>
     ensures { IfOk result (λ o. FindsSame o desc.now) }
 {
@@ -58,5 +87,7 @@ pub fn outline(alloc: Global, desc: &Desc) -> Result<Desc, Mem>
         context: Vec::new(alloc),
         triggers: copy_triggers(alloc, &desc.triggers)?,
         devices: outline_devices(alloc, &desc.devices)?,
+        outputs: outline_outputs(alloc, &desc.outputs)?,
+        averages: copy_averages(alloc, &desc.averages)?,
     })
 }

@@ -3,6 +3,7 @@
 ghost use Rattle.std.specs.Prelude.{◌≡◌, ◌+◌, ◌*◌, ◌^◌, ◌≤◌, ◌<◌, [], ◌∷◌, ◌++◌, ℕ, Ok, Err, IfErr, IfOk, IfSome, IfNone, None, Some, List, OnErr, OnOk, Option, length, map};
 ghost use Rattle.iio_base.specs.Faults.{Rose};
 ghost use Rattle.iio_io.specs.Bytes.{TakesAtMost};
+ghost use Rattle.iio_desc.specs.Description.{heads_of};
 ghost use Rattle.iio_desc.specs.WellFormed.{IsWellFormed};
 ghost use Rattle.iio_device.specs.declared.plug.Plug.TheVariants.{Given};
 ghost use Rattle.iio_history.specs.Input.{input_limit, is_overlong, looked_lines};
@@ -66,7 +67,7 @@ fn play_line(
     out: &mut Vec<u8>,
 ) -> Result<Option<Status>, Mem>
     requires triggers { length names.now.triggers ≡ length (front_of system.old.bench).triggers }
-    requires devices { length names.now.devices ≡ length (front_of system.old.bench).devices }
+    requires devices { length (heads_of names.now) ≡ length (front_of system.old.bench).devices }
     requires few { system.old.used ≤ 1048577 * number }
     ensures front { front_of system.new.bench ≡ front_of system.old.bench }
     ensures used { IfOk result (λ _. system.new.used ≤ system.old.used + 1048577) }
@@ -132,7 +133,7 @@ pub(crate) fn play_steps<S: Source, K: Sink>(
     out: &mut Vec<u8>,
 ) -> Result<Status, Status>
     requires triggers { length names.now.triggers ≡ length (front_of system.old.bench).triggers }
-    requires devices { length names.now.devices ≡ length (front_of system.old.bench).devices }
+    requires devices { length (heads_of names.now) ≡ length (front_of system.old.bench).devices }
     requires unfed { names_by system.old ≡ [] }
     requires unused { system.old.used ≡ 0 }
     requires begun { first ≤ lines.old.given + 1 }

@@ -1,7 +1,7 @@
 //! The lines of a script as steps.
 
 ghost use Rattle.std.specs.Prelude.{◌≡◌, ◌<◌, length, option_map, IfOk, IfErr, IfSome, MatchResult, Ok, Err, List, ℕ, ℤ};
-ghost use Rattle.iio_desc.specs.Description.{Description};
+ghost use Rattle.iio_desc.specs.Description.{Description, heads_of};
 ghost use Rattle.iio_history.specs.Script.{clock_step, drop_step, handle_step, sense_step, step_by, step_of, trigger_step, unplug_step, device_word, moment_word, trigger_word, step_words};
 ghost use Rattle.iio_history.specs.Transcript.{Step as HistoryStep};
 ghost use Rattle.iio_system.specs.Step.{IsValid, step_view};
@@ -32,7 +32,7 @@ fn trigger_word(desc: &Desc, word: &[u8]) -> Result<u32, Why>
 // The number of the device of that name.
 fn device_word(desc: &Desc, word: &[u8]) -> Result<u32, Why>
     ensures value { result ≡ device_word desc.now word.now }
-    ensures within { IfOk result (λ device. device < length desc.now.devices) }
+    ensures within { IfOk result (λ device. device < length (heads_of desc.now)) }
 {
     desc.find_device(word).ok_or(Why::Device)
 }
@@ -61,7 +61,7 @@ fn trigger_and_moment(desc: &Desc, words: &[u8]) -> Result<(u32, i64), Why>
 #[inline(never)]
 fn read_handle(desc: &Desc, words: &[u8]) -> Result<Step, Why>
     ensures value { read_view result ≡ handle_step desc.now (words_of is_space words.now) }
-    ensures valid { IfOk result (IsValid (length desc.now.triggers) (length desc.now.devices)) }
+    ensures valid { IfOk result (IsValid (length desc.now.triggers) (length (heads_of desc.now))) }
 {
     let (trigger, device) = two_words(words).ok_or(Why::Count)?;
     let trigger = trigger_word(desc, trigger)?;
@@ -73,7 +73,7 @@ fn read_handle(desc: &Desc, words: &[u8]) -> Result<Step, Why>
 #[inline(never)]
 fn read_sense(desc: &Desc, words: &[u8]) -> Result<Step, Why>
     ensures value { read_view result ≡ sense_step desc.now (words_of is_space words.now) }
-    ensures valid { IfOk result (IsValid (length desc.now.triggers) (length desc.now.devices)) }
+    ensures valid { IfOk result (IsValid (length desc.now.triggers) (length (heads_of desc.now))) }
 {
     let (device, moment) = two_words(words).ok_or(Why::Count)?;
     let device = device_word(desc, device)?;
@@ -107,7 +107,7 @@ fn read_drop(words: &[u8]) -> Result<Step, Why>
 #[inline(never)]
 fn read_unplug(desc: &Desc, words: &[u8]) -> Result<Step, Why>
     ensures value { read_view result ≡ unplug_step desc.now (words_of is_space words.now) }
-    ensures valid { IfOk result (IsValid (length desc.now.triggers) (length desc.now.devices)) }
+    ensures valid { IfOk result (IsValid (length desc.now.triggers) (length (heads_of desc.now))) }
 {
     let device = one_word(words).ok_or(Why::Count)?;
     let device = device_word(desc, device)?;
@@ -117,7 +117,7 @@ fn read_unplug(desc: &Desc, words: &[u8]) -> Result<Step, Why>
 // A step by the words after its first one.
 fn read_words(desc: &Desc, word: StepWord, words: &[u8]) -> Result<Step, Why>
     ensures value { read_view result ≡ form_of word desc.now (words_of is_space words.now) }
-    ensures valid { IfOk result (IsValid (length desc.now.triggers) (length desc.now.devices)) }
+    ensures valid { IfOk result (IsValid (length desc.now.triggers) (length (heads_of desc.now))) }
 {
     match word {
         StepWord::Fire => {
@@ -173,7 +173,7 @@ fn read_line(
         → step_by desc.now line word.now (words_of is_space words.now) (entry_of step_words word.now) ≡ Ok (step_view step)) }
     ensures err { IfErr result (λ e. (line : List ℕ) → IsFirstWord is_space line word.now words.now
         → Tells e (step_by desc.now line word.now (words_of is_space words.now) (entry_of step_words word.now))) }
-    ensures valid { IfOk result (IsValid (length desc.now.triggers) (length desc.now.devices)) }
+    ensures valid { IfOk result (IsValid (length desc.now.triggers) (length (heads_of desc.now))) }
 {
     match StepWord::of(word) {
         None => read_feed(alloc, room, word, words),
@@ -187,7 +187,7 @@ fn read_line(
 pub fn read_step(alloc: Global, desc: &Desc, line: &[u8]) -> Result<Option<Step>, LineFault>
     ensures ok { IfOk result (λ step. step_of desc.now line.now ≡ Ok (option_map step_view step)) }
     ensures err { IfErr result (λ e. Tells e (step_of desc.now line.now)) }
-    ensures valid { IfOk result (λ step. IfSome step (IsValid (length desc.now.triggers) (length desc.now.devices))) }
+    ensures valid { IfOk result (λ step. IfSome step (IsValid (length desc.now.triggers) (length (heads_of desc.now)))) }
 {
     let mut room = Vec::new(alloc);
     read_step_into(alloc, &mut room, desc, line)
@@ -203,7 +203,7 @@ pub(crate) fn read_step_into(
 ) -> Result<Option<Step>, LineFault>
     ensures ok { IfOk result (λ step. step_of desc.now line.now ≡ Ok (option_map step_view step)) }
     ensures err { IfErr result (λ e. Tells e (step_of desc.now line.now)) }
-    ensures valid { IfOk result (λ step. IfSome step (IsValid (length desc.now.triggers) (length desc.now.devices))) }
+    ensures valid { IfOk result (λ step. IfSome step (IsValid (length desc.now.triggers) (length (heads_of desc.now)))) }
 {
     match first_word(line)? {
         None => Ok(None),

@@ -21,6 +21,7 @@ mod steps;
 mod streams;
 mod triggers;
 mod unplugging;
+mod writing;
 
 use self::examples::FIRST_PATH;
 use self::playing::{joined, played, sink, source};
@@ -77,6 +78,7 @@ fn answers_with_ample_memory(rt: HostRuntime) -> Result<(), Fail> {
         streams::ROWS,
         triggers::ROWS,
         unplugging::ROWS,
+        writing::ROWS,
     ] {
         check_all_done(&rt, rt.alloc(), rows)?;
     }

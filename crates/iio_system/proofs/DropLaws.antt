@@ -63,15 +63,15 @@ module _ {S : Type 0} (seen : S → SeatRecord) where
 
   -- what a connection has: a desk, by which its session is left
   abbrev pub HasDesk : Told → List ℕ → Option (SessionRecord S) → Type 0
-  HasDesk m name o = (desk : DeskRecord) × IsDeskOf m name desk × ((machine : Machine) → left_by seen machine o ≡ left_machine machine desk)
+  HasDesk m name o = (desk : DeskRecord) × IsDeskOf m name desk × ((front : Front) (machine : Machine) → left_by seen front machine o ≡ left_machine front machine desk)
 
   desk_by : (front : Front) (m : Told) (name : List ℕ) (l : Line) (o : Option (SessionRecord S)) → l.user.who ≡ name → IsServed seen front m l o → HasDesk m name o
   desk_by front m name l None who served = (
     served.desk,
     subst (λ (w : List ℕ). IsDeskOf m w served.desk) who served.has,
-    λ machine. sym (rw (served.bare.0, served.bare.1) refl),
+    λ front machine. sym (rw (served.bare.0, served.bare.1) refl),
   )
-  desk_by front m name l (Some x) who served = (desk_of seen x.desk, subst (λ (w : List ℕ). IsDeskOf m w (desk_of seen x.desk)) who served.session.desk, λ machine. refl)
+  desk_by front m name l (Some x) who served = (desk_of seen x.desk, subst (λ (w : List ℕ). IsDeskOf m w (desk_of seen x.desk)) who served.session.desk, λ front machine. refl)
 
   live_is : (front : Front) (m : Told) (name : List ℕ) (l : Line) (o : Option (SessionRecord S)) → line_named name m.lines ≡ Some l → IsServed seen front m l o → is_live name (registry_of m).users ≡ is_some o
   live_is front m name l None is served = live_by m name (Some l.user) (user_is m name l is) ∙ ap (λ (b : Bool). not b) served.ended
@@ -80,7 +80,7 @@ module _ {S : Type 0} (seen : S → SeatRecord) where
   pub dropped_there : (s : Setup) (m : Told) (front : Front) (machine machine' : Machine) (cs : List (Connection S)) (name : List ℕ) (i : ℕ) (d : Connection S)
       → Stands seen s m front (Some machine) cs
       → i < length cs → is_named name (get_or cs i d) ≡ true → ((k : ℕ) → k < i → is_named name (get_or cs k d) ≡ false)
-      → machine' ≡ left_by seen machine (get_or cs i d).session
+      → machine' ≡ left_by seen front machine (get_or cs i d).session
       → (step_lines s m (Drop name) ≡ printed (name ∷ dropped_word (is_some (get_or cs i d).session) ∷ []))
       × Stands seen s (state_after s m (Drop name)) front (Some machine') (set cs i (with_session seen None (get_or cs i d)))
   dropped_there s m front machine machine' cs name i d stands within here apart left =
@@ -95,7 +95,7 @@ module _ {S : Type 0} (seen : S → SeatRecord) where
         drop_lines s m name (is_some (get_or cs i d).session) (live_is front m name l (get_or cs i d).session at.1 at.2),
         record {
           front_is = stands.front_is;
-          told_is = ap (λ (n : Machine). Some n) (left ∙ has.2 machine ∙ ap (λ (n : Machine). left_machine n has.0) same ∙ gone.state);
+          told_is = ap (λ (n : Machine). Some n) (left ∙ has.2 front machine ∙ ap (λ (n : Machine). left_machine front n has.0) same ∙ ap (λ (f : Front). left_machine f (machine_of m) has.0) stands.front_is ∙ gone.state);
           bench = bench;
           lines =
               rejoined seen front (step s m (Dropped name)) name None i d (step s m (Dropped name)).lines cs (f l) bench.names

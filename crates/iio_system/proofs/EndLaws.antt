@@ -3,8 +3,8 @@ use Rattle.std.proofs.Common.{◌≡◌, ℕ, ◌==◌, ◌||◌, nat_lt, Bool, 
 use Rattle.iio_text.specs.declared.errors.Errno.TheVariants.{E2BIG, EFBIG}
 use Rattle.iiod_grammar.specs.declared.command.Refused.{Refused}
 use Rattle.iiod_grammar.specs.declared.lines.TheConstants.{MAX_LINE, MAX_PAYLOAD}
-use Rattle.iiod_grammar.specs.Command.{Command, Exit, Target, Write, command_of}
-use Rattle.iiod_grammar.specs.Stream.{AtEnd, InLine, InPayload, Item, End, Written, Scanned, Scanner, after_byte, after_bytes, after_line, after_said, ended_by, items_from, no_item, one_item, payload_after, scanner_after}
+use Rattle.iiod_grammar.specs.Command.{Command, Exit, Write, WriteBuf, command_of}
+use Rattle.iiod_grammar.specs.Stream.{AtEnd, InLine, InPayload, Item, End, OfWrite, OfWriteBuf, Pending, Scanned, Scanner, after_byte, after_bytes, after_line, after_said, ended_by, items_from, no_item, one_item, payload_after, payload_begun, scanner_after, with_payload}
 use Rattle.std.specs.Prelude.{Option, None, Some}
 use Rattle.iiod_session.specs.Acts.{act}
 use Rattle.iiod_session.specs.Desk.{DeskRecord}
@@ -27,22 +27,30 @@ has_end (item ∷ items) = is_end item || has_end items
 Agrees : Scanned → Type 0
 Agrees x = has_end x.items ≡ is_at_end x.next
 
-payload_agrees : (device : List ℕ) (target : Option Target) (count : ℕ) (begun : List ℕ) → has_end (payload_after device target count begun).items ≡ is_at_end (payload_after device target count begun).next
-payload_agrees device target count begun = by (length begun == count)
+payload_is_no_end : (pending : Pending) (payload : List ℕ) → is_end (with_payload pending payload) ≡ false
+payload_is_no_end (OfWrite device target) payload = refl
+payload_is_no_end (OfWriteBuf device) payload = refl
+
+payload_agrees : (pending : Pending) (count : ℕ) (begun : List ℕ) → has_end (payload_after pending count begun).items ≡ is_at_end (payload_after pending count begun).next
+payload_agrees pending count begun = by (length begun == count)
   where
-    by : (b : Bool) → has_end (cond b (one_item (Written device target begun)) (no_item (InPayload device target count begun))).items
-        ≡ is_at_end (cond b (one_item (Written device target begun)) (no_item (InPayload device target count begun))).next
-    by true = refl
+    by : (b : Bool) → has_end (cond b (one_item (with_payload pending begun)) (no_item (InPayload pending count begun))).items
+        ≡ is_at_end (cond b (one_item (with_payload pending begun)) (no_item (InPayload pending count begun))).next
+    by true = ap (λ (b : Bool). b || false) (payload_is_no_end pending begun)
     by false = refl
+
+begun_agrees : (pending : Pending) (count : ℕ) → has_end (payload_begun pending count).items ≡ is_at_end (payload_begun pending count).next
+begun_agrees pending count = by (nat_lt MAX_PAYLOAD count) (payload_agrees pending count [])
+  where
+    by : (b : Bool) → has_end (payload_after pending count []).items ≡ is_at_end (payload_after pending count []).next
+        → has_end (cond b (ended_by (Some EFBIG)) (payload_after pending count [])).items ≡ is_at_end (cond b (ended_by (Some EFBIG)) (payload_after pending count [])).next
+    by true h = refl
+    by false h = h
 
 said_agrees : (said : Result Command Refused) → has_end (after_said said).items ≡ is_at_end (after_said said).next
 said_agrees (Ok Exit) = refl
-said_agrees (Ok (Write device target count)) = by (nat_lt MAX_PAYLOAD count) (payload_agrees device target count [])
-  where
-    by : (b : Bool) → has_end (payload_after device target count []).items ≡ is_at_end (payload_after device target count []).next
-        → has_end (cond b (ended_by (Some EFBIG)) (payload_after device target count [])).items ≡ is_at_end (cond b (ended_by (Some EFBIG)) (payload_after device target count [])).next
-    by true h = refl
-    by false h = h
+said_agrees (Ok (Write device target count)) = begun_agrees (OfWrite device target) count
+said_agrees (Ok (WriteBuf device count)) = begun_agrees (OfWriteBuf device) count
 said_agrees said = refl
 
 byte_agrees : (s : Scanner) (b : ℕ) → is_at_end s ≡ false → has_end (after_byte s b).items ≡ is_at_end (after_byte s b).next
@@ -54,7 +62,7 @@ byte_agrees (InLine begun) b h = by (b == 10) (nat_lt (length begun) MAX_LINE) (
     by true fits h = h
     by false true h = refl
     by false false h = refl
-byte_agrees (InPayload device target count begun) b h = payload_agrees device target count (begun ++ b ∷ [])
+byte_agrees (InPayload pending count begun) b h = payload_agrees pending count (begun ++ b ∷ [])
 byte_agrees AtEnd b h = cc
 
 end_stays : (bytes : List ℕ) → is_at_end (after_bytes AtEnd bytes).next ≡ true
@@ -78,7 +86,7 @@ bytes_agree s (b ∷ bs) h =
     ended : (x : Scanner) → is_at_end x ≡ true → is_at_end (after_bytes x bs).next ≡ true
     ended AtEnd h = end_stays bs
     ended (InLine begun) h = cc
-    ended (InPayload device target count begun) h = cc
+    ended (InPayload pending count begun) h = cc
 
     by : (e : Bool) → is_at_end (after_byte s b).next ≡ e → has_end (after_byte s b).items ≡ is_at_end (after_byte s b).next
         → (is_at_end (after_byte s b).next ≡ false → has_end (items_from (after_byte s b).next bs) ≡ is_at_end (scanner_after (after_byte s b).next bs))
@@ -91,22 +99,26 @@ bytes_agree s (b ∷ bs) h =
 abbrev IsEnding : Scanned → Type 0
 IsEnding x = (e : Option Errno) × (x.items ≡ End e ∷ [])
 
-payload_ends : (device : List ℕ) (target : Option Target) (count : ℕ) (begun : List ℕ) → is_at_end (payload_after device target count begun).next ≡ true → IsEnding (payload_after device target count begun)
-payload_ends device target count begun = by (length begun == count)
+payload_ends : (pending : Pending) (count : ℕ) (begun : List ℕ) → is_at_end (payload_after pending count begun).next ≡ true → IsEnding (payload_after pending count begun)
+payload_ends pending count begun = by (length begun == count)
   where
-    by : (b : Bool) → is_at_end (cond b (one_item (Written device target begun)) (no_item (InPayload device target count begun))).next ≡ true
-        → IsEnding (cond b (one_item (Written device target begun)) (no_item (InPayload device target count begun)))
+    by : (b : Bool) → is_at_end (cond b (one_item (with_payload pending begun)) (no_item (InPayload pending count begun))).next ≡ true
+        → IsEnding (cond b (one_item (with_payload pending begun)) (no_item (InPayload pending count begun)))
     by true h = absurd (true≢false (sym h))
     by false h = absurd (true≢false (sym h))
 
-said_ends : (said : Result Command Refused) → is_at_end (after_said said).next ≡ true → IsEnding (after_said said)
-said_ends (Ok Exit) h = (None, refl)
-said_ends (Ok (Write device target count)) h = by (nat_lt MAX_PAYLOAD count) (payload_ends device target count []) h
+begun_ends : (pending : Pending) (count : ℕ) → is_at_end (payload_begun pending count).next ≡ true → IsEnding (payload_begun pending count)
+begun_ends pending count h = by (nat_lt MAX_PAYLOAD count) (payload_ends pending count []) h
   where
-    by : (b : Bool) → (is_at_end (payload_after device target count []).next ≡ true → IsEnding (payload_after device target count []))
-        → is_at_end (cond b (ended_by (Some EFBIG)) (payload_after device target count [])).next ≡ true → IsEnding (cond b (ended_by (Some EFBIG)) (payload_after device target count []))
+    by : (b : Bool) → (is_at_end (payload_after pending count []).next ≡ true → IsEnding (payload_after pending count []))
+        → is_at_end (cond b (ended_by (Some EFBIG)) (payload_after pending count [])).next ≡ true → IsEnding (cond b (ended_by (Some EFBIG)) (payload_after pending count []))
     by true rest h = (Some EFBIG, refl)
     by false rest h = rest h
+
+said_ends : (said : Result Command Refused) → is_at_end (after_said said).next ≡ true → IsEnding (after_said said)
+said_ends (Ok Exit) h = (None, refl)
+said_ends (Ok (Write device target count)) h = begun_ends (OfWrite device target) count h
+said_ends (Ok (WriteBuf device count)) h = begun_ends (OfWriteBuf device) count h
 said_ends said h = absurd (true≢false (sym h))
 
 byte_ends : (s : Scanner) (b : ℕ) → is_at_end s ≡ false → is_at_end (after_byte s b).next ≡ true → IsEnding (after_byte s b)
@@ -118,14 +130,14 @@ byte_ends (InLine begun) b before h = by (b == 10) (nat_lt (length begun) MAX_LI
     by true fits rest h = rest h
     by false true rest h = absurd (true≢false (sym h))
     by false false rest h = (Some E2BIG, refl)
-byte_ends (InPayload device target count begun) b before h = payload_ends device target count (begun ++ b ∷ []) h
+byte_ends (InPayload pending count begun) b before h = payload_ends pending count (begun ++ b ∷ []) h
 byte_ends AtEnd b before h = absurd (true≢false before)
 
 nothing_more : (s : Scanner) (bytes : List ℕ) → is_at_end s ≡ true → items_from s bytes ≡ []
 nothing_more AtEnd [] h = refl
 nothing_more AtEnd (b ∷ bs) h = nothing_more AtEnd bs refl
 nothing_more (InLine begun) bytes h = absurd (true≢false (sym h))
-nothing_more (InPayload device target count begun) bytes h = absurd (true≢false (sym h))
+nothing_more (InPayload pending count begun) bytes h = absurd (true≢false (sym h))
 
 desk_after-append : (front : Front) (m : Machine) (desk : DeskRecord) (xs ys : List Item) → desk_after front m desk (xs ++ ys) ≡ desk_after front (machine_after front m desk xs) (desk_after front m desk xs) ys
 desk_after-append front m desk [] ys = refl

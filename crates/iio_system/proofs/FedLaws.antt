@@ -163,7 +163,7 @@ module _ {S : Type 0} (seen : S → SeatRecord) where
       not_end : (b : Scanner) → (b ≡ AtEnd → ⊥) → is_at_end b ≡ false
       not_end AtEnd h = absurd (h refl)
       not_end (InLine begun) h = refl
-      not_end (InPayload device target count begun) h = refl
+      not_end (InPayload pending count begun) h = refl
 
 module _ {S : Type 0} (seen : S → SeatRecord) where
   -- once it has ended it has nothing

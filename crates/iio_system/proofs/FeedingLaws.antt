@@ -17,7 +17,7 @@ use Rattle.iio_system.specs.Feeding.{Feeds, HasFed, is_at_end}
 at_end : (b : Scanner) → is_at_end b ≡ true → b ≡ AtEnd
 at_end AtEnd h = refl
 at_end (InLine begun) h = cc
-at_end (InPayload device target count begun) h = cc
+at_end (InPayload pending count begun) h = cc
 
 -- a session says that it has ended exactly where its stream is at its end
 ended_is : (e : Bool) (stream : Scanned) (next : Scanner) → (IsTrue e ↔ (stream ≡ no_item AtEnd)) → stream ≡ no_item next → e ≡ is_at_end next

@@ -8,11 +8,10 @@ use Rattle.iio_sensor.specs.Driver.{Driver}
 use Rattle.iio_trigger.specs.declared.Polled.{Polled as Answer}
 use Rattle.iio_trigger.specs.declared.Polled.TheVariants.{Accepted, Missed}
 use Rattle.iio_trigger.specs.Trigger.{Handed, poll_made}
-use Rattle.iio_device.specs.declared.handling.Handled.{Handled as Handling}
 use Rattle.iio_device.specs.declared.plug.Plug.{Plug}
 use Rattle.iio_device.specs.Site.{at_place, is_empty}
 use Rattle.iiod_session.specs.Calls.{is_attached}
-use Rattle.iiod_session.specs.Front.{Front, device_name, shape_at, trigger_name}
+use Rattle.iiod_session.specs.Front.{Front, device_name, kind_at, shape_at, trigger_name}
 use Rattle.iiod_session.specs.Machine.{Machine, Station, station_at}
 use Rattle.iio_history.specs.Event.{Handled, Polled}
 use Rattle.iio_history.specs.Registry.{Entry, Setup, Trigger, entries_at, entries_from as told_entries, entry_of as told_entry, outlines_of, without_entry as told_without}
@@ -28,13 +27,14 @@ use Rattle.iio_system.specs.declared.bench.Bench.{Bench}
 use Rattle.iio_system.specs.declared.connection.Connection.{Connection}
 use Rattle.iio_system.specs.declared.seat.Seat.{Seat}
 use Rattle.iio_system.specs.Bench.{front_of as bench_front, machine_of as bench_machine, trigger_in, triggers_of}
-use Rattle.iio_system.specs.Handling.{entry_answer, entry_machine}
-use Rattle.iio_system.specs.Lines.{handled_word, polled_words}
+use Rattle.iio_system.specs.declared.any_device.Became.{Became}
+use Rattle.iio_system.specs.Handling.{IsRoom, entry_answer, entry_machine}
+use Rattle.iio_system.specs.Lines.{became_word, polled_words}
 use Rattle.iio_system.specs.Moves.{CanGoOn, HandlesAll, HandlesOne, InOrder, Plays, handling_of, handlings}
 use Rattle.iio_system.specs.Places.{TriggerRecord, entries_from, entry_of, first_due, first_trigger, handled, poll_answer, polled, trigger_of}
 use Rattle.iio_system.specs.Seat.{seen_of}
 use Rattle.iio_system.specs.Standing.{CanCapture, Holds, RiseBy, handed_by, trigger_by}
-use Rattle.iio_system.specs.Station.{front_by, station_by}
+use Rattle.iio_system.specs.Station.{any_front, any_station}
 use Rattle.iio_system.specs.System.{AreLines}
 use Rattle.iio_system.proofs.ListLemmas.{length_map_is}
 use Rattle.iio_system.proofs.MoveLaws.{entry_here, handle_holds, handle_line, handled_told, machine_told, place_map, poll_holds, poll_line}
@@ -57,7 +57,7 @@ handled_none dev (suc trigger) (t ∷ ts) none = ap (λ (xs : List Trigger). t �
 
 module _ {X : Type 0} {V : X → Type 0} (driver : Plug X V → Driver) where
   module _ (trigger dev : ℕ) (b b' : Bench X V) (cs : List (Connection Seat)) (less : dev < length (bench_front b).devices) (front : bench_front b' ≡ bench_front b)
-      (told : bench_machine driver b' ≡ entry_machine (entry_of dev (trigger_in (triggers_of b) trigger).entries) false (shape_at (bench_front b) dev) dev (bench_machine driver b))
+      (told : bench_machine driver b' ≡ entry_machine (kind_at (bench_front b) dev) (entry_of dev (trigger_in (triggers_of b) trigger).entries) false (shape_at (bench_front b) dev) dev (bench_machine driver b))
       (triggers : triggers_of b' ≡ at_place trigger (handled dev) (triggers_of b)) (s : Setup) (m : Told) (h : Holds driver s m b cs) where
     own : entry_of dev (trigger_in (triggers_of b) trigger).entries ≡ option_map handed_by (told_entry dev (entries_at m.triggers trigger))
     own = entry_here driver trigger dev b b' cs less front told triggers s m h
@@ -68,7 +68,7 @@ module _ {X : Type 0} {V : X → Type 0} (driver : Plug X V → Driver) where
       stands = record {
         front_is = front ∙ h.stands.front_is;
         told_is =
-            ap (λ (x : Machine). Some x) (told ∙ ap (λ (o : Option Handed). entry_machine o false (shape_at (bench_front b) dev) dev (bench_machine driver b)) (own ∙ ap (λ (o : Option Entry). option_map handed_by o) none))
+            ap (λ (x : Machine). Some x) (told ∙ ap (λ (o : Option Handed). entry_machine (kind_at (bench_front b) dev) o false (shape_at (bench_front b) dev) dev (bench_machine driver b)) (own ∙ ap (λ (o : Option Entry). option_map handed_by o) none))
             ∙ h.stands.told_is;
         bench = h.stands.bench;
         lines = subst (λ (f : Front). AreLines seen_of f m m.lines cs) (sym front) h.stands.lines;
@@ -78,7 +78,7 @@ module _ {X : Type 0} {V : X → Type 0} (driver : Plug X V → Driver) where
           ∙ ap (λ (ts : List Trigger). map trigger_by ts) (handled_none dev trigger m.triggers none);
     }
 
-    pub plays_none : (before : List ℕ) → None ≡ entry_answer (entry_of dev (trigger_in (triggers_of b) trigger).entries) false (station_at (bench_machine driver b) dev)
+    pub plays_none : (before : List ℕ) → None ≡ entry_answer (kind_at (bench_front b) dev) (entry_of dev (trigger_in (triggers_of b) trigger).entries) false (station_at (bench_machine driver b) dev)
         → Plays driver (handling_of trigger dev) s m trigger b' cs before before
     plays_none before answered = by (told_entry dev (entries_at m.triggers trigger)) refl
       where
@@ -86,20 +86,21 @@ module _ {X : Type 0} {V : X → Type 0} (driver : Plug X V → Driver) where
             → (before ≡ before ++ texts s m (elim o [ None ↦ [] | Some e ↦ Handled trigger dev ∷ [] ])) × Holds driver s (steps s m (elim o [ None ↦ [] | Some e ↦ Handled trigger dev ∷ [] ])) b' cs
         by None is = (sym (append-nil before), stays is)
         by (Some e) is =
-            absurd (let h = answered ∙ ap (λ (o : Option Handed). entry_answer o false (station_at (bench_machine driver b) dev)) (own ∙ ap (λ (o : Option Entry). option_map handed_by o) is) in cc)
+            absurd (let h = answered ∙ ap (λ (o : Option Handed). entry_answer (kind_at (bench_front b) dev) o false (station_at (bench_machine driver b) dev)) (own ∙ ap (λ (o : Option Entry). option_map handed_by o) is) in cc)
 
-    pub plays_some : (before after name device : List ℕ) (answer : Handling) → name ≡ trigger_name (bench_front b') trigger → device ≡ device_name (bench_front b') dev
-        → Some answer ≡ entry_answer (entry_of dev (trigger_in (triggers_of b) trigger).entries) false (station_at (bench_machine driver b) dev)
-        → after ≡ before ++ printed (codes "handle" ∷ name ∷ device ∷ handled_word (Some answer) ∷ [])
+    pub plays_some : (before after name device room : List ℕ) (answer : Became) → name ≡ trigger_name (bench_front b') trigger → device ≡ device_name (bench_front b') dev
+        → Some answer ≡ entry_answer (kind_at (bench_front b) dev) (entry_of dev (trigger_in (triggers_of b) trigger).entries) false (station_at (bench_machine driver b) dev)
+        → IsRoom (Some answer) (station_at (bench_machine driver b) dev).members room
+        → after ≡ before ++ printed (codes "handle" ∷ name ∷ device ∷ became_word (Some answer) room ∷ [])
         → Plays driver (handling_of trigger dev) s m trigger b' cs before after
-    plays_some before after name device answer named called answered line = by (told_entry dev (entries_at m.triggers trigger)) refl
+    plays_some before after name device room answer named called answered roomy line = by (told_entry dev (entries_at m.triggers trigger)) refl
       where
         by : (o : Option Entry) → told_entry dev (entries_at m.triggers trigger) ≡ o
             → (after ≡ before ++ texts s m (elim o [ None ↦ [] | Some e ↦ Handled trigger dev ∷ [] ])) × Holds driver s (steps s m (elim o [ None ↦ [] | Some e ↦ Handled trigger dev ∷ [] ])) b' cs
         by None is =
-            absurd (let h = answered ∙ ap (λ (o : Option Handed). entry_answer o false (station_at (bench_machine driver b) dev)) (own ∙ ap (λ (o : Option Entry). option_map handed_by o) is) in cc)
+            absurd (let h = answered ∙ ap (λ (o : Option Handed). entry_answer (kind_at (bench_front b) dev) o false (station_at (bench_machine driver b) dev)) (own ∙ ap (λ (o : Option Entry). option_map handed_by o) is) in cc)
         by (Some e) is = (
-          handle_line driver trigger dev b b' cs less front told triggers s m h before after name device (Some answer) named called answered line,
+          handle_line driver trigger dev b b' cs less front told triggers s m h before after name device room (Some answer) named called answered roomy line,
           handle_holds driver trigger dev b b' cs less front told triggers s m h,
         )
 
@@ -299,7 +300,7 @@ module _ {X : Type 0} {V : X → Type 0} (driver : Plug X V → Driver) where
       in_order =
           let whole : 0 + length (machine_of m).stations ≡ length (machine_of m).stations = omega arith in
           let long : 0 + length (machine_of m).stations ≡ length (bench_front b').devices
-          = whole ∙ ap (λ (x : Machine). length x.stations) (sym (machine_told driver s m b cs h)) ∙ length_map_is (station_by driver) b.devices.items ∙ sym (length_map_is front_by b.devices.items) ∙ ap (λ (f : Front). length f.devices) (sym front) in
+          = whole ∙ ap (λ (x : Machine). length x.stations) (sym (machine_told driver s m b cs h)) ∙ length_map_is (any_station driver) b.devices.items ∙ sym (length_map_is any_front b.devices.items) ∙ ap (λ (f : Front). length f.devices) (sym front) in
           subst (λ (n : ℕ). InOrder 0 n (bench_entries 0 trigger t (machine_of m).stations)) long (bench_order 0 trigger t (machine_of m).stations)
 
       pub fire_accepted : (b'' : Bench X V) (before mid after name : List ℕ) (answer : Answer) (n : ℕ) → answer ≡ Accepted n → name ≡ trigger_name (bench_front b') trigger

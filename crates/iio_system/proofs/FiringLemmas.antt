@@ -1,19 +1,20 @@
 -- Polls, looks at thresholds and unpluggings at a bench.
-use Rattle.std.proofs.Common.{◌≡◌, ◌⊎◌, ℕ, Bool, true, false, List, map, set, slice_get, Option, Some, None, inl, inr, refl, sym, ap, ◌∙◌, cond}
+use Rattle.std.proofs.Common.{◌≡◌, ◌⊎◌, ℕ, zero, suc, Bool, true, false, List, [], ◌∷◌, map, set, slice_get, Option, Some, None, inl, inr, refl, sym, ap, ◌∙◌, cond}
 use Rattle.std.specs.Prelude.{ℤ, unwrap_or}
 use Rattle.std.specs.Option.{option_map_or}
 use Rattle.iio_layout.specs.Shape.{ShapeRecord}
 use Rattle.iio_desc.specs.declared.description.TriggerDesc.{TriggerDesc}
+use Rattle.iio_desc.specs.Kind.{Kind}
 use Rattle.iio_kfifo.specs.Queue.{Queue}
 use Rattle.iio_trigger.specs.declared.Polled.{Polled}
 use Rattle.iio_trigger.specs.Trigger.{Handed, Polls, State}
-use Rattle.iio_device.specs.declared.handling.Handled.{Handled}
 use Rattle.iio_device.specs.Device.{DeviceView, after_sense, at_site}
 use Rattle.iio_device.specs.Site.{at_place, unplugged}
 use Rattle.iiod_session.specs.Machine.{Station}
-use Rattle.iio_system.specs.Acting.{Keeps}
+use Rattle.iio_system.specs.Acting.{Keeps, KeepsCaptures}
 use Rattle.iio_system.specs.Bench.{trigger_in}
-use Rattle.iio_system.specs.Handling.{entry_answer, entry_machine, entry_station, handled_station, is_last, sensed_station, unplugged_station}
+use Rattle.iio_system.specs.declared.any_device.Became.{Became}
+use Rattle.iio_system.specs.Handling.{entry_answer, entry_machine, entry_station, is_last, kind_handled, sensed_station, unplugged_station}
 use Rattle.iio_system.specs.Places.{IsBench, IsTrigger, TriggerRecord, entries_from, entry_of, first_trigger, handled, poll_answer, polled, trigger_of}
 use Rattle.iio_system.specs.Station.{station_of}
 use Rattle.iio_system.proofs.ListLemmas.{after_set, map_at, map_changed, map_same}
@@ -83,6 +84,12 @@ sense_kept shape t st st' e = kept_along st (sensed_station shape t st) st' (sen
 pub unplug_keeps : (v v' : DeviceView Queue) → v' ≡ at_site (unplugged v.site) v → Keeps v v'
 unplug_keeps v v' e = record { name = ap (λ (x : DeviceView Queue). x.name) e; number = ap (λ (x : DeviceView Queue). x.number) e; shape = ap (λ (x : DeviceView Queue). x.standing.shape) e }
 
+pub sense_keeps_all : (t : ℤ) (v v' : DeviceView Queue) → v' ≡ after_sense t v → KeepsCaptures v v'
+sense_keeps_all t v v' e = record { device = sense_keeps t v v' e; captures = sense_captures t v v' e }
+
+pub unplug_keeps_all : (v v' : DeviceView Queue) → v' ≡ at_site (unplugged v.site) v → KeepsCaptures v v'
+unplug_keeps_all v v' e = record { device = unplug_keeps v v' e; captures = ap (λ (x : DeviceView Queue). x.standing.captures) e }
+
 pub unplug_kept : (st st' : Station) → st' ≡ unplugged_station st → KeepsPlace st st'
 unplug_kept st st' e = kept_along st (unplugged_station st) st' (record { attached = λ u. refl; attachment = refl; hosted = λ n h. h }) e
 
@@ -99,17 +106,24 @@ pub entry_here : (states : List State) (t dev : ℕ) (s : State) → slice_get s
 entry_here states t dev s there = ap (λ (o : Option TriggerRecord). entry_of dev (unwrap_or o first_trigger).entries) (map_at trigger_of states t s there)
 
 module _ {D : Type 0} (f : D → Station) (clock : ℤ) (ds : List D) (k : ℕ) (d d' : D) (at : slice_get ds k ≡ Some d) where
-  entry_by : (o : Option Handed) (ended : Bool) (shape : ShapeRecord) → f d' ≡ entry_station o ended shape (f d) → machine_by f clock (set ds k d') ≡ entry_machine o ended shape k (machine_by f clock ds)
-  entry_by None ended shape e = told_same f clock ds k d d' at e
-  entry_by (Some h) true shape e = told_same f clock ds k d d' at e
-  entry_by (Some h) false shape e = told_changed f clock ds k d d' at (handled_station shape h) e
+  entry_by : (kind : Kind) (o : Option Handed) (ended : Bool) (shape : ShapeRecord) → f d' ≡ entry_station kind o ended shape (f d) → machine_by f clock (set ds k d') ≡ entry_machine kind o ended shape k (machine_by f clock ds)
+  entry_by kind None ended shape e = told_same f clock ds k d d' at e
+  entry_by kind (Some h) true shape e = told_same f clock ds k d d' at e
+  entry_by kind (Some h) false shape e = told_changed f clock ds k d d' at (kind_handled kind shape h) e
 
-  pub entry_told : (o o' : Option Handed) (ended ended' : Bool) (shape shape' : ShapeRecord) → o' ≡ o → ended' ≡ ended → shape' ≡ shape → f d' ≡ entry_station o ended shape (f d)
-      → machine_by f clock (set ds k d') ≡ entry_machine o' ended' shape' k (machine_by f clock ds)
-  entry_told o o' ended ended' shape shape' same sameE sameS e = rw (same, sameE, sameS) (entry_by o ended shape e)
+  pub entry_told : (kind kind' : Kind) (o o' : Option Handed) (ended ended' : Bool) (shape shape' : ShapeRecord) → kind' ≡ kind → o' ≡ o → ended' ≡ ended → shape' ≡ shape → f d' ≡ entry_station kind o ended shape (f d)
+      → machine_by f clock (set ds k d') ≡ entry_machine kind' o' ended' shape' k (machine_by f clock ds)
+  entry_told kind kind' o o' ended ended' shape shape' sameK same sameE sameS e = rw (sameK, same, sameE, sameS) (entry_by kind o ended shape e)
 
-pub entry_answer_is : (o o' : Option Handed) (ended ended' : Bool) (st st' : Station) (r : Option Handled) → o' ≡ o → ended' ≡ ended → st' ≡ st → r ≡ entry_answer o ended st → r ≡ entry_answer o' ended' st'
-entry_answer_is o o' ended ended' st st' r same sameE sameS e = rw (same, sameE, sameS) e
+pub entry_answer_is : (kind kind' : Kind) (o o' : Option Handed) (ended ended' : Bool) (st st' : Station) (r : Option Became) → kind' ≡ kind → o' ≡ o → ended' ≡ ended → st' ≡ st → r ≡ entry_answer kind o ended st
+    → r ≡ entry_answer kind' o' ended' st'
+entry_answer_is kind kind' o o' ended ended' st st' r sameK same sameE sameS e = rw (sameK, same, sameE, sameS) e
+
+-- the room of a device is the one that stands at its place
+pub room_is : {D : Type 0} (f : D → List ℕ) (ds : List D) (k : ℕ) (d d' : D) → slice_get ds k ≡ Some d → option_map_or f (slice_get (set ds k d') k) [] ≡ f d'
+room_is f [] k d d' at = absurd (cc)
+room_is f (x ∷ xs) zero d d' at = refl
+room_is f (x ∷ xs) (suc k) d d' at = room_is f xs k d d' at
 
 pub ended_here : {D : Type 0} (f : D → ℕ) (ds : List D) (k : ℕ) (d : D) → slice_get ds k ≡ Some d → option_map_or is_last (slice_get (map f ds) k) false ≡ is_last (f d)
 ended_here f ds k d at = ap (λ (o : Option ℕ). option_map_or is_last o false) (map_at f ds k d at)

@@ -1,11 +1,12 @@
 -- Whether a step keeps to the rules of bystanders, by the sessions of the connections.
-use Rattle.std.proofs.Common.{◌≡◌, ℕ, zero, suc, ◌&&◌, ◌||◌, not, Bool, true, false, cond, List, [], ◌∷◌, map, get_or, set, Option, Some, None, option_map, is_some, Ok, refl, sym, ap, ◌∙◌, subst}
+use Rattle.std.proofs.Common.{◌≡◌, ℕ, ◌&&◌, ◌||◌, not, Bool, true, false, cond, List, [], ◌∷◌, map, Option, Some, None, option_map, is_some, Ok, refl, sym, ap, ◌∙◌, subst}
 use Rattle.std.specs.Str.{bytes_eq}
 use Rattle.std.proofs.lemmas.Slice.Eq.{bytes_eq-Decides}
 use Rattle.iiod_grammar.specs.Command.{Open, Close, Read, ReadBuf, GetTrig, SetBuffers, Remask}
 use Rattle.iiod_grammar.specs.Stream.{Item, Said, End, Scanner, items_from}
+use Rattle.iio_desc.specs.Kind.{is_input}
 use Rattle.iiod_session.specs.Desk.{Bare, DeskRecord, desk_of}
-use Rattle.iiod_session.specs.Front.{Front, find_device}
+use Rattle.iiod_session.specs.Front.{Front, find_device, kind_at}
 use Rattle.iiod_session.specs.Machine.{Machine}
 use Rattle.iiod_session.specs.Seat.{SeatRecord}
 use Rattle.iiod_session.specs.Session.{SessionRecord}
@@ -17,7 +18,7 @@ use Rattle.iio_history.specs.Bench.{AreDistinct, Every, IsDeskOf, front_of, is_i
 use Rattle.iio_worlds.specs.Bystanders.{may_say}
 use Rattle.iio_worlds.specs.Stance.{DesksDecide, Opens, by_number, desk_there, desks_but, has_seat, item_meets, items_meet, may_part, none_seated, one_seated, opens_by, opens_of, own_has, stance_of, step_meets}
 use Rattle.iio_system.specs.declared.connection.Connection.{Connection}
-use Rattle.iio_system.specs.Guard.{desk_named, desks_besides, with_desk}
+use Rattle.iio_system.specs.Guard.{desk_named, desks_besides, own_input, with_desk}
 use Rattle.iio_system.specs.System.{AreLines, IsServed, Stands}
 
 -- ---- what is asked of what is open
@@ -205,9 +206,9 @@ module _ {S : Type 0} (seen : S → SeatRecord) (front : Front) (m : Told) where
       → (mine ≡ false → desk_named seen a others ≡ desk_named seen a cs) → (mine ≡ true → desks_besides seen a others ≡ desks_besides seen a cs)
       → Asks mine (opens_by front (desk_named seen a others) (desks_besides seen a others)) (opens_by (front_of s) (desk_there (desk_at ls cs are) a (map name_of ls)) (desks_but (desk_at ls cs are) a (map name_of ls)))
   asks_those s a mine ls cs others are apart same own besides = record {
-    own = λ other device. ap (λ (f : Front). by_number (find_device f device) (own_has (desk_named seen a others))) same
-        ∙ by_same (find_device (front_of s) device) (own_has (desk_named seen a others)) (own_has (desk_there (desk_at ls cs are) a (map name_of ls)))
-        (λ k. ap (λ o. own_has o k) (own other) ∙ sym (own_named ls cs are a k));
+    own = λ other device. ap (λ (f : Front). by_number (find_device f device) (own_input f (desk_named seen a others))) same
+        ∙ by_same (find_device (front_of s) device) (own_input (front_of s) (desk_named seen a others)) (own_input (front_of s) (desk_there (desk_at ls cs are) a (map name_of ls)))
+        (λ k. ap (λ (b : Bool). is_input (kind_at (front_of s) k) && b) (ap (λ o. own_has o k) (own other) ∙ sym (own_named ls cs are a k)));
     others = λ is device. ap (λ (f : Front). by_number (find_device f device) (one_seated (desks_besides seen a others))) same
         ∙ by_same (find_device (front_of s) device) (one_seated (desks_besides seen a others)) (one_seated (desks_but (desk_at ls cs are) a (map name_of ls)))
         (λ k. ap (λ ds. one_seated ds k) (besides is) ∙ sym (seated_besides ls cs are a k apart));

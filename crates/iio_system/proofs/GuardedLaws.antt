@@ -1,5 +1,5 @@
 -- Whether a step keeps to the rules of bystanders, over the told state.
-use Rattle.std.proofs.Common.{◌≡◌, ℕ, suc, ◌+◌, ◌*◌, ◌-◌, ◌^◌, ◌<◌, ◌||◌, not, Bool, true, false, List, ◌∷◌, ◌++◌, length, get_or, Option, Some, None, Result, Ok, Err, IfOk, refl, sym, ap, ◌∙◌, subst, arith, []}
+use Rattle.std.proofs.Common.{◌≡◌, ℕ, suc, ◌+◌, ◌*◌, ◌-◌, ◌^◌, ◌<◌, ◌||◌, not, Bool, true, false, List, ◌++◌, length, get_or, Option, Some, None, Result, Ok, Err, IfOk, refl, sym, ap, ◌∙◌, subst, arith, []}
 use Rattle.std.specs.List.{position}
 use Rattle.std.specs.Str.{bytes_eq}
 use Rattle.std.proofs.lemmas.List.Quantifiers.{position-Some}
@@ -63,7 +63,8 @@ module _ {X : Type 0} {V : X → Type 0} (driver : Plug X V → Driver) where
           (is_hearing seen_of s m (front_of b) (Some (machine_of driver b)) cs name bytes l x holds.stands here served (line_there name m.lines l here)
           (room_less _ _ m.stations (omega (arith, items_few l.begun bytes)) room)))
 
-  -- the same, where the others are those before it and those after it: the watched one skips itself, and isn't another
+  -- the same, where the others are those before it and those after it: one of the watched name counts as nobody, and one of
+  -- another name isn't the watched one
   pub meets_between : DesksDecide → (b : Bench X V) (cs before : List (Connection Seat)) (c : Connection Seat) (after : List (Connection Seat)) (a name bytes : List ℕ) (r : Result Bool Mem)
       → StandsAt name cs before c after
       → IfOk r (MeetsBeside seen_of a c.name bytes (front_of b) (Some (machine_of driver b)) c.session (before ++ after))

@@ -16,11 +16,8 @@ use Rattle.iio_desc.specs.declared.description.TriggerDesc.{TriggerDesc}
 use Rattle.iio_event.specs.declared.event.EventData.{EventData}
 use Rattle.iio_event.specs.Monitor.{after_close, after_open, after_read}
 use Rattle.iio_kfifo.specs.Queue.{Queue}
-use Rattle.iio_kfifo.specs.declared.tail.Tail.{Ghosts}
 use Rattle.iio_sensor.specs.Driver.{Driver}
 use Rattle.iio_trigger.specs.Trigger.{State}
-use Rattle.iio_device.specs.declared.device.Fitted.{Fitted}
-use Rattle.iio_device.specs.declared.iio_dev.IioDev.{IioDev}
 use Rattle.iio_device.specs.declared.membership.Membership.{Membership}
 use Rattle.iio_device.specs.declared.plug.Plug.{Plug}
 use Rattle.iio_device.specs.Device.{DeviceView, after_raw, after_trigger, after_write, is_idle}
@@ -29,16 +26,24 @@ use Rattle.iio_device.specs.Site.{Site, no_driver, sampled, site_written, with_m
 use Rattle.iiod_session.specs.declared.iio.No.{No}
 use Rattle.iiod_session.specs.declared.iio.No.TheVariants.{Errno as NoErrno, Mem as NoMem}
 use Rattle.iiod_session.specs.declared.iio.Took.{Took}
-use Rattle.iiod_session.specs.Front.{DeviceFront, Front, shape_at}
-use Rattle.iiod_session.specs.Machine.{Member, MemberId, is_id_of, member_in, scans_in, with_site}
-use Rattle.iiod_session.specs.Calls.{ev_open_answer, ev_read_answer, holds_events, is_asking, read_answer, trigger_answer}
-use Rattle.iiod_session.specs.Target.{MayRead}
-use Rattle.iio_system.specs.Acting.{Acts, Keeps, KeepsCaptures, Reads, TakesAt, TakesScansAt, Turns, has_member, is_member, lost_in}
+use Rattle.iio_desc.specs.Description.{DeviceHead}
+use Rattle.iio_desc.specs.Kind.{Kind, Input, Output, Average, is_average, is_input}
+use Rattle.iio_attr.specs.declared.attributes.Attr.TheVariants as attr
+use Rattle.iio_attr.specs.Attributes.{is_writable}
+use Rattle.iio_output.specs.Written.{scans_of}
+use Rattle.iiod_session.specs.Attributes.{has_attribute}
+use Rattle.iiod_session.specs.Front.{Front, kind_at, shape_at}
+use Rattle.iiod_session.specs.Machine.{Member, MemberId, Station, is_id_of, member_in, scans_in, with_site}
+use Rattle.iiod_session.specs.Calls.{ev_open_answer, ev_read_answer, holds_events, is_asking, read_answer, trigger_answer, write_scans_at, writes}
+use Rattle.iiod_session.specs.Target.{MayRead, MayWrite}
+use Rattle.iio_system.specs.Acting.{Acts, KeepsCaptures, MayReadOf, Reads, TakesAt, TakesScansAt, Turns, has_member, is_member, lost_in}
 use Rattle.iio_system.specs.Bench.{Kept}
 use Rattle.iio_system.specs.Places.{IsBench, TriggerRecord, trigger_of}
-use Rattle.iio_system.specs.Station.{captures_by, front_by, member_of, station_by, stations_by, view_by}
-use Rattle.iio_system.proofs.ListLemmas.{length_map_is, map_at, map_same}
+use Rattle.iio_system.specs.declared.any_device.AnyDevice.{AnyDevice}
+use Rattle.iio_system.specs.Station.{KeepsFront, KeepsHead, any_front, any_station, captures_by, member_of, stations_by}
+use Rattle.iio_system.proofs.ListLemmas.{is_empty-map, length_map_is, map_at, map_same}
 use Rattle.iio_system.proofs.ToldLemmas.{fronts_by}
+use Rattle.iio_system.proofs.AnyLemmas.{attached_as, attachment_as, hosted_as}
 use Rattle.iio_system.proofs.BenchLemmas.{KeepsPlace, acts_kept, bench_by, bench_kept, kept_along, kept_same, monitor_kept, take_kept, take_scans_kept, trigger_kept, written_kept}
 
 -- ---- what a call keeps of a device
@@ -171,74 +176,111 @@ lost_is id r o ms under e u = u ∙ ap (λ (x : Option ℕ). unwrap_or x 0) e �
 
 -- ---- what holds after each call
 
--- an attribute's channel is one of the device's
-pub channel_within : (front : Front) (k : ℕ) (channel : Option ℕ) (a : Attr) (shape : ShapeRecord) → shape_at front k ≡ shape → MayRead front k channel a → IfSome channel (λ c. c < length shape.channels)
-channel_within front k None a shape e may = tt
-channel_within front k (Some c) a shape e may = rw (sym e) may.0
+-- what an output device has of attributes can't be written
+written_by : (kind : Kind) (a : Attr) → has_attribute kind a ≡ true → is_writable a ≡ true → is_average kind ≡ false → is_input kind ≡ true
+written_by Input a has writable plain = refl
+written_by Output attr.Name has writable plain = absurd (cc)
+written_by Output attr.Raw has writable plain = absurd (cc)
+written_by Output attr.DataAvailable has writable plain = absurd (cc)
+written_by Output attr.Length has writable plain = absurd (cc)
+written_by Output attr.Underruns has writable plain = absurd (cc)
+written_by Output a has writable plain = absurd (cc)
+written_by (Average base window) a has writable plain = absurd (cc)
 
-module _ {X : Type 0} {V : X → Type 0} {g : Ghosts Queue} (drive : Plug X V → Driver) where
-  plain_kept : (d d' : Fitted (IioDev Queue g) X V) → KeepsPlace (station_by drive d) (station_by drive d') → KeepsPlace (station_by (λ p. no_driver) d) (station_by (λ p. no_driver) d')
-  plain_kept d d' k = record { attached = k.attached; attachment = k.attachment; hosted = k.hosted }
+-- a device whose members each change keeps its place
+pub members_mapped : (f : Member → Member) (st : Station) → KeepsPlace st (record st { members = map f st.members })
+members_mapped f st =
+    let same = is_empty-map f st.members in
+    record {
+      attached = λ t. rw same refl;
+      attachment = refl;
+      hosted = λ n h. rw same h;
+    }
 
-  pub front_same : (d d' : Fitted (IioDev Queue g) X V) → Keeps (view_by drive d) (view_by drive d') → front_by d' ≡ front_by d
-  front_same d d' k = ap (λ (name : List ℕ). (let x : DeviceFront = record { name = name; shape = d'.core.roster.shape } in x)) k.name ∙ ap (λ (shape : ShapeRecord). (let x : DeviceFront = record { name = d.core.name; shape = shape } in x)) k.shape
+-- an attribute that may be read is one of the device's
+pub may_read : (front : Front) (k : ℕ) (channel : Option ℕ) (a : Attr) (d : DeviceHead) → kind_at front k ≡ d.kind → shape_at front k ≡ d.shape → MayRead front k channel a → MayReadOf d channel a
+may_read front k None a d kind shape may = (may.0, rw kind at may.1)
+may_read front k (Some c) a d kind shape may = (rw shape at may.0, may.1, rw kind at may.2)
 
-  module _ (triggers : List TriggerDesc) (states : List State) (ds : List (Fitted (IioDev Queue g) X V)) (k : ℕ) (d d' : Fitted (IioDev Queue g) X V)
+-- and one that may be written is one of an input device's
+pub is_written : (front : Front) (k : ℕ) (channel : Option ℕ) (a : Attr) (v : Fixed) (d : DeviceHead) → kind_at front k ≡ d.kind → shape_at front k ≡ d.shape → MayWrite front k channel a v
+    → is_average d.kind ≡ false → (is_input d.kind ≡ true) × IfSome channel (λ c. c < length d.shape.channels)
+is_written front k channel a v d kind shape may plain = by channel (may_read front k channel a d kind shape may.named)
+  where
+    by : (channel : Option ℕ) → MayReadOf d channel a → (is_input d.kind ≡ true) × IfSome channel (λ c. c < length d.shape.channels)
+    by None named = (written_by d.kind a named.1 may.writable plain, tt)
+    by (Some c) named = (written_by d.kind a named.2 may.writable plain, named.0)
+
+module _ {X : Type 0} {V : X → Type 0} (drive : Plug X V → Driver) where
+  plain_kept : (d d' : AnyDevice X V) → KeepsPlace (any_station drive d) (any_station drive d') → KeepsPlace (any_station (λ p. no_driver) d) (any_station (λ p. no_driver) d')
+  plain_kept d d' k = record {
+    attached = λ t. attached_as (λ p. no_driver) drive t d' ∙ k.attached t ∙ attached_as drive (λ p. no_driver) t d;
+    attachment = attachment_as (λ p. no_driver) drive d' ∙ k.attachment ∙ attachment_as drive (λ p. no_driver) d;
+    hosted = λ n h. hosted_as (λ p. no_driver) drive n d' ∙ k.hosted n (hosted_as drive (λ p. no_driver) n d ∙ h);
+  }
+
+  module _ (triggers : List TriggerDesc) (states : List State) (ds : List (AnyDevice X V)) (k : ℕ) (d d' : AnyDevice X V)
       (sound : IsBench triggers states (stations_by (λ p. no_driver) ds)) (at : slice_get ds k ≡ Some d) where
-    pub sound_kept : KeepsPlace (station_by drive d) (station_by drive d') → IsBench triggers states (stations_by (λ p. no_driver) (set ds k d'))
+    pub sound_kept : KeepsPlace (any_station drive d) (any_station drive d') → IsBench triggers states (stations_by (λ p. no_driver) (set ds k d'))
     sound_kept kept =
-        bench_by (station_by (λ p. no_driver)) triggers states ds k d'
-        (bench_kept triggers states (map (station_by (λ p. no_driver)) ds) k (station_by (λ p. no_driver) d) (station_by (λ p. no_driver) d') sound (map_at (station_by (λ p. no_driver)) ds k d at) (plain_kept d d' kept))
+        bench_by (any_station (λ p. no_driver)) triggers states ds k d'
+        (bench_kept triggers states (map (any_station (λ p. no_driver)) ds) k (any_station (λ p. no_driver) d) (any_station (λ p. no_driver) d') sound (map_at (any_station (λ p. no_driver)) ds k d at) (plain_kept d d' kept))
 
-    pub sound_write : (channel : Option ℕ) (a : Attr) (v : Fixed) (r : Result ⊤ No) → Acts (with_site (site_written channel a v)) (ensure (station_by drive d).site.plugged ENODEV) r (station_by drive d) (station_by drive d')
+    pub sound_write : (channel : Option ℕ) (a : Attr) (v : Fixed) (r : Result ⊤ No) → Acts (with_site (site_written channel a v)) (ensure (any_station drive d).site.plugged ENODEV) r (any_station drive d) (any_station drive d')
         → IsBench triggers states (stations_by (λ p. no_driver) (set ds k d'))
     sound_write channel a v r t =
-        sound_kept (acts_kept (with_site (site_written channel a v)) (station_by drive d) (station_by drive d') (ensure (station_by drive d).site.plugged ENODEV) r (λ x e. written_kept channel a v (station_by drive d)) t)
+        sound_kept (acts_kept (with_site (site_written channel a v)) (any_station drive d) (any_station drive d') (ensure (any_station drive d).site.plugged ENODEV) r (λ x e. written_kept channel a v (any_station drive d)) t)
 
-    pub sound_trigger : (trigger : Option ℕ) (r : Result ⊤ No) → Acts (with_site (λ site. record site { trigger = trigger })) (trigger_answer (station_by drive d)) r (station_by drive d) (station_by drive d')
+    pub sound_trigger : (trigger : Option ℕ) (r : Result ⊤ No) → Acts (with_site (λ site. record site { trigger = trigger })) (trigger_answer (any_station drive d)) r (any_station drive d) (any_station drive d')
         → IsBench triggers states (stations_by (λ p. no_driver) (set ds k d'))
     sound_trigger trigger r t =
-        sound_kept (acts_kept (with_site (λ site. record site { trigger = trigger })) (station_by drive d) (station_by drive d') (trigger_answer (station_by drive d)) r (λ x e. trigger_kept trigger (station_by drive d) x e) t)
+        sound_kept (acts_kept (with_site (λ site. record site { trigger = trigger })) (any_station drive d) (any_station drive d') (trigger_answer (any_station drive d)) r (λ x e. trigger_kept trigger (any_station drive d) x e) t)
 
-    pub sound_ev_open : (who : ℕ) (r : Result ⊤ No) → Acts (with_site (with_monitor (after_open who))) (ev_open_answer (station_by drive d)) r (station_by drive d) (station_by drive d')
+    pub sound_ev_open : (who : ℕ) (r : Result ⊤ No) → Acts (with_site (with_monitor (after_open who))) (ev_open_answer (any_station drive d)) r (any_station drive d) (any_station drive d')
         → IsBench triggers states (stations_by (λ p. no_driver) (set ds k d'))
     sound_ev_open who r t =
-        sound_kept (acts_kept (with_site (with_monitor (after_open who))) (station_by drive d) (station_by drive d') (ev_open_answer (station_by drive d)) r (λ x e. monitor_kept (after_open who) (station_by drive d)) t)
+        sound_kept (acts_kept (with_site (with_monitor (after_open who))) (any_station drive d) (any_station drive d') (ev_open_answer (any_station drive d)) r (λ x e. monitor_kept (after_open who) (any_station drive d)) t)
 
-    pub sound_ev_read : (who : ℕ) (r : Result (Option EventData) No) → Acts (with_site (with_monitor (after_read (λ a b. a == b) who))) (ev_read_answer who (station_by drive d)) r (station_by drive d) (station_by drive d')
+    pub sound_ev_read : (who : ℕ) (r : Result (Option EventData) No) → Acts (with_site (with_monitor (after_read (λ a b. a == b) who))) (ev_read_answer who (any_station drive d)) r (any_station drive d) (any_station drive d')
         → IsBench triggers states (stations_by (λ p. no_driver) (set ds k d'))
     sound_ev_read who r t =
-        sound_kept (acts_kept (with_site (with_monitor (after_read (λ a b. a == b) who))) (station_by drive d) (station_by drive d') (ev_read_answer who (station_by drive d)) r (λ x e. monitor_kept (after_read (λ a b. a == b) who) (station_by drive d)) t)
+        sound_kept (acts_kept (with_site (with_monitor (after_read (λ a b. a == b) who))) (any_station drive d) (any_station drive d') (ev_read_answer who (any_station drive d)) r (λ x e. monitor_kept (after_read (λ a b. a == b) who) (any_station drive d)) t)
 
-    pub sound_ev_close : (who : ℕ) (r : Result ⊤ No) → Acts (with_site (with_monitor (after_close (λ a b. a == b) who))) (ensure (holds_events who (station_by drive d)) EBADF) r (station_by drive d) (station_by drive d')
+    pub sound_ev_close : (who : ℕ) (r : Result ⊤ No) → Acts (with_site (with_monitor (after_close (λ a b. a == b) who))) (ensure (holds_events who (any_station drive d)) EBADF) r (any_station drive d) (any_station drive d')
         → IsBench triggers states (stations_by (λ p. no_driver) (set ds k d'))
     sound_ev_close who r t =
-        sound_kept (acts_kept (with_site (with_monitor (after_close (λ a b. a == b) who))) (station_by drive d) (station_by drive d') (ensure (holds_events who (station_by drive d)) EBADF) r (λ x e. monitor_kept (after_close (λ a b. a == b) who) (station_by drive d)) t)
+        sound_kept (acts_kept (with_site (with_monitor (after_close (λ a b. a == b) who))) (any_station drive d) (any_station drive d') (ensure (holds_events who (any_station drive d)) EBADF) r (λ x e. monitor_kept (after_close (λ a b. a == b) who) (any_station drive d)) t)
 
-    read_kept_by : (b : Bool) (r : Result Value No) (answer : Result Value Errno) → Turns answer (cond b (with_site sampled (station_by drive d)) (station_by drive d)) r (station_by drive d) (station_by drive d') → KeepsPlace (station_by drive d) (station_by drive d')
-    read_kept_by true (Ok x) answer t = kept_along (station_by drive d) (with_site sampled (station_by drive d)) (station_by drive d') (record { attached = λ u. refl; attachment = refl; hosted = λ n h. h }) t.1
-    read_kept_by true (Err (NoErrno e)) answer t = kept_along (station_by drive d) (with_site sampled (station_by drive d)) (station_by drive d') (record { attached = λ u. refl; attachment = refl; hosted = λ n h. h }) t.1
-    read_kept_by true (Err NoMem) answer t = kept_same (station_by drive d) (station_by drive d') t
-    read_kept_by false (Ok x) answer t = kept_same (station_by drive d) (station_by drive d') t.1
-    read_kept_by false (Err (NoErrno e)) answer t = kept_same (station_by drive d) (station_by drive d') t.1
-    read_kept_by false (Err NoMem) answer t = kept_same (station_by drive d) (station_by drive d') t
+    read_kept_by : (b : Bool) (r : Result Value No) (answer : Result Value Errno) → Turns answer (cond b (with_site sampled (any_station drive d)) (any_station drive d)) r (any_station drive d) (any_station drive d') → KeepsPlace (any_station drive d) (any_station drive d')
+    read_kept_by true (Ok x) answer t = kept_along (any_station drive d) (with_site sampled (any_station drive d)) (any_station drive d') (record { attached = λ u. refl; attachment = refl; hosted = λ n h. h }) t.1
+    read_kept_by true (Err (NoErrno e)) answer t = kept_along (any_station drive d) (with_site sampled (any_station drive d)) (any_station drive d') (record { attached = λ u. refl; attachment = refl; hosted = λ n h. h }) t.1
+    read_kept_by true (Err NoMem) answer t = kept_same (any_station drive d) (any_station drive d') t
+    read_kept_by false (Ok x) answer t = kept_same (any_station drive d) (any_station drive d') t.1
+    read_kept_by false (Err (NoErrno e)) answer t = kept_same (any_station drive d) (any_station drive d') t.1
+    read_kept_by false (Err NoMem) answer t = kept_same (any_station drive d) (any_station drive d') t
 
-    pub sound_read : (t : ℤ) (channel : Option ℕ) (a : Attr) (r : Result Value No) → Reads t channel a (view_by drive d) r (station_by drive d') → IsBench triggers states (stations_by (λ p. no_driver) (set ds k d'))
+    pub sound_read : (t : ℤ) (channel : Option ℕ) (a : Attr) (r : Result Value No) → Reads (any_front d) t channel a (any_station drive d) r (any_station drive d') → IsBench triggers states (stations_by (λ p. no_driver) (set ds k d'))
     sound_read t channel a r reads =
-        sound_kept (read_kept_by (is_asking channel a (station_by drive d)) r (read_answer (view_by drive d).name (view_by drive d).standing.shape t channel a (station_by drive d)) reads)
+        sound_kept (read_kept_by (is_asking (any_front d).kind channel a (any_station drive d)) r (read_answer (any_front d).name (any_front d).kind (any_front d).shape t channel a (any_station drive d)) reads)
 
-    pub sound_take : (id : MemberId) (took : Took) (scan : List ℕ) → TakesAt id took scan (station_by drive d) (station_by drive d') → IsBench triggers states (stations_by (λ p. no_driver) (set ds k d'))
-    sound_take id took scan t = sound_kept (take_kept id took scan (station_by drive d) (station_by drive d') t)
+    pub sound_writes : (size : ℕ) (id : MemberId) (bytes : List ℕ) (r : Result ℕ No)
+        → Acts (λ st. record st { members = map (writes id (scans_of size bytes)) st.members }) (write_scans_at (any_station drive d) id size bytes) r (any_station drive d) (any_station drive d')
+        → IsBench triggers states (stations_by (λ p. no_driver) (set ds k d'))
+    sound_writes size id bytes r t =
+        sound_kept (acts_kept (λ st. record st { members = map (writes id (scans_of size bytes)) st.members }) (any_station drive d) (any_station drive d') (write_scans_at (any_station drive d) id size bytes) r
+        (λ x e. members_mapped (writes id (scans_of size bytes)) (any_station drive d)) t)
 
-    pub sound_take_scans : (id : MemberId) (most : ℕ) (took : Took) (before after : List ℕ) → TakesScansAt id most took before after (station_by drive d) (station_by drive d') → IsBench triggers states (stations_by (λ p. no_driver) (set ds k d'))
-    sound_take_scans id most took before after t = sound_kept (take_scans_kept id most took before after (station_by drive d) (station_by drive d') t)
+    pub sound_take : (id : MemberId) (took : Took) (scan : List ℕ) → TakesAt id took scan (any_station drive d) (any_station drive d') → IsBench triggers states (stations_by (λ p. no_driver) (set ds k d'))
+    sound_take id took scan t = sound_kept (take_kept id took scan (any_station drive d) (any_station drive d') t)
+
+    pub sound_take_scans : (id : MemberId) (most : ℕ) (took : Took) (before after : List ℕ) → TakesScansAt id most took before after (any_station drive d) (any_station drive d') → IsBench triggers states (stations_by (λ p. no_driver) (set ds k d'))
+    sound_take_scans id most took before after t = sound_kept (take_scans_kept id most took before after (any_station drive d) (any_station drive d') t)
 
 -- the whole front
-pub fronts_keep : {X : Type 0} {V : X → Type 0} {g : Ghosts Queue} (drive : Plug X V → Driver) (context : List ℕ) (triggers : List TriggerDesc) (ds : List (Fitted (IioDev Queue g) X V)) (k : ℕ) (d d' : Fitted (IioDev Queue g) X V)
-    → slice_get ds k ≡ Some d → Keeps (view_by drive d) (view_by drive d')
-    → (let x : Front = record { context = context; triggers = triggers; devices = map front_by (set ds k d') } in x) ≡ (let y : Front = record { context = context; triggers = triggers; devices = map front_by ds } in y)
-fronts_keep drive context triggers ds k d d' at keeps =
-    ap (λ (devices : List DeviceFront). (let x : Front = record { context = context; triggers = triggers; devices = devices } in x)) (map_same front_by ds k d d' at (front_same drive d d' keeps))
+pub fronts_keep : {X : Type 0} {V : X → Type 0} (context : List ℕ) (triggers : List TriggerDesc) (ds : List (AnyDevice X V)) (k : ℕ) (d d' : AnyDevice X V)
+    → slice_get ds k ≡ Some d → KeepsHead d d' → fronts_by any_front context triggers (set ds k d') ≡ fronts_by any_front context triggers ds
+fronts_keep context triggers ds k d d' at keeps =
+    ap (λ (devices : List DeviceHead). (let x : Front = record { context = context; triggers = triggers; devices = devices } in x)) (map_same any_front ds k d d' at keeps.front)
 
 -- all that no connection's call changes
 pub kept_equal : (x y : Kept) → x.front ≡ y.front → x.triggers ≡ y.triggers → x.captures ≡ y.captures → x ≡ y
@@ -247,21 +289,21 @@ kept_equal x y front triggers captures =
     ∙ ap (λ (ts : List TriggerRecord). (let k : Kept = record { front = y.front; triggers = ts; captures = x.captures } in k)) triggers
     ∙ ap (λ (cs : List ℕ). (let k : Kept = record { front = y.front; triggers = y.triggers; captures = cs } in k)) captures
 
-module _ {X : Type 0} {V : X → Type 0} {g : Ghosts Queue} where
-  abbrev pub kept_by : List ℕ → List TriggerDesc → List State → List (Fitted (IioDev Queue g) X V) → Kept
-  kept_by context triggers states ds = record { front = fronts_by front_by context triggers ds; triggers = map trigger_of states; captures = map captures_by ds }
+module _ {X : Type 0} {V : X → Type 0} where
+  abbrev pub kept_by : List ℕ → List TriggerDesc → List State → List (AnyDevice X V) → Kept
+  kept_by context triggers states ds = record { front = fronts_by any_front context triggers ds; triggers = map trigger_of states; captures = map captures_by ds }
 
-  module _ (drive : Plug X V → Driver) (context : List ℕ) (triggers : List TriggerDesc) (states : List State) (ds : List (Fitted (IioDev Queue g) X V)) (k : ℕ) (d d' : Fitted (IioDev Queue g) X V)
-      (at : slice_get ds k ≡ Some d) (keeps : KeepsCaptures (view_by drive d) (view_by drive d')) where
+  module _ (context : List ℕ) (triggers : List TriggerDesc) (states : List State) (ds : List (AnyDevice X V)) (k : ℕ) (d d' : AnyDevice X V)
+      (at : slice_get ds k ≡ Some d) (keeps : KeepsFront d d') where
     -- one device has changed
     pub device_keeps : kept_by context triggers states (set ds k d') ≡ kept_by context triggers states ds
     device_keeps =
         kept_equal (kept_by context triggers states (set ds k d')) (kept_by context triggers states ds)
-        (fronts_keep drive context triggers ds k d d' at keeps.device) refl (map_same captures_by ds k d d' at keeps.captures)
+        (fronts_keep context triggers ds k d d' at keeps.head) refl (map_same captures_by ds k d d' at keeps.captures)
 
     -- and one trigger
     pub device_and_trigger_keep : (t : ℕ) (s s' : State) → slice_get states t ≡ Some s → trigger_of s' ≡ trigger_of s
         → kept_by context triggers (set states t s') (set ds k d') ≡ kept_by context triggers states ds
     device_and_trigger_keep t s s' there same =
         kept_equal (kept_by context triggers (set states t s') (set ds k d')) (kept_by context triggers states ds)
-        (fronts_keep drive context triggers ds k d d' at keeps.device) (map_same trigger_of states t s s' there same) (map_same captures_by ds k d d' at keeps.captures)
+        (fronts_keep context triggers ds k d d' at keeps.head) (map_same trigger_of states t s s' there same) (map_same captures_by ds k d d' at keeps.captures)

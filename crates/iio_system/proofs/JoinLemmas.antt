@@ -1,37 +1,41 @@
 -- A member that joins a device of a bench, or is refused.
-use Rattle.std.proofs.Common.{◌≡◌, ℕ, zero, suc, ◌<◌, ◌^◌, Bool, true, false, List, [], ◌∷◌, map, length, slice_get, Option, Some, None, Err, refl, sym, ap, ◌∙◌, arith}
-use Rattle.std.specs.Prelude.{not, nat_lt, is_none, option_and_then}
+use Rattle.std.proofs.Common.{◌≡◌, ℕ, zero, suc, ◌+◌, ◌-◌, ◌<◌, ◌^◌, Bool, true, false, List, [], ◌∷◌, map, length, slice_get, Option, Some, None, Result, Ok, Err, refl, sym, ap, subst, ◌∙◌, arith, cond}
+use Rattle.std.specs.Prelude.{◌==◌, ◌&&◌, ◌||◌, not, nat_lt, is_none, option_and_then}
 use Rattle.std.specs.Option.{option_map_or}
 use Rattle.std.proofs.lemmas.Bool.Decides.{nat_tests}
-use Rattle.iio_base.specs.Refusals.{first_refusal, unless_refused}
-use Rattle.iio_text.specs.declared.errors.Errno.{Errno}
+use Rattle.iio_base.specs.Refusals.{first_refusal}
+use Rattle.iio_text.specs.declared.errors.Errno.TheVariants.{EBUSY, ENODEV}
 use Rattle.iio_mask.specs.declared.Mask.{Mask}
 use Rattle.iio_layout.specs.Active.{has_data}
 use Rattle.iio_layout.specs.Shape.{ShapeRecord, count_of}
 use Rattle.iio_desc.specs.declared.description.TriggerDesc.{TriggerDesc}
+use Rattle.iio_desc.specs.Kind.{Kind, Input, is_output}
 use Rattle.iio_kfifo.specs.Queue.{Queue}
-use Rattle.iio_trigger.specs.Trigger.{State, holds_place}
+use Rattle.iio_trigger.specs.Trigger.{State, holds_place, with_place}
 use Rattle.iio_device.specs.declared.membership.Membership.{Membership}
 use Rattle.iio_device.specs.declared.roster.JoinFault.{JoinFault}
 use Rattle.iio_device.specs.declared.roster.JoinFault.TheVariants as fault
 use Rattle.iio_device.specs.Active.{is_without_union}
-use Rattle.iio_device.specs.Device.{DeviceView, device_joined, has_no_place as has_no_place_for, is_bad_mask}
+use Rattle.iio_device.specs.Device.{DeviceView, device_joined, has_no_place as has_no_place_for, is_bad_mask, is_full as is_full_view, join_faults}
 use Rattle.iio_device.specs.Joining.{member_faults}
 use Rattle.iio_device.specs.Members.{masks_of as masks_of_memberships}
 use Rattle.iio_device.specs.Site.{is_empty}
-use Rattle.iiod_session.specs.Front.{Front, place_count, shape_at}
-use Rattle.iiod_session.specs.Machine.{Machine, Station, masks_of, station_at}
-use Rattle.iiod_session.specs.Opening.{errno_of, no_of}
-use Rattle.iiod_session.specs.Calls.{attached_count, has_no_place, is_full, joined, open_of, open_refusals, unless}
-use Rattle.iiod_session.specs.Seat.{Answers}
+use Rattle.iiod_session.specs.declared.iio.No.{No}
+use Rattle.iiod_session.specs.Front.{Front, place_count}
+use Rattle.iiod_session.specs.Machine.{Station, masks_of}
+use Rattle.iiod_session.specs.Opening.{errno_of, join_refusals, no_of}
+use Rattle.iiod_session.specs.Calls.{attached_count, has_no_place, joined, open_refusals, own_host}
 use Rattle.iio_history.specs.Devices.{queue_waits}
 use Rattle.iio_history.proofs.DeviceLaws.{agree, joined_is as plain_joined, masks_are as plain_masks}
-use Rattle.iio_system.specs.Faults.{faults_at, first_queue, is_full as is_full_at, lacks_place}
+use Rattle.iio_system.specs.declared.seat.Seat.{Seat}
+use Rattle.iio_system.specs.Acting.{KeepsCaptures}
+use Rattle.iio_system.specs.Faults.{Hosts, HostsAny, JoinsAny, JoinsBy, any_refusals, faults_at, first_queue, is_full as is_full_at, lacks_place}
 use Rattle.iio_system.specs.Places.{IsBench}
 use Rattle.iio_system.specs.Station.{member_of, station_of}
 use Rattle.iio_system.proofs.ListLemmas.{is_empty-map}
 use Rattle.iio_system.proofs.PlaceLemmas.{holds_place-places_from, length-places_from}
 use Rattle.iio_system.proofs.BenchLemmas.{none_attached}
+use Rattle.iio_system.proofs.IioLemmas.{keeps_along}
 
 -- ---- the same refusals
 
@@ -67,46 +71,81 @@ module _ (front : Front) (states : List State) (sts : List Station) (k : ℕ) (s
       let nowhere : nat_lt (attached_count t sts) 0 ≡ false = grind (arith, nat_tests) in
       rw (room, nowhere) refl
 
-  lacks_is : (trigger : Option ℕ) → has_no_place front sts trigger ≡ lacks_place k states trigger
+  pub lacks_is : (trigger : Option ℕ) → has_no_place front sts trigger ≡ lacks_place k states trigger
   lacks_is None = refl
   lacks_is (Some t) = lacks_at t (slice_get states t) refl
 
-module _ (front : Front) (states : List State) (sts : List Station) (d : DeviceView Queue) (bench : IsBench front.triggers states sts) (at : slice_get sts d.number ≡ Some (station_of d)) where
-  full_is : is_full front sts (station_of d) ≡ is_full_at states d
-  full_is = by (is_empty d.standing.members) refl
-    where
-      by : (b : Bool) → is_empty d.standing.members ≡ b → is_full front sts (station_of d) ≡ is_full_at states d
-      by true e =
-          let seen : is_empty (map member_of d.standing.members) ≡ true = is_empty-map member_of d.standing.members ∙ e in
-          rw (seen, e, lacks_is front states sts d.number (station_of d) bench at seen d.site.trigger) refl
-      by false e =
-          let seen : is_empty (map member_of d.standing.members) ≡ false = is_empty-map member_of d.standing.members ∙ e in
-          rw (seen, e) refl
+or_twice : (x z : Bool) → ((x || z) || z) ≡ (x || z)
+or_twice true z = refl
+or_twice false true = refl
+or_twice false false = refl
 
-  pub refusals_are : (mask : ℕ) (r : Option JoinFault) → is_bad_mask d.standing.shape mask ≡ false → first_refusal (faults_at states d mask) ≡ r
-      → first_refusal (open_refusals front sts d.standing.shape (station_of d) mask) ≡ option_and_then errno_of r
-  refusals_are mask r good e =
+full_same : (b x y z : Bool) → (b ≡ true → y ≡ x) → (((b && y) || z) || z) ≡ ((b && x) || z)
+full_same true x y z same = rw (same refl) (or_twice x z)
+full_same false x y z same = or_twice false z
+
+-- the refusals over the machine are those beside the triggers
+pub refusals_any : (front : Front) (states : List State) (sts : List Station) (k : ℕ) (kind : Kind) (shape : ShapeRecord) (st : Station) (mask : ℕ) → IsBench front.triggers states sts → slice_get sts k ≡ Some st
+    → first_refusal (open_refusals front sts kind (own_host st shape mask) st) ≡ first_refusal (any_refusals (lacks_place k states st.site.trigger) kind shape st mask)
+refusals_any front states sts k kind shape st mask bench at =
+    ap (λ (b : Bool). first_refusal ((not st.site.plugged, ENODEV) ∷ (is_output kind && not (is_empty st.members), EBUSY) ∷ join_refusals (is_none st.site.trigger) (is_without_union shape (masks_of st.members) mask) b))
+    (full_same (is_empty st.members) (lacks_place k states st.site.trigger) (has_no_place front sts st.site.trigger) (st.next == 2 ^ 64 - 1) (λ empty. lacks_is front states sts k st bench at empty st.site.trigger))
+
+-- ---- an input device
+
+module _ (states : List State) (d : DeviceView Queue) (mask : ℕ) (good : is_bad_mask d.standing.shape mask ≡ false) where
+  pub input_refusals : (r : Option JoinFault) → first_refusal (faults_at states d mask) ≡ r
+      → first_refusal (any_refusals (lacks_place d.number states d.site.trigger) Input d.standing.shape (station_of d) mask) ≡ option_and_then errno_of r
+  input_refusals r e =
       let same : first_refusal ((not d.site.plugged, fault.Gone) ∷ (false, fault.BadMask)
       ∷ member_faults (is_none d.site.trigger) (is_without_union d.standing.shape (masks_of_memberships d.standing.members) mask) (is_full_at states d)) ≡ r
       = rw good at e in
-      rw (masks_are, full_is) (agree (not d.site.plugged) (is_none d.site.trigger) (is_without_union d.standing.shape (masks_of_memberships d.standing.members) mask) (is_full_at states d) r same)
+      rw (masks_are d.standing.members, is_empty-map member_of d.standing.members)
+      (agree (not d.site.plugged) (is_none d.site.trigger) (is_without_union d.standing.shape (masks_of_memberships d.standing.members) mask) (is_full_at states d) r same)
 
--- ---- answers
+  refused_by : (f : JoinFault) → first_refusal (faults_at states d mask) ≡ Some f → HostsAny states Input d.number d.standing.shape (station_of d) mask (Err (no_of f))
+  refused_by fault.Gone e = input_refusals (Some fault.Gone) e
+  refused_by fault.BadMask e = input_refusals (Some fault.BadMask) e
+  refused_by fault.NoTrigger e = input_refusals (Some fault.NoTrigger) e
+  refused_by fault.NoUnion e = input_refusals (Some fault.NoUnion) e
+  refused_by fault.NoPlace e = input_refusals (Some fault.NoPlace) e
+  refused_by fault.Mem e = tt
 
-module _ (front : Front) (m : Machine) (k mask capacity : ℕ) (st : Station) (shape : ShapeRecord) (here : station_at m k ≡ st) (shaped : shape_at front k ≡ shape) where
-  pub open_is : (r : Option Errno) → first_refusal (open_refusals front m.stations shape st mask) ≡ r → open_of front m k mask capacity ≡ unless (joined mask capacity) k m (unless_refused st.next r)
-  unfolding open_of
-  open_is r e = rw (here, shaped, e) refl
+  pub hosts_err : (f : JoinFault) (x : No) → x ≡ no_of f → Hosts states d mask (Err f) → HostsAny states Input d.number d.standing.shape (station_of d) mask (Err x)
+  hosts_err f x is e = subst (λ (y : No). HostsAny states Input d.number d.standing.shape (station_of d) mask (Err y)) (sym is) (refused_by f e)
 
-  pub told_refused : (f : JoinFault) → first_refusal (open_refusals front m.stations shape st mask) ≡ errno_of f → Answers (open_of front m k mask capacity) m (Err (no_of f)) (Some m)
-  told_refused fault.Gone e = rw (open_is _ e) (refl, refl)
-  told_refused fault.BadMask e = rw (open_is _ e) (refl, refl)
-  told_refused fault.NoTrigger e = rw (open_is _ e) (refl, refl)
-  told_refused fault.NoUnion e = rw (open_is _ e) (refl, refl)
-  told_refused fault.NoPlace e = rw (open_is _ e) (refl, refl)
-  told_refused fault.Mem e = refl
+  pub hosts_ok : (trigger : ℕ) → Hosts states d mask (Ok trigger) → HostsAny states Input d.number d.standing.shape (station_of d) mask (Ok trigger)
+  hosts_ok trigger h = (h.0, h.1, input_refusals None h.2)
+
+-- where there is no refusal there is no fault
+none_back : (gone a b c : Bool) → first_refusal ((gone, ENODEV) ∷ (false, EBUSY) ∷ join_refusals a b c) ≡ None → first_refusal ((gone, fault.Gone) ∷ (false, fault.BadMask) ∷ member_faults a b c) ≡ None
+none_back true a b c e = absurd (cc)
+none_back false true b c e = absurd (cc)
+none_back false false true c e = absurd (cc)
+none_back false false false true e = absurd (cc)
+none_back false false false false e = refl
+
+pub may_join : (d : DeviceView Queue) (mask : ℕ) (s : State) → is_bad_mask d.standing.shape mask ≡ false
+    → first_refusal (any_refusals (has_no_place_for d.number s) Input d.standing.shape (station_of d) mask) ≡ None → first_refusal (join_faults d mask (Some s)) ≡ None
+may_join d mask s good e =
+    rw good
+    (none_back (not d.site.plugged) (is_none d.site.trigger) (is_without_union d.standing.shape (masks_of_memberships d.standing.members) mask) (is_full_view d (Some s))
+    (rw (masks_are d.standing.members, is_empty-map member_of d.standing.members) at e))
 
 -- the device with a member more
-pub joined_is : (mask : Mask) (capacity : ℕ) (d : DeviceView Queue) → station_of (device_joined mask (first_queue d.standing.shape mask capacity) d) ≡ joined mask.bits capacity (station_of d)
+pub joined_is : (mask : Mask) (capacity : ℕ) (d : DeviceView Queue) → station_of (device_joined mask (first_queue d.standing.shape mask capacity) d) ≡ joined mask.bits capacity false None (station_of d)
 joined_is mask capacity d =
     sym (plain_joined (λ (q : Queue). q.lost) (λ q. q.capacity) queue_waits mask (first_queue d.standing.shape mask capacity) d (record { none = refl; unlost = refl }))
+
+pub joins_any : (mask : Mask) (capacity : ℕ) (r : Result Seat No) (d d' : DeviceView Queue) (s s' : State) → JoinsBy mask capacity r d d' s s'
+    → JoinsAny mask capacity false d.number d.standing.shape r (station_of d) (station_of d') s s'
+joins_any mask capacity (Ok seat) d d' s s' j = (
+  j.0,
+  ap station_of j.1 ∙ joined_is mask capacity d,
+  j.2 ∙ ap (λ (b : Bool). cond b (record s { attached = with_place d.number (d.site.attachment + 1) s.attached }) s) (sym (is_empty-map member_of d.standing.members)),
+)
+joins_any mask capacity (Err x) d d' s s' j = (j.0, ap station_of j.1, j.2)
+
+pub joins_keep : (mask : Mask) (capacity : ℕ) (r : Result Seat No) (v v' : DeviceView Queue) (s s' : State) → JoinsBy mask capacity r v v' s s' → KeepsCaptures v v'
+joins_keep mask capacity (Ok seat) v v' s s' j = keeps_along v _ v' (record { device = record { name = refl; number = refl; shape = refl }; captures = refl }) j.1
+joins_keep mask capacity (Err x) v v' s s' j = keeps_along v _ v' (record { device = record { name = refl; number = refl; shape = refl }; captures = refl }) j.1

@@ -1,13 +1,16 @@
 pub mod ListLemmas
+pub mod HexLemmas
 pub mod PlaceLemmas
 pub mod ToldLemmas
+pub mod AnyLemmas
 pub mod BenchLemmas
-pub mod JoinLemmas
 pub mod TriggerLemmas
 pub mod IioLemmas
+pub mod JoinLemmas
 pub mod HostLemmas
 pub mod TakeLemmas
 pub mod OpenLemmas
+pub mod OutLemmas
 pub mod RemaskLemmas
 pub mod FiringLemmas
 pub mod HandleLemmas

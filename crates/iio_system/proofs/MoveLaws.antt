@@ -1,6 +1,6 @@
 -- What happens to a bench beside its connections' calls is what the history says.
 use Rattle.std.proofs.Common.{◌≡◌, ℕ, zero, suc, ◌+◌, ◌-◌, ◌^◌, ◌<◌, ◌≤◌, ℤ, Bool, true, false, cond, not, List, [], ◌∷◌, ◌++◌, map, length, codes, slice_get, slice_index_or, Option, Some, None, option_map, refl, sym, ap, ◌∙◌, subst, append-nil, arith}
-use Rattle.std.specs.Prelude.{◌==◌, All, unwrap_or}
+use Rattle.std.specs.Prelude.{◌==◌, ◌&&◌, All, unwrap_or}
 use Rattle.std.specs.Option.{option_map_or}
 use Rattle.std.specs.Fmt.{decimal, signed_decimal}
 use Rattle.std.proofs.lemmas.Bool.Decides.{nat_tests}
@@ -9,28 +9,32 @@ use Rattle.iio_sensor.specs.Driver.{Driver, ask_fails, next_count}
 use Rattle.iio_layout.specs.Shape.{ShapeRecord}
 use Rattle.iio_trigger.specs.declared.Polled.{Polled as Answer}
 use Rattle.iio_trigger.specs.Trigger.{Handed, missed_after, poll_made}
-use Rattle.iio_desc.specs.Description.{DeviceRecord, device_name as desc_device_name, trigger_name as desc_trigger_name}
-use Rattle.iio_device.specs.declared.handling.Handled.{Handled as Handling}
+use Rattle.hex.specs.Hex.{encode_lower}
+use Rattle.iio_desc.specs.Description.{device_name as desc_device_name, trigger_name as desc_trigger_name}
+use Rattle.iio_desc.specs.Kind.{Kind, Input, Output, Average, is_average, is_unplugged_by}
+use Rattle.iio_output.specs.Last.{GivenScan}
 use Rattle.iio_device.specs.declared.handling.Handled.TheVariants.{Captured, Fault, Idle}
 use Rattle.iio_device.specs.declared.handling.Sensed.{Sensed as Look}
 use Rattle.iio_device.specs.declared.handling.Sensed.TheVariants as sense
 use Rattle.iio_device.specs.declared.plug.Plug.{Plug}
 use Rattle.iio_device.specs.Sensing.{sensed}
-use Rattle.iio_device.specs.Site.{at_place, is_current, is_empty}
+use Rattle.iio_device.specs.Site.{at_place, is_current, is_empty, unplugged}
 use Rattle.iiod_session.specs.Desk.{DeskRecord}
 use Rattle.iiod_session.specs.Calls.{is_attached}
-use Rattle.iiod_session.specs.Front.{DeviceFront, Front, device_name, shape_at, trigger_name}
-use Rattle.iiod_session.specs.Machine.{Machine, Station, is_plugged, no_station, station_at, with_station}
+use Rattle.iiod_session.specs.Front.{Front, device_name, kind_at, shape_at, trigger_name}
+use Rattle.iiod_session.specs.Places.{map_from}
+use Rattle.iiod_session.specs.Machine.{Machine, Station, is_plugged, no_station, station_at, with_site, with_station}
 use Rattle.iiod_session.specs.Seat.{SeatRecord}
 use Rattle.iio_history.specs.Event.{Event, Arrived, Clock, Dropped, Handled, Heard, Polled, Sensed, Unplugged}
 use Rattle.iio_history.specs.Registry.{Entry, Registry, Setup, Trigger, User, entries_at, entry_of as told_entry, without_entry as told_without}
 use Rattle.iio_history.specs.Fold.{handled as told_handled, newcomers}
 use Rattle.iio_history.specs.Told.{Line, Told, registry_of}
 use Rattle.iio_history.specs.Machine.{line_after, new_line, step}
-use Rattle.iio_history.specs.Transcript.{Sense, SetClock, Unplug, event_text, missed_at, printed}
-use Rattle.iio_history.specs.Bench.{Every, IsBench, IsDeskOf, IsStep, front_device, front_of, is_in, machine_of, names_of}
+use Rattle.iio_history.specs.Transcript.{Sense, SetClock, Unplug, event_text, given_word, missed_at, printed}
+use Rattle.iio_history.specs.Bench.{Every, IsBench, IsDeskOf, IsStep, front_of, is_in, machine_of, names_of}
 use Rattle.iio_history.specs.BenchLaw.{IsOthers}
-use Rattle.iio_history.specs.BenchMoves.{IsMove, bench_entries, entry_made, entry_word, look_words, moved_text, plug_word, polled_by, triggers_made}
+use Rattle.iio_history.specs.BenchMoves.{IsMove, bench_entries, entry_made, entry_word, handles, handles_by, look_words, moved_text, next_of, plug_word, polled_by, triggers_made, unplugs}
+use Rattle.iio_history.proofs.BenchLists.{same_number}
 use Rattle.iio_history.proofs.BenchKept.{bench_kept}
 use Rattle.iio_history.proofs.BenchMoves.{clock_is, handling_is, look_is, moves_print, poll_is, triggers_are, unplugging_is}
 use Rattle.iio_history.proofs.BenchOthers.{desks_are_kept}
@@ -38,14 +42,17 @@ use Rattle.iio_system.specs.declared.bench.Bench.{Bench}
 use Rattle.iio_system.specs.declared.connection.Connection.{Connection}
 use Rattle.iio_system.specs.declared.seat.Seat.{Seat}
 use Rattle.iio_system.specs.Bench.{front_of as bench_front, machine_of as bench_machine, trigger_in, triggers_of}
-use Rattle.iio_system.specs.Handling.{counted, entry_answer, entry_machine, handled_station, is_last, sensed_answer, sensed_station, unplugged_station}
-use Rattle.iio_system.specs.Lines.{handled_word, polled_words, sensed_words, unplugged_word}
+use Rattle.iio_system.specs.declared.any_device.Became.{Became}
+use Rattle.iio_system.specs.declared.any_device.Became.TheVariants.{Asked, Gave}
+use Rattle.iio_system.specs.declared.out_device.Gave.TheVariants as gave
+use Rattle.iio_system.specs.Handling.{IsGiven, IsRoom, counted, entry_answer, entry_machine, gave_answer, gave_by, is_last, kind_became, sensed_answer, sensed_station, unplugged_station}
+use Rattle.iio_system.specs.Lines.{became_word, gave_word, handled_word, polled_words, sensed_words, unplugged_word}
 use Rattle.iio_system.specs.Places.{TriggerRecord, entries_from, entry_of, first_trigger, handled, poll_answer, polled, without_entry}
 use Rattle.iio_system.specs.Seat.{seen_of}
 use Rattle.iio_system.specs.Standing.{CanCapture, Holds, Makes, RiseBy, handed_by, trigger_by}
-use Rattle.iio_system.specs.Station.{front_by, station_by}
+use Rattle.iio_system.specs.Station.{any_front, any_station}
 use Rattle.iio_system.specs.System.{AreLines}
-use Rattle.iio_system.proofs.HandleLemmas.{handled_made}
+use Rattle.iio_system.proofs.AnyLemmas.{no_average, placed}
 use Rattle.iio_system.proofs.LineLaws.{SameLine, every_line_there, served_moves}
 use Rattle.iio_system.proofs.ListLemmas.{length_map_is}
 
@@ -138,25 +145,23 @@ trigger_told s front trigger same = ap (λ (x : Front). trigger_name x trigger) 
 
 pub device_told : (s : Setup) (front : Front) (dev : ℕ) → front ≡ front_of s → device_name front dev ≡ desc_device_name s.desc dev
 unfolding device_name
-device_told s front dev same =
-    ap (λ (x : Front). device_name x dev) same
-    ∙ ap (λ (o : Option DeviceFront). option_map_or (λ (d : DeviceFront). d.name) o []) (slice_get-map front_device s.desc.devices dev)
-    ∙ by (slice_get s.desc.devices dev)
-  where
-    by : (o : Option DeviceRecord) → option_map_or (λ (d : DeviceFront). d.name) (option_map front_device o) [] ≡ option_map_or (λ (d : DeviceRecord). d.name) o []
-    by None = refl
-    by (Some d) = refl
+device_told s front dev same = ap (λ (x : Front). device_name x dev) same
 
 -- ---- words
 
 -- of a look
-look_word : (shape : ShapeRecord) (t : ℤ) (st : Station) → sensed_words (sensed_answer shape t st) ≡ look_words shape t (Some st)
-look_word shape t st = by st.site.plugged (sensed shape t st.site).fault (sensed shape t st.site).count
+look_word : (kind : Kind) (shape : ShapeRecord) (t : ℤ) (st : Station) → is_average kind ≡ false → sensed_words (sensed_answer shape t st) ≡ look_words kind shape t (Some st)
+look_word kind shape t st plain = plainly kind plain
   where
     by : (p f : Bool) (n : ℕ) → sensed_words (cond (not p) sense.Gone (cond f sense.Fault (sense.Fired n))) ≡ cond p (cond f (codes "fault" ∷ []) (codes "sensed" ∷ decimal n ∷ [])) (codes "gone" ∷ [])
     by false f n = refl
     by true true n = refl
     by true false n = refl
+
+    plainly : (kind : Kind) → is_average kind ≡ false → sensed_words (sensed_answer shape t st) ≡ look_words kind shape t (Some st)
+    plainly Input plain = by st.site.plugged (sensed shape t st.site).fault (sensed shape t st.site).count
+    plainly Output plain = by st.site.plugged (sensed shape t st.site).fault (sensed shape t st.site).count
+    plainly (Average base window) plain = absurd (cc)
 
 -- of a poll
 poll_word_at : (made : List Handed) (n : ℕ) (es : List Entry) (missed : ℕ) → length made ≡ n
@@ -176,14 +181,37 @@ poll_word made n ts trigger many =
     by (Some t) = poll_word_at made n t.entries t.missed many
 
 -- of a handling
-entry_words : (o : Option Entry) (st : Station) → handled_word (entry_answer (option_map handed_by o) false st) ≡ entry_word (Some st) o
-entry_words None st = refl
-entry_words (Some e) st = by (is_current e.attachment st.site.attachment st.members st.site.plugged) (ask_fails st.site.driver) (length st.members)
+asked_words : (e : Entry) (st : Station) → became_word (Some (kind_became Input (handed_by e) st)) [] ≡ entry_word Input (Some st) (Some e)
+asked_words e st = by (is_current e.attachment st.site.attachment st.members st.site.plugged) (ask_fails st.site.driver) (length st.members)
   where
     by : (a b : Bool) (n : ℕ) → handled_word (Some (cond (not a) Idle (cond b Fault (Captured n)))) ≡ cond a (cond b (codes "fault") (codes "captured")) (codes "idle")
     by false b n = refl
     by true true n = refl
     by true false n = refl
+
+given_words : (e : Entry) (st : Station) (room : List ℕ) → IsGiven (gave_answer (handed_by e) st) st.members room → gave_word (gave_answer (handed_by e) st) room ≡ entry_word Output (Some st) (Some e)
+given_words e st room given = by (is_current e.attachment st.site.attachment st.members st.site.plugged) (next_of st.members) refl given
+  where
+    by : (a : Bool) (o : Option GivenScan) → next_of st.members ≡ o → IsGiven (cond a (gave_by o) gave.Idle) st.members room → gave_word (cond a (gave_by o) gave.Idle) room ≡ cond a (given_word o) (codes "idle")
+    by false o is given = refl
+    by true None is given = refl
+    by true (Some scan) is given =
+        let same : scan.bytes ≡ room = (let h = sym (ap (λ (o : Option GivenScan). option_map (λ (x : GivenScan). x.bytes) o) is) ∙ given in cc) in
+        ap (λ (bytes : List ℕ). codes "given " ++ encode_lower bytes) (sym same)
+
+idle_words : (e : Entry) (st : Station) (base window : ℕ) → handled_word (Some Idle) ≡ entry_word (Average base window) (Some st) (Some e)
+idle_words e st base window = by (is_current e.attachment st.site.attachment st.members st.site.plugged)
+  where
+    by : (a : Bool) → codes "idle" ≡ cond a (codes "idle") (codes "idle")
+    by true = refl
+    by false = refl
+
+entry_words : (kind : Kind) (o : Option Entry) (st : Station) (room : List ℕ) → IsRoom (entry_answer kind (option_map handed_by o) false st) st.members room
+    → became_word (entry_answer kind (option_map handed_by o) false st) room ≡ entry_word kind (Some st) o
+entry_words kind None st room is = refl
+entry_words Input (Some e) st room is = asked_words e st
+entry_words Output (Some e) st room is = given_words e st room is
+entry_words (Average base window) (Some e) st room is = idle_words e st base window
 
 -- ---- entries
 
@@ -238,10 +266,42 @@ handled_told dev x = ap (λ (hs : List Handed). (let r : TriggerRecord = record 
 
 -- ---- devices
 
-entry_machine_told : (o : Option Entry) (shape : ShapeRecord) (dev : ℕ) (m : Machine) → entry_machine (option_map handed_by o) false shape dev m ≡ with_station (entry_made shape o) dev m
+entry_machine_told : (kind : Kind) (o : Option Entry) (shape : ShapeRecord) (dev : ℕ) (m : Machine) → entry_machine kind (option_map handed_by o) false shape dev m ≡ with_station (entry_made kind shape o) dev m
 unfolding with_station
-entry_machine_told None shape dev m = ap (λ (sts : List Station). record m { stations = sts }) (sym (place_same dev (entry_made shape None) m.stations (λ x. refl)))
-entry_machine_told (Some e) shape dev m = ap (λ (sts : List Station). record m { stations = sts }) (place_as dev (handled_station shape (handed_by e)) (entry_made shape (Some e)) m.stations (handled_made shape e))
+entry_machine_told kind None shape dev m = ap (λ (sts : List Station). record m { stations = sts }) (sym (place_same dev (entry_made kind shape None) m.stations (λ x. refl)))
+entry_machine_told kind (Some e) shape dev m = refl
+
+-- where no device makes means, a handling and an unplugging change the device alone
+handles_plain : (front : Front) (m : Machine) (k : ℕ) (es : List Entry) (kind : Kind) (j : ℕ) (b : Station) → is_average kind ≡ false
+    → handles_by front m k es kind j b ≡ cond (k == j) (entry_made kind (shape_at front j) (told_entry j es) b) b
+handles_plain front m k es Input j b plain = refl
+handles_plain front m k es Output j b plain = refl
+handles_plain front m k es (Average base window) j b plain = absurd (cc)
+
+unplugs_plain : (kind : Kind) (device k : ℕ) → is_average kind ≡ false → is_unplugged_by kind device k ≡ (device == k)
+unplugs_plain Input device k plain = refl
+unplugs_plain Output device k plain = refl
+unplugs_plain (Average base window) device k plain = absurd (cc)
+
+module _ (front : Front) (none : (k : ℕ) → is_average (kind_at front k) ≡ false) where
+  handles_one : (m : Machine) (k : ℕ) (es : List Entry) (j : ℕ) (b : Station) → handles front m k es j b ≡ cond (k == j) (entry_made (kind_at front k) (shape_at front k) (told_entry k es) b) b
+  handles_one m k es j b = handles_plain front m k es (kind_at front j) j b (none j) ∙ by (k == j) refl
+    where
+      by : (c : Bool) → (k == j) ≡ c → cond c (entry_made (kind_at front j) (shape_at front j) (told_entry j es) b) b ≡ cond c (entry_made (kind_at front k) (shape_at front k) (told_entry k es) b) b
+      by true is = ap (λ (n : ℕ). entry_made (kind_at front n) (shape_at front n) (told_entry n es) b) (sym (same_number k j is))
+      by false is = refl
+
+  handled_alone : (m : Machine) (k : ℕ) (es : List Entry) → with_station (entry_made (kind_at front k) (shape_at front k) (told_entry k es)) k m ≡ (let x : Machine = record m { stations = map_from (handles front m k es) 0 m.stations } in x)
+  unfolding with_station
+  handled_alone m k es =
+      ap (λ (sts : List Station). (let x : Machine = record m { stations = sts } in x))
+      (sym (placed (handles front m k es) (entry_made (kind_at front k) (shape_at front k) (told_entry k es)) k m.stations (handles_one m k es)))
+
+  unplugged_alone : (m : Machine) (k : ℕ) → with_station unplugged_station k m ≡ (let x : Machine = record m { stations = map_from (unplugs front k) 0 m.stations } in x)
+  unfolding with_station
+  unplugged_alone m k =
+      ap (λ (sts : List Station). (let x : Machine = record m { stations = sts } in x))
+      (sym (placed (unplugs front k) unplugged_station k m.stations (λ j b. ap (λ (c : Bool). cond c (with_site unplugged b) b) (unplugs_plain (kind_at front j) k j (none j)))))
 
 -- ---- captures
 
@@ -257,11 +317,12 @@ not_ended (n ∷ ns) (suc dev) all = not_ended ns dev (λ i d less. all (suc i) 
 pub no_end : (captures : List ℕ) (dev : ℕ) → CanCapture captures → option_map_or is_last (slice_get captures dev) false ≡ false
 no_end captures dev can = not_ended captures dev (λ i d less. let h = can i d less in omega (arith, h))
 
-counted_most : (o : Option Handling) (n : ℕ) → counted o n ≤ n + 1
+counted_most : (o : Option Became) (n : ℕ) → counted o n ≤ n + 1
 counted_most None n = omega arith
-counted_most (Some (Captured k)) n = omega arith
-counted_most (Some Fault) n = omega arith
-counted_most (Some Idle) n = omega arith
+counted_most (Some (Asked (Captured k))) n = omega arith
+counted_most (Some (Asked Fault)) n = omega arith
+counted_most (Some (Asked Idle)) n = omega arith
+counted_most (Some (Gave answer)) n = omega arith
 
 place_most : (f : ℕ → ℕ) (dev n : ℕ) (ns : List ℕ) → ((c : ℕ) → f c ≤ c + 1) → All (λ c. c ≤ n) ns → (i d : ℕ) → i < length (at_place dev f ns) → slice_index_or (at_place dev f ns) i d ≤ n + 1
 place_most f dev n [] most all i d less = absurd (omega (arith, less))
@@ -270,7 +331,7 @@ place_most f zero n (c ∷ ns) most all (suc i) d less = let h = all (suc i) d l
 place_most f (suc dev) n (c ∷ ns) most all zero d less = let h = all 0 d (omega arith) in omega (arith, h)
 place_most f (suc dev) n (c ∷ ns) most all (suc i) d less = place_most f dev n ns most (λ j e l. all (suc j) e (omega (arith, l))) i d (omega (arith, less))
 
-pub rise_counted : (o : Option Handling) (dev : ℕ) (old new : List ℕ) → new ≡ at_place dev (counted o) old → RiseBy 1 old new
+pub rise_counted : (o : Option Became) (dev : ℕ) (old new : List ℕ) → new ≡ at_place dev (counted o) old → RiseBy 1 old new
 rise_counted o dev old new same = λ n all i d less. rw same (place_most (counted o) dev n old (counted_most o) all i d (subst (λ (ns : List ℕ). i < length ns) same less))
 
 pub rise_more : (j k : ℕ) (old new : List ℕ) → j ≤ k → RiseBy j old new → RiseBy k old new
@@ -313,10 +374,14 @@ module _ {X : Type 0} {V : X → Type 0} (driver : Plug X V → Driver) where
 
   -- ---- one device
 
+  -- no device makes means
+  pub none_averages : (s : Setup) (m : Told) (b : Bench X V) (cs : List (Connection Seat)) → Holds driver s m b cs → (k : ℕ) → is_average (kind_at (front_of s) k) ≡ false
+  none_averages s m b cs h k = ap (λ (f : Front). is_average (kind_at f k)) (sym h.stands.front_is) ∙ no_average b.context.items b.described.items b.devices.items k
+
   here : (b : Bench X V) (dev : ℕ) → dev < length (bench_front b).devices → slice_get (bench_machine driver b).stations dev ≡ Some (station_at (bench_machine driver b) dev)
   unfolding station_at
   here b dev less =
-      there_is (bench_machine driver b).stations dev no_station (subst (λ (n : ℕ). dev < n) (length_map_is front_by b.devices.items ∙ sym (length_map_is (station_by driver) b.devices.items)) less)
+      there_is (bench_machine driver b).stations dev no_station (subst (λ (n : ℕ). dev < n) (length_map_is any_front b.devices.items ∙ sym (length_map_is (any_station driver) b.devices.items)) less)
 
   -- what is said of a device by its number is said of it as it stands in the told state
   told_here : {A : Type 0} (word : Option Station → A) (s : Setup) (m : Told) (b : Bench X V) (cs : List (Connection Seat)) (dev : ℕ) → dev < length (bench_front b).devices → Holds driver s m b cs
@@ -331,10 +396,19 @@ module _ {X : Type 0} {V : X → Type 0} (driver : Plug X V → Driver) where
 
   -- ---- unplugging
 
+  plugged_by : (kind : Kind) (st : Station) → is_average kind ≡ false → unplugged_word st.site.plugged ≡ plug_word kind (Some st)
+  plugged_by kind st plain = by st.site.plugged ∙ ap (λ (b : Bool). cond (st.site.plugged && not b) (codes "unplugged") (codes "gone")) (sym plain)
+    where
+      by : (p : Bool) → cond p (codes "unplugged") (codes "gone") ≡ cond (p && true) (codes "unplugged") (codes "gone")
+      by true = refl
+      by false = refl
+
   plugged_word : (s : Setup) (m : Told) (b : Bench X V) (cs : List (Connection Seat)) (dev : ℕ) → dev < length (bench_front b).devices → Holds driver s m b cs
-      → unplugged_word (is_plugged (bench_machine driver b) dev) ≡ plug_word (slice_get (machine_of m).stations dev)
+      → unplugged_word (is_plugged (bench_machine driver b) dev) ≡ plug_word (kind_at (front_of s) dev) (slice_get (machine_of m).stations dev)
   unfolding is_plugged
-  plugged_word s m b cs dev less h = told_here plug_word s m b cs dev less h
+  plugged_word s m b cs dev less h =
+      plugged_by (kind_at (front_of s) dev) (station_at (bench_machine driver b) dev) (none_averages s m b cs h dev)
+      ∙ told_here (λ (o : Option Station). plug_word (kind_at (front_of s) dev) o) s m b cs dev less h
 
   pub unplug_makes : (dev : ℕ) (b b' : Bench X V) (cs : List (Connection Seat)) (before after name : List ℕ) (was : Bool) → dev < length (bench_front b).devices → bench_front b' ≡ bench_front b
       → bench_machine driver b' ≡ with_station unplugged_station dev (bench_machine driver b) → triggers_of b' ≡ triggers_of b
@@ -344,16 +418,18 @@ module _ {X : Type 0} {V : X → Type 0} (driver : Plug X V → Driver) where
     one_line s m (Unplugged dev) _ before after h.stands.bench tt
         (ap (λ (n : List ℕ). printed (n ∷ unplugged_word was ∷ [])) (named ∙ named_here s m b b' cs dev front h)
         ∙ ap (λ (w : List ℕ). printed (desc_device_name s.desc dev ∷ w ∷ [])) (ap unplugged_word answered ∙ plugged_word s m b cs dev less h)) line,
-    holds_then s m (Unplugged dev) b b' cs tt h front (told ∙ ap (λ (x : Machine). with_station unplugged_station dev x) (machine_told s m b cs h) ∙ sym (unplugging_is s m dev)) (triggers ∙ h.triggers),
+    holds_then s m (Unplugged dev) b b' cs tt h front (told ∙ ap (λ (x : Machine). with_station unplugged_station dev x) (machine_told s m b cs h)
+        ∙ unplugged_alone (front_of s) (none_averages s m b cs h) (machine_of m) dev ∙ sym (unplugging_is s m dev h.stands.bench)) (triggers ∙ h.triggers),
   )
 
   -- ---- looks at thresholds
 
   sensed_told : (dev : ℕ) (t : ℤ) (s : Setup) (m : Told) (b : Bench X V) (cs : List (Connection Seat)) → dev < length (bench_front b).devices → Holds driver s m b cs
-      → sensed_words (sensed_answer (shape_at (bench_front b) dev) t (station_at (bench_machine driver b) dev)) ≡ look_words (shape_at (front_of s) dev) t (slice_get (machine_of m).stations dev)
+      → sensed_words (sensed_answer (shape_at (bench_front b) dev) t (station_at (bench_machine driver b) dev)) ≡ look_words (kind_at (front_of s) dev) (shape_at (front_of s) dev) t (slice_get (machine_of m).stations dev)
   sensed_told dev t s m b cs less h =
       ap (λ (f : Front). sensed_words (sensed_answer (shape_at f dev) t (station_at (bench_machine driver b) dev))) h.stands.front_is
-      ∙ look_word (shape_at (front_of s) dev) t (station_at (bench_machine driver b) dev) ∙ told_here (look_words (shape_at (front_of s) dev) t) s m b cs dev less h
+      ∙ look_word (kind_at (front_of s) dev) (shape_at (front_of s) dev) t (station_at (bench_machine driver b) dev) (none_averages s m b cs h dev)
+      ∙ told_here (look_words (kind_at (front_of s) dev) (shape_at (front_of s) dev) t) s m b cs dev less h
 
   pub sense_makes : (dev : ℕ) (t : ℤ) (b b' : Bench X V) (cs : List (Connection Seat)) (before after name : List ℕ) (answer : Look) → dev < length (bench_front b).devices → bench_front b' ≡ bench_front b
       → bench_machine driver b' ≡ with_station (sensed_station (shape_at (bench_front b) dev) t) dev (bench_machine driver b) → triggers_of b' ≡ triggers_of b
@@ -399,7 +475,7 @@ module _ {X : Type 0} {V : X → Type 0} (driver : Plug X V → Driver) where
   -- ---- handlings
 
   module _ (trigger dev : ℕ) (b b' : Bench X V) (cs : List (Connection Seat)) (less : dev < length (bench_front b).devices) (front : bench_front b' ≡ bench_front b)
-      (told : bench_machine driver b' ≡ entry_machine (entry_of dev (trigger_in (triggers_of b) trigger).entries) false (shape_at (bench_front b) dev) dev (bench_machine driver b))
+      (told : bench_machine driver b' ≡ entry_machine (kind_at (bench_front b) dev) (entry_of dev (trigger_in (triggers_of b) trigger).entries) false (shape_at (bench_front b) dev) dev (bench_machine driver b))
       (triggers : triggers_of b' ≡ at_place trigger (handled dev) (triggers_of b)) (s : Setup) (m : Told) (h : Holds driver s m b cs) where
     pub entry_here : entry_of dev (trigger_in (triggers_of b) trigger).entries ≡ option_map handed_by (told_entry dev (entries_at m.triggers trigger))
     entry_here = ap (λ (ts : List TriggerRecord). entry_of dev (trigger_in ts trigger).entries) h.triggers ∙ entry_at m.triggers trigger dev
@@ -407,24 +483,35 @@ module _ {X : Type 0} {V : X → Type 0} (driver : Plug X V → Driver) where
     pub handle_holds : Holds driver s (step s m (Handled trigger dev)) b' cs
     handle_holds =
         holds_then s m (Handled trigger dev) b b' cs tt h front
-        (told ∙ ap (λ (o : Option Handed). entry_machine o false (shape_at (bench_front b) dev) dev (bench_machine driver b)) entry_here
-        ∙ ap (λ (f : Front). entry_machine (option_map handed_by (told_entry dev (entries_at m.triggers trigger))) false (shape_at f dev) dev (bench_machine driver b)) h.stands.front_is
-        ∙ ap (λ (x : Machine). entry_machine (option_map handed_by (told_entry dev (entries_at m.triggers trigger))) false (shape_at (front_of s) dev) dev x) (machine_told s m b cs h)
-        ∙ entry_machine_told (told_entry dev (entries_at m.triggers trigger)) (shape_at (front_of s) dev) dev (machine_of m) ∙ sym (handling_is s m trigger dev h.stands.bench))
+        (told ∙ ap (λ (o : Option Handed). entry_machine (kind_at (bench_front b) dev) o false (shape_at (bench_front b) dev) dev (bench_machine driver b)) entry_here
+        ∙ ap (λ (f : Front). entry_machine (kind_at f dev) (option_map handed_by (told_entry dev (entries_at m.triggers trigger))) false (shape_at f dev) dev (bench_machine driver b)) h.stands.front_is
+        ∙ ap (λ (x : Machine). entry_machine (kind_at (front_of s) dev) (option_map handed_by (told_entry dev (entries_at m.triggers trigger))) false (shape_at (front_of s) dev) dev x) (machine_told s m b cs h)
+        ∙ entry_machine_told (kind_at (front_of s) dev) (told_entry dev (entries_at m.triggers trigger)) (shape_at (front_of s) dev) dev (machine_of m)
+        ∙ handled_alone (front_of s) (none_averages s m b cs h) (machine_of m) dev (entries_at m.triggers trigger) ∙ sym (handling_is s m trigger dev h.stands.bench))
         (triggers ∙ ap (λ (ts : List TriggerRecord). at_place trigger (handled dev) ts) h.triggers ∙ sym (place_map trigger_by trigger (told_handled dev) (handled dev) m.triggers (handled_told dev)))
 
-    word_told : handled_word (entry_answer (entry_of dev (trigger_in (triggers_of b) trigger).entries) false (station_at (bench_machine driver b) dev))
-        ≡ entry_word (slice_get (machine_of m).stations dev) (told_entry dev (entries_at m.triggers trigger))
-    word_told =
-        ap (λ (o : Option Handed). handled_word (entry_answer o false (station_at (bench_machine driver b) dev))) entry_here
-        ∙ entry_words (told_entry dev (entries_at m.triggers trigger)) (station_at (bench_machine driver b) dev)
-        ∙ told_here (λ (o : Option Station). entry_word o (told_entry dev (entries_at m.triggers trigger))) s m b cs dev less h
+    answer_here : entry_answer (kind_at (bench_front b) dev) (entry_of dev (trigger_in (triggers_of b) trigger).entries) false (station_at (bench_machine driver b) dev)
+        ≡ entry_answer (kind_at (front_of s) dev) (option_map handed_by (told_entry dev (entries_at m.triggers trigger))) false (station_at (bench_machine driver b) dev)
+    answer_here =
+        ap (λ (f : Front). entry_answer (kind_at f dev) (entry_of dev (trigger_in (triggers_of b) trigger).entries) false (station_at (bench_machine driver b) dev)) h.stands.front_is
+        ∙ ap (λ (o : Option Handed). entry_answer (kind_at (front_of s) dev) o false (station_at (bench_machine driver b) dev)) entry_here
 
-    pub handle_line : (before after name device : List ℕ) (answer : Option Handling) → name ≡ trigger_name (bench_front b') trigger → device ≡ device_name (bench_front b') dev
-        → answer ≡ entry_answer (entry_of dev (trigger_in (triggers_of b) trigger).entries) false (station_at (bench_machine driver b) dev)
-        → after ≡ before ++ printed (codes "handle" ∷ name ∷ device ∷ handled_word answer ∷ []) → after ≡ before ++ (event_text s m (Handled trigger dev) ++ [])
-    handle_line before after name device answer named called answered line =
+    word_told : (answer : Option Became) (room : List ℕ) → answer ≡ entry_answer (kind_at (bench_front b) dev) (entry_of dev (trigger_in (triggers_of b) trigger).entries) false (station_at (bench_machine driver b) dev)
+        → IsRoom answer (station_at (bench_machine driver b) dev).members room
+        → became_word answer room ≡ entry_word (kind_at (front_of s) dev) (slice_get (machine_of m).stations dev) (told_entry dev (entries_at m.triggers trigger))
+    word_told answer room answered roomy =
+        let is = answered ∙ answer_here in
+        ap (λ (o : Option Became). became_word o room) is
+        ∙ entry_words (kind_at (front_of s) dev) (told_entry dev (entries_at m.triggers trigger)) (station_at (bench_machine driver b) dev) room
+        (subst (λ (o : Option Became). IsRoom o (station_at (bench_machine driver b) dev).members room) is roomy)
+        ∙ told_here (λ (o : Option Station). entry_word (kind_at (front_of s) dev) o (told_entry dev (entries_at m.triggers trigger))) s m b cs dev less h
+
+    pub handle_line : (before after name device room : List ℕ) (answer : Option Became) → name ≡ trigger_name (bench_front b') trigger → device ≡ device_name (bench_front b') dev
+        → answer ≡ entry_answer (kind_at (bench_front b) dev) (entry_of dev (trigger_in (triggers_of b) trigger).entries) false (station_at (bench_machine driver b) dev)
+        → IsRoom answer (station_at (bench_machine driver b) dev).members room
+        → after ≡ before ++ printed (codes "handle" ∷ name ∷ device ∷ became_word answer room ∷ []) → after ≡ before ++ (event_text s m (Handled trigger dev) ++ [])
+    handle_line before after name device room answer named called answered roomy line =
         one_line s m (Handled trigger dev) _ before after h.stands.bench tt
-        (ap (λ (n : List ℕ). printed (codes "handle" ∷ n ∷ device ∷ handled_word answer ∷ [])) (named ∙ trigger_named s m b b' cs trigger front h)
-        ∙ ap (λ (n : List ℕ). printed (codes "handle" ∷ desc_trigger_name s.desc trigger ∷ n ∷ handled_word answer ∷ [])) (called ∙ named_here s m b b' cs dev front h)
-        ∙ ap (λ (w : List ℕ). printed (codes "handle" ∷ desc_trigger_name s.desc trigger ∷ desc_device_name s.desc dev ∷ w ∷ [])) (ap handled_word answered ∙ word_told)) line
+        (ap (λ (n : List ℕ). printed (codes "handle" ∷ n ∷ device ∷ became_word answer room ∷ [])) (named ∙ trigger_named s m b b' cs trigger front h)
+        ∙ ap (λ (n : List ℕ). printed (codes "handle" ∷ desc_trigger_name s.desc trigger ∷ n ∷ became_word answer room ∷ [])) (called ∙ named_here s m b b' cs dev front h)
+        ∙ ap (λ (w : List ℕ). printed (codes "handle" ∷ desc_trigger_name s.desc trigger ∷ desc_device_name s.desc dev ∷ w ∷ [])) (word_told answer room answered roomy)) line

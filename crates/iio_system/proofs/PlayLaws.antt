@@ -142,13 +142,13 @@ module _ {X : Type 0} {V : X → Type 0} (driver : Plug X V → Driver) where
 
   pub drops_there : (b b' : Bench X V) (cs : List (Connection Seat)) (i : ℕ) (c c' : Connection Seat) (name before after : List ℕ) (live : Bool) (r : Result (Unit {0}) Mem)
       → Some i ≡ position (is_named name) cs → c ≡ get_or cs i c → c'.name ≡ c.name → c'.session ≡ None → live ≡ is_some c.session
-      → kept_of b' ≡ kept_of b → machine_of driver b' ≡ left_by seen_of (machine_of driver b) c.session
+      → kept_of b' ≡ kept_of b → machine_of driver b' ≡ left_by seen_of (front_of b) (machine_of driver b) c.session
       → OnOk r (after ≡ before ++ printed (name ∷ dropped_word live ∷ []))
       → OnOk r (Makes driver (Drop name) b b' cs (set cs i c') before after)
   drops_there b b' cs i c c' name before after live (Err e) at is same none was kept left lines = tt
   drops_there b b' cs i c c' name before after live (Ok x) at is same none was kept left lines = λ s m holds.
       let place = position-Some (is_named name) cs i c (sym at) in
-      let dropped = dropped_there seen_of s m (front_of b) (machine_of driver b) (machine_of driver b') cs name i c holds.stands place.0 place.1 place.2 (left ∙ ap (λ (e : Connection Seat). left_by seen_of (machine_of driver b) e.session) is) in
+      let dropped = dropped_there seen_of s m (front_of b) (machine_of driver b) (machine_of driver b') cs name i c holds.stands place.0 place.1 place.2 (left ∙ ap (λ (e : Connection Seat). left_by seen_of (front_of b) (machine_of driver b) e.session) is) in
       let whole : with_session seen_of None (get_or cs i c) ≡ c' =
       ap (λ (n : List ℕ). (let e : Connection Seat = record { name = n; session = None } in e)) (ap name_by (sym is) ∙ sym same)
       ∙ ap (λ (o : Option (SessionRecord Seat)). (let e : Connection Seat = record { name = c'.name; session = o } in e)) (sym none) in (

@@ -9,11 +9,8 @@ use Rattle.iio_text.specs.declared.errors.Errno.TheVariants.{EBADF, ENODEV}
 use Rattle.iio_mask.specs.declared.Mask.{Mask}
 use Rattle.iio_desc.specs.declared.description.TriggerDesc.{TriggerDesc}
 use Rattle.iio_kfifo.specs.Queue.{Queue}
-use Rattle.iio_kfifo.specs.declared.tail.Tail.{Ghosts}
 use Rattle.iio_sensor.specs.Driver.{Driver}
 use Rattle.iio_trigger.specs.Trigger.{State}
-use Rattle.iio_device.specs.declared.device.Fitted.{Fitted}
-use Rattle.iio_device.specs.declared.iio_dev.IioDev.{IioDev}
 use Rattle.iio_device.specs.declared.membership.Membership.{Membership}
 use Rattle.iio_device.specs.declared.plug.Plug.{Plug}
 use Rattle.iio_device.specs.declared.roster.RemaskFault.{RemaskFault}
@@ -33,7 +30,8 @@ use Rattle.iio_history.proofs.DeviceRemasks.{refusals_are, remasked_is, waited_i
 use Rattle.iio_system.specs.Acting.{Acts, KeepsCaptures, has_member}
 use Rattle.iio_system.specs.Places.{IsBench}
 use Rattle.iio_system.specs.Remasking.{remask_answer}
-use Rattle.iio_system.specs.Station.{front_by, member_of, station_by, station_of, stations_by}
+use Rattle.iio_system.specs.declared.any_device.AnyDevice.{AnyDevice}
+use Rattle.iio_system.specs.Station.{any_front, any_station, member_of, station_of, stations_by}
 use Rattle.iio_system.proofs.BenchLemmas.{KeepsPlace, acts_kept}
 use Rattle.iio_system.proofs.IioLemmas.{IsUnder, keeps_along, sound_kept, told_absent}
 use Rattle.iio_system.proofs.ToldLemmas.{fronts_by, machine_by, shape_is, told_acts}
@@ -131,16 +129,16 @@ module _ (id : MemberId) (mask : Mask) (scans : ℕ) (v v' : DeviceView Queue) w
 
 -- ---- the bench
 
-module _ {X : Type 0} {V : X → Type 0} {g : Ghosts Queue} (drive : Plug X V → Driver) (context : List ℕ) (triggers : List TriggerDesc) (states : List State) (ds : List (Fitted (IioDev Queue g) X V)) (clock : ℤ) (k : ℕ) (d d' : Fitted (IioDev Queue g) X V)
+module _ {X : Type 0} {V : X → Type 0} (drive : Plug X V → Driver) (context : List ℕ) (triggers : List TriggerDesc) (states : List State) (ds : List (AnyDevice X V)) (clock : ℤ) (k : ℕ) (d d' : AnyDevice X V)
     (sound : IsBench triggers states (stations_by (λ p. no_driver) ds)) (at : slice_get ds k ≡ Some d) (id : MemberId) (mask scans : ℕ) (r : Result ℕ No)
-    (acts : Acts (remasked id.number mask scans) (remask_answer d.core.roster.shape (station_by drive d) id mask) r (station_by drive d) (station_by drive d')) where
+    (acts : Acts (remasked id.number mask scans) (remask_answer (any_front d).shape (any_station drive d) id mask) r (any_station drive d) (any_station drive d')) where
   pub sound_remask : IsBench triggers states (stations_by (λ p. no_driver) (set ds k d'))
   sound_remask =
       sound_kept drive triggers states ds k d d' sound at
-      (acts_kept (remasked id.number mask scans) (station_by drive d) (station_by drive d') (remask_answer d.core.roster.shape (station_by drive d) id mask) r (λ x e. remasked_kept id.number mask scans (station_by drive d)) acts)
+      (acts_kept (remasked id.number mask scans) (any_station drive d) (any_station drive d') (remask_answer (any_front d).shape (any_station drive d) id mask) r (λ x e. remasked_kept id.number mask scans (any_station drive d)) acts)
 
-  pub told_remask : Answers (remask_of (fronts_by front_by context triggers ds) (machine_by (station_by drive) clock ds) k id mask scans) (machine_by (station_by drive) clock ds) r (Some (machine_by (station_by drive) clock (set ds k d')))
+  pub told_remask : Answers (remask_of (fronts_by any_front context triggers ds) (machine_by (any_station drive) clock ds) k id mask scans) (machine_by (any_station drive) clock ds) r (Some (machine_by (any_station drive) clock (set ds k d')))
   unfolding remask_of queue_of
   told_remask =
-      rw (shape_is front_by context triggers ds k d at)
-      (told_acts (station_by drive) clock ds k d d' at (remasked id.number mask scans) (λ st. remask_answer d.core.roster.shape st id mask) r acts)
+      rw (shape_is any_front context triggers ds k d at)
+      (told_acts (any_station drive) clock ds k d d' at (remasked id.number mask scans) (λ st. remask_answer (any_front d).shape st id mask) r acts)

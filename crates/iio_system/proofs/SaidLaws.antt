@@ -5,14 +5,14 @@ use Rattle.std.proofs.lemmas.Bool.Decides.{nat_tests}
 use Rattle.iio_text.specs.declared.errors.Errno.TheVariants.{E2BIG, EFBIG}
 use Rattle.iiod_grammar.specs.declared.command.Command.{Command as CodeCommand}
 use Rattle.iiod_grammar.specs.declared.lines.TheConstants.{MAX_PAYLOAD}
-use Rattle.iiod_grammar.specs.Command.{Command as SaidCommand, Exit, Target, Write}
-use Rattle.iiod_grammar.specs.Stream.{Item, Said, Written, End, items_from}
+use Rattle.iiod_grammar.specs.Command.{Command as SaidCommand, Exit, Target, Write, WriteBuf}
+use Rattle.iiod_grammar.specs.Stream.{Item, Said, Written, Streamed, End, items_from}
 use Rattle.iiod_grammar.specs.View.{command_view}
 use Rattle.iiod_session.specs.declared.watch.Seen.TheVariants.{Command, Refused, TooLong}
 use Rattle.iiod_session.specs.Front.{Front}
 use Rattle.iiod_session.specs.Machine.{Machine}
 use Rattle.iiod_session.specs.Session.{IsPlain, SessionRecord}
-use Rattle.iiod_session.specs.Watch.{IsSeen}
+use Rattle.iiod_session.specs.Watch.{IsSeen, IsTooLarge}
 use Rattle.iio_worlds.specs.Bystanders.{may_say}
 use Rattle.iio_worlds.specs.Stance.{Opens, item_meets, items_meet, may_part, opens_by}
 use Rattle.iio_system.specs.declared.connection.Connection.{Connection}
@@ -27,6 +27,7 @@ pub refused_said : (f : List ℕ → Bool) (x : Item) → IsSeen x Refused → t
 refused_said f (Said (Err why)) told = refl
 refused_said f (Said (Ok said)) told = absurd told
 refused_said f (Written device target payload) told = absurd told
+refused_said f (Streamed device payload) told = absurd told
 refused_said f (End None) told = absurd told
 refused_said f (End (Some E2BIG)) told = absurd told
 refused_said f (End (Some EFBIG)) told = absurd told
@@ -40,13 +41,20 @@ long_said f (End None) told = absurd told
 long_said f (Said (Err why)) told = absurd told
 long_said f (Said (Ok said)) told = absurd told
 long_said f (Written device target payload) told = absurd told
+long_said f (Streamed device payload) told = absurd told
+
+large_said : (f : List ℕ → Bool) (said : SaidCommand) → IsTooLarge said → may_say f (Said (Ok said)) ≡ may_say f (End (Some EFBIG))
+large_said f (Write device target count) large = refl
+large_said f (WriteBuf device count) large = refl
+large_said f said large = absurd large
 
 pub command_said : (f : List ℕ → Bool) (x : Item) (command : CodeCommand) → IsSeen x (Command command) → may_say f (Said (Ok (command_view command))) ≡ may_say f x
 command_said f (Said (Ok said)) command told = ap (λ (y : SaidCommand). may_say f (Said (Ok y))) told.1
 command_said f (Said (Err why)) command told = absurd told
 command_said f (Written device target payload) command told = ap (λ (y : SaidCommand). may_say f (Said (Ok y))) told
+command_said f (Streamed device payload) command told = ap (λ (y : SaidCommand). may_say f (Said (Ok y))) told
 command_said f (End None) command told = ap (λ (y : SaidCommand). may_say f (Said (Ok y))) told
-command_said f (End (Some EFBIG)) command told = ap (λ (y : SaidCommand). may_say f (Said (Ok y))) told.3
+command_said f (End (Some EFBIG)) command told = large_said f (command_view command) told
 command_said f (End (Some E2BIG)) command told = absurd told
 command_said f (End (Some e)) command told = absurd told
 
@@ -56,6 +64,7 @@ pub refused_parts : (o : Opens) (x : Item) → IsSeen x Refused → true ≡ may
 refused_parts o (Said (Err why)) told = refl
 refused_parts o (Said (Ok said)) told = absurd told
 refused_parts o (Written device target payload) told = absurd told
+refused_parts o (Streamed device payload) told = absurd told
 refused_parts o (End None) told = absurd told
 refused_parts o (End (Some E2BIG)) told = absurd told
 refused_parts o (End (Some EFBIG)) told = absurd told
@@ -69,14 +78,18 @@ long_parts o (End None) told = absurd told
 long_parts o (Said (Err why)) told = absurd told
 long_parts o (Said (Ok said)) told = absurd told
 long_parts o (Written device target payload) told = absurd told
+long_parts o (Streamed device payload) told = absurd told
 
--- what a WRITE is told of: its payload, or the end where that is too large
-write_item : (o : Opens) (device : List ℕ) (target : Option Target) (b : Bool) → (not b || o.none) ≡ may_part o (cond b (End (Some EFBIG)) (Written device target []))
-write_item o device target true = refl
-write_item o device target false = refl
+-- what a WRITE or WRITEBUF is told of: its payload, or the end where that is too large
+payload_item : (o : Opens) (item : Item) (b : Bool) → may_part o item ≡ true → (not b || o.none) ≡ may_part o (cond b (End (Some EFBIG)) item)
+payload_item o item true may = refl
+payload_item o item false may = sym may
 
 pub write_parts : (o : Opens) (device : List ℕ) (target : Option Target) (count : ℕ) → (not (nat_lt MAX_PAYLOAD count) || o.none) ≡ may_part o (item_by (Write device target count))
-write_parts o device target count = write_item o device target (nat_lt MAX_PAYLOAD count)
+write_parts o device target count = payload_item o (Written device target []) (nat_lt MAX_PAYLOAD count) refl
+
+pub stream_parts : (o : Opens) (device : List ℕ) (count : ℕ) → (not (nat_lt MAX_PAYLOAD count) || o.none) ≡ may_part o (item_by (WriteBuf device count))
+stream_parts o device count = payload_item o (Streamed device []) (nat_lt MAX_PAYLOAD count) refl
 
 within : (n most : ℕ) → nat_lt most (min n most) ≡ false
 within n most = let least : min n most ≤ most = omega arith in grind (arith, nat_tests, least)
@@ -87,16 +100,23 @@ beyond n most more = grind (arith, nat_tests, more)
 plain_parts : (o : Opens) (said : SaidCommand) → IsPlain (Ok said) → may_part o (item_by said) ≡ may_part o (Said (Ok said))
 plain_parts o Exit plain = absurd plain
 plain_parts o (Write device target count) plain = absurd plain
+plain_parts o (WriteBuf device count) plain = absurd plain
 plain_parts o said plain = refl
+
+large_parts : (o : Opens) (said : SaidCommand) → IsTooLarge said → may_part o (item_by said) ≡ may_part o (End (Some EFBIG))
+large_parts o (Write device target count) large = ap (λ (b : Bool). may_part o (cond b (End (Some EFBIG)) (Written device target []))) (beyond count MAX_PAYLOAD large)
+large_parts o (WriteBuf device count) large = ap (λ (b : Bool). may_part o (cond b (End (Some EFBIG)) (Streamed device []))) (beyond count MAX_PAYLOAD large)
+large_parts o said large = absurd large
 
 pub command_parts : (o : Opens) (x : Item) (command : CodeCommand) → IsSeen x (Command command) → may_part o (item_by (command_view command)) ≡ may_part o x
 command_parts o (Said (Ok said)) command told = ap (λ (y : SaidCommand). may_part o (item_by y)) told.1 ∙ plain_parts o said told.0
 command_parts o (Said (Err why)) command told = absurd told
 command_parts o (Written device target payload) command told =
     ap (λ (y : SaidCommand). may_part o (item_by y)) told ∙ ap (λ (b : Bool). may_part o (cond b (End (Some EFBIG)) (Written device target []))) (within (length payload) MAX_PAYLOAD)
+command_parts o (Streamed device payload) command told =
+    ap (λ (y : SaidCommand). may_part o (item_by y)) told ∙ ap (λ (b : Bool). may_part o (cond b (End (Some EFBIG)) (Streamed device []))) (within (length payload) MAX_PAYLOAD)
 command_parts o (End None) command told = ap (λ (y : SaidCommand). may_part o (item_by y)) told
-command_parts o (End (Some EFBIG)) command told =
-    ap (λ (y : SaidCommand). may_part o (item_by y)) told.3 ∙ ap (λ (b : Bool). may_part o (cond b (End (Some EFBIG)) (Written told.0 told.1 []))) (beyond told.2 MAX_PAYLOAD told.4)
+command_parts o (End (Some EFBIG)) command told = large_parts o (command_view command) told
 command_parts o (End (Some E2BIG)) command told = absurd told
 command_parts o (End (Some e)) command told = absurd told
 

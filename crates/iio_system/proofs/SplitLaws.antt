@@ -1,5 +1,5 @@
 -- A connection that is fed where it stands, between those before it and those after it.
-use Rattle.std.proofs.Common.{◌≡◌, ℕ, zero, suc, List, [], ◌∷◌, ◌++◌, length, map, get_or, set, length-set, Option, Some, Result, OnOk, refl, sym, ap, ◌∙◌, subst}
+use Rattle.std.proofs.Common.{◌≡◌, ℕ, List, [], ◌∷◌, ◌++◌, drop, length, map, get_or, set, take, take_at, length-set, Option, Some, Result, OnOk, refl, sym, ap, ◌∙◌, subst}
 use Rattle.std.specs.List.{position}
 use Rattle.std.proofs.lemmas.List.Elements.{All-set}
 use Rattle.std.proofs.lemmas.List.Quantifiers.{position-Some}
@@ -46,8 +46,10 @@ module _ (name : List ℕ) (cs before : List (Connection Seat)) (c : Connection 
   pub put : (c' : Connection Seat) → set cs (length before) c' ≡ before ++ c' ∷ after
   put c' = ap (λ (ds : List (Connection Seat)). set ds (length before) c') at.parts ∙ set_there before c c' after
 
-  pub count_between : (c' : Connection Seat) → length (before ++ c' ∷ after) ≡ length cs
-  count_between c' = ap (λ (ds : List (Connection Seat)). length ds) (sym (put c')) ∙ length-set cs (length before) c'
+  -- the list of a vector of so many that was written there
+  pub written : (n : ℕ) (c' : Connection Seat) → length cs ≡ n → take n ((before ++ c' ∷ after) ++ drop (length (before ++ c' ∷ after)) cs) ≡ before ++ c' ∷ after
+  written n c' many =
+      take_at (before ++ c' ∷ after) (drop (length (before ++ c' ∷ after)) cs) n (ap (λ (ds : List (Connection Seat)). length ds) (sym (put c')) ∙ length-set cs (length before) c' ∙ many)
 
   -- it has that name
   pub named_there : c.name ≡ name

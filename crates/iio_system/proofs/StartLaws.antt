@@ -1,11 +1,20 @@
 -- A new bench holds what stands before the first step.
-use Rattle.std.proofs.Common.{◌≡◌, ℕ, suc, zero, ◌≤◌, ◌*◌, ◌-◌, ◌^◌, List, [], ◌∷◌, map, fold, Some, All, refl, sym, ap, ◌∙◌, subst, arith, pos}
+use Rattle.std.proofs.Common.{◌≡◌, ℕ, suc, zero, ◌+◌, ◌<◌, ◌≤◌, ◌*◌, ◌-◌, ◌^◌, Bool, true, List, [], ◌∷◌, ◌++◌, map, fold, length, slice_get, slice_index_or, Option, Some, None, All, refl, sym, ap, ◌∙◌, subst, arith, pos}
+use Rattle.std.specs.Prelude.{◌==◌, ◌||◌, ℤ}
+use Rattle.std.proofs.lemmas.List.{length-append, length-map}
+use Rattle.std.proofs.lemmas.Nat.Bits.{bit_at_ones}
 use Rattle.iio_sensor.specs.Driver.{Driver}
 use Rattle.iio_scan_type.specs.Format.{size_of}
+use Rattle.iio_mask.specs.Mask.{has}
 use Rattle.iio_layout.specs.declared.channel.Channel.{Channel}
+use Rattle.iio_layout.specs.Active.{has_below, has_data}
+use Rattle.iio_layout.specs.Shape.{ShapeRecord, count_of, stamp_formats}
+use Rattle.iio_derive.specs.Window.{Window, full_mask}
+use Rattle.iio_output.specs.Last.{first_last}
 use Rattle.iio_desc.specs.declared.description.AttrDesc.{AttrDesc}
 use Rattle.iio_desc.specs.declared.description.TriggerDesc.{TriggerDesc}
-use Rattle.iio_desc.specs.Description.{DeviceRecord}
+use Rattle.iio_desc.specs.Description.{AverageRecord, Description, DeviceHead, DeviceRecord, OutputRecord, average_head, heads_of, input_head, output_head}
+use Rattle.iio_desc.specs.WellFormed.{IsWellFormed, IsWellFormedDevice, IsWellFormedOutput}
 use Rattle.iio_device.specs.declared.plug.Plug.{Plug}
 use Rattle.iio_device.specs.Site.{Site, new_site, number_in, with_attr}
 use Rattle.iio_device.specs.Totals.{no_totals}
@@ -13,10 +22,10 @@ use Rattle.iiod_session.specs.Machine.{Machine, Station as MachineStation}
 use Rattle.iiod_session.specs.Front.{first_front}
 use Rattle.iio_history.specs.Who.{Who}
 use Rattle.iio_history.specs.Places.{map_from}
-use Rattle.iio_history.specs.Registry.{Setup, Trigger}
-use Rattle.iio_history.specs.Fold.{first_device, first_driver}
-use Rattle.iio_history.specs.Told.{station_told, told}
-use Rattle.iio_history.specs.Bench.{Every, HasDeviceSizes, bench_by, machine_of as machine_told, site_by}
+use Rattle.iio_history.specs.Registry.{Device, Member as ToldMember, Setup, Trigger}
+use Rattle.iio_history.specs.Fold.{first_average, first_device, first_devices, first_driver, first_output}
+use Rattle.iio_history.specs.Told.{Seat, last_of, seat_told, station_told, told}
+use Rattle.iio_history.specs.Bench.{Every, HasDeviceSizes, bench_by, machine_of as machine_told, numbered, site_by}
 use Rattle.iio_history.specs.BenchLaw.{CanJoinMore}
 use Rattle.iio_history.proofs.BenchKept.{first_bench, room_lasts}
 use Rattle.iio_history.proofs.BenchSites.{written_same}
@@ -24,14 +33,43 @@ use Rattle.iio_history.proofs.BenchSizes.{sizes_from}
 use Rattle.iio_system.specs.declared.bench.Bench.{Bench}
 use Rattle.iio_system.specs.Bench.{front_of, machine_of, triggers_of}
 use Rattle.iio_system.specs.First.{first_machine, first_station, first_triggers}
+use Rattle.iio_system.specs.OutStation.{first_out_station}
 use Rattle.iio_system.specs.Places.{TriggerRecord, first_trigger}
 use Rattle.iio_system.specs.Standing.{Holds, trigger_by}
 
 -- ---- scans have bytes
 
-pub every_size : (ds : List DeviceRecord) → All (λ (d : DeviceRecord). All (λ (channel : Channel). 1 ≤ size_of channel.ty) d.shape.channels) ds → Every HasDeviceSizes ds
-every_size [] all = tt
-every_size (d ∷ ds) all = (sizes_from d.shape (all 0 d (omega arith)), every_size ds (λ i e within. all (suc i) e (omega (arith, within))))
+-- and all channels of a device have data among them
+full_has : (shape : ShapeRecord) → 0 < length shape.channels → has_data shape (full_mask shape) ≡ true
+full_has shape some = by (length shape.channels) refl
+  where
+    by : (n : ℕ) → length shape.channels ≡ n → has_below (full_mask shape) n ≡ true
+    by zero e = absurd (omega (arith, some, e))
+    by (suc n) e =
+        let many = length-append (map (λ (channel : Channel). channel.ty) shape.channels) (stamp_formats shape.stamp) in
+        let types = length-map shape.channels (λ (channel : Channel). channel.ty) in
+        let has_it : has (full_mask shape) n ≡ true = ap (λ (b : ℕ). b == 1) (bit_at_ones (count_of shape) n (omega (arith, e, many, types))) in
+        ap (λ (b : Bool). b || has_below (full_mask shape) n) has_it
+
+pub every_size : (hs : List DeviceHead) → All (λ (d : DeviceHead). 0 < length d.shape.channels) hs → All (λ (d : DeviceHead). All (λ (channel : Channel). 1 ≤ size_of channel.ty) d.shape.channels) hs → Every HasDeviceSizes hs
+every_size [] some all = tt
+every_size (d ∷ ds) some all = (
+  record { sizes = sizes_from d.shape (all 0 d (omega arith)); full = full_has d.shape (some 0 d (omega arith)) },
+  every_size ds (λ i e within. some (suc i) e (omega (arith, within))) (λ i e within. all (suc i) e (omega (arith, within))),
+)
+
+-- the devices of a description that is well formed have channels
+some_in : {A : Type 0} (P : A → Type 0) (head : A → DeviceHead) → ((x : A) → P x → 0 < length (head x).shape.channels) → (xs : List A) → All P xs → (rest : List DeviceHead)
+    → All (λ (d : DeviceHead). 0 < length d.shape.channels) rest → All (λ (d : DeviceHead). 0 < length d.shape.channels) (map head xs ++ rest)
+some_in P head each [] all rest more i d within = more i d within
+some_in P head each (x ∷ xs) all rest more zero d within = each x (all 0 x (omega arith))
+some_in P head each (x ∷ xs) all rest more (suc i) d within = some_in P head each xs (λ j e inside. all (suc j) e (omega (arith, inside))) rest more i d (omega (arith, within))
+
+pub some_channels : (drivers : ℕ) (desc : Description) → IsWellFormed drivers desc → All (λ (d : DeviceHead). 0 < length d.shape.channels) (heads_of desc)
+some_channels drivers desc formed =
+    some_in (IsWellFormedDevice (length desc.triggers) drivers) input_head (λ x is. is.some) desc.devices formed.sound _
+    (some_in (IsWellFormedOutput (length desc.triggers)) output_head (λ x is. is.some) desc.outputs formed.outputs _
+    (subst (λ (xs : List AverageRecord). All (λ (d : DeviceHead). 0 < length d.shape.channels) (map (average_head desc.devices) xs)) (sym formed.unaveraged) (λ i d within. absurd (omega (arith, within)))))
 
 -- ---- devices
 
@@ -40,18 +78,70 @@ written_all site [] = refl
 written_all site (a ∷ attrs) =
     written_all (with_attr site a) attrs ∙ ap (λ (x : Site ℕ). fold with_attr x attrs) (written_same [] a.channel a.attr (number_in a.value) site)
 
-station_first : (s : Setup) (k : ℕ) (d : DeviceRecord) → bench_by [] (station_told s [] k (first_device s d)) ≡ first_station s.drivers d
-station_first s k d =
-    ap (λ (x : Site ℕ). (let st : MachineStation = record { next = 0; captures = 0; totals = no_totals; members = []; site = x } in st)) (written_all (new_site d.shape d.trigger (first_driver s d)) d.attrs)
+-- what the told state has at a place before the first step
+last_at : (s : Setup) (k : ℕ) (d : Device) → slice_get (first_devices s) k ≡ Some d → last_of s k [] ≡ first_last d.shape
+last_at s k d at = ap (λ (o : Option Device). elim o [ None ↦ [] | Some x ↦ first_last x.shape ]) at
 
-stations_first : (s : Setup) (k : ℕ) (ds : List DeviceRecord) → map (bench_by []) (map_from (station_told s []) k (map (first_device s) ds)) ≡ map (first_station s.drivers) ds
-stations_first s k [] = refl
-stations_first s k (d ∷ ds) =
-    ap (λ (st : MachineStation). st ∷ map (bench_by []) (map_from (station_told s []) (suc k) (map (first_device s) ds))) (station_first s k d)
-    ∙ ap (λ (sts : List MachineStation). first_station s.drivers d ∷ sts) (stations_first s (suc k) ds)
+-- one device is told as it stands at a bench
+pub record IsFirst (s : Setup) (d : Device) (st : MachineStation) : Type 0 where
+  pub site : site_by [] d.site ≡ st.site
+  pub window : d.window ≡ st.window
+  pub last : first_last d.shape ≡ st.last
+  pub members : d.members ≡ []
+  pub rest : st ≡ record { next = 0; captures = 0; totals = no_totals; members = []; site = st.site; last = st.last; window = st.window }
 
-machine_first : (s : Setup) → first_machine s.drivers s.desc ≡ machine_told (told s [])
-machine_first s = sym (ap (λ (sts : List MachineStation). (let m : Machine = record { clock = pos 0; stations = sts } in m)) (stations_first s 0 s.desc.devices))
+abbrev AreFirst : Setup → List Device → List MachineStation → Type 0
+AreFirst s [] [] = Unit {0}
+AreFirst s (d ∷ ds) (st ∷ sts) = IsFirst s d st × AreFirst s ds sts
+AreFirst s ds sts = ⊥
+
+input_first : (s : Setup) (d : DeviceRecord) → IsFirst s (first_device s d) (first_station s.drivers d)
+input_first s d = record { site = written_all (new_site d.shape d.trigger (first_driver s d)) d.attrs; window = refl; last = refl; members = refl; rest = refl }
+
+output_first : (s : Setup) (x : OutputRecord) → IsFirst s (first_output x) (first_out_station x)
+output_first s x = record { site = refl; window = refl; last = refl; members = refl; rest = refl }
+
+are_outputs : (s : Setup) (xs : List OutputRecord) → AreFirst s (map first_output xs) (map first_out_station xs)
+are_outputs s [] = tt
+are_outputs s (x ∷ xs) = (output_first s x, are_outputs s xs)
+
+are_first : (s : Setup) (ds : List DeviceRecord) (xs : List OutputRecord) → AreFirst s (map (first_device s) ds ++ map first_output xs) (map (first_station s.drivers) ds ++ map first_out_station xs)
+are_first s [] xs = are_outputs s xs
+are_first s (d ∷ ds) xs = (input_first s d, are_first s ds xs)
+
+station_first : (s : Setup) (k : ℕ) (d : Device) (st : MachineStation) → slice_get (first_devices s) k ≡ Some d → IsFirst s d st → bench_by [] (station_told s [] k d) ≡ st
+station_first s k d st at is =
+    let seats : map (seat_told s [] k d.shape) d.members ≡ [] = ap (λ (ms : List ToldMember). map (seat_told s [] k d.shape) ms) is.members in
+    ap (λ (xs : List Seat). (let x : MachineStation = record { next = 0; captures = 0; totals = no_totals; members = map numbered xs; site = site_by [] d.site; last = last_of s k []; window = d.window } in x)) seats
+    ∙ ap (λ (site : Site ℕ). (let x : MachineStation = record { next = 0; captures = 0; totals = no_totals; members = []; site = site; last = last_of s k []; window = d.window } in x)) is.site
+    ∙ ap (λ (last : List ℤ). (let x : MachineStation = record { next = 0; captures = 0; totals = no_totals; members = []; site = st.site; last = last; window = d.window } in x)) (last_at s k d at ∙ is.last)
+    ∙ ap (λ (w : Window). (let x : MachineStation = record { next = 0; captures = 0; totals = no_totals; members = []; site = st.site; last = st.last; window = w } in x)) is.window
+    ∙ sym is.rest
+
+stations_first : (s : Setup) (n : ℕ) (ds : List Device) (sts : List MachineStation) → ((k : ℕ) → slice_get (first_devices s) (n + k) ≡ slice_get ds k) → AreFirst s ds sts → map (bench_by []) (map_from (station_told s []) n ds) ≡ sts
+stations_first s n [] [] at are = refl
+stations_first s n [] (st ∷ sts) at are = absurd are
+stations_first s n (d ∷ ds) [] at are = absurd are
+stations_first s n (d ∷ ds) (st ∷ sts) at are =
+    let here : slice_get (first_devices s) n ≡ Some d = ap (λ (k : ℕ). slice_get (first_devices s) k) (let e : n ≡ n + 0 = omega arith in e) ∙ at 0 in
+    ap (λ (x : MachineStation). x ∷ map (bench_by []) (map_from (station_told s []) (suc n) ds)) (station_first s n d st here are.0)
+    ∙ ap (λ (xs : List MachineStation). st ∷ xs)
+    (stations_first s (suc n) ds sts (λ k. ap (λ (i : ℕ). slice_get (first_devices s) i) (let e : suc n + k ≡ n + suc k = omega arith in e) ∙ at (suc k)) are.1)
+
+nothing_more : {A : Type 0} (xs : List A) → xs ≡ xs ++ []
+nothing_more [] = refl
+nothing_more {A} (x ∷ xs) = ap (λ (ys : List A). x ∷ ys) (nothing_more xs)
+
+devices_are : (s : Setup) → s.desc.averages ≡ [] → map (first_device s) s.desc.devices ++ map first_output s.desc.outputs ≡ first_devices s
+devices_are s none =
+    ap (λ (ds : List Device). map (first_device s) s.desc.devices ++ ds) (nothing_more (map first_output s.desc.outputs))
+    ∙ ap (λ (xs : List AverageRecord). map (first_device s) s.desc.devices ++ (map first_output s.desc.outputs ++ map (first_average s.desc.devices) xs)) (sym none)
+
+machine_first : (s : Setup) → s.desc.averages ≡ [] → first_machine s.drivers s.desc ≡ machine_told (told s [])
+machine_first s none =
+    sym (ap (λ (sts : List MachineStation). (let m : Machine = record { clock = pos 0; stations = sts } in m))
+    (stations_first s 0 (first_devices s) (map (first_station s.drivers) s.desc.devices ++ map first_out_station s.desc.outputs) (λ k. ap (λ (i : ℕ). slice_get (first_devices s) i) (let e : 0 + k ≡ k = omega arith in e))
+    (subst (λ (ds : List Device). AreFirst s ds (map (first_station s.drivers) s.desc.devices ++ map first_out_station s.desc.outputs)) (devices_are s none) (are_first s s.desc.devices s.desc.outputs))))
 
 triggers_first : (ts : List TriggerDesc) → map (λ (t : TriggerDesc). first_trigger) ts ≡ map trigger_by (map (λ (t : TriggerDesc). (let x : Trigger = record { entries = []; missed = 0 } in x)) ts)
 triggers_first [] = refl
@@ -61,12 +151,12 @@ pub room_first : (s : Setup) (used : ℕ) → used ≡ 0 → Every (CanJoinMore 
 room_first s used none = subst (λ (n : ℕ). Every (CanJoinMore (2 ^ 64 - 1 - 32 * n)) (told s []).stations) (sym none) (room_lasts s).0
 
 module _ {X : Type 0} {V : X → Type 0} (driver : Plug X V → Driver) where
-  pub holds_first : (s : Setup) (b : Bench X V) → front_of b ≡ first_front s.desc → machine_of driver b ≡ first_machine s.drivers s.desc → triggers_of b ≡ first_triggers s.desc → Every HasDeviceSizes s.desc.devices
+  pub holds_first : (s : Setup) (b : Bench X V) → front_of b ≡ first_front s.desc → machine_of driver b ≡ first_machine s.drivers s.desc → triggers_of b ≡ first_triggers s.desc → s.desc.averages ≡ [] → Every HasDeviceSizes (heads_of s.desc)
       → Holds driver s (told s []) b []
-  holds_first s b front machine triggers sizes = record {
+  holds_first s b front machine triggers none sizes = record {
     stands = record {
       front_is = front;
-      told_is = ap (λ (m : Machine). Some m) (machine ∙ machine_first s);
+      told_is = ap (λ (m : Machine). Some m) (machine ∙ machine_first s none);
       bench = first_bench s sizes;
       lines = tt;
     };
@@ -77,3 +167,9 @@ pub none_within : {D : Type 0} (f : D → ℕ) (n : ℕ) (ds : List D) → All (
 none_within f n [] none i c within = absurd (omega (arith, within))
 none_within f n (d ∷ ds) none zero c within = let e = none 0 d (omega arith) in omega (arith, e)
 none_within f n (d ∷ ds) none (suc i) c within = none_within f n ds (λ k e h. none (suc k) e (omega (arith, h))) i c (omega (arith, within))
+
+-- what is seen of an element at its place
+pub front_at : {A B : Type 0} (f : A → B) (xs : List A) (i : ℕ) (x : A) (d : B) → x ≡ slice_index_or xs i x → i < length xs → slice_index_or (map f xs) i d ≡ f x
+front_at f [] i x d is within = absurd (omega arith)
+front_at f (y ∷ ys) zero x d is within = ap f (sym is)
+front_at f (y ∷ ys) (suc i) x d is within = front_at f ys i x d is (omega (arith, within))

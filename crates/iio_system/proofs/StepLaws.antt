@@ -25,7 +25,7 @@ use Rattle.iio_system.specs.declared.step.Step.{Step as CodeStep}
 use Rattle.iio_system.specs.declared.step.Step.TheVariants as code
 use Rattle.iio_system.specs.declared.system.System.{System}
 use Rattle.iio_system.specs.Standing.{Holds, MakesStep, RiseBy, StandsFor}
-use Rattle.iio_system.specs.Station.{station_by}
+use Rattle.iio_system.specs.Station.{any_station}
 use Rattle.iio_system.specs.Step.{cost_of, step_view}
 use Rattle.iio_system.proofs.ItemLemmas.{items_few, room_less}
 use Rattle.iio_system.proofs.MoveLaws.{machine_told as same_machine}
@@ -77,8 +77,8 @@ events_few m t devices = omega arith
 module _ {X : Type 0} {V : X → Type 0} (driver : Plug X V → Driver) where
   stations_few : (s : Setup) (m : Told) (b : Bench X V) (cs : List (Connection Seat)) → Holds driver s m b cs → length m.stations ≤ MAX_DEVICES
   stations_few s m b cs holds =
-      let there = length-map b.devices.items (station_by driver) in
-      let counted = length-map b.devices.items (station_by (λ p. no_driver)) in
+      let there = length-map b.devices.items (any_station driver) in
+      let counted = length-map b.devices.items (any_station (λ p. no_driver)) in
       let told = length-map m.stations (bench_by (names_of m)) in
       let same = ap (λ (machine : Machine). length machine.stations) (same_machine driver s m b cs holds) in
       let few = b.sound.devices in

@@ -1,24 +1,25 @@
 -- What the devices counted is the summary of the history.
-use Rattle.std.proofs.Common.{◌≡◌, ℕ, ◌+◌, ◌-◌, ◌%◌, ◌^◌, ◌<◌, List, [], ◌∷◌, map, length, take, get_or, refl, sym, ap, ◌∙◌, arith}
+use Rattle.std.proofs.Common.{◌≡◌, ℕ, ◌+◌, ◌-◌, ◌%◌, ◌^◌, ◌<◌, List, [], ◌∷◌, map, length, take, get_or, refl, sym, ap, ◌∙◌, arith, cond}
 use Rattle.std.specs.List.{sum_by}
 use Rattle.std.proofs.lemmas.List.Sums.{sum_by-cons, sum_by_more}
 use Rattle.iio_base.proofs.CountLemmas.{most_both, most_more}
-use Rattle.iio_kfifo.specs.Queue.{Queue}
-use Rattle.iio_kfifo.specs.declared.tail.Tail.{Ghosts}
+use Rattle.iio_desc.specs.Description.{DeviceHead, heads_of}
+use Rattle.iio_desc.specs.Kind.{Kind, is_input, is_output}
 use Rattle.iio_sensor.specs.Driver.{Driver}
-use Rattle.iio_device.specs.declared.device.Fitted.{Fitted}
-use Rattle.iio_device.specs.declared.iio_dev.IioDev.{IioDev}
 use Rattle.iio_device.specs.declared.plug.Plug.{Plug}
+use Rattle.iiod_session.specs.Front.{Front}
 use Rattle.iiod_session.specs.Machine.{Machine, Member, Station}
 use Rattle.iio_history.specs.Event.{Event}
 use Rattle.iio_history.specs.Registry.{Setup}
-use Rattle.iio_history.specs.Told.{Station as ToldStation, told}
-use Rattle.iio_history.specs.Bench.{bench_by, names_of, numbered}
-use Rattle.iio_history.specs.Summary.{overruns_at, summary_in, summary_of}
+use Rattle.iio_history.specs.Told.{Seat, Station as ToldStation, told}
+use Rattle.iio_history.specs.Bench.{bench_by, kind_of_head, kind_of_station, names_of, numbered}
+use Rattle.iio_history.specs.Summary.{captures_at, overruns_at, summary_in, summary_of}
+use Rattle.iio_system.specs.declared.any_device.AnyDevice.{AnyDevice}
+use Rattle.iio_system.specs.declared.any_device.AnyDevice.TheVariants as any
 use Rattle.iio_system.specs.declared.system.System.{System}
 use Rattle.iio_system.specs.declared.tally.Tally.{Tally}
 use Rattle.iio_system.specs.Standing.{StandsFor}
-use Rattle.iio_system.specs.Station.{captures_by, member_of, station_by}
+use Rattle.iio_system.specs.Station.{any_front, any_station, captures_by, member_of}
 use Rattle.iio_system.specs.Tally.{bytes_by, devices_tally, overruns_by, scans_by, shown, tally_of}
 use Rattle.iio_system.proofs.MoveLaws.{machine_told}
 
@@ -32,26 +33,17 @@ sum_map : {A B : Type 0} (f : B → ℕ) (g : A → B) (xs : List A) → sum_by 
 sum_map f g [] = refl
 sum_map f g (x ∷ xs) = sum_by-cons f (g x) (map g xs) ∙ ap (λ (n : ℕ). f (g x) + n) (sum_map f g xs) ∙ sym (sum_by-cons (λ y. f (g y)) x xs)
 
-sum_same : {A : Type 0} (f g : A → ℕ) → ((x : A) → f x ≡ g x) → (xs : List A) → sum_by f xs ≡ sum_by g xs
-sum_same f g same [] = refl
-sum_same f g same (x ∷ xs) =
-    sum_by-cons f x xs ∙ ap (λ (n : ℕ). n + sum_by f xs) (same x) ∙ ap (λ (n : ℕ). g x + n) (sum_same f g same xs) ∙ sym (sum_by-cons g x xs)
-
--- both lists are seen alike
-sum_seen : {A B C : Type 0} (f : C → ℕ) (g : A → C) (h : B → C) (xs : List A) (ys : List B) → map g xs ≡ map h ys → sum_by (λ x. f (g x)) xs ≡ sum_by (λ y. f (h y)) ys
-sum_seen f g h xs ys e = sym (sum_map f g xs) ∙ ap (λ zs. sum_by f zs) e ∙ sum_map f h ys
-
 abbrev overruns_of : Station → ℕ
 overruns_of st = st.totals.lost + sum_by (λ (x : Member). x.lost) st.members
 
-module _ {X : Type 0} {V : X → Type 0} {g : Ghosts Queue} where
+module _ {X : Type 0} {V : X → Type 0} where
   -- ---- device by device
 
-  more : (f : Fitted (IioDev Queue g) X V → ℕ) (ds : List (Fitted (IioDev Queue g) X V)) (i : ℕ) (d : Fitted (IioDev Queue g) X V) → i < length ds → d ≡ get_or ds i d
+  more : (f : AnyDevice X V → ℕ) (ds : List (AnyDevice X V)) (i : ℕ) (d : AnyDevice X V) → i < length ds → d ≡ get_or ds i d
       → sum_by f (take i ds) + f d ≡ sum_by f (take (i + 1) ds)
   more f ds i d within at = ap (λ x. sum_by f (take i ds) + f x) at ∙ sym (sum_by_more f ds i d within)
 
-  pub device_more : (ds : List (Fitted (IioDev Queue g) X V)) (i : ℕ) (d : Fitted (IioDev Queue g) X V) (t t' : Tally) → i < length ds → d ≡ get_or ds i d → t ≡ devices_tally (take i ds)
+  pub device_more : (ds : List (AnyDevice X V)) (i : ℕ) (d : AnyDevice X V) (t t' : Tally) → i < length ds → d ≡ get_or ds i d → t ≡ devices_tally (take i ds)
       → t'.captures ≡ shown (t.captures + captures_by d) → t'.scans ≡ shown (t.scans + shown (scans_by d)) → t'.overruns ≡ shown (t.overruns + shown (overruns_by d))
       → t'.bytes ≡ (t.bytes + bytes_by d % 2 ^ 64) % 2 ^ 64 → t' ≡ devices_tally (take (i + 1) ds)
   device_more ds i d t t' within at so_far captures scans overruns bytes =
@@ -82,23 +74,56 @@ module _ {X : Type 0} {V : X → Type 0} {g : Ghosts Queue} where
 
   -- ---- all of them
 
-  seen_tally : (driver : Plug X V → Driver) (names : List (List ℕ)) (ds : List (Fitted (IioDev Queue g) X V)) (sts : List ToldStation) → map (station_by driver) ds ≡ map (bench_by names) sts
+  abbrev kind_by : AnyDevice X V → Kind
+  kind_by d = (any_front d).kind
+
+  -- devices and stations that are told alike, of one kind each, count alike
+  sum_told : (driver : Plug X V → Driver) (names : List (List ℕ)) (f : AnyDevice X V → ℕ) (g : ToldStation → ℕ)
+      → ((d : AnyDevice X V) (st : ToldStation) → any_station driver d ≡ bench_by names st → kind_by d ≡ st.kind → f d ≡ g st)
+      → (ds : List (AnyDevice X V)) (sts : List ToldStation) → map (any_station driver) ds ≡ map (bench_by names) sts → map kind_of_head (map any_front ds) ≡ map kind_of_station sts → sum_by f ds ≡ sum_by g sts
+  sum_told driver names f g alike [] [] same kinds = refl
+  sum_told driver names f g alike [] (st ∷ sts) same kinds = absurd (cc)
+  sum_told driver names f g alike (d ∷ ds) [] same kinds = absurd (cc)
+  sum_told driver names f g alike (d ∷ ds) (st ∷ sts) same kinds =
+      let here : any_station driver d ≡ bench_by names st = cc in
+      let rest : map (any_station driver) ds ≡ map (bench_by names) sts = cc in
+      let kind : kind_by d ≡ st.kind = cc in
+      let others : map kind_of_head (map any_front ds) ≡ map kind_of_station sts = cc in
+      sum_by-cons f d ds ∙ ap (λ (n : ℕ). n + sum_by f ds) (alike d st here kind) ∙ ap (λ (n : ℕ). g st + n) (sum_told driver names f g alike ds sts rest others) ∙ sym (sum_by-cons g st sts)
+
+  captures_told : (driver : Plug X V → Driver) (names : List (List ℕ)) (d : AnyDevice X V) (st : ToldStation) → any_station driver d ≡ bench_by names st → kind_by d ≡ st.kind → captures_by d ≡ captures_at st
+  captures_told driver names (any.Input d) st same kind = ap (λ (x : Station). x.captures) same ∙ ap (λ (k : Kind). cond (is_input k) st.captures 0) kind
+  captures_told driver names (any.Output x) st same kind = ap (λ (k : Kind). cond (is_input k) st.captures 0) kind
+
+  scans_told : (driver : Plug X V → Driver) (names : List (List ℕ)) (d : AnyDevice X V) (st : ToldStation) → any_station driver d ≡ bench_by names st → kind_by d ≡ st.kind → scans_by d ≡ st.totals.scans
+  scans_told driver names (any.Input d) st same kind = ap (λ (x : Station). x.totals.scans) same
+  scans_told driver names (any.Output x) st same kind = ap (λ (x : Station). x.totals.scans) same
+
+  bytes_told : (driver : Plug X V → Driver) (names : List (List ℕ)) (d : AnyDevice X V) (st : ToldStation) → any_station driver d ≡ bench_by names st → kind_by d ≡ st.kind → bytes_by d ≡ st.totals.bytes
+  bytes_told driver names (any.Input d) st same kind = ap (λ (x : Station). x.totals.bytes) same
+  bytes_told driver names (any.Output x) st same kind = ap (λ (x : Station). x.totals.bytes) same
+
+  overruns_told : (driver : Plug X V → Driver) (names : List (List ℕ)) (d : AnyDevice X V) (st : ToldStation) → any_station driver d ≡ bench_by names st → kind_by d ≡ st.kind → overruns_by d ≡ overruns_at st
+  overruns_told driver names (any.Input d) st same kind =
+      ap (λ (n : ℕ). d.core.totals.lost + n) (sym (sum_map (λ (m : Member). m.lost) member_of d.core.roster.members.items))
+      ∙ ap overruns_of same
+      ∙ ap (λ (n : ℕ). st.totals.lost + n) (sum_map (λ (m : Member). m.lost) numbered st.seats)
+      ∙ ap (λ (k : Kind). cond (is_output k) 0 (st.totals.lost + sum_by (λ (x : Seat). x.queue.lost) st.seats)) kind
+  overruns_told driver names (any.Output x) st same kind = ap (λ (k : Kind). cond (is_output k) 0 (st.totals.lost + sum_by (λ (x : Seat). x.queue.lost) st.seats)) kind
+
+  seen_tally : (driver : Plug X V → Driver) (names : List (List ℕ)) (ds : List (AnyDevice X V)) (sts : List ToldStation) → map (any_station driver) ds ≡ map (bench_by names) sts → map kind_of_head (map any_front ds) ≡ map kind_of_station sts
       → devices_tally ds ≡ tally_of (summary_in sts)
-  seen_tally driver names ds sts same =
-      ap (λ (n : ℕ). (let t : Tally = record (devices_tally ds) { captures = shown n } in t)) (sum_seen (λ (st : Station). st.captures) (station_by driver) (bench_by names) ds sts same)
-      ∙ ap (λ (n : ℕ). (let t : Tally = record (devices_tally ds) { captures = shown (sum_by (λ (st : ToldStation). st.captures) sts); scans = shown n } in t))
-      (sum_seen (λ (st : Station). st.totals.scans) (station_by driver) (bench_by names) ds sts same)
-      ∙ ap (λ (n : ℕ). (let t : Tally = record (tally_of (summary_in sts)) { overruns = shown n; bytes = sum_by bytes_by ds % 2 ^ 64 } in t)) overruns_are
-      ∙ ap (λ (n : ℕ). (let t : Tally = record (tally_of (summary_in sts)) { bytes = n % 2 ^ 64 } in t)) (sum_seen (λ (st : Station). st.totals.bytes) (station_by driver) (bench_by names) ds sts same)
-    where
-      overruns_are : sum_by overruns_by ds ≡ sum_by overruns_at sts
-      overruns_are =
-          sum_same overruns_by (λ d. overruns_of (station_by driver d)) (λ d. ap (λ (n : ℕ). d.core.totals.lost + n) (sym (sum_map (λ (m : Member). m.lost) member_of d.core.roster.members.items))) ds
-          ∙ sum_seen overruns_of (station_by driver) (bench_by names) ds sts same
-          ∙ sum_same (λ st. overruns_of (bench_by names st)) overruns_at (λ st. ap (λ (n : ℕ). st.totals.lost + n) (sum_map (λ (m : Member). m.lost) numbered st.seats)) sts
+  seen_tally driver names ds sts same kinds =
+      ap (λ (n : ℕ). (let t : Tally = record (devices_tally ds) { captures = shown n } in t)) (sum_told driver names captures_by captures_at (captures_told driver names) ds sts same kinds)
+      ∙ ap (λ (n : ℕ). (let t : Tally = record (devices_tally ds) { captures = shown (sum_by captures_at sts); scans = shown n } in t))
+      (sum_told driver names scans_by (λ (st : ToldStation). st.totals.scans) (scans_told driver names) ds sts same kinds)
+      ∙ ap (λ (n : ℕ). (let t : Tally = record (tally_of (summary_in sts)) { overruns = shown n; bytes = sum_by bytes_by ds % 2 ^ 64 } in t)) (sum_told driver names overruns_by overruns_at (overruns_told driver names) ds sts same kinds)
+      ∙ ap (λ (n : ℕ). (let t : Tally = record (tally_of (summary_in sts)) { bytes = n % 2 ^ 64 } in t)) (sum_told driver names bytes_by (λ (st : ToldStation). st.totals.bytes) (bytes_told driver names) ds sts same kinds)
 
 pub tally_told : {X : Type 0} {V : X → Type 0} (driver : Plug X V → Driver) (s : Setup) (h : List Event) (x : System X V) → StandsFor driver s h x
     → devices_tally x.bench.devices.items ≡ tally_of (summary_of s h)
 tally_told driver s h x stands =
+    let heads : map any_front x.bench.devices.items ≡ heads_of s.desc = ap (λ (f : Front). f.devices) stands.holds.stands.front_is in
     seen_tally driver (names_of (told s h)) x.bench.devices.items (told s h).stations
     (ap (λ (m : Machine). m.stations) (machine_told driver s (told s h) x.bench x.connections.items stands.holds))
+    (ap (λ (hs : List DeviceHead). map kind_of_head hs) heads ∙ sym stands.holds.stands.bench.kinds)

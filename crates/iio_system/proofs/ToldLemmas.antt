@@ -16,16 +16,19 @@ use Rattle.iio_event.specs.declared.event.EventData.{EventData}
 use Rattle.iio_event.specs.Monitor.{after_close, after_open, after_read}
 use Rattle.iio_device.specs.Site.{sampled, site_written, with_monitor}
 use Rattle.iio_device.specs.Totals.{with_given}
+use Rattle.iio_output.specs.Written.{scans_of}
 use Rattle.iiod_session.specs.declared.iio.No.{No}
 use Rattle.iiod_session.specs.declared.iio.No.TheVariants.{Errno as NoErrno, Mem as NoMem}
 use Rattle.iiod_session.specs.declared.iio.Took.{Took}
 use Rattle.iiod_session.specs.declared.iio.Took.TheVariants.{Scan, Empty, Gone}
-use Rattle.iiod_session.specs.Front.{DeviceFront, Front, device_name, no_shape, shape_at, size_at, trigger_name}
+use Rattle.iio_desc.specs.Description.{DeviceHead, no_shape}
+use Rattle.iio_desc.specs.Kind.{Input}
+use Rattle.iiod_session.specs.Front.{Front, device_name, kind_at, shape_at, size_at, trigger_name}
 use Rattle.iiod_session.specs.Machine.{Machine, MemberId, Station, is_plugged, lost_of, no_station, queue_of, scans_in, station_at, with_queue, with_scans, with_site, with_station}
-use Rattle.iiod_session.specs.Calls.{ev_close_of, ev_open_answer, ev_open_of, ev_read_answer, ev_read_of, holds_events, is_asking, read_answer, read_attr_of, set_trigger_of, trigger_answer, unless, write_attr_of}
+use Rattle.iiod_session.specs.Calls.{ev_close_of, ev_open_answer, ev_open_of, ev_read_answer, ev_read_of, holds_events, is_asking, read_attr_of, set_trigger_of, trigger_answer, unless, write_attr_of, write_scans_at, write_scans_of, writes}
 use Rattle.iiod_session.specs.Reading.{TakesScans}
 use Rattle.iiod_session.specs.Seat.{Answers, SeatRecord, Takes, seat_id}
-use Rattle.iio_system.specs.Acting.{Acts, TakesAt, TakesScansAt, Turns, lost_in}
+use Rattle.iio_system.specs.Acting.{Acts, Reads, TakesAt, TakesScansAt, Turns, lost_in}
 use Rattle.iio_system.proofs.ListLemmas.{map_at, map_changed, map_same}
 
 -- a machine of devices
@@ -111,6 +114,11 @@ module _ {D : Type 0} (f : D → Station) (clock : ℤ) (ds : List D) (k : ℕ) 
   unfolding ev_close_of
   told_ev_close who r t = told_acts (with_site (with_monitor (after_close (λ a b. a == b) who))) (λ st. ensure (holds_events who st) EBADF) r t
 
+  pub told_writes : (size : ℕ) (id : MemberId) (bytes : List ℕ) (r : Result ℕ No)
+      → Acts (λ st. record st { members = map (writes id (scans_of size bytes)) st.members }) (write_scans_at (f d) id size bytes) r (f d) (f d')
+      → Answers (unless (λ st. record st { members = map (writes id (scans_of size bytes)) st.members }) k (machine_by f clock ds) (write_scans_at (station_at (machine_by f clock ds) k) id size bytes)) (machine_by f clock ds) r (Some (machine_by f clock (set ds k d')))
+  told_writes size id bytes r t = told_acts (λ st. record st { members = map (writes id (scans_of size bytes)) st.members }) (λ st. write_scans_at st id size bytes) r t
+
   -- takes
   told_gives : (id : MemberId) (given : List (List ℕ)) (left : List (List ℕ) → List (List ℕ)) → f d' ≡ record (f d) { totals = with_given given (f d).totals; members = with_scans id (left (scans_in id (f d).members)) (f d).members }
       → Some (machine_by f clock (set ds k d')) ≡ Some (with_queue (machine_by f clock ds) k id given (left (queue_of (machine_by f clock ds) k id)))
@@ -145,17 +153,21 @@ module _ {D : Type 0} (f : D → Station) (clock : ℤ) (ds : List D) (k : ℕ) 
 -- ---- reads
 
 -- the front of devices
-abbrev pub fronts_by : {D : Type 0} → (D → DeviceFront) → List ℕ → List TriggerDesc → List D → Front
+abbrev pub fronts_by : {D : Type 0} → (D → DeviceHead) → List ℕ → List TriggerDesc → List D → Front
 fronts_by face context triggers ds = record { context = context; triggers = triggers; devices = map face ds }
 
-module _ {D : Type 0} (face : D → DeviceFront) (context : List ℕ) (triggers : List TriggerDesc) (ds : List D) (k : ℕ) (d : D) (at : slice_get ds k ≡ Some d) where
+module _ {D : Type 0} (face : D → DeviceHead) (context : List ℕ) (triggers : List TriggerDesc) (ds : List D) (k : ℕ) (d : D) (at : slice_get ds k ≡ Some d) where
   pub name_is : device_name (fronts_by face context triggers ds) k ≡ (face d).name
   unfolding device_name
-  name_is = ap (λ (o : Option DeviceFront). option_map_or (λ (x : DeviceFront). x.name) o []) (map_at face ds k d at)
+  name_is = ap (λ (o : Option DeviceHead). option_map_or (λ (x : DeviceHead). x.name) o []) (map_at face ds k d at)
 
   pub shape_is : shape_at (fronts_by face context triggers ds) k ≡ (face d).shape
   unfolding shape_at
-  shape_is = ap (λ (o : Option DeviceFront). option_map_or (λ (x : DeviceFront). x.shape) o no_shape) (map_at face ds k d at)
+  shape_is = ap (λ (o : Option DeviceHead). option_map_or (λ (x : DeviceHead). x.shape) o no_shape) (map_at face ds k d at)
+
+  pub kind_is : kind_at (fronts_by face context triggers ds) k ≡ (face d).kind
+  unfolding kind_at
+  kind_is = ap (λ (o : Option DeviceHead). option_map_or (λ (x : DeviceHead). x.kind) o Input) (map_at face ds k d at)
 
   pub size_is : (mask : ℕ) → size_at (fronts_by face context triggers ds) k mask ≡ scan_size (face d).shape mask
   size_is mask = ap (λ (shape : ShapeRecord). scan_size shape mask) shape_is
@@ -170,15 +182,21 @@ module _ {D : Type 0} (face : D → DeviceFront) (context : List ℕ) (triggers 
     asked_at false (Err (NoErrno e)) answer t = (t.0, ap (λ (m : Machine). Some m) (told_same f clock ds k d d' at t.1))
     asked_at false (Err NoMem) answer t = ap (λ (m : Machine). Some m) (told_same f clock ds k d d' at t)
 
-    told_read_at : (r : Result Value No) → Turns (read_answer (face d).name (face d).shape clock channel a (f d)) (cond (is_asking channel a (f d)) (with_site sampled (f d)) (f d)) r (f d) (f d')
+    told_read_at : (r : Result Value No) → Reads (face d) clock channel a (f d) r (f d')
         → Answers (read_attr_of (fronts_by face context triggers ds) (machine_by f clock ds) k channel a) (machine_by f clock ds) r (Some (machine_by f clock (set ds k d')))
     unfolding read_attr_of
-    told_read_at r t = rw (name_is, shape_is, station_is f clock ds k d at) (asked_at (is_asking channel a (f d)) r _ t)
+    told_read_at r t = rw (name_is, kind_is, shape_is, station_is f clock ds k d at) (asked_at (is_asking (face d).kind channel a (f d)) r _ t)
 
-    pub told_read : (t : ℤ) (r : Result Value No) → t ≡ clock → Turns (read_answer (face d).name (face d).shape t channel a (f d)) (cond (is_asking channel a (f d)) (with_site sampled (f d)) (f d)) r (f d) (f d')
+    pub told_read : (t : ℤ) (r : Result Value No) → t ≡ clock → Reads (face d) t channel a (f d) r (f d')
         → Answers (read_attr_of (fronts_by face context triggers ds) (machine_by f clock ds) k channel a) (machine_by f clock ds) r (Some (machine_by f clock (set ds k d')))
-    told_read t r e turns =
-        told_read_at r (subst (λ (x : ℤ). Turns (read_answer (face d).name (face d).shape x channel a (f d)) (cond (is_asking channel a (f d)) (with_site sampled (f d)) (f d)) r (f d) (f d')) e turns)
+    told_read t r e reads = told_read_at r (subst (λ (x : ℤ). Reads (face d) x channel a (f d) r (f d')) e reads)
+
+  module _ (f : D → Station) (clock : ℤ) (d' : D) where
+    pub told_written : (id : MemberId) (bytes : List ℕ) (r : Result ℕ No)
+        → Acts (λ st. record st { members = map (writes id (scans_of (scan_size (face d).shape id.mask) bytes)) st.members }) (write_scans_at (f d) id (scan_size (face d).shape id.mask) bytes) r (f d) (f d')
+        → Answers (write_scans_of (fronts_by face context triggers ds) (machine_by f clock ds) k id bytes) (machine_by f clock ds) r (Some (machine_by f clock (set ds k d')))
+    unfolding write_scans_of
+    told_written id bytes r t = rw (size_is id.mask) (told_writes f clock ds k d d' at (scan_size (face d).shape id.mask) id bytes r t)
 
 pub name_there : (front : Front) (t : ℕ) (x : TriggerDesc) → slice_get front.triggers t ≡ Some x → x.name ≡ trigger_name front t
 unfolding trigger_name

@@ -1,12 +1,16 @@
 -- What a connection's call makes of one device. Cited by this crate's private functions alone.
-use Rattle.std.specs.Prelude.{◌≡◌, ℕ, ℤ, ◌<◌, ◌==◌, ◌&&◌, Bool, true, false, List, [], ◌∷◌, ◌++◌, length, take, drop, Option, Result, Ok, Err, if◌then◌else◌}
+use Rattle.std.specs.Prelude.{◌≡◌, ℕ, ℤ, ◌<◌, ◌==◌, ◌&&◌, Bool, true, false, List, [], ◌∷◌, ◌++◌, length, take, drop, Option, Some, None, Result, Ok, Err, if◌then◌else◌}
 use Rattle.std.specs.List.{flat_map, list_any}
 use Rattle.std.specs.Option.{option_map_or}
 use Rattle.iio_text.specs.declared.errors.Errno.{Errno}
 use Rattle.iio_attr.specs.declared.attributes.Attr.{Attr}
+use Rattle.iio_attr.specs.declared.attributes.Scope.TheVariants as scope
 use Rattle.iio_attr.specs.declared.values.Value.{Value}
+use Rattle.iio_attr.specs.Attributes.{row_of}
 use Rattle.iio_kfifo.specs.Queue.{Queue}
 use Rattle.iio_mask.specs.declared.Mask.{Mask}
+use Rattle.iio_desc.specs.Description.{DeviceHead}
+use Rattle.iio_desc.specs.Kind.{Input}
 use Rattle.iio_device.specs.declared.membership.Membership.{Membership}
 use Rattle.iio_device.specs.Device.{DeviceView}
 use Rattle.iio_device.specs.Site.{sampled}
@@ -15,6 +19,7 @@ use Rattle.iiod_session.specs.declared.iio.No.{No}
 use Rattle.iiod_session.specs.declared.iio.No.TheVariants.{Errno as NoErrno, Mem as NoMem}
 use Rattle.iiod_session.specs.declared.iio.Took.{Took}
 use Rattle.iiod_session.specs.declared.iio.Took.TheVariants.{Scan, Empty, Gone}
+use Rattle.iiod_session.specs.Attributes.{has_attribute}
 use Rattle.iiod_session.specs.Calls.{is_asking, read_answer}
 use Rattle.iiod_session.specs.Machine.{Member, MemberId, Station, member_in, scans_in, with_scans, with_site}
 use Rattle.iio_system.specs.Station.{station_of}
@@ -33,12 +38,19 @@ turned change (Err e) st = st
 abbrev pub Acts : {A : Type 0} → (Station → Station) → Result A Errno → Result A No → (old new : Station) → Type 0
 Acts change answer result old new = Turns answer (turned change answer old) result old new
 
+-- an attribute that a device of that head has, of its own or of one of its channels
+abbrev pub MayReadOf : DeviceHead → Option ℕ → Attr → Type 0
+MayReadOf d None a = ((row_of a).scope ≡ scope.Device) × (has_attribute d.kind a ≡ true)
+MayReadOf d (Some c) a = (c < length d.shape.channels) × ((row_of a).scope ≡ scope.Channel) × (has_attribute d.kind a ≡ true)
+
 -- a read of an attribute at a moment
-abbrev pub Reads : ℤ → Option ℕ → Attr → DeviceView Queue → Result Value No → Station → Type 0
-Reads t channel a d result new =
-    Turns (read_answer d.name d.standing.shape t channel a (station_of d))
-    (if is_asking channel a (station_of d) then with_site sampled (station_of d) else station_of d)
-    result (station_of d) new
+abbrev pub Reads : DeviceHead → ℤ → Option ℕ → Attr → Station → Result Value No → Station → Type 0
+Reads d t channel a old result new =
+    Turns (read_answer d.name d.kind d.shape t channel a old) (if is_asking d.kind channel a old then with_site sampled old else old) result old new
+
+-- ... of an input device
+abbrev pub ReadsInput : ℤ → Option ℕ → Attr → DeviceView Queue → Result Value No → Station → Type 0
+ReadsInput t channel a d result new = Reads (record { name = d.name; kind = Input; shape = d.standing.shape }) t channel a (station_of d) result new
 
 -- a member, by its number and its mask
 abbrev pub id_of : ℕ → Mask → MemberId

@@ -1,5 +1,5 @@
 -- A bench, as contracts see it.
-use Rattle.std.specs.Prelude.{ℕ, Bool, false, List, map, slice_get, unwrap_or}
+use Rattle.std.specs.Prelude.{ℕ, Bool, false, List, [], map, slice_get, unwrap_or}
 use Rattle.std.specs.Option.{option_map_or}
 use Rattle.iio_sensor.specs.Driver.{Driver}
 use Rattle.iio_device.specs.declared.plug.Plug.{Plug}
@@ -8,7 +8,7 @@ use Rattle.iiod_session.specs.Machine.{Machine}
 use Rattle.iio_system.specs.declared.bench.Bench.{Bench}
 use Rattle.iio_system.specs.Handling.{is_last}
 use Rattle.iio_system.specs.Places.{TriggerRecord, first_trigger, trigger_of}
-use Rattle.iio_system.specs.Station.{captures_by, front_by, stations_by}
+use Rattle.iio_system.specs.Station.{any_front, captures_by, room_by, stations_by}
 
 -- the front, the outstanding entries and missed polls, and how many captures each device has made
 pub record Kept : Type 0 where
@@ -19,7 +19,7 @@ pub record Kept : Type 0 where
 module _ {X : Type 0} {V : X → Type 0} where
   -- what no call changes
   abbrev pub front_of : Bench X V → Front
-  front_of b = record { context = b.context.items; triggers = b.described.items; devices = map front_by b.devices.items }
+  front_of b = record { context = b.context.items; triggers = b.described.items; devices = map any_front b.devices.items }
 
   -- the clock and the devices, by what they sample
   abbrev pub machine_of : (Plug X V → Driver) → Bench X V → Machine
@@ -32,6 +32,10 @@ module _ {X : Type 0} {V : X → Type 0} where
   -- whether the captures of the device of that number have come to their end: then it makes none more
   abbrev pub has_ended : Bench X V → ℕ → Bool
   has_ended b dev = option_map_or is_last (slice_get (captures_of b) dev) false
+
+  -- the room for the scan that the output device of that number is given
+  abbrev pub room_at : Bench X V → ℕ → List ℕ
+  room_at b dev = option_map_or room_by (slice_get b.devices.items dev) []
 
   -- the triggers
   abbrev pub triggers_of : Bench X V → List TriggerRecord

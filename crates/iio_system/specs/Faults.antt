@@ -2,6 +2,8 @@
 use Rattle.std.specs.Prelude.{◌≡◌, ℕ, ◌<◌, ◌-◌, ◌^◌, ◌==◌, ◌&&◌, ◌||◌, not, Bool, true, false, List, [], ◌∷◌, length, slice_get, Option, Some, None, is_none, Result, Ok, Err}
 use Rattle.std.specs.Option.{option_map_or}
 use Rattle.iio_base.specs.Refusals.{first_refusal}
+use Rattle.iio_text.specs.declared.errors.Errno.{Errno}
+use Rattle.iio_text.specs.declared.errors.Errno.TheVariants.{EBUSY, ENODEV}
 use Rattle.iio_mask.specs.declared.Mask.{Mask}
 use Rattle.iio_layout.specs.Layout.{scan_size}
 use Rattle.iio_layout.specs.Shape.{ShapeRecord}
@@ -15,8 +17,13 @@ use Rattle.iio_device.specs.Joining.{member_faults}
 use Rattle.iio_device.specs.Members.{masks_of}
 use Rattle.iio_device.specs.Site.{is_empty}
 use Rattle.iiod_session.specs.declared.iio.No.{No}
-use Rattle.iiod_session.specs.declared.iio.No.TheVariants.{Mem as NoMem}
+use Rattle.iiod_session.specs.declared.iio.No.TheVariants.{Errno as NoErrno, Mem as NoMem}
+use Rattle.iio_desc.specs.Kind.{Kind, is_output}
+use Rattle.iiod_session.specs.Calls.{joined}
+use Rattle.iiod_session.specs.Machine.{Station, masks_of as masks_told}
+use Rattle.iiod_session.specs.Opening.{join_refusals}
 use Rattle.iio_system.specs.declared.seat.Seat.{Seat}
+use Rattle.iio_system.specs.Places.{place_taken}
 
 -- whether there is no place at the device's trigger; at one that isn't there, there is none
 abbrev pub lacks_place : ℕ → List State → Option ℕ → Bool
@@ -50,3 +57,28 @@ JoinsBy mask capacity (Ok seat) old new trigger trigger' =
     × (new ≡ device_joined mask (first_queue old.standing.shape mask capacity) old)
     × (trigger' ≡ trigger_joined old trigger)
 JoinsBy mask capacity (Err refusal) old new trigger trigger' = (refusal ≡ NoMem) × (new ≡ old) × (trigger' ≡ trigger)
+
+-- ---- devices of each kind
+
+-- the refusals of a member more in their order, by what the device is told as, and whether the trigger has no place for it; an
+-- output device has one writer
+abbrev pub any_refusals : (lacks : Bool) → Kind → ShapeRecord → Station → (mask : ℕ) → List (Bool × Errno)
+any_refusals lacks kind shape st mask =
+    (not st.site.plugged, ENODEV)
+    ∷ (is_output kind && not (is_empty st.members), EBUSY)
+    ∷ join_refusals (is_none st.site.trigger) (is_without_union shape (masks_told st.members) mask) (is_empty st.members && lacks || st.next == 2 ^ 64 - 1)
+
+-- the number of the device's trigger, which is there, or the refusal; want of memory is free
+abbrev pub HostsAny : List State → Kind → (number : ℕ) → ShapeRecord → Station → (mask : ℕ) → Result ℕ No → Type 0
+HostsAny states kind number shape st mask (Ok trigger) =
+    (st.site.trigger ≡ Some trigger) × (trigger < length states) × (first_refusal (any_refusals (lacks_place number states st.site.trigger) kind shape st mask) ≡ None)
+HostsAny states kind number shape st mask (Err (NoErrno errno)) = first_refusal (any_refusals (lacks_place number states st.site.trigger) kind shape st mask) ≡ Some errno
+HostsAny states kind number shape st mask (Err NoMem) = Unit {0}
+
+-- a member more by a place that it has; want of memory changes nothing
+abbrev pub JoinsAny : Mask → (capacity : ℕ) → (cyclic : Bool) → (number : ℕ) → ShapeRecord → Result Seat No → (old new : Station) → (trigger trigger' : State) → Type 0
+JoinsAny mask capacity cyclic number shape (Ok seat) old new trigger trigger' =
+    (seat ≡ record { number = old.next; mask = mask; size = scan_size shape mask.bits; capacity = capacity })
+    × (new ≡ joined mask.bits capacity cyclic None old)
+    × (trigger' ≡ place_taken number old trigger)
+JoinsAny mask capacity cyclic number shape (Err refusal) old new trigger trigger' = (refusal ≡ NoMem) × (new ≡ old) × (trigger' ≡ trigger)

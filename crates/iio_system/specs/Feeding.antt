@@ -36,9 +36,9 @@ module _ {S : Type 0} (seen : S → SeatRecord) where
   AreOwning front connections = All (λ c. IsOwning front c.session) connections
 
   -- the devices once it is lost, where it has a session
-  abbrev pub left_by : Machine → Option (SessionRecord S) → Machine
-  left_by m None = m
-  left_by m (Some x) = left_machine m (desk_of seen x.desk)
+  abbrev pub left_by : Front → Machine → Option (SessionRecord S) → Machine
+  left_by front m None = m
+  left_by front m (Some x) = left_machine front m (desk_of seen x.desk)
 
   -- a connection that hasn't ended was fed: it is left without a session where it has ended then
   pub record HasFed (s : Setup) (n : Told) (told : Option Machine) (name : List ℕ) (begun : Scanner) (bytes : List ℕ) (before after : List ℕ) (session : Option (SessionRecord S)) : Type 0 where

@@ -5,16 +5,17 @@ use Rattle.std.specs.Borrow.{Bor}
 use Rattle.std.specs.Str.{bytes_eq}
 use Rattle.iio_text.specs.declared.errors.Errno.TheVariants.{EFBIG}
 use Rattle.iiod_grammar.specs.declared.lines.TheConstants.{MAX_PAYLOAD}
-use Rattle.iiod_grammar.specs.Command.{Command, Exit, Write}
-use Rattle.iiod_grammar.specs.Stream.{Item, Said, Written, End, Scanner, items_from}
+use Rattle.iiod_grammar.specs.Command.{Command, Exit, Write, WriteBuf}
+use Rattle.iiod_grammar.specs.Stream.{Item, Said, Written, Streamed, End, Scanner, items_from}
+use Rattle.iio_desc.specs.Kind.{is_input}
 use Rattle.iiod_session.specs.Desk.{DeskRecord, desk_of}
-use Rattle.iiod_session.specs.Front.{Front}
+use Rattle.iiod_session.specs.Front.{Front, kind_at}
 use Rattle.iiod_session.specs.Machine.{Machine}
 use Rattle.iiod_session.specs.Seat.{SeatRecord}
 use Rattle.iiod_session.specs.Session.{SessionRecord}
 use Rattle.iio_history.specs.Registry.{Setup}
 use Rattle.iio_history.specs.Told.{Told}
-use Rattle.iio_worlds.specs.Stance.{Opens, item_meets, items_meet, opens_by}
+use Rattle.iio_worlds.specs.Stance.{Opens, item_meets, items_meet, opens_by, own_has}
 use Rattle.iio_system.specs.declared.connection.Connection.{Connection}
 use Rattle.iio_system.specs.declared.guard.Guard.{Guard}
 use Rattle.iio_system.specs.declared.others.Others.{Others}
@@ -65,15 +66,20 @@ module _ {S : Type 0} (seen : S → SeatRecord) where
       (s : Setup) (n : Told) (begun : Scanner) → IsHearing seen s n front told name begun bytes x
       → meets ≡ items_meet (opens_by front (desk_named watched others) (desks_besides watched others)) (bytes_eq name watched) (items_from begun bytes)
 
--- the item that a command is told of, where a WRITE's payload is left out
+-- the item that a command is told of, where a payload is left out
 abbrev pub item_by : Command → Item
 item_by Exit = End None
 item_by (Write device target count) = if nat_lt MAX_PAYLOAD count then End (Some EFBIG) else Written device target []
+item_by (WriteBuf device count) = if nat_lt MAX_PAYLOAD count then End (Some EFBIG) else Streamed device []
 item_by said = Said (Ok said)
 
 -- all connections but one, in their order
 abbrev pub connections_of : Others → List (Connection Seat)
 connections_of x = x.before.now ++ x.after.now
+
+-- whether a connection with that desk has device k open, and it is an input device
+abbrev pub own_input : Front → Option DeskRecord → (k : ℕ) → Bool
+own_input front own k = is_input (kind_at front k) && own_has own k
 
 -- what a guard knows to be open
 abbrev pub opens_at : Front → Guard → Opens

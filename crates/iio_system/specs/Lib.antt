@@ -1,3 +1,4 @@
+pub mod OutStation
 pub mod Station
 pub mod Places
 pub mod Faults

@@ -1,12 +1,17 @@
 -- The words of the lines that steps print.
-use Rattle.std.specs.Prelude.{ℕ, Bool, List, [], ◌∷◌, codes, Option, Some, None, if◌then◌else◌}
+use Rattle.std.specs.Prelude.{ℕ, Bool, List, [], ◌∷◌, ◌++◌, codes, Option, Some, None, if◌then◌else◌}
 use Rattle.std.specs.Fmt.{decimal}
+use Rattle.hex.specs.Hex.{encode_lower}
 use Rattle.iio_trigger.specs.declared.Polled.{Polled}
 use Rattle.iio_trigger.specs.declared.Polled.TheVariants.{Accepted, Missed}
 use Rattle.iio_device.specs.declared.handling.Handled.{Handled}
 use Rattle.iio_device.specs.declared.handling.Handled.TheVariants.{Captured, Fault, Idle}
 use Rattle.iio_device.specs.declared.handling.Sensed.{Sensed}
 use Rattle.iio_device.specs.declared.handling.Sensed.TheVariants as sense
+use Rattle.iio_system.specs.declared.any_device.Became.{Became}
+use Rattle.iio_system.specs.declared.any_device.Became.TheVariants.{Asked, Gave}
+use Rattle.iio_system.specs.declared.out_device.Gave.{Gave as Giving}
+use Rattle.iio_system.specs.declared.out_device.Gave.TheVariants as gave
 
 abbrev pub polled_words : Polled → List (List ℕ)
 polled_words (Accepted n) = codes "accepted" ∷ decimal n ∷ []
@@ -18,6 +23,18 @@ handled_word None = codes "none"
 handled_word (Some (Captured n)) = codes "captured"
 handled_word (Some Fault) = codes "fault"
 handled_word (Some Idle) = codes "idle"
+
+-- of an output device's entry; it was given that scan
+abbrev pub gave_word : Giving → (scan : List ℕ) → List ℕ
+gave_word gave.Given scan = codes "given " ++ encode_lower scan
+gave_word gave.Underrun scan = codes "underrun"
+gave_word gave.Idle scan = codes "idle"
+
+-- of a device's entry; what an output device was given stands in the room for it
+abbrev pub became_word : Option Became → (room : List ℕ) → List ℕ
+became_word None room = handled_word None
+became_word (Some (Asked handled)) room = handled_word (Some handled)
+became_word (Some (Gave answer)) room = gave_word answer room
 
 abbrev pub sensed_words : Sensed → List (List ℕ)
 sensed_words (sense.Fired n) = codes "sensed" ∷ decimal n ∷ []

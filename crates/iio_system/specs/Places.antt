@@ -1,12 +1,12 @@
 -- The triggers beside the devices. (Kernel, driver-api/iio: a device is attached to its trigger while its buffer is enabled,
 -- and a poll calls each attached device once. Places and the count of missed polls are this project's own.)
-use Rattle.std.specs.Prelude.{◌≡◌, ℕ, suc, ◌≤◌, ◌||◌, ◌==◌, not, nat_lt, ℤ, Bool, true, false, List, [], ◌∷◌, map, length, find, filter, slice_get, Option, Some, None, if◌then◌else◌}
+use Rattle.std.specs.Prelude.{◌≡◌, ℕ, suc, ◌+◌, ◌≤◌, ◌||◌, ◌==◌, not, nat_lt, ℤ, Bool, true, false, List, [], ◌∷◌, map, length, find, filter, slice_get, Option, Some, None, if◌then◌else◌}
 use Rattle.std.specs.List.{list_any}
 use Rattle.iio_trigger.specs.declared.rows.Place.{Place}
 use Rattle.iio_trigger.specs.declared.rows.Entry.{Entry}
 use Rattle.iio_trigger.specs.declared.Polled.{Polled}
 use Rattle.iio_trigger.specs.declared.Polled.TheVariants.{Accepted, Missed}
-use Rattle.iio_trigger.specs.Trigger.{Handed, State, poll_made, missed_after}
+use Rattle.iio_trigger.specs.Trigger.{Handed, State, poll_made, missed_after, with_place, without_place}
 use Rattle.iio_desc.specs.declared.description.TriggerDesc.{TriggerDesc}
 use Rattle.iio_desc.specs.declared.limits.TheConstants.{MAX_TRIGGERS, MAX_DEVICES}
 use Rattle.iio_device.specs.Site.{is_empty}
@@ -73,6 +73,19 @@ without_entry dev entries = filter (λ (e : Handed). not (e.dev == dev)) entries
 
 abbrev pub handled : ℕ → TriggerRecord → TriggerRecord
 handled dev t = record t { entries = without_entry dev t.entries }
+
+-- ---- places of members
+
+-- a trigger, once a member has come to the device of that number: the first one takes a place, under the number of the device's
+-- new attachment
+abbrev pub place_taken : (number : ℕ) → (before : Station) → State → State
+place_taken number before s =
+    if is_empty before.members then record s { attached = with_place number (before.site.attachment + 1) s.attached } else s
+
+-- and once one has gone: the last one gives the place back
+abbrev pub place_left : (number : ℕ) → (before after : Station) → State → State
+place_left number before after s =
+    if is_empty before.members || not (is_empty after.members) then s else record s { attached = without_place number s.attached }
 
 -- ---- what holds after every call
 

@@ -1,5 +1,9 @@
 -- A device, as an `Iio` tells it.
-use Rattle.std.specs.Prelude.{ℕ, List, map}
+use Rattle.std.specs.Prelude.{◌≡◌, ℕ, false, List, [], map, None}
+use Rattle.iio_desc.specs.Description.{DeviceHead}
+use Rattle.iio_desc.specs.Kind.{Input}
+use Rattle.iio_derive.specs.Window.{no_window}
+use Rattle.iio_output.specs.Last.{first_last}
 use Rattle.iio_kfifo.specs.Queue.{Queue}
 use Rattle.iio_kfifo.specs.declared.tail.Tail.{Ghosts}
 use Rattle.iio_sensor.specs.Driver.{Driver}
@@ -8,14 +12,16 @@ use Rattle.iio_device.specs.declared.iio_dev.IioDev.{IioDev}
 use Rattle.iio_device.specs.declared.membership.Membership.{Membership}
 use Rattle.iio_device.specs.declared.plug.Plug.{Plug}
 use Rattle.iio_device.specs.Device.{DeviceView, view_of}
-use Rattle.iiod_session.specs.Front.{DeviceFront}
 use Rattle.iiod_session.specs.Machine.{Member, Station}
+use Rattle.iio_system.specs.declared.any_device.AnyDevice.{AnyDevice}
+use Rattle.iio_system.specs.declared.any_device.AnyDevice.TheVariants as any
+use Rattle.iio_system.specs.OutStation.{out_head, out_station}
 
--- a member
+-- a member of an input device
 abbrev pub member_of : Membership Queue → Member
-member_of m = record { number = m.number; mask = m.mask.bits; capacity = m.tail.capacity; scans = m.tail.scans; lost = m.tail.lost }
+member_of m = record { number = m.number; mask = m.mask.bits; capacity = m.tail.capacity; scans = m.tail.scans; lost = m.tail.lost; cyclic = false; inner = None }
 
--- a device: the number of the next member, what it counted, its members, and what else stands at it
+-- an input device: the number of the next member, what it counted, its members, and what else stands at it
 abbrev pub station_of : DeviceView Queue → Station
 station_of d = record {
   next = d.standing.next;
@@ -23,6 +29,8 @@ station_of d = record {
   totals = d.totals;
   members = map member_of d.standing.members;
   site = d.site;
+  last = first_last d.standing.shape;
+  window = no_window;
 }
 
 module _ {X : Type 0} {V : X → Type 0} {g : Ghosts Queue} (driver : Plug X V → Driver) where
@@ -33,17 +41,41 @@ module _ {X : Type 0} {V : X → Type 0} {g : Ghosts Queue} (driver : Plug X V �
   abbrev pub station_by : Fitted (IioDev Queue g) X V → Station
   station_by d = station_of (view_by d)
 
-  abbrev pub stations_by : List (Fitted (IioDev Queue g) X V) → List Station
-  stations_by devices = map station_by devices
+-- a device of whichever kind
+module _ {X : Type 0} {V : X → Type 0} (driver : Plug X V → Driver) where
+  abbrev pub any_station : AnyDevice X V → Station
+  any_station (any.Input d) = station_by driver d
+  any_station (any.Output x) = out_station x
 
--- a device's number
-abbrev pub number_by : {X : Type 0} {V : X → Type 0} {g : Ghosts Queue} → Fitted (IioDev Queue g) X V → ℕ
-number_by d = d.core.number
+  abbrev pub stations_by : List (AnyDevice X V) → List Station
+  stations_by devices = map any_station devices
 
--- how many captures it has made
-abbrev pub captures_by : {X : Type 0} {V : X → Type 0} {g : Ghosts Queue} → Fitted (IioDev Queue g) X V → ℕ
-captures_by d = d.core.roster.captures
+module _ {X : Type 0} {V : X → Type 0} where
+  -- its number
+  abbrev pub number_by : AnyDevice X V → ℕ
+  number_by (any.Input d) = d.core.number
+  number_by (any.Output x) = x.number
 
--- what no call changes of it
-abbrev pub front_by : {X : Type 0} {V : X → Type 0} {g : Ghosts Queue} → Fitted (IioDev Queue g) X V → DeviceFront
-front_by d = record { name = d.core.name; shape = d.core.roster.shape }
+  -- how many captures it has made
+  abbrev pub captures_by : AnyDevice X V → ℕ
+  captures_by (any.Input d) = d.core.roster.captures
+  captures_by (any.Output x) = 0
+
+  -- the room for the scan that an output device is given
+  abbrev pub room_by : AnyDevice X V → List ℕ
+  room_by (any.Input d) = []
+  room_by (any.Output x) = x.room.items
+
+  -- what no call changes of it
+  abbrev pub any_front : AnyDevice X V → DeviceHead
+  any_front (any.Input d) = record { name = d.core.name; kind = Input; shape = d.core.roster.shape }
+  any_front (any.Output x) = out_head x
+
+  pub record KeepsHead (old new : AnyDevice X V) : Type 0 where
+    pub front : any_front new ≡ any_front old
+    pub number : number_by new ≡ number_by old
+
+  -- what no connection's call changes of it: such a call makes no capture
+  pub record KeepsFront (old new : AnyDevice X V) : Type 0 where
+    pub head : KeepsHead old new
+    pub captures : captures_by new ≡ captures_by old

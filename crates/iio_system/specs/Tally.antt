@@ -2,11 +2,10 @@
 use Rattle.std.specs.Prelude.{ℕ, ◌+◌, ◌-◌, ◌%◌, ◌^◌, min, List}
 use Rattle.std.specs.List.{sum_by}
 use Rattle.iio_kfifo.specs.Queue.{Queue}
-use Rattle.iio_kfifo.specs.declared.tail.Tail.{Ghosts}
-use Rattle.iio_device.specs.declared.device.Fitted.{Fitted}
-use Rattle.iio_device.specs.declared.iio_dev.IioDev.{IioDev}
 use Rattle.iio_device.specs.declared.membership.Membership.{Membership}
 use Rattle.iio_history.specs.Summary.{Summary}
+use Rattle.iio_system.specs.declared.any_device.AnyDevice.{AnyDevice}
+use Rattle.iio_system.specs.declared.any_device.AnyDevice.TheVariants as any
 use Rattle.iio_system.specs.declared.tally.Tally.{Tally}
 use Rattle.iio_system.specs.Station.{captures_by}
 
@@ -20,19 +19,23 @@ tally_of x = record { captures = shown x.captures; scans = shown x.scans; overru
 
 -- ---- for this crate's private functions alone
 
-module _ {X : Type 0} {V : X → Type 0} {g : Ghosts Queue} where
-  -- how many scans a device's queues gave, how many were lost, and the sum of the bytes of those that were given
-  abbrev pub scans_by : Fitted (IioDev Queue g) X V → ℕ
-  scans_by d = d.core.totals.scans
+module _ {X : Type 0} {V : X → Type 0} where
+  -- how many scans a device's queues gave, how many were lost, and the sum of the bytes of those that were given; an output
+  -- device gives its members nothing, and loses nothing
+  abbrev pub scans_by : AnyDevice X V → ℕ
+  scans_by (any.Input d) = d.core.totals.scans
+  scans_by (any.Output x) = 0
 
-  abbrev pub overruns_by : Fitted (IioDev Queue g) X V → ℕ
-  overruns_by d = d.core.totals.lost + sum_by (λ (m : Membership Queue). m.tail.lost) d.core.roster.members.items
+  abbrev pub overruns_by : AnyDevice X V → ℕ
+  overruns_by (any.Input d) = d.core.totals.lost + sum_by (λ (m : Membership Queue). m.tail.lost) d.core.roster.members.items
+  overruns_by (any.Output x) = 0
 
-  abbrev pub bytes_by : Fitted (IioDev Queue g) X V → ℕ
-  bytes_by d = d.core.totals.bytes
+  abbrev pub bytes_by : AnyDevice X V → ℕ
+  bytes_by (any.Input d) = d.core.totals.bytes
+  bytes_by (any.Output x) = 0
 
   -- what devices counted
-  abbrev pub devices_tally : List (Fitted (IioDev Queue g) X V) → Tally
+  abbrev pub devices_tally : List (AnyDevice X V) → Tally
   devices_tally devices = record {
     captures = shown (sum_by captures_by devices);
     scans = shown (sum_by scans_by devices);

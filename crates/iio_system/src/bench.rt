@@ -5,23 +5,22 @@ ghost use Rattle.iio_device.specs.Site.{no_driver};
 ghost use Rattle.iio_system.specs.Places.{IsBench, IsNumbered};
 ghost use Rattle.iio_system.specs.Station.{number_by, stations_by};
 
+use crate::any_device::AnyDevice;
 use iio_desc::TriggerDesc;
-use iio_device::Device;
-use iio_kfifo::Kfifo;
 use iio_sensor::Sensor;
 use iio_trigger::Trigger;
 use std::alloc::Global;
 use std::marker::PhantomData;
 
 /// The devices and triggers of a description, with one clock. A device's number is its place among the description's
-/// devices, a trigger's its place among the description's triggers.
+/// devices, the output devices after all others; a trigger's is its place among the description's triggers.
 #[derive(Drop)]
 pub struct Bench {
     pub(crate) alloc: Global,
     pub(crate) context: Vec<u8>,
     pub(crate) described: Vec<TriggerDesc>,
     pub(crate) triggers: Vec<Trigger>,
-    pub(crate) devices: Vec<Device<Kfifo>>,
+    pub(crate) devices: Vec<AnyDevice>,
     pub(crate) clock: i64,
     // Brings the meaning of a boxed driver into the reach of ghost members here.
     pub(crate) of: PhantomData<Box<dyn Sensor + Send>>,

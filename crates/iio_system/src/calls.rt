@@ -4,17 +4,17 @@ ghost use Rattle.std.specs.Prelude.{◌≡◌, ◌≢◌, ◌==◌, true, false,
 ghost use Rattle.iio_base.specs.Refusals.{ensure};
 ghost use Rattle.iio_text.specs.declared.errors.Errno.TheVariants.{EBADF, ENODEV};
 ghost use Rattle.iio_attr.specs.declared.attributes.Attr.TheVariants.{Raw};
+ghost use Rattle.iio_desc.specs.Kind.{Input};
 ghost use Rattle.iio_desc.specs.declared.limits.TheConstants.{MAX_TRIGGERS};
 ghost use Rattle.iio_event.specs.Monitor.{after_close, after_open, after_read};
 ghost use Rattle.iio_layout.specs.Layout.{scan_size};
-ghost use Rattle.iio_trigger.specs.Trigger.{without_entry};
 ghost use Rattle.iio_device.specs.Site.{Site, site_written, with_monitor};
 ghost use Rattle.iiod_session.specs.declared.iio.No.TheVariants.{Mem};
 ghost use Rattle.iiod_session.specs.Calls.{ev_open_answer, ev_read_answer, holds_events, trigger_answer};
 ghost use Rattle.iiod_session.specs.Machine.{scans_in, with_site};
-ghost use Rattle.iio_system.specs.Acting.{Acts, Keeps, KeepsCaptures, Reads, TakesAt, TakesScansAt, has_member, id_of, lost_in, nothing_at};
+ghost use Rattle.iio_system.specs.Acting.{Acts, Keeps, KeepsCaptures, ReadsInput, TakesAt, TakesScansAt, has_member, id_of, lost_in, nothing_at};
 ghost use Rattle.iio_system.specs.Handling.{counted, entry_answer, entry_station, is_last};
-ghost use Rattle.iio_system.specs.Places.{entry_of, has_in_hand, trigger_of};
+ghost use Rattle.iio_system.specs.declared.any_device.Became.TheVariants.{Asked};
 ghost use Rattle.iio_system.specs.Station.{station_by, view_by};
 
 use iio_attr::{Attr, Value};
@@ -24,7 +24,7 @@ use iio_kfifo::Kfifo;
 use iio_mask::Mask;
 use iio_sensor::Sensor;
 use iio_text::{Errno, Fixed};
-use iio_trigger::{Due, Trigger};
+use iio_trigger::Due;
 use iiod_session::{Counts, No, Took};
 
 /// The value of an attribute. `raw` asks the sensor at `t`.
@@ -35,7 +35,7 @@ pub(crate) fn read_attr(
     attr: Attr,
 ) -> Result<Value, No>
     requires { IfSome channel (λ c. c < length device.old.core.roster.shape.channels) }
-    ensures reads { Reads t channel attr (view_by ⟦<Plug as Sensor>⟧.driver device.old) result (station_by ⟦<Plug as Sensor>⟧.driver device.new) }
+    ensures reads { ReadsInput t channel attr (view_by ⟦<Plug as Sensor>⟧.driver device.old) result (station_by ⟦<Plug as Sensor>⟧.driver device.new) }
     ensures keeps { KeepsCaptures (view_by ⟦<Plug as Sensor>⟧.driver device.old) (view_by ⟦<Plug as Sensor>⟧.driver device.new) }
 {
     match channel {
@@ -47,7 +47,7 @@ pub(crate) fn read_attr(
 // The value of an attribute of channel `c`.
 fn read_channel(device: &mut Device<Kfifo>, t: i64, c: u32, attr: Attr) -> Result<Value, No>
     requires { c < length device.old.core.roster.shape.channels }
-    ensures reads { Reads t (Some c) attr (view_by ⟦<Plug as Sensor>⟧.driver device.old) result (station_by ⟦<Plug as Sensor>⟧.driver device.new) }
+    ensures reads { ReadsInput t (Some c) attr (view_by ⟦<Plug as Sensor>⟧.driver device.old) result (station_by ⟦<Plug as Sensor>⟧.driver device.new) }
     ensures keeps { KeepsCaptures (view_by ⟦<Plug as Sensor>⟧.driver device.old) (view_by ⟦<Plug as Sensor>⟧.driver device.new) }
 {
     match attr {
@@ -59,7 +59,7 @@ fn read_channel(device: &mut Device<Kfifo>, t: i64, c: u32, attr: Attr) -> Resul
 // A sample of channel `c`.
 fn read_raw(device: &mut Device<Kfifo>, t: i64, c: u32) -> Result<Value, No>
     requires { c < length device.old.core.roster.shape.channels }
-    ensures reads { Reads t (Some c) Raw (view_by ⟦<Plug as Sensor>⟧.driver device.old) result (station_by ⟦<Plug as Sensor>⟧.driver device.new) }
+    ensures reads { ReadsInput t (Some c) Raw (view_by ⟦<Plug as Sensor>⟧.driver device.old) result (station_by ⟦<Plug as Sensor>⟧.driver device.new) }
     ensures keeps { KeepsCaptures (view_by ⟦<Plug as Sensor>⟧.driver device.old) (view_by ⟦<Plug as Sensor>⟧.driver device.new) }
 {
     match device.raw(c, t) {
@@ -74,7 +74,7 @@ fn read_raw(device: &mut Device<Kfifo>, t: i64, c: u32) -> Result<Value, No>
 fn read_kept(device: &Device<Kfifo>, _t: i64, channel: Option<u32>, attr: Attr) -> Result<Value, No>
     requires channel { IfSome channel (λ c. c < length device.now.core.roster.shape.channels) }
     requires kept { IfSome channel (λ c. attr ≢ Raw) }
-    ensures { Reads _t channel attr (view_by ⟦<Plug as Sensor>⟧.driver device.now) result (station_by ⟦<Plug as Sensor>⟧.driver device.now) }
+    ensures { ReadsInput _t channel attr (view_by ⟦<Plug as Sensor>⟧.driver device.now) result (station_by ⟦<Plug as Sensor>⟧.driver device.now) }
 {
     if !device.plugged() {
         return Err(No::Errno(Errno::ENODEV));
@@ -236,36 +236,14 @@ pub(crate) fn counts(device: &Device<Kfifo>, number: u64, mask: Mask) -> Counts
     }
 }
 
-// Handles an entry of the device that was handed out.
+/// Handles an entry of the device that was handed out.
 #[inline(always)]
-fn handle_due(device: &mut Device<Kfifo>, due: &Due) -> Handled
+pub(crate) fn handle_due(device: &mut Device<Kfifo>, due: &Due) -> Handled
     requires { due.now.dev ≡ device.old.core.number }
-    ensures answer { Some result ≡ entry_answer (Some due.now) (is_last device.old.core.roster.captures) (station_by ⟦<Plug as Sensor>⟧.driver device.old) }
-    ensures station { station_by ⟦<Plug as Sensor>⟧.driver device.new ≡ entry_station (Some due.now) (is_last device.old.core.roster.captures) device.old.core.roster.shape (station_by ⟦<Plug as Sensor>⟧.driver device.old) }
-    ensures captures { device.new.core.roster.captures ≡ counted (Some result) device.old.core.roster.captures }
+    ensures answer { Some (Asked result) ≡ entry_answer Input (Some due.now) (is_last device.old.core.roster.captures) (station_by ⟦<Plug as Sensor>⟧.driver device.old) }
+    ensures station { station_by ⟦<Plug as Sensor>⟧.driver device.new ≡ entry_station Input (Some due.now) (is_last device.old.core.roster.captures) device.old.core.roster.shape (station_by ⟦<Plug as Sensor>⟧.driver device.old) }
+    ensures captures { device.new.core.roster.captures ≡ counted (Some (Asked result)) device.old.core.roster.captures }
     ensures keeps { Keeps (view_by ⟦<Plug as Sensor>⟧.driver device.old) (view_by ⟦<Plug as Sensor>⟧.driver device.new) }
 {
     device.handle(due)
-}
-
-/// Handles the entry that the device, whose number is `dev`, has at a trigger, and takes it off. `None` comes exactly where
-/// it has none.
-#[inline(always)]
-pub(crate) fn handle(device: &mut Device<Kfifo>, trigger: &mut Trigger, dev: u32) -> Option<Handled>
-    requires number { dev ≡ device.old.core.number }
-    requires idle { has_in_hand trigger.old.outstanding ≡ false }
-    ensures answer { result ≡ entry_answer (entry_of dev (trigger_of trigger.old).entries) (is_last device.old.core.roster.captures) (station_by ⟦<Plug as Sensor>⟧.driver device.old) }
-    ensures station { station_by ⟦<Plug as Sensor>⟧.driver device.new ≡ entry_station (entry_of dev (trigger_of trigger.old).entries) (is_last device.old.core.roster.captures) device.old.core.roster.shape (station_by ⟦<Plug as Sensor>⟧.driver device.old) }
-    ensures captures { device.new.core.roster.captures ≡ counted result device.old.core.roster.captures }
-    ensures keeps { Keeps (view_by ⟦<Plug as Sensor>⟧.driver device.old) (view_by ⟦<Plug as Sensor>⟧.driver device.new) }
-    ensures trigger { trigger.new ≡ record trigger.old { outstanding = without_entry dev trigger.old.outstanding } }
-{
-    match trigger.due(dev) {
-        None => None,
-        Some(due) => {
-            let handled = handle_due(device, &due);
-            trigger.done(due);
-            Some(handled)
-        }
-    }
 }

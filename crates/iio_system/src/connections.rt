@@ -117,7 +117,7 @@ pub(crate) fn feed(
 }
 
 // Feeds a connection, and answers whether what it says keeps to the rules of bystanders beside the watched connection, where
-// these are the others.
+// these are the others, before it and after it.
 fn feed_beside(
     alloc: Global,
     bench: &mut Bench,
@@ -234,7 +234,7 @@ pub(crate) fn feed_guarded(
 fn leave(bench: &mut Bench, session: Session<Seat>)
     requires { IsDesk seen_of (front_of bench.old) session.desk }
     ensures kept { kept_of bench.new ≡ kept_of bench.old }
-    ensures told { machine_of ⟦<Plug as Sensor>⟧.driver bench.new ≡ left_machine (machine_of ⟦<Plug as Sensor>⟧.driver bench.old) (desk_of seen_of session.desk) }
+    ensures told { machine_of ⟦<Plug as Sensor>⟧.driver bench.new ≡ left_machine (front_of bench.old) (machine_of ⟦<Plug as Sensor>⟧.driver bench.old) (desk_of seen_of session.desk) }
 {
     session.end(bench);
 }
@@ -246,7 +246,7 @@ fn lose(bench: &mut Bench, connection: &mut Connection<Seat>) -> bool
     ensures name { connection.new.name ≡ connection.old.name }
     ensures ended { connection.new.session ≡ None }
     ensures live { result ≡ is_some connection.old.session }
-    ensures told { machine_of ⟦<Plug as Sensor>⟧.driver bench.new ≡ left_by seen_of (machine_of ⟦<Plug as Sensor>⟧.driver bench.old) connection.old.session }
+    ensures told { machine_of ⟦<Plug as Sensor>⟧.driver bench.new ≡ left_by seen_of (front_of bench.old) (machine_of ⟦<Plug as Sensor>⟧.driver bench.old) connection.old.session }
 {
     match connection.session.take() {
         None => false,

@@ -2,15 +2,15 @@
 
 ghost use Rattle.std.specs.Prelude.{◌≡◌, ◌<◌, ⊤, length};
 ghost use Rattle.iio_device.specs.Site.{at_place};
-ghost use Rattle.iiod_session.specs.Front.{shape_at};
+ghost use Rattle.iiod_session.specs.Front.{kind_at, shape_at};
 ghost use Rattle.iiod_session.specs.Machine.{is_plugged, station_at, with_station};
-ghost use Rattle.iio_system.specs.Bench.{captures_of, front_of, has_ended, machine_of, trigger_in, triggers_of};
-ghost use Rattle.iio_system.specs.Handling.{counted, entry_answer, entry_machine, sensed_answer, sensed_station, unplugged_station};
+ghost use Rattle.iio_system.specs.Bench.{captures_of, front_of, has_ended, machine_of, room_at, trigger_in, triggers_of};
+ghost use Rattle.iio_system.specs.Handling.{IsRoom, counted, entry_answer, entry_machine, sensed_answer, sensed_station, unplugged_station};
 ghost use Rattle.iio_system.specs.Places.{entries_from, entry_of, first_due, handled, poll_answer, polled};
 
+use crate::any_device::Became;
 use crate::bench::Bench;
-use crate::calls;
-use iio_device::{Handled, Plug, Sensed};
+use iio_device::{Plug, Sensed};
 use iio_sensor::Sensor;
 use iio_trigger::Polled;
 
@@ -46,24 +46,21 @@ impl Bench {
         self.triggers[trigger as usize].first()
     }
 
-    /// Handles the entry that a device has at a trigger: the device is asked where the entry is current, and the entry is
-    /// taken off. `None` comes exactly where it has none, and then nothing changes. A device that has made 2^64 - 1
-    /// captures is asked nothing.
+    /// Handles the entry that a device has at a trigger: where the entry is current an input device is asked, an output device
+    /// is given the next scan, and the entry is taken off. `None` comes exactly where it has none, and then nothing changes. A
+    /// device that has made 2^64 - 1 captures is asked nothing.
     #[inline(always)]
-    pub fn handle(&mut self, trigger: u32, dev: u32) -> Option<Handled>
+    pub fn handle(&mut self, trigger: u32, dev: u32) -> Option<Became>
         requires trigger { trigger < length (front_of self.old).triggers }
         requires dev { dev < length (front_of self.old).devices }
         ensures front { front_of self.new ≡ front_of self.old }
-        ensures told { machine_of ⟦<Plug as Sensor>⟧.driver self.new ≡ entry_machine (entry_of dev (trigger_in (triggers_of self.old) trigger).entries) (has_ended self.old dev) (shape_at (front_of self.old) dev) dev (machine_of ⟦<Plug as Sensor>⟧.driver self.old) }
+        ensures told { machine_of ⟦<Plug as Sensor>⟧.driver self.new ≡ entry_machine (kind_at (front_of self.old) dev) (entry_of dev (trigger_in (triggers_of self.old) trigger).entries) (has_ended self.old dev) (shape_at (front_of self.old) dev) dev (machine_of ⟦<Plug as Sensor>⟧.driver self.old) }
         ensures triggers { triggers_of self.new ≡ at_place trigger (handled dev) (triggers_of self.old) }
         ensures captures { captures_of self.new ≡ at_place dev (counted result) (captures_of self.old) }
-        ensures answer { result ≡ entry_answer (entry_of dev (trigger_in (triggers_of self.old) trigger).entries) (has_ended self.old dev) (station_at (machine_of ⟦<Plug as Sensor>⟧.driver self.old) dev) }
+        ensures answer { result ≡ entry_answer (kind_at (front_of self.old) dev) (entry_of dev (trigger_in (triggers_of self.old) trigger).entries) (has_ended self.old dev) (station_at (machine_of ⟦<Plug as Sensor>⟧.driver self.old) dev) }
+        ensures room { IsRoom result (station_at (machine_of ⟦<Plug as Sensor>⟧.driver self.old) dev).members (room_at self.new dev) }
     {
-        calls::handle(
-            &mut self.devices[dev as usize],
-            &mut self.triggers[trigger as usize],
-            dev,
-        )
+        self.devices[dev as usize].handle(&mut self.triggers[trigger as usize], dev)
     }
 
     /// Looks at a device's thresholds at a moment.

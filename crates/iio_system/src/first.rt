@@ -1,19 +1,24 @@
 //! A bench before the first step.
 
-ghost use Rattle.std.specs.Prelude.{◌≡◌, ◌≤◌, All, AllPairs, IfOk, false, length, map};
+ghost use Rattle.std.specs.Prelude.{◌≡◌, ◌+◌, ◌++◌, ◌≤◌, [], All, AllPairs, IfOk, OnOk, false, length, map};
+ghost use Rattle.iio_desc.specs.Description.{input_head, output_head};
 ghost use Rattle.iio_desc.specs.WellFormed.{HasPlaces, IsWellFormed, share_driver};
 ghost use Rattle.iio_desc.specs.declared.limits.TheConstants.{MAX_DEVICES};
 ghost use Rattle.iio_device.specs.declared.plug.Plug.TheVariants.{Given};
 ghost use Rattle.iio_probe.specs.Devices.{IsFit};
-ghost use Rattle.iiod_session.specs.Front.{first_face, first_front};
+ghost use Rattle.iiod_session.specs.Front.{first_front};
+ghost use Rattle.iio_system.specs.declared.any_device.AnyDevice.TheVariants.{Input};
 ghost use Rattle.iio_system.specs.First.{first_machine, first_state, first_station, first_triggers};
+ghost use Rattle.iio_system.specs.OutStation.{first_out_station};
 ghost use Rattle.iio_system.specs.Bench.{front_of, machine_of, triggers_of};
 ghost use Rattle.iio_system.specs.Places.{IsNumbered};
-ghost use Rattle.iio_system.specs.Station.{captures_by, front_by, number_by, stations_by};
+ghost use Rattle.iio_system.specs.Station.{any_front, captures_by, number_by, stations_by};
 
+use crate::any_device::AnyDevice;
 use crate::bench::Bench;
+use crate::out_device::OutDevice;
 use iio_base::Mem;
-use iio_desc::{Desc, DeviceDesc, TriggerDesc};
+use iio_desc::{Desc, DeviceDesc, OutDesc, TriggerDesc};
 use iio_device::{Device, Plug};
 use iio_kfifo::Kfifo;
 use iio_sensor::Sensor;
@@ -21,21 +26,52 @@ use iio_trigger::Trigger;
 use std::alloc::Global;
 use std::marker::PhantomData;
 
-// The devices of a description.
-fn devices_of(
+// Each of these as an input device of a bench.
+fn as_inputs(alloc: Global, devices: Vec<Device<Kfifo>>) -> Result<Vec<AnyDevice>, Mem>
+    ensures { IfOk result (λ v. v.items ≡ map (λ d. Input d) devices.items) }
+{
+    let mut inputs = Vec::new(alloc);
+    for device in devices {
+        inputs.push(AnyDevice::Input(device))?;
+    }
+    Ok(inputs)
+}
+
+// The input devices of a description.
+fn inputs_of(
     alloc: Global,
     descs: Vec<DeviceDesc>,
     drivers: Vec<Box<dyn Sensor + Send>>,
-) -> Result<Vec<Device<Kfifo>>, Mem>
+) -> Result<Vec<AnyDevice>, Mem>
     requires few { length descs.items ≤ MAX_DEVICES }
     requires fit { All (IsFit (length drivers.items)) descs.items }
     requires apart { AllPairs (λ a b. share_driver a b ≡ false) descs.items }
     ensures stations { IfOk result (λ v. stations_by ⟦<Plug as Sensor>⟧.driver v.items ≡ map (first_station (map (λ d. ⟦<Plug as Sensor>⟧.driver (Given d)) drivers.items)) descs.items) }
-    ensures fronts { IfOk result (λ v. map front_by v.items ≡ map first_face descs.items) }
+    ensures fronts { IfOk result (λ v. map any_front v.items ≡ map input_head descs.items) }
     ensures numbered { IfOk result (λ v. IsNumbered number_by v.items) }
     ensures captures { IfOk result (λ v. All (λ d. captures_by d ≡ 0) v.items) }
 {
-    iio_probe::devices_of(alloc, descs, drivers)
+    let made = iio_probe::devices_of(alloc, descs, drivers)?;
+    let devices = as_inputs(alloc, made)?;
+    Ok(devices)
+}
+
+// Adds the output devices of a description, with the numbers after those before.
+fn add_outputs(alloc: Global, devices: &mut Vec<AnyDevice>, descs: Vec<OutDesc>) -> Result<(), Mem>
+    requires few { length devices.old.items + length descs.items ≤ MAX_DEVICES }
+    requires unlisted { All (λ d. d.shape.listed ≡ []) descs.items }
+    requires numbered { IsNumbered number_by devices.old.items }
+    requires captures { All (λ d. captures_by d ≡ 0) devices.old.items }
+    ensures stations { OnOk result (stations_by ⟦<Plug as Sensor>⟧.driver devices.new.items ≡ stations_by ⟦<Plug as Sensor>⟧.driver devices.old.items ++ map first_out_station descs.items) }
+    ensures fronts { OnOk result (map any_front devices.new.items ≡ map any_front devices.old.items ++ map output_head descs.items) }
+    ensures numbered { OnOk result (IsNumbered number_by devices.new.items) }
+    ensures captures { OnOk result (All (λ d. captures_by d ≡ 0) devices.new.items) }
+{
+    for desc in descs {
+        let number = devices.len() as u32;
+        devices.push(AnyDevice::Output(OutDevice::new(alloc, desc, number)?))?;
+    }
+    Ok(())
 }
 
 // The triggers of a description.
@@ -69,9 +105,12 @@ impl Bench {
             context,
             triggers: described,
             devices: descs,
+            outputs,
+            averages: _,
         } = desc;
         let triggers = triggers_of(alloc, &described)?;
-        let devices = devices_of(alloc, descs, drivers)?;
+        let mut devices = inputs_of(alloc, descs, drivers)?;
+        add_outputs(alloc, &mut devices, outputs)?;
         Ok(Bench {
             alloc,
             context,

@@ -1,16 +1,17 @@
 //! Whether what a connection says keeps to the rules of bystanders.
 
-ghost use Rattle.std.specs.Prelude.{◌≡◌, ◌||◌, true, not, Ok, Option};
+ghost use Rattle.std.specs.Prelude.{◌≡◌, ◌<◌, ◌||◌, true, not, Ok, Option, length};
 ghost use Rattle.std.specs.Str.{bytes_eq};
+ghost use Rattle.iio_desc.specs.Kind.{is_input};
 ghost use Rattle.iiod_grammar.specs.Stream.{Item, Said};
 ghost use Rattle.iiod_grammar.specs.View.{command_view};
 ghost use Rattle.iiod_session.specs.Desk.{DeskRecord};
-ghost use Rattle.iiod_session.specs.Front.{find_device};
+ghost use Rattle.iiod_session.specs.Front.{find_device, kind_at};
 ghost use Rattle.iiod_session.specs.Watch.{IsSeen};
 ghost use Rattle.iio_worlds.specs.Bystanders.{may_say};
 ghost use Rattle.iio_worlds.specs.Stance.{by_number, item_meets, may_part, none_seated, one_seated, opens_by, own_has};
 ghost use Rattle.iio_system.specs.Bench.{front_of};
-ghost use Rattle.iio_system.specs.Guard.{connections_of, desk_by, desk_named, desks_besides, item_by, opens_at};
+ghost use Rattle.iio_system.specs.Guard.{connections_of, desk_by, desk_named, desks_besides, item_by, opens_at, own_input};
 ghost use Rattle.iio_system.specs.Seat.{seen_of};
 
 use crate::bench::Bench;
@@ -42,13 +43,21 @@ fn own_holds(own: Option<&Session<Seat>>, dev: u32) -> bool
     }
 }
 
-// Whether it has the device of that name open.
+// Whether a device is an input device.
+fn is_input(bench: &Bench, dev: u32) -> bool
+    requires { dev < length (front_of bench.now).devices }
+    ensures { result ≡ is_input (kind_at (front_of bench.now) dev) }
+{
+    !bench.is_output(dev)
+}
+
+// Whether it has the input device of that name open.
 fn own_has(bench: &Bench, own: Option<&Session<Seat>>, device: &[u8]) -> bool
-    ensures { result ≡ by_number (find_device (front_of bench.now) device.now) (own_has (desk_by seen_of own.entry)) }
+    ensures { result ≡ by_number (find_device (front_of bench.now) device.now) (own_input (front_of bench.now) (desk_by seen_of own.entry)) }
 {
     match bench.find(device) {
         None => false,
-        Some(dev) => own_holds(own, dev),
+        Some(dev) => is_input(bench, dev) && own_holds(own, dev),
     }
 }
 
@@ -71,7 +80,7 @@ pub(crate) fn may_end(others: &Others<'_>, watched: &[u8], ends: bool) -> bool
 
 // Whether another connection may say this command.
 fn may_ask(bench: &Bench, own: Option<&Session<Seat>>, command: &Command<'_>) -> bool
-    ensures { result ≡ may_say (λ device. by_number (find_device (front_of bench.now) device) (own_has (desk_by seen_of own.entry))) (Said (Ok (command_view command.now))) }
+    ensures { result ≡ may_say (λ device. by_number (find_device (front_of bench.now) device) (own_input (front_of bench.now) (desk_by seen_of own.entry))) (Said (Ok (command_view command.now))) }
 {
     match *command {
         Command::Help
@@ -97,7 +106,7 @@ fn may_ask(bench: &Bench, own: Option<&Session<Seat>>, command: &Command<'_>) ->
 
 // Whether another connection may say this.
 fn may_say(bench: &Bench, own: Option<&Session<Seat>>, item: &Seen<'_>) -> bool
-    ensures { (x : Item) → IsSeen x item.now → result ≡ may_say (λ device. by_number (find_device (front_of bench.now) device) (own_has (desk_by seen_of own.entry))) x }
+    ensures { (x : Item) → IsSeen x item.now → result ≡ may_say (λ device. by_number (find_device (front_of bench.now) device) (own_input (front_of bench.now) (desk_by seen_of own.entry))) x }
 {
     match *item {
         Seen::Refused | Seen::TooLong => true,
@@ -115,6 +124,7 @@ fn may_leave(bench: &Bench, others: &Others<'_>, watched: &[u8], command: &Comma
         }
         Command::Exit => others.none_holds(watched),
         Command::Write { count, .. } => may_end(others, watched, count > MAX_PAYLOAD),
+        Command::WriteBuf { bytes, .. } => may_end(others, watched, bytes > MAX_PAYLOAD),
         Command::Help
         | Command::Version
         | Command::Print
@@ -122,7 +132,6 @@ fn may_leave(bench: &Bench, others: &Others<'_>, watched: &[u8], command: &Comma
         | Command::Open { .. }
         | Command::Read { .. }
         | Command::ReadBuf { .. }
-        | Command::WriteBuf { .. }
         | Command::GetTrig { .. }
         | Command::SetTrig { .. }
         | Command::SetBuffers { .. }

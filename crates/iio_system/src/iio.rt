@@ -1,37 +1,40 @@
 //! A bench as a connection uses it.
 
-ghost use Rattle.std.specs.Prelude.{◌≡◌, ◌<◌, IfSome, length, map};
+ghost use Rattle.std.specs.Prelude.{◌≡◌, ◌&&◌, ◌<◌, not, false, IfOk, IfSome, Some, length, map};
 ghost use Rattle.std.specs.List.{position};
 ghost use Rattle.std.specs.Str.{bytes_eq};
 ghost use Rattle.iio_desc.specs.Description.{trigger_number};
-ghost use Rattle.iio_system.specs.Station.{front_by};
+ghost use Rattle.iio_desc.specs.Kind.{is_output};
+ghost use Rattle.iiod_session.specs.Calls.{open_of};
+ghost use Rattle.iiod_session.specs.Front.{kind_at};
+ghost use Rattle.iiod_session.specs.Seat.{Answers, IsNew, MayOpen, number_by};
+ghost use Rattle.iio_system.specs.Bench.{front_of, kept_of, machine_of};
+ghost use Rattle.iio_system.specs.Seat.{seen_of};
+ghost use Rattle.iio_system.specs.Station.{any_front};
 
+use crate::any_device::AnyDevice;
 use crate::bench::Bench;
-use crate::calls;
-use crate::joining::{host, join};
-use crate::remasking::remask;
 use crate::seat::Seat;
 use iio_attr::{Attr, Name, Value};
 use iio_desc::TriggerDesc;
-use iio_device::{Device, Fitted, IioDev, Member, Plug};
+use iio_device::Plug;
 use iio_event::EventData;
-use iio_kfifo::Kfifo;
 use iio_layout::{Shape, scan_size};
 use iio_mask::Mask;
 use iio_sensor::Sensor;
 use iio_text::Fixed;
-use iiod_session::{Counts, Iio, No, Took, no_of};
+use iiod_session::{Counts, Iio, No, Took};
 
 // Whether a device has that name.
-fn is_named(device: &Device<Kfifo>, name: &[u8]) -> bool
-    ensures { result ≡ bytes_eq device.now.core.name name.now }
+fn is_named(device: &AnyDevice, name: &[u8]) -> bool
+    ensures { result ≡ bytes_eq (any_front device.now).name name.now }
 {
-    device.core.name.is(name)
+    device.name().is(name)
 }
 
 // The number of the device of that name.
-fn device_number(devices: &[Device<Kfifo>], name: &[u8]) -> Option<usize>
-    ensures value { result ≡ position (λ d. bytes_eq d.core.name name.now) devices.now }
+fn device_number(devices: &[AnyDevice], name: &[u8]) -> Option<usize>
+    ensures value { result ≡ position (λ d. bytes_eq (any_front d).name name.now) devices.now }
     ensures within { IfSome result (λ number. number < length devices.now) }
 {
     for i in 0..devices.len() {
@@ -48,6 +51,34 @@ fn trigger_number(triggers: &[TriggerDesc], name: &[u8]) -> Option<usize>
     ensures within { IfSome result (λ number. number < length triggers.now) }
 {
     triggers.iter().position(|t| t.name.is(name))
+}
+
+// A member more at a device, by its trigger.
+fn open_any(
+    bench: &mut Bench,
+    dev: u32,
+    mask: Mask,
+    capacity: u32,
+    cyclic: bool,
+) -> Result<Seat, No>
+    requires may_open { MayOpen (front_of bench.old) dev mask.bits capacity }
+    requires cycles { (cyclic && not (is_output (kind_at (front_of bench.old) dev))) ≡ false }
+    ensures kept { kept_of bench.new ≡ kept_of bench.old }
+    ensures seat { IfOk result (λ s. IsNew (front_of bench.old) dev mask.bits capacity (seen_of s)) }
+    ensures told { Answers (open_of (front_of bench.old) (machine_of ⟦<Plug as Sensor>⟧.driver bench.old) dev mask.bits capacity cyclic) (machine_of ⟦<Plug as Sensor>⟧.driver bench.old)
+        (number_by seen_of result) (Some (machine_of ⟦<Plug as Sensor>⟧.driver bench.new)) }
+{
+    let at = dev as usize;
+    match bench.devices[at].host(&bench.triggers, mask) {
+        Err(no) => Err(no),
+        Ok(trigger) => bench.devices[at].join(
+            bench.alloc,
+            &mut bench.triggers[trigger],
+            mask,
+            capacity,
+            cyclic,
+        ),
+    }
 }
 
 impl Iio for Bench {
@@ -80,28 +111,34 @@ impl Iio for Bench {
         self.devices[dev as usize].shape()
     }
 
+    fn is_output(&self, dev: u32) -> bool {
+        self.devices[dev as usize].is_output()
+    }
+
+    fn is_average(&self, _dev: u32) -> bool {
+        false
+    }
+
     fn plugged(&self, dev: u32) -> bool {
         self.devices[dev as usize].plugged()
     }
 
     fn open(&mut self, dev: u32, mask: Mask, capacity: u32) -> Result<Seat, No> {
-        let at = dev as usize;
-        match host(&self.devices[at], &self.triggers, mask) {
-            Err(fault) => Err(no_of(fault)),
-            Ok(trigger) => join(
-                self.alloc,
-                &mut self.devices[at],
-                &mut self.triggers[trigger],
-                mask,
-                capacity,
-            ),
-        }
+        open_any(self, dev, mask, capacity, false)
+    }
+
+    fn open_out(&mut self, dev: u32, mask: Mask, capacity: u32, cyclic: bool) -> Result<Seat, No> {
+        open_any(self, dev, mask, capacity, cyclic)
+    }
+
+    fn write_scans(&mut self, dev: u32, seat: &mut Seat, bytes: &[u8]) -> Result<u32, No> {
+        self.devices[dev as usize].write(seat.number, seat.mask, bytes)
     }
 
     fn remask(&mut self, dev: u32, seat: &mut Seat, mask: Mask) -> Result<u64, No> {
         let device = &mut self.devices[dev as usize];
         let size = scan_size(device.shape(), mask);
-        match remask(self.alloc, device, seat, mask, size) {
+        match device.remask(self.alloc, seat, mask, size) {
             Err(no) => Err(no),
             Ok(waited) => {
                 seat.mask = mask;
@@ -124,31 +161,27 @@ impl Iio for Bench {
             Some(trigger) => {
                 let trigger = trigger as usize;
                 if trigger < self.triggers.len() {
-                    let _tail = self.devices[at].leave(
-                        Member { number },
-                        &mut self.triggers[trigger],
-                    );
+                    self.devices[at].leave(number, &mut self.triggers[trigger]);
                 }
             }
         }
     }
 
     fn take(&mut self, dev: u32, seat: &mut Seat, out: &mut [u8]) -> Took {
-        calls::take(&mut self.devices[dev as usize], seat.number, seat.mask, out)
+        self.devices[dev as usize].take(seat.number, seat.mask, out)
     }
 
     fn take_scans(&mut self, dev: u32, seat: &mut Seat, most: u32, out: &mut Vec<u8>) -> Took {
-        let device = &mut self.devices[dev as usize];
-        calls::take_scans(device, seat.number, seat.mask, most, out)
+        self.devices[dev as usize].take_scans(seat.number, seat.mask, most, out)
     }
 
     fn counts(&mut self, dev: u32, seat: &mut Seat) -> Counts {
-        calls::counts(&self.devices[dev as usize], seat.number, seat.mask)
+        self.devices[dev as usize].counts(seat.number, seat.mask)
     }
 
     fn read_attr(&mut self, dev: u32, channel: Option<u32>, attr: Attr) -> Result<Value, No> {
         let t = self.clock();
-        calls::read_attr(&mut self.devices[dev as usize], t, channel, attr)
+        self.devices[dev as usize].read_attr(t, channel, attr)
     }
 
     fn write_attr(
@@ -158,7 +191,7 @@ impl Iio for Bench {
         attr: Attr,
         value: Fixed,
     ) -> Result<(), No> {
-        calls::write_attr(&mut self.devices[dev as usize], channel, attr, value)
+        self.devices[dev as usize].write_attr(channel, attr, value)
     }
 
     fn trigger(&self, dev: u32) -> Option<u32> {
@@ -181,7 +214,7 @@ impl Iio for Bench {
     }
 
     fn set_trigger(&mut self, dev: u32, trigger: Option<u32>) -> Result<(), No> {
-        calls::set_trigger(&mut self.devices[dev as usize], trigger)
+        self.devices[dev as usize].set_trigger(trigger)
     }
 
     fn context(&self) -> &[u8] {
@@ -189,14 +222,14 @@ impl Iio for Bench {
     }
 
     fn ev_open(&mut self, dev: u32, who: u32) -> Result<(), No> {
-        calls::ev_open(&mut self.devices[dev as usize], who)
+        self.devices[dev as usize].ev_open(who)
     }
 
     fn ev_read(&mut self, dev: u32, who: u32) -> Result<Option<EventData>, No> {
-        calls::ev_read(&mut self.devices[dev as usize], who)
+        self.devices[dev as usize].ev_read(who)
     }
 
     fn ev_close(&mut self, dev: u32, who: u32) -> Result<(), No> {
-        calls::ev_close(&mut self.devices[dev as usize], who)
+        self.devices[dev as usize].ev_close(who)
     }
 }

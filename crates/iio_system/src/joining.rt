@@ -1,13 +1,15 @@
 //! Members that come to a device and go.
 
-ghost use Rattle.std.specs.Prelude.{◌≡◌, ◌*◌, ◌^◌, ◌<◌, ◌≤◌, true, None, Some, is_some, length};
+ghost use Rattle.std.specs.Prelude.{◌≡◌, ◌*◌, ◌^◌, ◌<◌, ◌≤◌, true, false, None, Some, is_some, length};
 ghost use Rattle.iio_base.specs.Refusals.{first_refusal};
 ghost use Rattle.iio_layout.specs.Active.{has_data};
 ghost use Rattle.iio_layout.specs.Layout.{scan_size};
 ghost use Rattle.iio_layout.specs.Shape.{count_of};
 ghost use Rattle.iio_kfifo.specs.declared.limits.TheConstants.{MAX_BYTES};
-ghost use Rattle.iio_device.specs.Device.{join_faults};
-ghost use Rattle.iio_system.specs.Faults.{Hosts, JoinsBy};
+ghost use Rattle.iio_desc.specs.Kind.{Input};
+ghost use Rattle.iio_device.specs.Device.{has_no_place, join_faults};
+ghost use Rattle.iio_system.specs.Acting.{KeepsCaptures};
+ghost use Rattle.iio_system.specs.Faults.{Hosts, HostsAny, JoinsAny, JoinsBy, any_refusals};
 ghost use Rattle.iio_system.specs.Places.{is_hosted};
 ghost use Rattle.iio_system.specs.Station.{station_by, view_by};
 
@@ -18,7 +20,7 @@ use iio_layout::scan_size;
 use iio_mask::Mask;
 use iio_sensor::Sensor;
 use iio_trigger::Trigger;
-use iiod_session::No;
+use iiod_session::{No, no_of};
 use std::alloc::Global;
 
 // As `host`, where the trigger is there.
@@ -56,12 +58,8 @@ fn host_nowhere(
     }
 }
 
-/// The number of the device's trigger, where a member of that mask may join by it.
-pub(crate) fn host(
-    device: &Device<Kfifo>,
-    triggers: &[Trigger],
-    mask: Mask,
-) -> Result<usize, JoinFault>
+// The number of the device's trigger, where a member of that mask may join by it.
+fn host(device: &Device<Kfifo>, triggers: &[Trigger], mask: Mask) -> Result<usize, JoinFault>
     requires { is_hosted (length triggers.now) (station_by ⟦<Plug as Sensor>⟧.driver device.now) ≡ true }
     ensures { Hosts triggers.now (view_by ⟦<Plug as Sensor>⟧.driver device.now) mask.bits result }
 {
@@ -77,8 +75,8 @@ pub(crate) fn host(
     }
 }
 
-/// A member more at a device, which may join.
-pub(crate) fn join(
+// A member more at a device, which may join.
+fn join(
     alloc: Global,
     device: &mut Device<Kfifo>,
     trigger: &mut Trigger,
@@ -106,4 +104,41 @@ pub(crate) fn join(
         }),
         Err(JoinRefused { fault: _, tail: _ }) => Err(No::Mem),
     }
+}
+
+/// The number of an input device's trigger, where a member of that mask may join by it.
+pub(crate) fn host_input(
+    device: &Device<Kfifo>,
+    triggers: &[Trigger],
+    mask: Mask,
+) -> Result<usize, No>
+    requires hosted { is_hosted (length triggers.now) (station_by ⟦<Plug as Sensor>⟧.driver device.now) ≡ true }
+    requires below { mask.bits < 2 ^ count_of device.now.core.roster.shape }
+    requires channel { has_data device.now.core.roster.shape mask.bits ≡ true }
+    ensures { HostsAny triggers.now Input device.now.core.number device.now.core.roster.shape (station_by ⟦<Plug as Sensor>⟧.driver device.now) mask.bits result }
+{
+    match host(device, triggers, mask) {
+        Err(fault) => Err(no_of(fault)),
+        Ok(trigger) => Ok(trigger),
+    }
+}
+
+/// A member more at an input device, which may join by that trigger.
+pub(crate) fn join_input(
+    alloc: Global,
+    device: &mut Device<Kfifo>,
+    trigger: &mut Trigger,
+    mask: Mask,
+    capacity: u32,
+) -> Result<Seat, No>
+    requires trigger { is_some device.old.core.trigger ≡ true }
+    requires may { first_refusal (any_refusals (has_no_place device.old.core.number trigger.old) Input device.old.core.roster.shape (station_by ⟦<Plug as Sensor>⟧.driver device.old) mask.bits) ≡ None }
+    requires below { mask.bits < 2 ^ count_of device.old.core.roster.shape }
+    requires channel { has_data device.old.core.roster.shape mask.bits ≡ true }
+    requires some { 1 ≤ capacity }
+    requires bytes { capacity * scan_size device.old.core.roster.shape mask.bits ≤ MAX_BYTES }
+    ensures joins { JoinsAny mask capacity false device.old.core.number device.old.core.roster.shape result (station_by ⟦<Plug as Sensor>⟧.driver device.old) (station_by ⟦<Plug as Sensor>⟧.driver device.new) trigger.old trigger.new }
+    ensures keeps { KeepsCaptures (view_by ⟦<Plug as Sensor>⟧.driver device.old) (view_by ⟦<Plug as Sensor>⟧.driver device.new) }
+{
+    join(alloc, device, trigger, mask, capacity)
 }

@@ -1,6 +1,7 @@
 //! The core: the devices and triggers of a description, and the connections of a script.
 #![tactic(auto)]
 
+mod any_device;
 mod bench;
 mod calls;
 mod connection;
@@ -13,6 +14,7 @@ mod joining;
 mod lines;
 mod moves;
 mod others;
+mod out_device;
 mod quoted;
 mod remasking;
 mod seat;
@@ -20,11 +22,14 @@ mod step;
 mod steps;
 mod system;
 mod tally;
+mod writing;
 
+pub use any_device::{AnyDevice, Became};
 pub use bench::Bench;
 pub use connection::Connection;
 pub use iio_base::Mem;
 pub use iio_history::MAX_NAMES;
+pub use out_device::{Gave, OutDevice};
 pub use quoted::Quoted;
 pub use seat::Seat;
 pub use step::Step;

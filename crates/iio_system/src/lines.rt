@@ -2,10 +2,12 @@
 
 ghost use Rattle.std.specs.Prelude.{◌≡◌, ◌+◌, ◌++◌, ◌≤◌, [], ◌∷◌, OnOk, codes, length, take};
 ghost use Rattle.std.specs.Fmt.{decimal, signed_decimal};
+ghost use Rattle.hex.specs.Hex.{encode_lower};
 ghost use Rattle.iio_text.specs.Escape.{quoted};
 ghost use Rattle.iio_history.specs.Transcript.{closed_line, printed};
-ghost use Rattle.iio_system.specs.Lines.{dropped_word, handled_word, polled_words, sensed_words, unplugged_word};
+ghost use Rattle.iio_system.specs.Lines.{dropped_word, gave_word, handled_word, polled_words, sensed_words, unplugged_word};
 
+use crate::out_device::Gave;
 use iio_attr::Name;
 use iio_base::Mem;
 use iio_device::{Handled, Sensed};
@@ -166,6 +168,50 @@ pub(crate) fn push_handle(
     let end = put_handle(out, start, trigger, device, handled);
     out.truncate(end);
     Ok(())
+}
+
+// Bytes as two lower-case digits each.
+fn push_hex(out: &mut Vec<u8>, bytes: &[u8]) -> Result<(), Mem>
+    ensures { OnOk result (out.new.items ≡ out.old.items ++ encode_lower bytes.now) }
+{
+    for byte in bytes {
+        let mut pair = [0; 2];
+        hex::encode_to_slice([*byte], &mut pair).unwrap();
+        out.extend_from_slice(&pair)?;
+    }
+    Ok(())
+}
+
+// The scan that an output device was given, which ends its line.
+fn push_given(out: &mut Vec<u8>, scan: &[u8]) -> Result<(), Mem>
+    ensures { OnOk result (out.new.items ≡ out.old.items ++ codes " given " ++ encode_lower scan.now ++ codes "\n") }
+{
+    out.extend_from_slice(b" given ")?;
+    push_hex(out, scan)?;
+    out.push(b'\n')?;
+    Ok(())
+}
+
+/// `handle TRIGGER DEVICE` and what became of an output device's entry: `given HEX`, with the scan; or `underrun`, `idle`.
+#[inline(never)]
+pub(crate) fn push_gave(
+    out: &mut Vec<u8>,
+    trigger: &Name,
+    device: &Name,
+    gave: Gave,
+    scan: &[u8],
+) -> Result<(), Mem>
+    ensures { OnOk result (out.new.items ≡ out.old.items ++ printed (codes "handle" ∷ trigger.now ∷ device.now ∷ gave_word gave scan.now ∷ [])) }
+{
+    out.extend_from_slice(b"handle ")?;
+    out.extend_from_slice(trigger.bytes())?;
+    out.push(b' ')?;
+    out.extend_from_slice(device.bytes())?;
+    match gave {
+        Gave::Given => push_given(out, scan),
+        Gave::Underrun => push_last(out, b" underrun"),
+        Gave::Idle => push_last(out, b" idle"),
+    }
 }
 
 // A count that ends its line.

@@ -1,18 +1,20 @@
 //! The steps of a script that no connection makes: what they make of a bench, and the lines that they print.
 //! The large ones are never inlined, so that a step doesn't pay for the locals of another.
 
-ghost use Rattle.std.specs.Prelude.{◌≡◌, ◌<◌, ◌≤◌, List, OnOk, length};
+ghost use Rattle.std.specs.Prelude.{◌≡◌, ◌++◌, ◌<◌, ◌≤◌, List, [], ◌∷◌, OnOk, codes, length};
 ghost use Rattle.iio_desc.specs.declared.limits.TheConstants.{MAX_DEVICES};
 ghost use Rattle.iiod_session.specs.Front.{device_name, trigger_name};
-ghost use Rattle.iio_history.specs.Transcript.{Fire, Handle, Poll, Sense, SetClock, Unplug};
+ghost use Rattle.iio_history.specs.Transcript.{Fire, Handle, Poll, Sense, SetClock, Unplug, printed};
 ghost use Rattle.iio_system.specs.declared.connection.Connection.{Connection};
 ghost use Rattle.iio_system.specs.declared.seat.Seat.{Seat};
-ghost use Rattle.iio_system.specs.Bench.{captures_of, front_of};
+ghost use Rattle.iio_system.specs.Bench.{captures_of, front_of, room_at};
+ghost use Rattle.iio_system.specs.Lines.{became_word};
 ghost use Rattle.iio_system.specs.Moves.{CanGoOn, HandlesAll, HandlesOne};
 ghost use Rattle.iio_system.specs.Standing.{CanCapture, Makes, RiseBy};
 
+use crate::any_device::Became;
 use crate::bench::Bench;
-use crate::lines::{push_clock, push_handle, push_poll, push_sense, push_unplug};
+use crate::lines::{push_clock, push_gave, push_handle, push_poll, push_sense, push_unplug};
 use iio_attr::Name;
 use iio_base::Mem;
 use iio_device::Plug;
@@ -32,7 +34,7 @@ fn device_name(bench: &Bench, dev: u32) -> &Name
     requires { dev < length (front_of bench.now).devices }
     ensures { result.now ≡ device_name (front_of bench.now) dev }
 {
-    &bench.devices[dev as usize].core.name
+    bench.devices[dev as usize].name()
 }
 
 // How many devices there are.
@@ -88,6 +90,35 @@ pub(crate) fn poll(bench: &mut Bench, trigger: u32, t: i64, out: &mut Vec<u8>) -
     push_poll(out, trigger_name(bench, trigger), polled)
 }
 
+// The line of an entry that was handled.
+fn push_became(
+    bench: &Bench,
+    trigger: u32,
+    dev: u32,
+    became: Option<Became>,
+    out: &mut Vec<u8>,
+) -> Result<(), Mem>
+    requires trigger { trigger < length (front_of bench.now).triggers }
+    requires dev { dev < length (front_of bench.now).devices }
+    ensures { OnOk result (out.new.items ≡ out.old.items ++ printed (codes "handle" ∷ trigger_name (front_of bench.now) trigger ∷ device_name (front_of bench.now) dev ∷ became_word became (room_at bench.now dev) ∷ [])) }
+{
+    let trigger = trigger_name(bench, trigger);
+    let device = device_name(bench, dev);
+    match became {
+        None => push_handle(out, trigger, device, None),
+        Some(Became::Asked(handled)) => push_handle(out, trigger, device, Some(handled)),
+        Some(Became::Gave(gave)) => {
+            push_gave(
+                out,
+                trigger,
+                device,
+                gave,
+                bench.devices[dev as usize].room(),
+            )
+        }
+    }
+}
+
 /// `handle TRIGGER DEVICE`: handles the entry that a device has at a trigger.
 #[inline(never)]
 pub(crate) fn handle(
@@ -103,13 +134,8 @@ pub(crate) fn handle(
     ensures makes { OnOk result ((cs : List (Connection Seat)) → Makes ⟦<Plug as Sensor>⟧.driver (Handle trigger dev) bench.old bench.new cs cs out.old.items out.new.items) }
     ensures captures { RiseBy 32 (captures_of bench.old) (captures_of bench.new) }
 {
-    let handled = bench.handle(trigger, dev);
-    push_handle(
-        out,
-        trigger_name(bench, trigger),
-        device_name(bench, dev),
-        handled,
-    )
+    let became = bench.handle(trigger, dev);
+    push_became(bench, trigger, dev, became, out)
 }
 
 // Handles the entry that a device has at a trigger, where it has one.
@@ -123,12 +149,7 @@ fn handle_one(bench: &mut Bench, trigger: u32, dev: u32, out: &mut Vec<u8>) -> R
 {
     match bench.handle(trigger, dev) {
         None => Ok(()),
-        Some(handled) => push_handle(
-            out,
-            trigger_name(bench, trigger),
-            device_name(bench, dev),
-            Some(handled),
-        ),
+        Some(became) => push_became(bench, trigger, dev, Some(became), out),
     }
 }
 

@@ -2,6 +2,7 @@
 
 ghost use Rattle.std.specs.Prelude.{◌≡◌, ◌+◌, ◌++◌, ◌<◌, ◌≤◌, ◌^◌, [], All, IfOk, List, OnOk, length, map, true};
 ghost use Rattle.iio_scan_type.specs.Format.{size_of};
+ghost use Rattle.iio_desc.specs.Description.{DeviceHead};
 ghost use Rattle.iio_desc.specs.WellFormed.{IsWellFormed};
 ghost use Rattle.iio_device.specs.declared.plug.Plug.TheVariants.{Given};
 ghost use Rattle.iiod_session.specs.Front.{first_front};
@@ -15,8 +16,10 @@ ghost use Rattle.iio_worlds.specs.Bystanders.{only_bystanders};
 ghost use Rattle.iio_system.specs.Feeding.{AreOwning};
 ghost use Rattle.iio_system.specs.Standing.{CanCapture, IsTaken, MakesStep, MeetsStep, RiseBy, StandsFor, has_room, name_by, names_by, names_with};
 ghost use Rattle.iio_system.specs.Seat.{seen_of};
+ghost use Rattle.iio_system.specs.Station.{any_front};
 ghost use Rattle.iio_system.specs.Step.{IsValid, cost_of, step_view};
 
+use crate::any_device::AnyDevice;
 use crate::bench::Bench;
 use crate::connection::Connection;
 use crate::connections::{drop_guarded, drop_named, feed, feed_guarded, place};
@@ -26,7 +29,7 @@ use crate::step::Step;
 use crate::system::System;
 use iio_attr::Name;
 use iio_base::Mem;
-use iio_desc::{Desc, DeviceDesc};
+use iio_desc::Desc;
 use iio_device::Plug;
 use iio_history::MAX_NAMES;
 use iio_layout::Shape;
@@ -44,11 +47,12 @@ fn look_at_channels(shape: &Shape)
 }
 
 // Looks at each device's channels: so a scan with a channel's data has a byte.
-fn look_at_sizes(devices: &[DeviceDesc])
-    ensures { Every HasDeviceSizes devices.now }
+fn look_at_sizes(devices: &[AnyDevice])
+    requires { All (λ (d : DeviceHead). 0 < length d.shape.channels) (map any_front devices.now) }
+    ensures { Every HasDeviceSizes (map any_front devices.now) }
 {
     for device in devices {
-        look_at_channels(&device.shape);
+        look_at_channels(device.shape());
     }
 }
 
@@ -158,8 +162,8 @@ impl System {
         ensures names { IfOk result (λ x. names_by x ≡ []) }
         ensures used { IfOk result (λ x. x.used ≡ 0) }
     {
-        look_at_sizes(&desc.devices);
         let bench = Bench::new(alloc, desc, drivers)?;
+        look_at_sizes(&bench.devices);
         Ok(System {
             alloc,
             bench,

@@ -8,9 +8,9 @@ ghost use Rattle.iio_system.specs.Standing.{StandsFor};
 ghost use Rattle.iio_system.specs.Station.{captures_by};
 ghost use Rattle.iio_system.specs.Tally.{bytes_by, devices_tally, overruns_by, scans_by, shown, tally_of};
 
+use crate::any_device::AnyDevice;
 use crate::system::System;
-use iio_device::{Device, Plug};
-use iio_kfifo::Kfifo;
+use iio_device::Plug;
 use iio_sensor::Sensor;
 
 /// What was counted in a run. The first three stay at 2^64 - 1 when they get there.
@@ -26,22 +26,45 @@ pub struct Tally {
     pub bytes: u64,
 }
 
+// What a device counted; an output device makes no captures, gives its members nothing and loses nothing.
+fn device_tally(device: &AnyDevice) -> Tally
+    ensures captures { result.captures ≡ captures_by device.now }
+    ensures scans { result.scans ≡ shown (scans_by device.now) }
+    ensures overruns { result.overruns ≡ shown (overruns_by device.now) }
+    ensures bytes { result.bytes ≡ bytes_by device.now % 2 ^ 64 }
+{
+    match device {
+        AnyDevice::Input(device) => Tally {
+            captures: device.captures(),
+            scans: device.core.totals.scans.get(),
+            overruns: device.overruns(),
+            bytes: device.core.totals.bytes.wrapped(),
+        },
+        AnyDevice::Output(_) => Tally {
+            captures: 0,
+            scans: 0,
+            overruns: 0,
+            bytes: 0,
+        },
+    }
+}
+
 // Adds what a device counted.
-fn add_device(tally: &mut Tally, device: &Device<Kfifo>)
+fn add_device(tally: &mut Tally, device: &AnyDevice)
     ensures captures { tally.new.captures ≡ shown (tally.old.captures + captures_by device.now) }
     ensures scans { tally.new.scans ≡ shown (tally.old.scans + shown (scans_by device.now)) }
     ensures overruns { tally.new.overruns ≡ shown (tally.old.overruns + shown (overruns_by device.now)) }
     ensures bytes { tally.new.bytes ≡ (tally.old.bytes + bytes_by device.now % 2 ^ 64) % 2 ^ 64 }
 {
-    let totals = &device.core.totals;
-    tally.captures = tally.captures.saturating_add(device.captures());
-    tally.scans = tally.scans.saturating_add(totals.scans.get());
-    tally.overruns = tally.overruns.saturating_add(device.overruns());
-    tally.bytes = tally.bytes.wrapping_add(totals.bytes.wrapped());
+    let counted = device_tally(device);
+    tally.captures = tally.captures.saturating_add(counted.captures);
+    tally.scans = tally.scans.saturating_add(counted.scans);
+    tally.overruns = tally.overruns.saturating_add(counted.overruns);
+    tally.bytes = tally.bytes.wrapping_add(counted.bytes);
 }
 
 // What devices counted.
-fn devices_tally(devices: &[Device<Kfifo>]) -> Tally
+fn devices_tally(devices: &[AnyDevice]) -> Tally
     ensures { result ≡ devices_tally devices.now }
 {
     let mut tally = Tally {

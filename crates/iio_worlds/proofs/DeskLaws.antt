@@ -1,21 +1,23 @@
 -- Whether a step meets the rules is told by the seats of the connections that are there.
 use Rattle.std.proofs.Common.{◌≡◌, ℕ, zero, suc, Ok, ◌==◌, ◌&&◌, ◌||◌, not, Bool, true, false, List, [], ◌∷◌, map, Option, Some, None, option_map, is_some, slice_get, cond, refl, sym, ap, ◌∙◌, subst, arith}
+use Rattle.std.specs.Option.{option_map_or}
 use Rattle.std.specs.Str.{bytes_eq}
 use Rattle.std.proofs.lemmas.Slice.Eq.{bytes_eq-Decides}
 use Rattle.std.proofs.lemmas.Bool.{and_parts, and_from, or_parts, or_from, true≢false}
 use Rattle.std.proofs.lemmas.Bool.Decides.{nat_tests}
-use Rattle.iio_desc.specs.Description.{Description}
+use Rattle.iio_desc.specs.Kind.{Kind, Input, is_input}
+use Rattle.iio_desc.specs.Description.{Description, DeviceHead, heads_of}
 use Rattle.iio_desc.specs.Description as desc_spec
 use Rattle.iio_device.specs.Site.{is_empty}
 use Rattle.iiod_grammar.specs.Command.{Close, Remask}
 use Rattle.iiod_grammar.specs.Stream.{Item, Said, End, items_from}
 use Rattle.iiod_session.specs.Desk.{Bare, DeskRecord}
-use Rattle.iio_history.specs.Who.{Who, Conn, same}
+use Rattle.iiod_session.specs.Front.{find_device, kind_at}
+use Rattle.iio_history.specs.Who.{Who, Conn, Inner, same}
 use Rattle.iio_history.specs.Registry.{Setup, Member, Device, is_member, has_ended}
 use Rattle.iio_history.specs.Told.{Station, Told, device_of, registry_of}
 use Rattle.iio_history.specs.Transcript.{Step, Feed, Drop, begun_by}
-use Rattle.iio_history.specs.Bench.{Every, IsBench, IsDeskOf, IsStation, IsThere, front_of, is_in, names_of, seat_at, seat_in}
-use Rattle.iio_history.proofs.BenchSteps.{find_same}
+use Rattle.iio_history.specs.Bench.{Every, IsBench, IsDeskOf, IsStation, IsThere, front_of, is_in, kind_of_head, kind_of_station, names_of, seat_at, seat_in}
 use Rattle.iio_worlds.specs.Stance.{Opens, by_number, desk_there, desks_but, has_input, has_others, has_seat, is_so_at, item_meets, items_meet, may_part, none_seated, none_so, one_has, one_seated, opens_by, opens_of, own_has, stance_of, step_meets, step_meets_by}
 use Rattle.iio_worlds.proofs.Alone.{get_map}
 use Rattle.iio_worlds.proofs.StartLaws.{held_in}
@@ -70,6 +72,7 @@ not_there a ns [] are absent = refl
 not_there a ns (m ∷ ms) are absent = or_from (same (Conn a) m.who) (is_member (Conn a) ms) (by_who m.who are.0) (not_there a ns ms are.1 absent)
   where
     by_who : (w : Who) → IsThere ns w → same (Conn a) w ≡ false
+    by_who (Inner device) there = refl
     by_who (Conn name) there = by_test (bytes_eq a name) refl
       where
         by_test : (b : Bool) → bytes_eq a name ≡ b → bytes_eq a name ≡ false
@@ -92,13 +95,29 @@ own_has_none m a desks k are none = by_test (is_in (names_of m) a) refl
     by_test true is = no_seat m a (desks a) k (desk_is m a desks (names_of m) are is) none
     by_test false is = refl
 
+kind_there : (kind : Kind) (o : Option DeviceHead) → Some kind ≡ option_map kind_of_head o → kind ≡ option_map_or (λ (d : DeviceHead). d.kind) o Input
+kind_there kind None is = cc
+kind_there kind (Some d) is = cc
+
+kind_is : (s : Setup) (m : Told) (k : ℕ) (st : Station) → IsBench s m → slice_get m.stations k ≡ Some st → st.kind ≡ kind_at (front_of s) k
+unfolding kind_at
+kind_is s m k st bench here =
+    kind_there st.kind (slice_get (heads_of s.desc) k)
+    (ap (option_map kind_of_station) (sym here) ∙ sym (get_map kind_of_station m.stations k) ∙ ap (λ kinds. slice_get kinds k) bench.kinds ∙ get_map kind_of_head (heads_of s.desc) k)
+
+false_right : (b : Bool) → (b && false) ≡ false
+false_right true = refl
+false_right false = refl
+
 own_at : (s : Setup) (m : Told) (a : List ℕ) (desks : List ℕ → DeskRecord) (k : ℕ) → IsBench s m → Every (λ name. IsDeskOf m name (desks name)) (names_of m)
-    → is_so_at (map (has_input a) (registry_of m).devices) k ≡ own_has (desk_there desks a (names_of m)) k
+    → is_so_at (map (has_input a) (registry_of m).devices) k ≡ (is_input (kind_at (front_of s) k) && own_has (desk_there desks a (names_of m)) k)
 own_at s m a desks k bench are = so_is (has_input a) m k ∙ by_station (slice_get m.stations k) refl
   where
-    by_station : (o : Option Station) → slice_get m.stations k ≡ o → held_in (option_map (has_input a) (option_map device_of o)) ≡ own_has (desk_there desks a (names_of m)) k
-    by_station None is = sym (own_has_none m a desks k are is)
-    by_station (Some st) is = own_has_is s m a desks k st bench are is
+    by_station : (o : Option Station) → slice_get m.stations k ≡ o → held_in (option_map (has_input a) (option_map device_of o)) ≡ (is_input (kind_at (front_of s) k) && own_has (desk_there desks a (names_of m)) k)
+    by_station None is = sym (false_right (is_input (kind_at (front_of s) k))) ∙ ap (λ b. is_input (kind_at (front_of s) k) && b) (sym (own_has_none m a desks k are is))
+    by_station (Some st) is =
+        ap (λ kind. is_input kind && is_member (Conn a) (device_of st).members) (kind_is s m k st bench is)
+        ∙ ap (λ b. is_input (kind_at (front_of s) k) && b) (own_has_is s m a desks k st bench are is)
 
 -- the others'
 one_seated_is : (m : Told) (a : List ℕ) (desks : List ℕ → DeskRecord) (k : ℕ) (st : Station) (ns : List (List ℕ)) → Every (λ name. IsDeskOf m name (desks name)) ns → slice_get m.stations k ≡ Some st
@@ -176,11 +195,10 @@ by_same (Some k) f g same = same k
 
 asks_same : (s : Setup) (m : Told) (a : List ℕ) (desks : List ℕ → DeskRecord) → IsBench s m → Every (λ name. IsDeskOf m name (desks name)) (names_of m)
     → AsksSame (opens_of s.desc (stance_of a (registry_of m))) (opens_by (front_of s) (desk_there desks a (names_of m)) (desks_but desks a (names_of m)))
+unfolding find_device
 asks_same s m a desks bench are = record {
-  own = λ device. by_same (desc_spec.find_device s.desc device) (is_so_at (map (has_input a) (registry_of m).devices)) (own_has (desk_there desks a (names_of m))) (λ k. own_at s m a desks k bench are)
-      ∙ ap (λ o. by_number o (own_has (desk_there desks a (names_of m)))) (sym (find_same s device));
-  others = λ device. by_same (desc_spec.find_device s.desc device) (is_so_at (map (has_others a) (registry_of m).devices)) (one_seated (desks_but desks a (names_of m))) (λ k. others_at s m a desks k bench are)
-      ∙ ap (λ o. by_number o (one_seated (desks_but desks a (names_of m)))) (sym (find_same s device));
+  own = λ device. by_same (desc_spec.find_device s.desc device) (is_so_at (map (has_input a) (registry_of m).devices)) (λ k. is_input (kind_at (front_of s) k) && own_has (desk_there desks a (names_of m)) k) (λ k. own_at s m a desks k bench are);
+  others = λ device. by_same (desc_spec.find_device s.desc device) (is_so_at (map (has_others a) (registry_of m).devices)) (one_seated (desks_but desks a (names_of m))) (λ k. others_at s m a desks k bench are);
   none = either_way (none_so (map (has_others a) (registry_of m).devices)) (none_seated (desks_but desks a (names_of m)))
       (λ none. none_seated_where (desks_but desks a (names_of m)) (λ k. sym (others_at s m a desks k bench are) ∙ none_then (map (has_others a) (registry_of m).devices) none k))
       (λ none. none_where (map (has_others a) (registry_of m).devices) (λ k. others_at s m a desks k bench are ∙ none_seated_then (desks_but desks a (names_of m)) none k));

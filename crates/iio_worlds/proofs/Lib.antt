@@ -2,6 +2,7 @@ pub mod Alone
 pub mod SeatLaws
 pub mod SiteLaws
 pub mod ActLaws
+pub mod OwnLaws
 pub mod StepLaws
 pub mod OthersLaws
 pub mod QuietLaws

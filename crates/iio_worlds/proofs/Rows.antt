@@ -1,7 +1,7 @@
 -- Worked scripts: two that meet the rules, and for each part of the rules one against it, whose two texts differ.
-use Rattle.std.proofs.Common.{◌≡◌, ℕ, pos, true, List, [], ◌∷◌, ◌++◌, refl, codes, Some, None, Ok, Err}
+use Rattle.std.proofs.Common.{◌≡◌, ℕ, pos, true, List, [], ◌∷◌, ◌++◌, map, refl, codes, Some, None, Ok, Err}
 use Rattle.std.specs.Fmt.{digits}
-use Rattle.iio_desc.specs.Description.{Description}
+use Rattle.iio_desc.specs.Description.{Description, DeviceRecord}
 use Rattle.iio_desc.specs.DescReader.{read_of}
 use Rattle.iio_history.specs.Registry.{Setup}
 use Rattle.iio_history.specs.Transcript.{Step, Feed, Fire, Drop, transcript, with_steps}
@@ -9,7 +9,7 @@ use Rattle.iio_worlds.specs.Bystanders.{only_bystanders}
 use Rattle.iio_worlds.specs.Worlds.{without_others, transcript_kept, first_offence}
 
 abbrev described : List ℕ → Description
-described text = elim (read_of 4 text) [ Ok d ↦ d | Err e ↦ record { context = []; triggers = []; devices = [] } ]
+described text = elim (read_of 4 text) [ Ok d ↦ d | Err e ↦ record { context = []; triggers = []; devices = []; outputs = []; averages = [] } ]
 
 abbrev setup : List ℕ → Setup
 setup text = record { desc = described text; drivers = [] }
@@ -123,3 +123,42 @@ remasked = a (codes "OPEN a 1 00000001") ∷ b (codes "OPEN a 1 00000001") ∷ b
 remasked_meets : (only_bystanders one A (with_steps one [] remasked) ≡ true) × (transcript_kept one A [] remasked ≡ transcript one [] (without_others A remasked))
 unfolding digits
 remasked_meets = (refl, refl)
+
+-- ---- output devices and averaging devices
+
+-- device a, an averaging device over it, and an output device on its trigger
+abbrev all_kinds : Setup
+all_kinds = record one {
+  desc = record one.desc {
+    outputs = map (λ (d : DeviceRecord). record { name = codes "o"; trigger = d.trigger; shape = d.shape }) one.desc.devices;
+    averages = record { name = codes "m"; base = 0; window = 2 } ∷ [];
+  };
+}
+
+-- an inner member is nobody's: A may leave its averaging device beside B, and B's place at the base is seen by nobody
+abbrev averaging : List Step
+averaging =
+    a (codes "OPEN a 1 00000001") ∷ b (codes "OPEN a 1 00000002") ∷ a (codes "OPEN m 1 00000001") ∷ fire 1 ∷ fire 2 ∷ a (codes "READBUF m 1") ∷ a (codes "CLOSE m") ∷ b (codes "REMASK a 00000001")
+    ∷ b (codes "CLOSE a") ∷ a (codes "OPEN m 1 00000002") ∷ a (codes "CLOSE a") ∷ fire 3 ∷ fire 4 ∷ a (codes "READBUF m 1") ∷ []
+
+averaging_meets : (only_bystanders all_kinds A (with_steps all_kinds [] averaging) ≡ true) × (transcript_kept all_kinds A [] averaging ≡ transcript all_kinds [] (without_others A averaging))
+    × (transcript all_kinds [] (without_others A averaging)
+    ≡ codes "A \"0\\n\"\nA \"0\\n\"\npoll t0 accepted 1\nhandle t0 a captured\npoll t0 accepted 1\nhandle t0 a captured\nA \"1\\n00000001\\n\\x01\"\nA \"0\\n\"\nA \"0\\n\"\nA \"0\\n\"\npoll t0 accepted 1\nhandle t0 a captured\npoll t0 accepted 1\nhandle t0 a captured\nA \"1\\n00000002\\n\\x02\"\n")
+unfolding digits
+averaging_meets = (refl, refl, refl)
+
+-- nobody else may name them, whoever has them open
+naming_offends : (first_offence all_kinds A [] (a (codes "OPEN m 1 00000001") ∷ b (codes "READ m name") ∷ []) ≡ Some 1)
+    × (first_offence all_kinds A [] (a (codes "OPEN o 1 00000001") ∷ b (codes "GETTRIG o") ∷ []) ≡ Some 1)
+    × (first_offence all_kinds A [] (a (codes "OPEN o 1 00000001") ∷ b (codes "WRITEBUF o 0") ∷ []) ≡ Some 1)
+    × (first_offence all_kinds A [] (a (codes "OPEN m 1 00000001") ∷ b (codes "OPEN a 1 00000001") ∷ []) ≡ Some 1)
+unfolding digits
+naming_offends = (refl, refl, refl, refl)
+
+-- an output device that another has open is taken
+taking : List Step
+taking = b (codes "OPEN o 1 00000001") ∷ a (codes "OPEN o 1 00000001") ∷ []
+
+taking_differs : (first_offence all_kinds A [] taking ≡ Some 0) × (transcript_kept all_kinds A [] taking ≡ codes "A \"-16\\n\"\n") × (transcript all_kinds [] (without_others A taking) ≡ codes "A \"0\\n\"\n")
+unfolding digits taking
+taking_differs = (refl, refl, refl)

@@ -90,6 +90,6 @@ unfolding digits
 exit_offends = refl
 
 -- A may go once B has
-leaving_last : solo A adc (codes "A \"OPEN adc0 1 00000001\\n\"\nB \"OPEN adc0 1 00000001\\n\"\ndrop B\nA \"SET adc0 BUFFERS_COUNT 2\\nCLOSE adc0\\n\"\ndrop A\n") ≡ done (codes "A \"0\\n\"\nA \"0\\n0\\n\"\nA dropped\n%%\nA \"0\\n\"\nA \"0\\n0\\n\"\nA dropped\n")
+leaving_last : solo A adc (codes "A \"OPEN adc0 1 00000001\\n\"\nB \"OPEN adc0 1 00000001\\n\"\ndrop B\nA \"REMASK adc0 00000002\\nCLOSE adc0\\n\"\ndrop A\n") ≡ done (codes "A \"0\\n\"\nA \"0\\n0\\n\"\nA dropped\n%%\nA \"0\\n\"\nA \"0\\n0\\n\"\nA dropped\n")
 unfolding digits
 leaving_last = refl

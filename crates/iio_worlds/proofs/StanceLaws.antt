@@ -8,7 +8,7 @@ use Rattle.iio_desc.specs.Description.{find_device}
 use Rattle.iiod_grammar.specs.Command.{Open, Close, Read, ReadBuf, GetTrig, SetBuffers, Remask}
 use Rattle.iiod_grammar.specs.Stream.{Item, Said, End, items_from}
 use Rattle.iiod_session.specs.Desk.{DeskRecord}
-use Rattle.iio_history.specs.Who.{Who, Conn, same}
+use Rattle.iio_history.specs.Who.{Who, Conn, Inner, same}
 use Rattle.iio_history.specs.Event.{Event, Arrived, Heard, Dropped, Polled, Handled, Sensed, Clock, Unplugged}
 use Rattle.iio_history.specs.Registry.{Setup, Member, Device, Registry, Entry, is_at, is_member, has_ended}
 use Rattle.iio_history.specs.Fold.{device_after, registry_after}
@@ -17,7 +17,7 @@ use Rattle.iio_history.specs.Reply.{seat_of}
 use Rattle.iio_history.specs.Transcript.{Step, Feed, Fire, Poll, Handle, Sense, SetClock, Drop, Unplug, and_then, begun_by, poll_entries, with_step}
 use Rattle.iio_history.specs.Bench.{Every, IsBench, IsDeskOf, IsSeat, IsStation, IsThere, bare_by, is_in, names_of, seat_in}
 use Rattle.iio_history.proofs.ToldLaws.{registry_is}
-use Rattle.iio_worlds.specs.Bystanders.{has_other, has_open, is_modest, others_are_modest, is_parting, is_unparted, all_from, is_bystander, may_say, only_bystanders, meets_by, all_meet_by}
+use Rattle.iio_worlds.specs.Bystanders.{mine, has_other, has_open, is_modest, others_are_modest, is_parting, is_unparted, all_from, is_bystander, may_say, only_bystanders, meets_by, all_meet_by}
 use Rattle.iio_worlds.specs.Stance.{Stance, has_input, has_others, stance_of, opens_of, is_so_at, is_so, none_so, may_part, item_meets, items_meet, step_meets, has_seat, one_has}
 use Rattle.iio_worlds.proofs.TwoWorldsLaws.{all_meet}
 use Rattle.iio_worlds.proofs.StartLaws.{quiet_all, all_met, is_met, heard, each_kept, open_by, open_at_is, all_unparted, start_decides}
@@ -269,6 +269,7 @@ one_of a (n ∷ ns) ms = (not (bytes_eq n a) && is_member (Conn n) ms) || one_of
 
 abbrev one_at : List ℕ → List (List ℕ) → Who → Bool
 one_at a ns (Conn name) = one_is a ns name
+one_at a ns (Inner device) = false
 
 shuffled : (p q u v w : Bool) → ((p && (q || u)) || (v || w)) ≡ (((p && q) || v) || ((p && u) || w))
 shuffled true true u v w = refl
@@ -290,6 +291,7 @@ one_first a [] m ms = by_who m.who
   where
     by_who : (w : Who) → false ≡ (one_at a [] w || false)
     by_who (Conn name) = refl
+    by_who (Inner device) = refl
 one_first a (n ∷ ns) m ms =
     ap (λ b. (not (bytes_eq n a) && (same (Conn n) m.who || is_member (Conn n) ms)) || b) (one_first a ns m ms)
     ∙ shuffled (not (bytes_eq n a)) (same (Conn n) m.who) (is_member (Conn n) ms) (one_at a ns m.who) (one_of a ns ms)
@@ -297,8 +299,14 @@ one_first a (n ∷ ns) m ms =
   where
     by_who : (w : Who) → ((not (bytes_eq n a) && same (Conn n) w) || one_at a ns w) ≡ one_at a (n ∷ ns) w
     by_who (Conn name) = refl
+    by_who (Inner device) = by_test (not (bytes_eq n a))
+      where
+        by_test : (b : Bool) → ((b && false) || false) ≡ false
+        by_test true = refl
+        by_test false = refl
 
-one_member : (a : List ℕ) (ns : List (List ℕ)) (w : Who) → IsThere ns w → not (same (Conn a) w) ≡ one_at a ns w
+one_member : (a : List ℕ) (ns : List (List ℕ)) (w : Who) → IsThere ns w → not (mine (Conn a) w) ≡ one_at a ns w
+one_member a ns (Inner device) is = refl
 one_member a ns (Conn name) is = by_test (bytes_eq a name) refl
   where
     by_test : (b : Bool) → bytes_eq a name ≡ b → not b ≡ one_is a ns name

@@ -1,5 +1,5 @@
 -- Whether the items of a feed meet the rules is decided by what was open when the feed began.
-use Rattle.std.proofs.Common.{◌≡◌, ℕ, suc, ◌&&◌, ◌||◌, not, Bool, true, false, List, [], ◌∷◌, ◌++◌, map, Option, Some, None, Result, Ok, Err, option_map, slice_get, cond, refl, sym, ap, ◌∙◌, subst}
+use Rattle.std.proofs.Common.{◌≡◌, ℕ, suc, ◌&&◌, ◌||◌, not, Bool, true, false, List, [], ◌∷◌, ◌++◌, map, Option, Some, None, Result, Ok, Err, option_map, slice_get, cond, refl, sym, ap, ◌∙◌, subst, is_ok, ◌==◌}
 use Rattle.std.specs.Str.{bytes_eq}
 use Rattle.std.proofs.lemmas.Slice.Eq.{bytes_eq-Decides}
 use Rattle.std.proofs.lemmas.Bool.{false_from_ne_true, true≢false}
@@ -7,18 +7,20 @@ use Rattle.iio_base.specs.Refusals.{unless_refused}
 use Rattle.iio_text.specs.declared.errors.Errno.{Errno}
 use Rattle.iio_desc.specs.Description.{find_device}
 use Rattle.iiod_grammar.specs.Command.{Open, Close, Read, ReadBuf, GetTrig, SetTrig, SetBuffers, Remask, EvOpen, EvRead, EvClose}
-use Rattle.iiod_grammar.specs.Stream.{Item, Said, Written, End}
+use Rattle.iiod_grammar.specs.Stream.{Item, Said, Written, Streamed, End}
 use Rattle.iio_history.specs.Places.{map_from}
-use Rattle.iio_history.specs.Who.{Who, Conn, same}
+use Rattle.iio_history.specs.Who.{Who, Conn, Inner, same, is_among}
 use Rattle.iio_history.specs.Event.{Event, Arrived, Heard, Dropped}
-use Rattle.iio_history.specs.Registry.{Setup, Member, Device, Registry, outline_of, buffers_of, is_member, is_named, without_members}
-use Rattle.iio_history.specs.Opening.{member_asked, remask_answer, trigger_answer}
-use Rattle.iio_history.specs.Act.{Act, Joining, Remasking, Leaving, Ending, Reading, Asking, Retriggering, Holding, Draining, Releasing, only, accepted, asking, found, write_found, setting, item_act, act_of}
-use Rattle.iio_history.specs.Fold.{with_mask, members_after, device_after, registry_after, registry_next}
+use Rattle.iio_history.specs.Registry.{Setup, Member, Device, Registry, outline_of, buffers_of, is_left_empty, is_member, is_named, without_members}
+use Rattle.iio_history.specs.Opening.{member_asked, open_answer, remask_answer, trigger_answer, write_answer}
+use Rattle.iio_history.specs.Act.{Act, Nothing, Writing, inner_member, inner_joins, inner_joining, inner_left, inners_left, inner_left_at, leaving, open_act, close_act, end_act, Joining, Remasking, Leaving, Ending, Reading, Asking, Retriggering, Holding, Draining, Releasing, only, accepted, asking, found, write_found, setting, item_act, act_of}
+use Rattle.iio_history.specs.Fold.{members_after, device_after, registry_after, registry_next}
 use Rattle.iio_history.specs.Transcript.{and_then}
 use Rattle.iio_history.proofs.WhoLaws.{same_self, same_is, same_sym}
-use Rattle.iio_worlds.specs.Bystanders.{has_open_at, has_open, is_modest, others_are_modest, is_parting, has_other, is_unparted, all_from, is_bystander, only_bystanders, meets_by, all_meet_by}
-use Rattle.iio_worlds.proofs.Alone.{get_map, Even, none_there}
+use Rattle.iio_worlds.specs.Bystanders.{mine, has_open_at, has_open, is_modest, others_are_modest, is_parting, has_other, is_unparted, all_from, is_bystander, only_bystanders, meets_by, all_meet_by}
+use Rattle.iio_worlds.proofs.Alone.{get_map, Led}
+use Rattle.iio_worlds.proofs.OwnLaws.{member_left, member_masked, other_joined, other_masked}
+use Rattle.iio_desc.specs.Kind.{is_input, is_output, is_over}
 use Rattle.iio_worlds.proofs.ActLaws.{AllEven, IsOwn}
 use Rattle.iio_worlds.proofs.OthersLaws.{IsForeign}
 use Rattle.iio_worlds.proofs.QuietLaws.{IsQuiet, rules_met, quiet_own, quiet_foreign, quiet_first}
@@ -59,15 +61,15 @@ quiet_all s a (e ∷ h) only = by_who (speaks a e) refl (quiet_all s a h only.1)
 abbrev pub is_met : Setup → List ℕ → Event → ℕ → Device → Bool
 is_met s a e k d = not (is_parting s a e k && has_other (Conn a) d.members)
 
-met_by : (w : Who) (p m : Bool) (ms : List Member) → Even w ms → is_member w ms ≡ m → not (p && m && has_other w ms) ≡ not (p && has_other w ms)
-met_by w false m ms even is = refl
-met_by w true true ms even is = refl
-met_by w true false ms even is = ap (λ (xs : List Member). not (has_other w xs)) (sym (none_there w ms even is))
+met_by : (w : Who) (p m : Bool) (ms : List Member) → Led w ms → is_member w ms ≡ m → not (p && m && has_other w ms) ≡ not (p && has_other w ms)
+met_by w false m ms led is = refl
+met_by w true true ms led is = refl
+met_by w true false ms led is = ap not (sym (led is))
 
 pub all_met : (s : Setup) (a : List ℕ) (e : Event) (k : ℕ) (ds : List Device) → AllEven (Conn a) ds → all_from (is_unparted s a e) k ds ≡ all_from (is_met s a e) k ds
 all_met s a e k [] even = refl
 all_met s a e k (d ∷ ds) even =
-    ap (λ b. b && all_from (is_unparted s a e) (suc k) ds) (met_by (Conn a) (is_parting s a e k) (is_member (Conn a) d.members) d.members (even 0 d refl) refl)
+    ap (λ b. b && all_from (is_unparted s a e) (suc k) ds) (met_by (Conn a) (is_parting s a e k) (is_member (Conn a) d.members) d.members (even 0 d refl).led refl)
     ∙ ap (λ b. is_met s a e k d && b) (all_met s a e (suc k) ds (λ j x here. even (suc j) x here))
 
 by_start : (s : Setup) (a name : List ℕ) (item : Item) (h : List Event) → OnlyBystanders s a h → is_bystander s (registry_after s h) a (Heard name item) ≡ meets_by s (registry_after s h) a name item
@@ -76,10 +78,19 @@ by_start s a name item h only =
 
 -- ---- an item joins or parts nobody but its speaker
 
+-- whose membership it is: its own, or an inner one
+abbrev IsHis : Who → Who → Type 0
+IsHis w (Conn name) = Conn name ≡ w
+IsHis w (Inner device) = Unit {0}
+
+abbrev AreHis : Who → List Who → Type 0
+AreHis w [] = Unit {0}
+AreHis w (x ∷ gone) = IsHis w x × AreHis w gone
+
 abbrev IsBy : Who → Act → Type 0
-IsBy w (Joining m) = m.who ≡ w
-IsBy w (Leaving gone) = gone ≡ w ∷ []
-IsBy w (Ending gone) = gone ≡ w ∷ []
+IsBy w (Joining m) = IsHis w m.who
+IsBy w (Leaving gone) = AreHis w gone
+IsBy w (Ending gone) = AreHis w gone
 IsBy w act = Unit {0}
 
 by_only : (w : Who) (b : Bool) (act : Act) → IsBy w act → IsBy w (only b act)
@@ -90,27 +101,77 @@ by_accepted : {A : Type 0} (w : Who) (act : A → Act) (answer : Result A Errno)
 by_accepted w act (Ok x) is = is x
 by_accepted w act (Err e) is = tt
 
-by_open : (m : Member) (o : Option Errno) → IsBy m.who (accepted (λ m. Joining m) (unless_refused m o))
-by_open m None = refl
-by_open m (Some e) = tt
+by_open : (w : Who) (m : Member) (o : Option Errno) → IsHis w m.who → IsBy w (accepted (λ m. Joining m) (unless_refused m o))
+by_open w m None is = is
+by_open w m (Some e) is = tt
+
+by_opening : (s : Setup) (r : Registry) (name : List ℕ) (samples : ℕ) (text : List ℕ) (cyclic : Bool) (o : Option ℕ) (k : ℕ) (d : Device) → IsBy (Conn name) (open_act s r name samples text cyclic o k d)
+by_opening s r name samples text cyclic None k d = tt
+by_opening s r name samples text cyclic (Some j) k d = by (j == k)
+  where
+    inner : (x : Option Device) → IsBy (Conn name) (elim x [ None ↦ Nothing | Some y ↦ inner_joins y.kind j k d (is_ok (open_answer s r y (Conn name) (buffers_of r.users name j) samples text cyclic)) ])
+    inner None = tt
+    inner (Some y) = by_only (Conn name) _ (Joining (inner_member j d)) tt
+
+    by : (b : Bool) → IsBy (Conn name) (cond b (accepted (λ m. Joining m) (open_answer s r d (Conn name) (buffers_of r.users name k) samples text cyclic)) (inner_joining s r name samples text cyclic j k d))
+    by true = by_open (Conn name) (member_asked d (Conn name) (buffers_of r.users name k) samples text cyclic) _ refl
+    by false = inner (slice_get r.devices j)
+
+his_left : (w : Who) (b c : Bool) (j : ℕ) → AreHis w (cond b (cond c (Inner j ∷ []) []) [])
+his_left w false c j = tt
+his_left w true false j = tt
+his_left w true true j = (tt, tt)
+
+his_left_at : (w : Who) (b : Bool) (gone : List Who) (j k : ℕ) (o : Option Device) → AreHis w (cond b (elim o [ None ↦ [] | Some x ↦ inner_left gone j k x ]) [])
+his_left_at w true gone j k None = tt
+his_left_at w false gone j k None = tt
+his_left_at w b gone j k (Some x) = his_left w b (is_over x.kind k && is_left_empty gone x.members) j
+
+by_leaving : (w : Who) (gone : List Who) → AreHis w gone → IsBy w (leaving gone)
+by_leaving w [] are = tt
+by_leaving w (x ∷ gone) are = are
+
+by_closing : (r : Registry) (name : List ℕ) (o : Option ℕ) (k : ℕ) (d : Device) → IsBy (Conn name) (close_act r name o k d)
+by_closing r name None k d = tt
+by_closing r name (Some j) k d = by (j == k)
+  where
+    by : (b : Bool) → IsBy (Conn name) (cond b (Leaving (Conn name ∷ [])) (leaving (inner_left_at r (Conn name ∷ []) j k d)))
+    by true = (refl, tt)
+    by false = by_leaving (Conn name) (inner_left_at r (Conn name ∷ []) j k d) (his_left_at (Conn name) (is_input d.kind) (Conn name ∷ []) j k (slice_get r.devices j))
+
+his_joined : (w : Who) (b : Bool) (j : ℕ) (more : List Who) → AreHis w more → AreHis w (cond b (Inner j ∷ []) [] ++ more)
+his_joined w true j more are = (tt, are)
+his_joined w false j more are = are
+
+his_lefts : (w : Who) (gone : List Who) (k j : ℕ) (ds : List Device) → AreHis w (inners_left gone k j ds)
+his_lefts w gone k j [] = tt
+his_lefts w gone k j (d ∷ ds) = his_joined w (is_over d.kind k && is_left_empty gone d.members) j (inners_left gone k (suc j) ds) (his_lefts w gone k (suc j) ds)
+
+by_ending : (r : Registry) (name : List ℕ) (k : ℕ) (d : Device) → IsBy (Conn name) (end_act r name k d)
+by_ending r name k d = (refl, by (is_input d.kind))
+  where
+    by : (b : Bool) → AreHis (Conn name) (cond b (inners_left (Conn name ∷ []) k 0 r.devices) [])
+    by true = his_lefts (Conn name) (Conn name ∷ []) k 0 r.devices
+    by false = tt
 
 by_item : (s : Setup) (r : Registry) (name : List ℕ) (item : Item) (k : ℕ) (d : Device) → IsBy (Conn name) (item_act s r name item k d)
-by_item s r name (Said (Ok (Open device samples text cyclic))) k d =
-    by_only (Conn name) (is_named s device k) _ (by_open (member_asked d (Conn name) (buffers_of r.users name k) samples text) _)
-by_item s r name (Said (Ok (Close device))) k d = by_only (Conn name) (is_named s device k) (Leaving (Conn name ∷ [])) refl
-by_item s r name (Said (Ok (ReadBuf device bytes))) k d = by_only (Conn name) (is_named s device k) (Reading (Conn name) bytes) tt
+by_item s r name (Said (Ok (Open device samples text cyclic))) k d = by_opening s r name samples text cyclic (find_device s.desc device) k d
+by_item s r name (Said (Ok (Close device))) k d = by_closing r name (find_device s.desc device) k d
+by_item s r name (Said (Ok (ReadBuf device bytes))) k d = by_only (Conn name) (is_named s device k && not (is_output d.kind)) (Reading (Conn name) bytes) tt
 by_item s r name (Said (Ok (Read device place attribute))) k d =
     by_only (Conn name) (is_named s device k) _
     (by_accepted (Conn name) (asking d) (found d (Conn name) place attribute) (λ target. by_only (Conn name) _ Asking tt))
 by_item s r name (Written device (Some target) payload) k d =
     by_only (Conn name) (is_named s device k) _ (by_accepted (Conn name) setting (write_found d (Conn name) target.0 target.1 payload) (λ x. tt))
+by_item s r name (Streamed device payload) k d =
+    by_only (Conn name) (is_named s device k) _ (by_accepted (Conn name) (λ scans. Writing (Conn name) scans) (write_answer d (Conn name) payload) (λ scans. tt))
 by_item s r name (Said (Ok (SetTrig device trigger))) k d =
     by_only (Conn name) (is_named s device k) _ (by_accepted (Conn name) (λ t. Retriggering t) (trigger_answer s (outline_of d) trigger) (λ t. tt))
 by_item s r name (Said (Ok (Remask device text))) k d = by_only (Conn name) (is_named s device k) _ (by_accepted (Conn name) (λ x. Remasking x.member x.mask) (remask_answer d (Conn name) text) (λ x. tt))
-by_item s r name (Said (Ok (EvOpen device))) k d = by_only (Conn name) (is_named s device k && d.site.plugged) (Holding (Conn name)) tt
-by_item s r name (Said (Ok (EvRead device))) k d = by_only (Conn name) (is_named s device k && d.site.plugged) (Draining (Conn name)) tt
-by_item s r name (Said (Ok (EvClose device))) k d = by_only (Conn name) (is_named s device k && d.site.plugged) (Releasing (Conn name)) tt
-by_item s r name (End refusal) k d = refl
+by_item s r name (Said (Ok (EvOpen device))) k d = by_only (Conn name) (is_named s device k && d.site.plugged && is_input d.kind) (Holding (Conn name)) tt
+by_item s r name (Said (Ok (EvRead device))) k d = by_only (Conn name) (is_named s device k && d.site.plugged && is_input d.kind) (Draining (Conn name)) tt
+by_item s r name (Said (Ok (EvClose device))) k d = by_only (Conn name) (is_named s device k && d.site.plugged && is_input d.kind) (Releasing (Conn name)) tt
+by_item s r name (End refusal) k d = by_ending r name k d
 by_item s r name item k d = tt
 
 -- ---- what another's act leaves: whether one is a member
@@ -119,61 +180,50 @@ joined_member : (v : Who) (ms : List Member) (m : Member) → same v m.who ≡ f
 joined_member v [] m is = ap (λ b. b || false) is
 joined_member v (x ∷ ms) m is = ap (λ b. same v x.who || b) (joined_member v ms m is)
 
-masked_member : (v who : Who) (mask : ℕ) (ms : List Member) → is_member v (map (with_mask who mask) ms) ≡ is_member v ms
-masked_member v who mask [] = refl
-masked_member v who mask (x ∷ ms) = ap (λ b. b || is_member v (map (with_mask who mask) ms)) (name (same who x.who)) ∙ ap (λ b. same v x.who || b) (masked_member v who mask ms)
-  where
-    name : (t : Bool) → same v (cond t (record x { mask = mask }) x).who ≡ same v x.who
-    name true = refl
-    name false = refl
+his_apart : (a : List ℕ) (w x : Who) → same (Conn a) w ≡ false → IsHis w x → same (Conn a) x ≡ false
+his_apart a w (Conn name) apart is = ap (same (Conn a)) is ∙ apart
+his_apart a w (Inner j) apart is = refl
 
-left_member_by : (t b : Bool) (v : Who) (x : Member) (ys zs : List Member) → same v x.who ≡ t → (t ≡ true → b ≡ false) → is_member v ys ≡ is_member v zs
-    → is_member v (cond (b || false) ys (x ∷ ys)) ≡ (same v x.who || is_member v zs)
-left_member_by true true v x ys zs is apart alike = absurd (true≢false (apart refl))
-left_member_by false true v x ys zs is apart alike = alike ∙ ap (λ u. u || is_member v zs) (sym is)
-left_member_by t false v x ys zs is apart alike = ap (λ u. same v x.who || u) alike
+among_apart : (a : List ℕ) (w : Who) (gone : List Who) → same (Conn a) w ≡ false → AreHis w gone → is_among (Conn a) gone ≡ false
+among_apart a w [] apart are = refl
+among_apart a w (x ∷ gone) apart are = ap (λ b. b || is_among (Conn a) gone) (his_apart a w x apart are.0) ∙ among_apart a w gone apart are.1
 
-left_member : (v w : Who) (ms : List Member) → same v w ≡ false → is_member v (without_members (w ∷ []) ms) ≡ is_member v ms
-left_member v w [] apart = refl
-left_member v w (x ∷ ms) apart =
-    left_member_by (same v x.who) (same x.who w) v x (without_members (w ∷ []) ms) ms refl (λ is. ap (λ y. same y w) (sym (same_is v x.who is)) ∙ apart) (left_member v w ms apart)
-
-asked_kept : (v w : Who) (act : Act) (ms : List Member) → same v w ≡ false → IsBy w act → is_member v (members_after act ms) ≡ is_member v ms
-asked_kept v w (Joining m) ms apart by = joined_member v ms m (ap (same v) by ∙ apart)
-asked_kept v w (Remasking m mask) ms apart by = masked_member v m.who mask ms
-asked_kept v w (Leaving gone) ms apart by = ap (λ g. is_member v (without_members g ms)) by ∙ left_member v w ms apart
-asked_kept v w (Ending gone) ms apart by = ap (λ g. is_member v (without_members g ms)) by ∙ left_member v w ms apart
-asked_kept v w act ms apart by = refl
+asked_kept : (a : List ℕ) (w : Who) (act : Act) (ms : List Member) → same (Conn a) w ≡ false → IsBy w act → is_member (Conn a) (members_after act ms) ≡ is_member (Conn a) ms
+asked_kept a w (Joining m) ms apart by = joined_member (Conn a) ms m (his_apart a w m.who apart by)
+asked_kept a w (Remasking m mask) ms apart by = member_masked (Conn a) m.who mask ms
+asked_kept a w (Leaving gone) ms apart by = member_left (Conn a) gone ms (among_apart a w gone apart by)
+asked_kept a w (Ending gone) ms apart by = member_left (Conn a) gone ms (among_apart a w gone apart by)
+asked_kept a w act ms apart by = refl
 
 -- ---- and what one's own act leaves: whether another is a member
 
-joined_other : (v : Who) (ms : List Member) (m : Member) → same v m.who ≡ true → has_other v (ms ++ m ∷ []) ≡ has_other v ms
-joined_other v [] m is = ap (λ b. not b || false) is
-joined_other v (x ∷ ms) m is = ap (λ b. not (same v x.who) || b) (joined_other v ms m is)
+his_mine : (w x : Who) → IsHis w x → mine w x ≡ true
+his_mine w (Conn name) is = ap (same w) is ∙ same_self w
+his_mine w (Inner j) is = refl
 
-masked_other : (v who : Who) (mask : ℕ) (ms : List Member) → has_other v (map (with_mask who mask) ms) ≡ has_other v ms
-masked_other v who mask [] = refl
-masked_other v who mask (x ∷ ms) = ap (λ b. b || has_other v (map (with_mask who mask) ms)) (name (same who x.who)) ∙ ap (λ b. not (same v x.who) || b) (masked_other v who mask ms)
+-- those that leave are no others
+his_among : (w x : Who) (gone : List Who) → AreHis w gone → is_among x gone ≡ true → mine w x ≡ true
+his_among w x [] are is = cc
+his_among w x (y ∷ gone) are is = by (same x y) refl is (his_among w x gone are.1)
   where
-    name : (t : Bool) → not (same v (cond t (record x { mask = mask }) x).who) ≡ not (same v x.who)
-    name true = refl
-    name false = refl
+    by : (b : Bool) → same x y ≡ b → (b || is_among x gone) ≡ true → (is_among x gone ≡ true → mine w x ≡ true) → mine w x ≡ true
+    by true own h rest = ap (mine w) (same_is x y own) ∙ his_mine w y are.0
+    by false own h rest = rest h
 
-left_other_by : (t : Bool) (v : Who) (x : Member) (ys zs : List Member) → same v x.who ≡ t → has_other v ys ≡ has_other v zs → has_other v (cond (t || false) ys (x ∷ ys)) ≡ (not (same v x.who) || has_other v zs)
-left_other_by true v x ys zs is alike = alike ∙ ap (λ u. not u || has_other v zs) (sym is)
-left_other_by false v x ys zs is alike = ap (λ u. not (same v x.who) || u) alike
+left_other_by : (g : Bool) (w : Who) (m : Member) (zs ms : List Member) → (g ≡ true → mine w m.who ≡ true) → has_other w zs ≡ has_other w ms → has_other w (cond g zs (m ∷ zs)) ≡ (not (mine w m.who) || has_other w ms)
+left_other_by true w m zs ms own h = h ∙ ap (λ b. not b || has_other w ms) (sym (own refl))
+left_other_by false w m zs ms own h = ap (λ b. not (mine w m.who) || b) h
 
-left_other : (v : Who) (ms : List Member) → has_other v (without_members (v ∷ []) ms) ≡ has_other v ms
-left_other v [] = refl
-left_other v (x ∷ ms) =
-    left_other_by (same x.who v) v x (without_members (v ∷ []) ms) ms (same_sym v x.who) (left_other v ms)
+left_other : (w : Who) (gone : List Who) (ms : List Member) → AreHis w gone → has_other w (without_members gone ms) ≡ has_other w ms
+left_other w gone [] are = refl
+left_other w gone (m ∷ ms) are = left_other_by (is_among m.who gone) w m (without_members gone ms) ms (λ is. his_among w m.who gone are is) (left_other w gone ms are)
 
-others_kept : (v : Who) (act : Act) (ms : List Member) → IsBy v act → has_other v (members_after act ms) ≡ has_other v ms
-others_kept v (Joining m) ms by = joined_other v ms m (ap (same v) by ∙ same_self v)
-others_kept v (Remasking m mask) ms by = masked_other v m.who mask ms
-others_kept v (Leaving gone) ms by = ap (λ g. has_other v (without_members g ms)) by ∙ left_other v ms
-others_kept v (Ending gone) ms by = ap (λ g. has_other v (without_members g ms)) by ∙ left_other v ms
-others_kept v act ms by = refl
+others_kept : (w : Who) (act : Act) (ms : List Member) → IsBy w act → has_other w (members_after act ms) ≡ has_other w ms
+others_kept w (Joining m) ms by = other_joined w ms m (his_mine w m.who by)
+others_kept w (Remasking m mask) ms by = other_masked w m.who mask ms
+others_kept w (Leaving gone) ms by = left_other w gone ms by
+others_kept w (Ending gone) ms by = left_other w gone ms by
+others_kept w act ms by = refl
 
 pub each_kept : (v : Device → Bool) (f : ℕ → Device → Device) (k : ℕ) (ds : List Device) → ((j : ℕ) (d : Device) → v (f j d) ≡ v d) → map v (map_from f k ds) ≡ map v ds
 each_kept v f k [] all = refl
@@ -182,7 +232,7 @@ each_kept v f k (d ∷ ds) all = ap (λ b. b ∷ map v (map_from f (suc k) ds)) 
 -- ---- the rules by what they ask of the devices
 
 abbrev pub asked_of : List ℕ → Device → Bool
-asked_of a d = is_member (Conn a) d.members
+asked_of a d = is_input d.kind && is_member (Conn a) d.members
 
 abbrev pub others_of : List ℕ → Device → Bool
 others_of a d = has_other (Conn a) d.members
@@ -190,7 +240,7 @@ others_of a d = has_other (Conn a) d.members
 abbrev pub held_in : Option Bool → Bool
 held_in x = elim x [ None ↦ false | Some b ↦ b ]
 
-opened_in : (a : List ℕ) (x : Option Device) → elim x [ None ↦ false | Some d ↦ is_member (Conn a) d.members ] ≡ held_in (option_map (asked_of a) x)
+opened_in : (a : List ℕ) (x : Option Device) → elim x [ None ↦ false | Some d ↦ is_input d.kind && is_member (Conn a) d.members ] ≡ held_in (option_map (asked_of a) x)
 opened_in a None = refl
 opened_in a (Some d) = refl
 
@@ -255,7 +305,7 @@ meets_same s a name item r q false is alike =
 still_same : (s : Setup) (a name : List ℕ) (item : Item) (r q : Registry) → AreSame a name r q → AreSame a name (registry_next s r (Heard name item)) q
 still_same s a name item r q alike = (
   λ apart. each_kept (asked_of a) (device_after s r (Heard name item)) 0 r.devices
-      (λ j d. asked_kept (Conn a) (Conn name) (act_of s r (Heard name item) j d) d.members (same_sym (Conn a) (Conn name) ∙ apart) (by_item s r name item j d)) ∙ alike.0 apart,
+      (λ j d. ap (λ b. is_input d.kind && b) (asked_kept a (Conn name) (act_of s r (Heard name item) j d) d.members (same_sym (Conn a) (Conn name) ∙ apart) (by_item s r name item j d))) ∙ alike.0 apart,
   λ is. each_kept (others_of a) (device_after s r (Heard name item)) 0 r.devices
       (λ j d. others_kept (Conn a) (act_of s r (Heard name item) j d) d.members
       (subst (λ w. IsBy (Conn w) (act_of s r (Heard name item) j d)) ((bytes_eq-Decides name a).0 is) (by_item s r name item j d))) ∙ alike.1 is,

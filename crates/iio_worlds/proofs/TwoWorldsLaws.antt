@@ -74,7 +74,7 @@ alike_foreign s a h g e is only alike =
       quiet_foreign s a (registry_after s h) e is met.0 alike.0,
       alike.1,
       ap (own a) (step_is_told s h e)
-          ∙ step_kept s a (told s h) e is (of_told s h (λ r. others_are_modest s r a e ≡ true) met.0) (of_told s h (λ r. AllFree (Conn a) r.devices) alike.0.1) ∙ alike.2,
+          ∙ step_kept s a (told s h) e is (of_told s h (λ r. others_are_modest s r a e ≡ true) met.0) (of_told s h (λ r. AllEven (Conn a) r.devices) alike.0.0) (of_told s h (λ r. AllFree (Conn a) r.devices) alike.0.1) ∙ alike.2,
     )
 
 text_same : (s : Setup) (a : List ℕ) (h g : List Event) (e : Event) → IsOwn a e → OnlyBystanders s a (e ∷ h) → AreAlike s a h g → event_text s (told s h) e ≡ event_text s (told s g) e

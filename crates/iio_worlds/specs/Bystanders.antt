@@ -1,19 +1,20 @@
 -- What another connection may do without a connection's notice: each event, with what stands before it, meets two rules.
 -- (This project's own.)
-use Rattle.std.specs.Prelude.{ℕ, suc, ◌==◌, ◌&&◌, ◌||◌, not, Bool, true, false, List, [], ◌∷◌, Some, None, slice_get, Ok, Err}
+use Rattle.std.specs.Prelude.{ℕ, suc, ◌&&◌, ◌||◌, not, Bool, true, false, List, [], ◌∷◌, Some, None, slice_get, Ok, Err}
 use Rattle.std.specs.Str.{bytes_eq}
 use Rattle.iio_text.specs.declared.errors.Errno.TheVariants.{EFBIG}
 use Rattle.iiod_grammar.specs.Command.{Help, Exit, Version, Print, Timeout, Open, Close, Read, ReadBuf, GetTrig, SetBuffers, Remask}
 use Rattle.iio_desc.specs.Description.{find_device}
-use Rattle.iio_history.specs.Who.{Who, Conn, same}
+use Rattle.iio_history.specs.Who.{Who, Conn, Inner, same}
+use Rattle.iio_desc.specs.Kind.{is_input}
 use Rattle.iiod_grammar.specs.Stream.{Item, Said, End}
 use Rattle.iio_history.specs.Event.{Event, Heard, Dropped}
 use Rattle.iio_history.specs.Registry.{Setup, Member, Device, Registry, is_member, is_named}
 use Rattle.iio_history.specs.Fold.{registry_after}
 
--- whether the connection is a member of device k
+-- whether the connection is a member of device k, which is neither an output nor an averaging device
 abbrev pub has_open_at : Registry → List ℕ → ℕ → Bool
-has_open_at r a k = elim (slice_get r.devices k) [ None ↦ false | Some d ↦ is_member (Conn a) d.members ]
+has_open_at r a k = elim (slice_get r.devices k) [ None ↦ false | Some d ↦ is_input d.kind && is_member (Conn a) d.members ]
 
 -- and of the device of that name
 abbrev pub has_open : Setup → Registry → List ℕ → List ℕ → Bool
@@ -56,10 +57,15 @@ is_parting s a (Heard name (End refusal)) k = bytes_eq name a
 is_parting s a (Dropped name) k = bytes_eq name a
 is_parting s a e k = false
 
+-- whether a membership is the connection's, or nobody's
+abbrev pub mine : Who → Who → Bool
+mine who (Conn name) = same who (Conn name)
+mine who (Inner device) = true
+
 -- whether another connection is a member
 abbrev pub has_other : Who → List Member → Bool
 has_other who [] = false
-has_other who (m ∷ ms) = not (same who m.who) || has_other who ms
+has_other who (m ∷ ms) = not (mine who m.who) || has_other who ms
 
 -- the second rule at device k: a membership of `a` isn't parted from another's
 abbrev pub is_unparted : Setup → List ℕ → Event → ℕ → Device → Bool

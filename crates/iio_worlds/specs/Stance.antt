@@ -4,6 +4,7 @@ use Rattle.std.specs.Str.{bytes_eq}
 use Rattle.iiod_grammar.specs.Command.{Close, Remask}
 use Rattle.iiod_grammar.specs.Stream.{Item, Said, End, items_from}
 use Rattle.iio_desc.specs.Description.{Description, find_device}
+use Rattle.iio_desc.specs.Kind.{is_input}
 use Rattle.iiod_session.specs.Desk.{DeskRecord}
 use Rattle.iiod_session.specs.Front.{Front}
 use Rattle.iiod_session.specs.Front as front_spec
@@ -16,14 +17,14 @@ use Rattle.iio_history.specs.Transcript.{Step, Feed, Drop, begun_by, with_step}
 use Rattle.iio_history.specs.Bench.{Every, IsBench, IsDeskOf, front_of, is_in, names_of, seat_at}
 use Rattle.iio_worlds.specs.Bystanders.{has_other, may_say, meets_by, only_bystanders}
 
--- device by device: whether the connection has it open; and whether
+-- device by device: whether the connection has it open, and it is neither an output nor an averaging device; and whether
 -- another connection has it open
 pub record Stance : Type 0 where
   pub own : List Bool
   pub others : List Bool
 
 abbrev pub has_input : List ℕ → Device → Bool
-has_input a d = is_member (Conn a) d.members
+has_input a d = is_input d.kind && is_member (Conn a) d.members
 
 abbrev pub has_others : List ℕ → Device → Bool
 has_others a d = has_other (Conn a) d.members
@@ -130,7 +131,7 @@ by_number o f = elim o [ None ↦ false | Some k ↦ f k ]
 
 abbrev pub opens_by : Front → Option DeskRecord → List DeskRecord → Opens
 opens_by front own others = record {
-  own = λ device. by_number (front_spec.find_device front device) (own_has own);
+  own = λ device. by_number (front_spec.find_device front device) (λ k. is_input (front_spec.kind_at front k) && own_has own k);
   others = λ device. by_number (front_spec.find_device front device) (one_seated others);
   none = none_seated others;
 }

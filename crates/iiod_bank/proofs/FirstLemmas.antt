@@ -3,7 +3,7 @@ use Rattle.std.proofs.Common.{◌≡◌, ℕ, zero, suc, ◌+◌, ◌-◌, ◌�
 use Rattle.std.specs.Prelude.{Result, Ok, Err, IfOk}
 use Rattle.std.specs.Option.{option_map_or}
 use Rattle.iio_sensor.specs.Driver.{Driver}
-use Rattle.iio_desc.specs.Description.{DeviceRecord}
+use Rattle.iio_desc.specs.Description.{DeviceHead, DeviceRecord, input_head, no_shape}
 use Rattle.iio_desc.specs.declared.limits.TheConstants.{MAX_TRIGGERS}
 use Rattle.iio_kfifo.specs.declared.tail.Tail.{Ghosts}
 use Rattle.iio_trigger.specs.Trigger.{State}
@@ -14,12 +14,12 @@ use Rattle.iio_desc.specs.declared.description.TriggerDesc.{TriggerDesc}
 use Rattle.iio_device.specs.declared.device.Fitted.{Fitted}
 use Rattle.iio_device.specs.declared.iio_dev.IioDev.{IioDev}
 use Rattle.iio_device.specs.declared.plug.Plug.{Plug}
-use Rattle.iiod_session.specs.Front.{DeviceFront, Front, no_shape, shape_at, first_face, first_front}
+use Rattle.iiod_session.specs.Front.{Front, shape_at}
 use Rattle.iio_kfifo.specs.Ends.{WriterEnd}
 use Rattle.iio_base.specs.declared.Mem.{Mem}
 use Rattle.iiod_bank.specs.declared.first.Parts.{Parts}
 use Rattle.iiod_bank.specs.declared.front.HubFront.{HubFront}
-use Rattle.iiod_bank.specs.FrontOf.{face_of, front_of}
+use Rattle.iiod_bank.specs.FrontOf.{face_of, front_of, served_front}
 use Rattle.iiod_bank.specs.Lent.{lent_by}
 use Rattle.iiod_bank.specs.Own.{Fits, FitsAt}
 use Rattle.iiod_bank.proofs.OwnLaws.{map_at}
@@ -57,16 +57,16 @@ length_map_is : {A B : Type 0} (f : A → B) (xs : List A) → length (map f xs)
 length_map_is f [] = refl
 length_map_is f (x ∷ xs) = ap (λ (n : ℕ). suc n) (length_map_is f xs)
 
-shape_first : (desc : Description) (i : ℕ) (x : DeviceRecord) → slice_get desc.devices i ≡ Some x → x.shape ≡ shape_at (first_front desc) i
+shape_first : (desc : Description) (i : ℕ) (x : DeviceRecord) → slice_get desc.devices i ≡ Some x → x.shape ≡ shape_at (served_front desc) i
 unfolding shape_at
-shape_first desc i x e = ap (λ (o : Option DeviceFront). option_map_or (λ (d : DeviceFront). d.shape) o no_shape) (sym (map_at first_face desc.devices i x e))
+shape_first desc i x e = ap (λ (o : Option DeviceHead). option_map_or (λ (d : DeviceHead). d.shape) o no_shape) (sym (map_at input_head desc.devices i x e))
 
 module _ {X : Type 0} {V : X → Type 0} {g : Ghosts WriterEnd} where
   pub first_fits : (drv : Plug X V → Driver) (front : HubFront) (devices : List (Fitted (IioDev WriterEnd g) X V)) (drivers : List Driver) (desc : Description) (many : ℕ)
-      → map (λ d. lent_by drv d) devices ≡ first_devices drivers 0 desc.devices → front_of front ≡ first_front desc → many ≡ MAX_TRIGGERS → Fits front devices many
+      → map (λ d. lent_by drv d) devices ≡ first_devices drivers 0 desc.devices → front_of front ≡ served_front desc → many ≡ MAX_TRIGGERS → Fits front devices many
   first_fits drv front devices drivers desc many views fronts sixteen = record {
     many = sym (length_map_is (λ d. lent_by drv d) devices) ∙ ap (λ (vs : List (DeviceView WriterEnd)). length vs) views ∙ length_first drivers 0 desc.devices
-        ∙ sym (length_map_is first_face desc.devices) ∙ ap (λ (f : Front). length f.devices) (sym fronts) ∙ length_map_is face_of front.devices.items;
+        ∙ sym (length_map_is input_head desc.devices) ∙ ap (λ (f : Front). length f.devices) (sym fronts) ∙ length_map_is face_of front.devices.items;
     each = λ i d at. by i d (first_at drivers 0 i desc.devices (lent_by drv d) (ap (λ (vs : List (DeviceView WriterEnd)). slice_get vs i) (sym views) ∙ map_at (λ d. lent_by drv d) devices i d at));
     sixteen = sixteen;
   }
@@ -106,7 +106,7 @@ sixteen_first described states few is =
 -- where the parts were made
 module _ {X : Type 0} {V : X → Type 0} where
   pub parts_fit : (drv : Plug X V → Driver) (drivers : List Driver) (desc : Description) (n : ℕ) (r : Result (Parts X V) Mem) → IsWellFormed n desc
-      → IfOk r (λ p. front_of p.front ≡ first_front desc) → IfOk r (λ p. map (λ d. lent_by drv d) p.devices.items ≡ first_devices drivers 0 desc.devices) → IfOk r (λ p. p.triggers.items ≡ first_triggers desc.triggers)
+      → IfOk r (λ p. front_of p.front ≡ served_front desc) → IfOk r (λ p. map (λ d. lent_by drv d) p.devices.items ≡ first_devices drivers 0 desc.devices) → IfOk r (λ p. p.triggers.items ≡ first_triggers desc.triggers)
       → IfOk r (λ p. Fits p.front p.devices.items (length p.triggers.items))
   parts_fit drv drivers desc n (Err e) sound fronts views triggers = tt
   parts_fit drv drivers desc n (Ok p) sound fronts views triggers = first_fits drv p.front p.devices.items drivers desc (length p.triggers.items) views fronts (sixteen_first desc.triggers p.triggers.items sound.triggers triggers)

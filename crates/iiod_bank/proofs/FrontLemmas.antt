@@ -4,8 +4,10 @@ use Rattle.std.specs.Prelude.{Bool, position, not}
 use Rattle.std.specs.List.{prefix_len}
 use Rattle.std.specs.Option.{option_map_or}
 use Rattle.std.proofs.lemmas.Option.{slice_get_read, slice_get_past}
+use Rattle.iio_desc.specs.Description.{DeviceHead, no_shape}
+use Rattle.iio_desc.specs.Kind.{Kind, Input}
 use Rattle.iio_desc.specs.declared.description.TriggerDesc.{TriggerDesc}
-use Rattle.iiod_session.specs.Front.{DeviceFront, Front, no_shape, shape_at, trigger_name}
+use Rattle.iiod_session.specs.Front.{Front, kind_at, shape_at, trigger_name}
 use Rattle.iiod_bank.specs.declared.front.Face.{Face}
 use Rattle.iiod_bank.specs.declared.front.HubFront.{HubFront}
 use Rattle.iiod_bank.specs.FrontOf.{face_of, front_of}
@@ -28,7 +30,17 @@ face_at f i x h e = slice_get_read f.devices.items (length f.devices.items) i x 
 
 pub shape_is : (f : HubFront) (i : ℕ) (x : Face) → slice_get f.devices.items i ≡ Some x → shape_at (front_of f) i ≡ x.shape
 unfolding shape_at
-shape_is f i x e = ap (λ (o : Option DeviceFront). option_map_or (λ (d : DeviceFront). d.shape) o no_shape) (map_at face_of f.devices.items i x e)
+shape_is f i x e = ap (λ (o : Option DeviceHead). option_map_or (λ (d : DeviceHead). d.shape) o no_shape) (map_at face_of f.devices.items i x e)
+
+kind_among : (faces : List Face) (i : ℕ) → option_map_or (λ (d : DeviceHead). d.kind) (slice_get (map face_of faces) i) Input ≡ Input
+kind_among [] i = refl
+kind_among (x ∷ xs) zero = refl
+kind_among (x ∷ xs) (suc i) = kind_among xs i
+
+-- it serves input devices alone
+pub kind_is : (f : HubFront) (i : ℕ) → kind_at (front_of f) i ≡ Input
+unfolding kind_at
+kind_is f i = kind_among f.devices.items i
 
 prefix_map : {A B : Type 0} (f : A → B) (p : B → Bool) (xs : List A) → prefix_len p (map f xs) ≡ prefix_len (λ x. p (f x)) xs
 prefix_map f p [] = refl

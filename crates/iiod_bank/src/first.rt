@@ -1,13 +1,13 @@
 //! A hub's devices and triggers before anything was done.
 
 ghost use Rattle.std.specs.Prelude.{◌≡◌, ◌≤◌, All, IfOk, Some, length, map};
+ghost use Rattle.iio_desc.specs.Description.{input_head};
 ghost use Rattle.iio_desc.specs.WellFormed.{HasPlaces, IsWellFormed};
 ghost use Rattle.iio_desc.specs.declared.limits.TheConstants.{MAX_TRIGGERS};
 ghost use Rattle.iio_device.specs.declared.plug.Plug.TheVariants.{Given};
 ghost use Rattle.iio_probe.specs.Devices.{first_devices};
-ghost use Rattle.iiod_session.specs.Front.{first_face, first_front};
 ghost use Rattle.iiod_bank.specs.First.{first_told, first_triggers};
-ghost use Rattle.iiod_bank.specs.FrontOf.{face_of, front_of};
+ghost use Rattle.iiod_bank.specs.FrontOf.{face_of, front_of, served_front};
 ghost use Rattle.iiod_bank.specs.Lent.{lent_by};
 ghost use Rattle.iiod_bank.specs.Own.{Fits};
 
@@ -26,7 +26,7 @@ use std::marker::PhantomData;
 
 // The names and shapes of the devices of a description.
 fn faces_of(alloc: Global, descs: &[DeviceDesc]) -> Result<Vec<Face>, Mem>
-    ensures { IfOk result (λ v. map face_of v.items ≡ map first_face descs.now) }
+    ensures { IfOk result (λ v. map face_of v.items ≡ map input_head descs.now) }
 {
     let mut faces = Vec::new(alloc);
     for desc in descs {
@@ -61,10 +61,10 @@ pub struct Parts {
     pub triggers: Vec<Trigger>,
 }
 
-// The parts of the hub of a description.
+// The parts of the hub of a description, which serves its `device` lines alone.
 fn made_of(alloc: Global, desc: Desc, drivers: Vec<Box<dyn Sensor + Send>>) -> Result<Parts, Mem>
     requires { IsWellFormed (length drivers.items) desc }
-    ensures front { IfOk result (λ p. front_of p.front ≡ first_front desc) }
+    ensures front { IfOk result (λ p. front_of p.front ≡ served_front desc) }
     ensures devices { IfOk result (λ p. map (λ d. lent_by ⟦<Plug as Sensor>⟧.driver d) p.devices.items ≡ first_devices (map (λ d. ⟦<Plug as Sensor>⟧.driver (Given d)) drivers.items) 0 desc.devices) }
     ensures triggers { IfOk result (λ p. p.triggers.items ≡ first_triggers desc.triggers) }
 {
@@ -72,6 +72,8 @@ fn made_of(alloc: Global, desc: Desc, drivers: Vec<Box<dyn Sensor + Send>>) -> R
         context,
         triggers: described,
         devices: descs,
+        outputs: _,
+        averages: _,
     } = desc;
     let faces = faces_of(alloc, &descs)?;
     let triggers = triggers_of(alloc, &described)?;
@@ -94,7 +96,7 @@ pub fn parts_of(
     drivers: Vec<Box<dyn Sensor + Send>>,
 ) -> Result<Parts, Mem>
     requires { IsWellFormed (length drivers.items) desc }
-    ensures front { IfOk result (λ p. front_of p.front ≡ first_front desc) }
+    ensures front { IfOk result (λ p. front_of p.front ≡ served_front desc) }
     ensures devices { IfOk result (λ p. map (λ d. lent_by ⟦<Plug as Sensor>⟧.driver d) p.devices.items ≡ first_devices (map (λ d. ⟦<Plug as Sensor>⟧.driver (Given d)) drivers.items) 0 desc.devices) }
     ensures triggers { IfOk result (λ p. p.triggers.items ≡ first_triggers desc.triggers) }
     ensures fits { IfOk result (λ p. Fits p.front p.devices.items (length p.triggers.items)) }
@@ -105,14 +107,15 @@ pub fn parts_of(
 impl OwnBank {
     /// The bank of a description, before anything was done: no device has a member, each has the attributes that its
     /// description writes, no place at a trigger is taken, and the clock shows 0. A device of a driver's number samples the
-    /// driver of that number, any other its recorded rows. Drivers that no device names are dropped.
+    /// driver of that number, any other its recorded rows. Drivers that no device names are dropped. The names of output
+    /// devices are unknown.
     pub fn new(
         alloc: Global,
         desc: Desc,
         drivers: Vec<Box<dyn Sensor + Send>>,
     ) -> Result<OwnBank, Mem>
         requires { IsWellFormed (length drivers.items) desc }
-        ensures front { IfOk result (λ b. ⟦<OwnBank as Bank>⟧.front b ≡ first_front desc) }
+        ensures front { IfOk result (λ b. ⟦<OwnBank as Bank>⟧.front b ≡ served_front desc) }
         ensures told { IfOk result (λ b. ⟦<OwnBank as Bank>⟧.told b ≡ Some (first_told (map (λ d. ⟦<Plug as Sensor>⟧.driver (Given d)) drivers.items) desc)) }
     {
         let Parts {

@@ -43,7 +43,8 @@ fn trigger_number(triggers: &[TriggerDesc], name: &[u8]) -> Option<usize>
 }
 
 impl HubFront {
-    ghost use Rattle.iiod_session.specs.Front.{find_device, find_trigger, shape_at, trigger_name};
+    ghost use Rattle.iio_desc.specs.Kind.{is_average, is_output};
+    ghost use Rattle.iiod_session.specs.Front.{find_device, find_trigger, kind_at, shape_at, trigger_name};
     ghost use Rattle.iiod_bank.specs.FrontOf.{front_of};
 
     /// The number of the device of that name.
@@ -85,6 +86,20 @@ impl HubFront {
         ensures { result.now ≡ shape_at (front_of self.now) dev }
     {
         &self.devices[dev as usize].shape
+    }
+
+    /// Whether a device is an output device: none is served.
+    pub fn is_output(&self, _dev: u32) -> bool
+        ensures { result ≡ is_output (kind_at (front_of self.now) _dev) }
+    {
+        false
+    }
+
+    /// Whether a device is an averaging device: none is served.
+    pub fn is_average(&self, _dev: u32) -> bool
+        ensures { result ≡ is_average (kind_at (front_of self.now) _dev) }
+    {
+        false
     }
 
     /// How many devices there are.

@@ -4,10 +4,10 @@ use Rattle.std.proofs.lemmas.List.{length-append}
 use Rattle.std.specs.List.{position_or_len}
 use Rattle.iio_text.specs.Lines.{is_line_end}
 use Rattle.iio_text.specs.declared.errors.Errno.TheVariants.{E2BIG, EFBIG}
-use Rattle.iiod_grammar.specs.Command.{Command, Exit, Target, Write, command_of}
+use Rattle.iiod_grammar.specs.Command.{Command, Exit, Write, WriteBuf, command_of}
 use Rattle.iiod_grammar.specs.declared.command.Refused.{Refused}
 use Rattle.iiod_grammar.specs.declared.lines.TheConstants.{MAX_LINE, MAX_PAYLOAD}
-use Rattle.iiod_grammar.specs.Stream.{AtEnd, InLine, InPayload, Item, Scanned, Scanner, Written, after_byte, after_line, after_said, ended_by, items_from, no_item, one_item, payload_after}
+use Rattle.iiod_grammar.specs.Stream.{AtEnd, InLine, InPayload, Item, OfWrite, OfWriteBuf, Pending, Scanned, Scanner, after_byte, after_line, after_said, ended_by, items_from, no_item, one_item, payload_after, payload_begun, with_payload}
 use Rattle.iiod_connection.specs.Parts.{PartsAreShort, part_length}
 use Rattle.iiod_connection.proofs.TalkLaws.{append_nil}
 
@@ -32,7 +32,7 @@ part_by_line (b ∷ bs) = by (b == 10) refl (part_by_line bs)
 
 abbrev weight : Scanner → ℕ
 weight (InLine begun) = 1
-weight (InPayload device target count begun) = 2
+weight (InPayload pending count begun) = 2
 weight AtEnd = 0
 
 abbrev all_of : Scanned → ℕ
@@ -51,12 +51,16 @@ one_one = omega arith
 none_one : 0 ≤ 1
 none_one = omega arith
 
-payload_items : (device : List ℕ) (target : Option Target) (count : ℕ) (begun : List ℕ) → items_in (payload_after device target count begun) ≤ 1
-payload_items device target count begun = chosen (length begun == count) items_in (one_item (Written device target begun)) (no_item (InPayload device target count begun)) 1 one_one none_one
+payload_items : (pending : Pending) (count : ℕ) (begun : List ℕ) → items_in (payload_after pending count begun) ≤ 1
+payload_items pending count begun = chosen (length begun == count) items_in (one_item (with_payload pending begun)) (no_item (InPayload pending count begun)) 1 one_one none_one
+
+begun_items : (pending : Pending) (count : ℕ) → items_in (payload_begun pending count) ≤ 1
+begun_items pending count = chosen (nat_lt MAX_PAYLOAD count) items_in (ended_by (Some EFBIG)) (payload_after pending count []) 1 one_one (payload_items pending count [])
 
 line_items : (said : Result Command Refused) → items_in (after_said said) ≤ 1
 line_items (Ok Exit) = one_one
-line_items (Ok (Write device target count)) = chosen (nat_lt MAX_PAYLOAD count) items_in (ended_by (Some EFBIG)) (payload_after device target count []) 1 one_one (payload_items device target count [])
+line_items (Ok (Write device target count)) = begun_items (OfWrite device target) count
+line_items (Ok (WriteBuf device count)) = begun_items (OfWriteBuf device) count
 line_items said = one_one
 
 -- the last byte of a part
@@ -64,7 +68,7 @@ last : (s : Scanner) (b : ℕ) → items_in (after_byte s b) ≤ weight s
 last (InLine begun) b =
     chosen (b == 10) items_in (after_line begun) (if nat_lt (length begun) MAX_LINE then no_item (InLine (begun ++ b ∷ [])) else ended_by (Some E2BIG)) 1 (line_items (command_of begun))
     (chosen (nat_lt (length begun) MAX_LINE) items_in (no_item (InLine (begun ++ b ∷ []))) (ended_by (Some E2BIG)) 1 none_one one_one)
-last (InPayload device target count begun) b = let p = payload_items device target count (begun ++ b ∷ []) in omega (arith, p)
+last (InPayload pending count begun) b = let p = payload_items pending count (begun ++ b ∷ []) in omega (arith, p)
 last AtEnd b = let p : 0 ≤ 0 = omega arith in p
 
 -- a byte that is no LF
@@ -73,10 +77,10 @@ step (InLine begun) b e =
     let long : Scanned = if nat_lt (length begun) MAX_LINE then no_item (InLine (begun ++ b ∷ [])) else ended_by (Some E2BIG) in
     subst (λ (c : Bool). all_of (if c then after_line begun else long) ≤ 1) (sym e)
     (chosen (nat_lt (length begun) MAX_LINE) all_of (no_item (InLine (begun ++ b ∷ []))) (ended_by (Some E2BIG)) 1 one_one one_one)
-step (InPayload device target count begun) b e =
+step (InPayload pending count begun) b e =
     let now = begun ++ b ∷ [] in
     let two : 2 ≤ 2 = omega arith in
-    chosen (length now == count) all_of (one_item (Written device target now)) (no_item (InPayload device target count now)) 2 two two
+    chosen (length now == count) all_of (one_item (with_payload pending now)) (no_item (InPayload pending count now)) 2 two two
 step AtEnd b e = let p : 0 ≤ 0 = omega arith in p
 
 fits : (s : Scanner) (bytes : List ℕ) → length (items_from s (take (part_length bytes) bytes)) ≤ weight s
@@ -94,7 +98,7 @@ fits s (b ∷ bs) = by (b == 10) refl (fits (after_byte s b).next bs)
 
 at_most_two : (s : Scanner) → weight s ≤ 2
 at_most_two (InLine begun) = let p : 1 ≤ 2 = omega arith in p
-at_most_two (InPayload device target count begun) = let p : 2 ≤ 2 = omega arith in p
+at_most_two (InPayload pending count begun) = let p : 2 ≤ 2 = omega arith in p
 at_most_two AtEnd = let p : 0 ≤ 2 = omega arith in p
 
 pub parts_are_short : PartsAreShort

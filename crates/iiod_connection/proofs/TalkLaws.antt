@@ -14,7 +14,9 @@ use Rattle.iiod_session.specs.declared.manner.Manner.{Manner}
 use Rattle.iiod_session.specs.declared.manner.Manner.TheVariants.{Server}
 use Rattle.iiod_session.specs.Performs.{IsReadOf}
 use Rattle.iiod_session.specs.Run.{Feeds}
-use Rattle.iiod_session.specs.Front.{Front, find_device, no_shape}
+use Rattle.iio_desc.specs.Description.{no_shape}
+use Rattle.iio_desc.specs.Kind.{Input}
+use Rattle.iiod_session.specs.Front.{Front, find_device}
 use Rattle.iio_io.specs.Bytes.{WritesPart}
 use Rattle.iiod_connection.specs.declared.session_end.SessionEnd.{SessionEnd}
 use Rattle.iiod_connection.specs.declared.session_end.SessionEnd.TheVariants.{Eof, Ended, LinkFault, Memory}
@@ -75,7 +77,7 @@ feeds_once front m a b bytes before after text going e d f fed = record {
 
 read_within : (front : Front) (dev : ℕ) (item : Item) → IsReadOf front dev item → dev < length front.devices
 unfolding find_device
-read_within front dev (Said (Ok (ReadBuf device asked))) r = (position-Some _ front.devices dev (record { name = []; shape = no_shape }) r).0
+read_within front dev (Said (Ok (ReadBuf device asked))) r = (position-Some _ front.devices dev (record { name = []; kind = Input; shape = no_shape }) r).0
 read_within front dev item r = absurd r
 
 pub stands_by : (front : Front) (a b : Place) (bytes text : List ℕ) (going : Going) → FeedsOnce front a bytes text going b → (going ≡ On → b.stream.items ≡ []) → StandsBy front going b

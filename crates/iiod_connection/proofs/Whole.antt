@@ -114,11 +114,11 @@ nothing_heard front a left written = record {
   leaves = tt;
 }
 
-pub closed_by : (end : SessionEnd) (c b : Place) (told : Option Machine) → IsLast end c b → IfSome b.state.told (λ m. told ≡ Some (left_machine m b.state.desk)) → IsClosed end c told
-closed_by Eof c b told last s = subst (λ (p : Place). IsClosed Eof p told) (sym last) s
-closed_by Ended c b told last s = subst (λ (p : Place). IsClosed Ended p told) (sym last) s
-closed_by LinkFault c b told last s = subst (λ (p : Place). IsClosed LinkFault p told) (sym last) s
-closed_by Memory c b told last s = tt
+pub closed_by : (front : Front) (end : SessionEnd) (c b : Place) (told : Option Machine) → IsLast end c b → IfSome b.state.told (λ m. told ≡ Some (left_machine front m b.state.desk)) → IsClosed front end c told
+closed_by front Eof c b told last s = subst (λ (p : Place). IsClosed front Eof p told) (sym last) s
+closed_by front Ended c b told last s = subst (λ (p : Place). IsClosed front Ended p told) (sym last) s
+closed_by front LinkFault c b told last s = subst (λ (p : Place). IsClosed front LinkFault p told) (sym last) s
+closed_by front Memory c b told last s = tt
 
 -- a new session stands where nothing was heard of it
 pub is_first_place : {S : Type 0} (seen : S → SeatRecord) (told : Option Machine) (who : ℕ) (s : SessionRecord S) → IsFresh who Server s → place_of seen told s ≡ first_place who told

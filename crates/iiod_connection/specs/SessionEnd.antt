@@ -45,15 +45,15 @@ pub record Ends (Says : List ℕ → List ℕ → Place → Type 0) (end : Sessi
 
 -- every seat is closed and every holding has ended, of what the connection had at that place; where memory ran out, what it
 -- had isn't told
-abbrev pub IsClosed : SessionEnd → Place → Option Machine → Type 0
-IsClosed Memory b told = Unit {0}
-IsClosed end b told = IfSome b.state.told (λ m. told ≡ Some (left_machine m b.state.desk))
+abbrev pub IsClosed : Front → SessionEnd → Place → Option Machine → Type 0
+IsClosed front Memory b told = Unit {0}
+IsClosed front end b told = IfSome b.state.told (λ m. told ≡ Some (left_machine front m b.state.desk))
 
 -- a connection from its first byte to its end
 abbrev pub IsServed : Front → (who : ℕ) → (told : Option Machine) → (left written : Option (List ℕ)) → SessionEnd
     → (told' : Option Machine) → (left' written' : Option (List ℕ)) → Type 0
 IsServed front who told left written end told' left' written' =
-    (b : Place) × Ends (Answers front (first_place who told)) end left written left' written' b × IsClosed end b told'
+    (b : Place) × Ends (Answers front (first_place who told)) end left written left' written' b × IsClosed front end b told'
 
 -- the count of the link's faults rose where the link failed, and else it stayed
 abbrev pub EndFaults : SessionEnd → ℕ → ℕ → Type 0

@@ -9,9 +9,9 @@ use Rattle.std.specs.Bool.{if◌then◌else◌}
 use Rattle.iiod_grammar.specs.declared.lines.Ready.{Ready}
 use Rattle.iiod_grammar.specs.declared.lines.Ready.TheVariants.{TooLong}
 use Rattle.iio_text.specs.declared.errors.Errno.TheVariants.{E2BIG}
-use Rattle.iiod_grammar.specs.Command.{Target, drop_returns, without_returns, command_of_words}
+use Rattle.iiod_grammar.specs.Command.{drop_returns, without_returns, command_of_words}
 use Rattle.iiod_grammar.specs.Lines.{is_lf, cut, Cut, NotYet, WholeLine, WholePayload, Overlong, LinesRecord, Fed, feed_of, feed_of_cut, is_begun}
-use Rattle.iiod_grammar.specs.Stream.{Written, Scanner, InLine, InPayload, AtEnd, Scanned, no_item, one_item, ended_by, payload_after, after_line, after_said, after_byte}
+use Rattle.iiod_grammar.specs.Stream.{Pending, with_payload, Scanner, InLine, InPayload, AtEnd, Scanned, no_item, one_item, ended_by, payload_after, after_line, after_said, after_byte}
 use Rattle.iiod_grammar.specs.Scans.{scan_on, ScansBy, Scans, EndsPiece}
 use Rattle.iiod_grammar.proofs.CutLemmas.{payload_begun, payload_whole, line_overlong, line_not_yet, line_whole, line_begun}
 
@@ -93,27 +93,27 @@ without_returns-after_line line = ap (λ l. after_said (command_of_words (words_
 
 -- ---- payloads
 
-scan_payload : (bytes begun device : List ℕ) (target : Option Target) (count : ℕ) → length begun + length bytes ≤ count
-    → scan_on (payload_after device target count begun) bytes ≡ payload_after device target count (begun ++ bytes)
-scan_payload [] begun device target count few =
-    further_nil (payload_after device target count begun) ∙ ap (payload_after device target count) (sym (append-nil begun))
-scan_payload (b ∷ bs) begun device target count few =
+scan_payload : (bytes begun : List ℕ) (pending : Pending) (count : ℕ) → length begun + length bytes ≤ count
+    → scan_on (payload_after pending count begun) bytes ≡ payload_after pending count (begun ++ bytes)
+scan_payload [] begun pending count few =
+    further_nil (payload_after pending count begun) ∙ ap (payload_after pending count) (sym (append-nil begun))
+scan_payload (b ∷ bs) begun pending count few =
     let part : (length begun == count) ≡ false = ne_eqb (length begun) count (λ e. omega (arith, e, few)) in
-    let here : payload_after device target count begun ≡ no_item (InPayload device target count begun) = rw part refl in
+    let here : payload_after pending count begun ≡ no_item (InPayload pending count begun) = rw part refl in
     ap (λ x. scan_on x (b ∷ bs)) here
-    ∙ scan_payload bs (begun ++ b ∷ []) device target count (omega (arith, few, length-append begun (b ∷ [])))
-    ∙ ap (payload_after device target count) (append_assoc begun (b ∷ []) bs)
+    ∙ scan_payload bs (begun ++ b ∷ []) pending count (omega (arith, few, length-append begun (b ∷ [])))
+    ∙ ap (payload_after pending count) (append_assoc begun (b ∷ []) bs)
 
 -- ---- feeding
 
-abbrev FeedScans : List ℕ → Option Target → LinesRecord → List ℕ → Fed → Type 0
-FeedScans device target x bytes f = ScansBy device target x bytes f.taken f.ready f.lines
+abbrev FeedScans : Pending → LinesRecord → List ℕ → Fed → Type 0
+FeedScans pending x bytes f = ScansBy pending x bytes f.taken f.ready f.lines
 
-fed_line : (device : List ℕ) (target : Option Target) (begun piece bytes : List ℕ) → is_begun None begun ≡ true
-    → let x : LinesRecord = record { begun = begun; wanted = None; piece = piece; overlong = false } in FeedScans device target x bytes (feed_of x bytes)
-fed_line device target begun piece bytes h =
+fed_line : (pending : Pending) (begun piece bytes : List ℕ) → is_begun None begun ≡ true
+    → let x : LinesRecord = record { begun = begun; wanted = None; piece = piece; overlong = false } in FeedScans pending x bytes (feed_of x bytes)
+fed_line pending begun piece bytes h =
     let x : LinesRecord = record { begun = begun; wanted = None; piece = piece; overlong = false } in
-    let P : Cut → Type 0 = λ k. FeedScans device target x bytes (feed_of_cut x bytes k) in
+    let P : Cut → Type 0 = λ k. FeedScans pending x bytes (feed_of_cut x bytes k) in
     let n = position_or_len is_lf bytes in
     elim (cases_lt 1024 (length begun + n)) [
       | inl over ↦ subst P (sym (line_overlong begun bytes h over)) (λ going. scan_overlong bytes begun n refl (line_begun begun h) over)
@@ -129,39 +129,39 @@ fed_line device target begun piece bytes h =
       ]
     ]
 
-fed_payload : (device : List ℕ) (target : Option Target) (begun piece bytes : List ℕ) (count : ℕ) → is_begun (Some count) begun ≡ true
-    → let x : LinesRecord = record { begun = begun; wanted = Some count; piece = piece; overlong = false } in FeedScans device target x bytes (feed_of x bytes)
-fed_payload device target begun piece bytes count h =
+fed_payload : (pending : Pending) (begun piece bytes : List ℕ) (count : ℕ) → is_begun (Some count) begun ≡ true
+    → let x : LinesRecord = record { begun = begun; wanted = Some count; piece = piece; overlong = false } in FeedScans pending x bytes (feed_of x bytes)
+fed_payload pending begun piece bytes count h =
     let x : LinesRecord = record { begun = begun; wanted = Some count; piece = piece; overlong = false } in
-    let P : Cut → Type 0 = λ k. FeedScans device target x bytes (feed_of_cut x bytes k) in
+    let P : Cut → Type 0 = λ k. FeedScans pending x bytes (feed_of_cut x bytes k) in
     let within = payload_begun count begun h in
     let m = count - length begun in
     elim (cases_lt (length (begun ++ bytes)) count) [
       | inl few ↦
           let part : cut (Some count) (begun ++ bytes) ≡ NotYet = rw (lt-ltb (length (begun ++ bytes)) count few) refl in
-          subst P (sym part) (scan_payload bytes begun device target count (omega (arith, few, length-append begun bytes)))
+          subst P (sym part) (scan_payload bytes begun pending count (omega (arith, few, length-append begun bytes)))
       | inr enough ↦
           let room : m ≤ length bytes = omega (arith, enough, length-append begun bytes) in
           let size : length (begun ++ take m bytes) ≡ count = omega (arith, within, room, length-append begun (take m bytes), length-take m bytes) in
           let taken : length (begun ++ take m bytes) - length begun ≡ m = omega (arith, size) in
-          let whole : payload_after device target count (begun ++ take m bytes) ≡ one_item (Written device target (begun ++ take m bytes)) =
+          let whole : payload_after pending count (begun ++ take m bytes) ≡ one_item (with_payload pending (begun ++ take m bytes)) =
           rw (eq-eqb (length (begun ++ take m bytes)) count size) refl in
           subst P (sym (payload_whole count begun bytes h room))
-          (ap (λ k. scan_on (payload_after device target count begun) (take k bytes)) taken
-          ∙ scan_payload (take m bytes) begun device target count (omega (arith, within, room, length-take m bytes)) ∙ whole)
+          (ap (λ k. scan_on (payload_after pending count begun) (take k bytes)) taken
+          ∙ scan_payload (take m bytes) begun pending count (omega (arith, within, room, length-take m bytes)) ∙ whole)
     ]
 
-fed_scans : (device : List ℕ) (target : Option Target) (begun : List ℕ) (wanted : Option ℕ) (piece bytes : List ℕ) (over : Bool) → is_begun wanted begun ≡ true
-    → let x : LinesRecord = record { begun = begun; wanted = wanted; piece = piece; overlong = over } in FeedScans device target x bytes (feed_of x bytes)
-fed_scans device target begun wanted piece bytes true h = λ going. absurd cc
-fed_scans device target begun None piece bytes false h = fed_line device target begun piece bytes h
-fed_scans device target begun (Some count) piece bytes false h = fed_payload device target begun piece bytes count h
+fed_scans : (pending : Pending) (begun : List ℕ) (wanted : Option ℕ) (piece bytes : List ℕ) (over : Bool) → is_begun wanted begun ≡ true
+    → let x : LinesRecord = record { begun = begun; wanted = wanted; piece = piece; overlong = over } in FeedScans pending x bytes (feed_of x bytes)
+fed_scans pending begun wanted piece bytes true h = λ going. absurd cc
+fed_scans pending begun None piece bytes false h = fed_line pending begun piece bytes h
+fed_scans pending begun (Some count) piece bytes false h = fed_payload pending begun piece bytes count h
 
 -- a feed, by what it answers
 pub feed_scans : (x : LinesRecord) (bytes : List ℕ) (taken : ℕ) (ready : Ready) (new : LinesRecord) → is_begun x.wanted x.begun ≡ true
     → taken ≡ (feed_of x bytes).taken → ready ≡ (feed_of x bytes).ready → new ≡ (feed_of x bytes).lines → Scans x bytes taken ready new
-feed_scans x bytes taken ready new h t r n = λ device target.
-    rw (t, r, n) (fed_scans device target x.begun x.wanted x.piece bytes x.overlong h)
+feed_scans x bytes taken ready new h t r n = λ pending.
+    rw (t, r, n) (fed_scans pending x.begun x.wanted x.piece bytes x.overlong h)
 
 ends_piece : (x : LinesRecord) (bytes : List ℕ) (k : Cut) → EndsPiece (feed_of_cut x bytes k).ready (feed_of_cut x bytes k).lines
 ends_piece x bytes NotYet = tt

@@ -34,7 +34,7 @@ pub data Command : Type 0 where
   -- no target where the words between the device and the count are arranged in no form of READ
   Write : (device : List ℕ) (target : Option Target) (count : ℕ) → Command
   ReadBuf : (device : List ℕ) (bytes : ℕ) → Command
-  WriteBuf : (device : List ℕ) (bytes : ℕ) → Command
+  WriteBuf : (device : List ℕ) (count : ℕ) → Command
   GetTrig : (device : List ℕ) → Command
   -- no trigger takes the device's off
   SetTrig : (device : List ℕ) (trigger : Option (List ℕ)) → Command

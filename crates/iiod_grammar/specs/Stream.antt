@@ -1,26 +1,38 @@
--- The items of what a connection sends: what each line says, a WRITE together with its payload, and at most one end.
+-- The items of what a connection sends: what each line says, a WRITE or WRITEBUF together with its payload, and at most one end.
 -- What isn't whole yet is no item. (libiio 0.25's iiod; the limits are this project's own.)
 use Rattle.std.specs.Prelude.{◌≡◌, ℕ, ◌==◌, nat_lt, List, [], ◌∷◌, ◌++◌, length, Option, Some, None, Result, Ok, if◌then◌else◌}
 use Rattle.iio_text.specs.declared.errors.Errno.{Errno}
 use Rattle.iio_text.specs.declared.errors.Errno.TheVariants.{E2BIG, EFBIG}
 use Rattle.iiod_grammar.specs.declared.command.Refused.{Refused}
 use Rattle.iiod_grammar.specs.declared.lines.TheConstants.{MAX_LINE, MAX_PAYLOAD}
-use Rattle.iiod_grammar.specs.Command.{Target, Command, Exit, Write, command_of}
+use Rattle.iiod_grammar.specs.Command.{Target, Command, Exit, Write, WriteBuf, command_of}
 
 pub data Item : Type 0 where
-  -- what a line says, where it is neither EXIT nor a WRITE
+  -- what a line says, where it is none of EXIT, WRITE and WRITEBUF
   Said : (line : Result Command Refused) → Item
   -- a WRITE and its payload
   Written : (device : List ℕ) (target : Option Target) (payload : List ℕ) → Item
+  -- a WRITEBUF and its payload
+  Streamed : (device : List ℕ) (payload : List ℕ) → Item
   -- the connection ends: by EXIT, or by a broken limit, which is answered by an error
   End : (error : Option Errno) → Item
+
+-- whose payload comes
+pub data Pending : Type 0 where
+  OfWrite : (device : List ℕ) (target : Option Target) → Pending
+  OfWriteBuf : (device : List ℕ) → Pending
+
+-- with its payload
+abbrev pub with_payload : Pending → List ℕ → Item
+with_payload (OfWrite device target) payload = Written device target payload
+with_payload (OfWriteBuf device) payload = Streamed device payload
 
 -- where a stream stands after its bytes so far
 pub data Scanner : Type 0 where
   -- in a line, of which these bytes came
   InLine : (begun : List ℕ) → Scanner
-  -- in the payload of a WRITE, of which these of `count` bytes came
-  InPayload : (device : List ℕ) (target : Option Target) (count : ℕ) (begun : List ℕ) → Scanner
+  -- in a payload, of which these of `count` bytes came
+  InPayload : (pending : Pending) (count : ℕ) (begun : List ℕ) → Scanner
   -- at its end: further bytes mean nothing
   AtEnd : Scanner
 
@@ -40,13 +52,18 @@ abbrev pub ended_by : Option Errno → Scanned
 ended_by error = record { items = End error ∷ []; next = AtEnd }
 
 -- a payload of `count` bytes of which these came
-abbrev pub payload_after : List ℕ → Option Target → ℕ → List ℕ → Scanned
-payload_after device target count begun = if length begun == count then one_item (Written device target begun) else no_item (InPayload device target count begun)
+abbrev pub payload_after : Pending → ℕ → List ℕ → Scanned
+payload_after pending count begun = if length begun == count then one_item (with_payload pending begun) else no_item (InPayload pending count begun)
+
+-- a payload of `count` bytes begins, where there may be that many
+abbrev pub payload_begun : Pending → ℕ → Scanned
+payload_begun pending count = if nat_lt MAX_PAYLOAD count then ended_by (Some EFBIG) else payload_after pending count []
 
 -- what a line makes
 abbrev pub after_said : Result Command Refused → Scanned
 after_said (Ok Exit) = ended_by None
-after_said (Ok (Write device target count)) = if nat_lt MAX_PAYLOAD count then ended_by (Some EFBIG) else payload_after device target count []
+after_said (Ok (Write device target count)) = payload_begun (OfWrite device target) count
+after_said (Ok (WriteBuf device count)) = payload_begun (OfWriteBuf device) count
 after_said said = one_item (Said said)
 
 abbrev pub after_line : List ℕ → Scanned
@@ -57,7 +74,7 @@ abbrev pub after_byte : Scanner → ℕ → Scanned
 after_byte (InLine begun) b =
     if b == 10 then after_line begun
     else (if nat_lt (length begun) MAX_LINE then no_item (InLine (begun ++ b ∷ [])) else ended_by (Some E2BIG))
-after_byte (InPayload device target count begun) b = payload_after device target count (begun ++ b ∷ [])
+after_byte (InPayload pending count begun) b = payload_after pending count (begun ++ b ∷ [])
 after_byte AtEnd b = no_item AtEnd
 
 -- further bytes

@@ -72,7 +72,7 @@ pub enum Command<'a> {
         dev: &'a [u8],
         bytes: u32,
     },
-    /// `WRITEBUF dev bytes`.
+    /// `WRITEBUF dev bytes`: how many bytes of scans the payload has.
     WriteBuf {
         dev: &'a [u8],
         bytes: u32,

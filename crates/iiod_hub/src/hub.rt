@@ -3,9 +3,8 @@
 ghost use Rattle.std.specs.Prelude.{◌≡◌, ◌+◌, ◌*◌, ◌≤◌, ◌<◌, Some, drop, length, vec_capacity, IfOk, IfSome};
 ghost use Rattle.iio_desc.specs.WellFormed.{IsWellFormed};
 ghost use Rattle.iio_desc.specs.declared.limits.TheConstants.{MAX_TRIGGERS};
-ghost use Rattle.iiod_session.specs.Front.{first_front};
 ghost use Rattle.iiod_session.specs.Seat.{IsNew, IsOfDevice, MayOpen, Remasks};
-ghost use Rattle.iiod_bank.specs.FrontOf.{front_of};
+ghost use Rattle.iiod_bank.specs.FrontOf.{front_of, served_front};
 ghost use Rattle.iiod_hub.specs.Link.{HasMoment, KeepsSeat, RefusedBySome, seen_of};
 ghost use Rattle.iiod_hub.specs.Reads.{HubReads};
 ghost use Rattle.iiod_hub.specs.Remasking.{RemaskRefusedBySome};
@@ -63,7 +62,7 @@ impl Hub {
     /// The hub of a description, before anything was done: as `OwnBank::new`, under locks.
     pub fn new(alloc: Global, desc: Desc, drivers: Vec<Box<dyn Sensor + Send>>) -> Result<Hub, Mem>
         requires { IsWellFormed (length drivers.items) desc }
-        ensures { IfOk result (λ h. front_of h.front ≡ first_front desc) }
+        ensures { IfOk result (λ h. front_of h.front ≡ served_front desc) }
     {
         let Parts {
             front,

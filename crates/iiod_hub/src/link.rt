@@ -22,7 +22,7 @@ use iio_event::EventData;
 use iio_kfifo::{Ended, Reader, Tail, Writer};
 use iio_layout::{Shape, scan_size};
 use iio_mask::Mask;
-use iio_text::Fixed;
+use iio_text::{Errno, Fixed};
 use iio_trigger::{Due, Polled};
 use iiod_bank::{
     Alone, Bank, DeviceJob, DoneJob, DueJob, EvCloseWork, EvOpenWork, EvReadWork, HandleWork,
@@ -84,6 +84,14 @@ impl<B: Bank> Iio for HubLink<B> {
         self.bank.front().shape(dev)
     }
 
+    fn is_output(&self, dev: u32) -> bool {
+        self.bank.front().is_output(dev)
+    }
+
+    fn is_average(&self, dev: u32) -> bool {
+        self.bank.front().is_average(dev)
+    }
+
     fn plugged(&self, dev: u32) -> bool
         requires { dev < length (B.front self.now.bank).devices }
         ensures { IfSome (B.told self.now.bank) (λ b. result ≡ is_plugged_at b dev) }
@@ -114,6 +122,21 @@ impl<B: Bank> Iio for HubLink<B> {
                 gone: false,
             }),
         }
+    }
+
+    // it serves no output device
+    fn open_out(
+        &mut self,
+        _dev: u32,
+        _mask: Mask,
+        _capacity: u32,
+        _cyclic: bool,
+    ) -> Result<HubSeat, No> {
+        Err(No::Errno(Errno::ENOSYS))
+    }
+
+    fn write_scans(&mut self, _dev: u32, _seat: &mut HubSeat, _bytes: &[u8]) -> Result<u32, No> {
+        Err(No::Errno(Errno::ENOSYS))
     }
 
     fn remask(&mut self, dev: u32, seat: &mut HubSeat, mask: Mask) -> Result<u64, No>

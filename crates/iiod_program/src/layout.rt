@@ -15,7 +15,7 @@ use iio_text::Why;
 use iiod_serve::read_description;
 use std::alloc::Global;
 
-// The layout of a device of a description.
+// The layout of a device of a description; that of an output device isn't known.
 fn lay_out(
     alloc: Global,
     desc: &Desc,
@@ -28,7 +28,10 @@ fn lay_out(
     let Some(number) = desc.find_device(device) else {
         return push_refused(alloc, out, 0, Why::Device);
     };
-    lay_under(alloc, &desc.devices[number as usize].shape, mask, out)
+    let Some(described) = desc.devices.get(number as usize) else {
+        return push_refused(alloc, out, 0, Why::Device);
+    };
+    lay_under(alloc, &described.shape, mask, out)
 }
 
 // Writes the layout of a device of a description.

@@ -29,8 +29,8 @@ fn read_mask(shape: &Shape, text: &[u8]) -> Option<Mask>
     Some(mask)
 }
 
-/// What the words want of a description. `Device` where it has no device of the name; else `Mask` where the text is no mask
-/// of that device with a data channel.
+/// What the words want of a description. `Device` where no `device` line of it has the name; else `Mask` where the text is
+/// no mask of that device with a data channel.
 pub(crate) fn ask_of<'a>(desc: &'a Desc, words: &'a Words<'a>) -> Result<Ask<'a>, Why>
     requires samples { 1 ≤ words.now.samples }
     requires scans { 1 ≤ words.now.scans }
@@ -41,7 +41,10 @@ pub(crate) fn ask_of<'a>(desc: &'a Desc, words: &'a Words<'a>) -> Result<Ask<'a>
     let Some(number) = desc.find_device(words.device) else {
         return Err(Why::Device);
     };
-    let shape = &desc.devices[number as usize].shape;
+    let Some(described) = desc.devices.get(number as usize) else {
+        return Err(Why::Device);
+    };
+    let shape = &described.shape;
     let Some(mask) = read_mask(shape, words.mask) else {
         return Err(Why::Mask);
     };

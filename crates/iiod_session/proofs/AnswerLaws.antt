@@ -158,6 +158,11 @@ pub by_no : (front : Front) (told told' : Option Machine) (desk desk' : DeskReco
     → Serves front told desk tales item (reply_by (Err why)) told' desk' tales' → ServesBy front told desk tales item (Err why) told' desk' tales'
 by_no front told told' desk desk' tales tales' item why s = record { served = s; short = λ long. absurd long }
 
+-- the number of the bytes that were taken
+pub by_taken : (front : Front) (told told' : Option Machine) (desk desk' : DeskRecord) (tales tales' : List (Option Tale)) (item : Item) (n : ℕ)
+    → Serves front told desk tales item (Number (pos n)) told' desk' tales' → ServesBy front told desk tales item (Ok (answer.Number n)) told' desk' tales'
+by_taken front told told' desk desk' tales tales' item n s = record { served = s; short = λ long. absurd long }
+
 -- the value of an attribute
 not_text : (r : Result Answer No) → IsText r → IsLong r → ⊥
 not_text (Ok answer.Help) t long = t
@@ -303,6 +308,7 @@ short_at_once : (front : Front) (desk : DeskRecord) (tales : List (Option Tale))
     → AnswersAlone front desk (Said (Ok command)) NoMemory × Moves front desk tales (Said (Ok command)) NoMemory desk tales
 short_at_once front desk tales Exit once = absurd once
 short_at_once front desk tales (Write device target count) once = absurd once
+short_at_once front desk tales (WriteBuf device count) once = absurd once
 short_at_once front desk tales (ReadBuf device asked) once = absurd once
 short_at_once front desk tales Help once = (inr refl, (refl, refl))
 short_at_once front desk tales Version once = (inr refl, (refl, refl))
@@ -311,7 +317,6 @@ short_at_once front desk tales (Timeout n) once = (inr refl, (refl, refl))
 short_at_once front desk tales (Open device samples text cyclic) once = (short_at (find_device front device), (refl, refl))
 short_at_once front desk tales (Close device) once = (short_seat desk.seats (find_device front device), (refl, refl))
 short_at_once front desk tales (Read device place name) once = (short_at (find_device front device), (refl, refl))
-short_at_once front desk tales (WriteBuf device bytes) once = (short_at (find_device front device), (refl, refl))
 short_at_once front desk tales (GetTrig device) once = (short_at (find_device front device), (refl, refl))
 short_at_once front desk tales (SetTrig device name) once = (short_at (find_device front device), (refl, refl))
 short_at_once front desk tales (SetBuffers device n) once = (short_at (find_device front device), (refl, refl))

@@ -2,7 +2,7 @@
 use Rattle.std.proofs.Common.{◌≡◌, ℕ, zero, suc, ℤ, ◌+◌, ◌/◌, ◌%◌, ◌^◌, ◌<◌, ◌≤◌, Bool, true, false, not, List, [], ◌∷◌, ◌++◌, length, length-append, arith, slice_index_or, Option, Some, None, IfSome, is_some, if◌then◌else◌, Result, Ok, Err, inl, refl, sym, subst, ap, ◌∙◌}
 use Rattle.std.proofs.lemmas.Fmt.{length-decimal-le}
 use Rattle.std.proofs.lemmas.List.Elements.{All-get_or}
-use Rattle.std.specs.Prelude.{⊤}
+use Rattle.std.specs.Prelude.{⊤, pos}
 use Rattle.std.specs.Fmt.{decimal}
 use Rattle.iio_base.specs.Refusals.{◌>>=◌, ensure}
 use Rattle.iio_text.specs.declared.errors.Errno.{Errno}
@@ -14,6 +14,7 @@ use Rattle.iio_text.specs.Fixed.{last_digits, part_text, printed_fixed}
 use Rattle.iio_attr.specs.declared.attributes.Attr.{Attr}
 use Rattle.iio_attr.specs.declared.attributes.Attr.TheVariants as attr
 use Rattle.iio_attr.specs.declared.values.Value.TheVariants.{Number as StoredNumber, Int}
+use Rattle.iio_desc.specs.Kind.{Kind, Input, Output, Average}
 use Rattle.iio_layout.specs.Shape.{ShapeRecord}
 use Rattle.iio_sensor.specs.Driver.{ask_fails, value_of}
 use Rattle.iio_device.specs.Site.{is_empty}
@@ -25,9 +26,9 @@ use Rattle.iiod_session.specs.declared.iio.No.{No}
 use Rattle.iiod_session.specs.declared.iio.No.TheVariants.{Errno as NoErrno, Mem as NoMem}
 use Rattle.iiod_session.specs.Acts.{Acted, act, at_device, only, refused, read_attribute_at, read_buffer_attribute, read_buffer_attribute_at, read_device_attribute, read_named, write_assignment, write_attribute_at, written}
 use Rattle.iiod_session.specs.Attributes.{Assignment, Named, buffer_number, found, is_of_buffer, write_found}
-use Rattle.iiod_session.specs.Calls.{raw_answer, read_attr_of, write_attr_of}
+use Rattle.iiod_session.specs.Calls.{raw_answer, raw_by, read_attr_of, write_attr_of}
 use Rattle.iiod_session.specs.Desk.{AllHeld, DeskRecord, IsHeld, bare_of, place_of, seats_of, with_seats}
-use Rattle.iiod_session.specs.Front.{Front, find_device, shape_at}
+use Rattle.iiod_session.specs.Front.{Front, find_device, kind_at, shape_at}
 use Rattle.iiod_session.specs.Machine.{Machine, MemberId, Station, is_plugged, lost_of, queue_of, station_at}
 use Rattle.iiod_session.specs.Moves.{AnswersAs, Serves}
 use Rattle.iiod_session.specs.Performs.{Comes}
@@ -41,8 +42,8 @@ use Rattle.iiod_session.proofs.ServeLaws.{all_comes, all_refused, serves_at}
 -- ---- an attribute of the device
 
 -- a sample is no stored number
-not_stored : (shape : ShapeRecord) (clock : ℤ) (c : ℕ) (st : Station) (v : Fixed) → (ensure st.site.plugged ENODEV >>= (λ free. raw_answer shape clock c st)) ≡ Ok (StoredNumber v) → {A : Type 0} → A
-not_stored shape clock c st v e = by st.site.plugged (is_empty st.members) (ask_fails st.site.driver) e
+asked_not_stored : (shape : ShapeRecord) (clock : ℤ) (c : ℕ) (st : Station) (v : Fixed) → (ensure st.site.plugged ENODEV >>= (λ free. raw_answer shape clock c st)) ≡ Ok (StoredNumber v) → {A : Type 0} → A
+asked_not_stored shape clock c st v e = by st.site.plugged (is_empty st.members) (ask_fails st.site.driver) e
   where
     by : (p q f : Bool) → (ensure p ENODEV >>= (λ x. ensure q EBUSY >>= (λ y. ensure (not f) EIO >>= (λ z. Ok (Int (value_of st.site.driver shape clock c 0)))))) ≡ Ok (StoredNumber v) → {A : Type 0} → A
     by false q f e = absurd (cc)
@@ -50,12 +51,21 @@ not_stored shape clock c st v e = by st.site.plugged (is_empty st.members) (ask_
     by true true true e = absurd (cc)
     by true true false e = absurd (cc)
 
+not_stored : (kind : Kind) (shape : ShapeRecord) (clock : ℤ) (c : ℕ) (st : Station) (v : Fixed) → (ensure st.site.plugged ENODEV >>= (λ free. raw_by kind shape clock c st)) ≡ Ok (StoredNumber v) → {A : Type 0} → A
+not_stored Input shape clock c st v e = asked_not_stored shape clock c st v e
+not_stored (Average base window) shape clock c st v e = asked_not_stored shape clock c st v e
+not_stored Output shape clock c st v e = by st.site.plugged e
+  where
+    by : (p : Bool) → (ensure p ENODEV >>= (λ x. Ok (Int (slice_index_or st.last c (pos 0))))) ≡ Ok (StoredNumber v) → {A : Type 0} → A
+    by false e = absurd (cc)
+    by true e = absurd (cc)
+
 -- where a stored number is read, nothing changes
 still : (front : Front) (m : Machine) (dev : ℕ) (channel : Option ℕ) (a : Attr) (v : Fixed) → (read_attr_of front m dev channel a).answer ≡ Ok (StoredNumber v)
     → (read_attr_of front m dev channel a).machine ≡ m
 unfolding read_attr_of
 still front m dev None a v e = refl
-still front m dev (Some c) attr.Raw v e = not_stored (shape_at front dev) m.clock c (station_at m dev) v e
+still front m dev (Some c) attr.Raw v e = not_stored (kind_at front dev) (shape_at front dev) m.clock c (station_at m dev) v e
 still front m dev (Some c) a v e = refl
 
 -- a stored number for whose digits there was no memory
@@ -94,15 +104,15 @@ module _ {S : Type 0} (seen : S → SeatRecord) where
 
 found_is : (front : Front) (m : Machine) (desk : DeskRecord) (dev : ℕ) (place : Place) (name : Option (List ℕ)) (is_open plugged of_buffer : Bool) (shape : ShapeRecord) (w : Result Named Errno)
     → is_open ≡ is_some (place_of dev desk.seats) → plugged ≡ is_plugged m dev → shape ≡ shape_at front dev → of_buffer ≡ is_of_buffer place name
-    → w ≡ found shape plugged is_open place name
+    → w ≡ found (kind_at front dev) shape plugged is_open place name
     → read_attribute_at front m desk place name dev ≡ read_named front m desk dev of_buffer w
 found_is front m desk dev place name is_open plugged of_buffer shape w e0 e1 e2 e3 e =
-    ap (λ b. read_named front m desk dev b (found (shape_at front dev) (is_plugged m dev) (is_some (place_of dev desk.seats)) place name)) (sym e3)
+    ap (λ b. read_named front m desk dev b (found (kind_at front dev) (shape_at front dev) (is_plugged m dev) (is_some (place_of dev desk.seats)) place name)) (sym e3)
     ∙ ap (λ x. read_named front m desk dev of_buffer x) (rw (sym e0, sym e1, sym e2) (sym e))
 
 pub reads_found : (front : Front) (told told' : Option Machine) (desk : DeskRecord) (dev : ℕ) (place : Place) (name : Option (List ℕ)) (is_open plugged of_buffer : Bool) (shape : ShapeRecord) (w : Result Named Errno) (reply : Reply)
     → is_open ≡ is_some (place_of dev desk.seats) → IfSome told (λ m. plugged ≡ is_plugged m dev) → shape ≡ shape_at front dev → of_buffer ≡ is_of_buffer place name
-    → w ≡ found shape plugged is_open place name
+    → w ≡ found (kind_at front dev) shape plugged is_open place name
     → IfSome told (λ m. Comes m desk (read_named front m desk dev of_buffer w) reply told' desk)
     → IfSome told (λ m. Comes m desk (read_attribute_at front m desk place name dev) reply told' desk)
 reads_found front None told' desk dev place name is_open plugged of_buffer shape w reply e0 e1 e2 e3 e c = tt
@@ -111,14 +121,14 @@ reads_found front (Some m) told' desk dev place name is_open plugged of_buffer s
 
 write_is : (front : Front) (m : Machine) (desk : DeskRecord) (dev : ℕ) (place : Place) (name : Option (List ℕ)) (payload : List ℕ) (is_open plugged : Bool) (shape : ShapeRecord) (w : Result Assignment Errno)
     → is_open ≡ is_some (place_of dev desk.seats) → plugged ≡ is_plugged m dev → shape ≡ shape_at front dev
-    → w ≡ write_found shape plugged is_open place name payload
+    → w ≡ write_found (kind_at front dev) shape plugged is_open place name payload
     → write_attribute_at front m desk place name payload dev ≡ write_assignment m desk dev (length payload) w
 write_is front m desk dev place name payload is_open plugged shape w e0 e1 e2 e =
     ap (λ x. write_assignment m desk dev (length payload) x) (rw (sym e0, sym e1, sym e2) (sym e))
 
 pub writes_found : (front : Front) (told told' : Option Machine) (desk : DeskRecord) (dev : ℕ) (place : Place) (name : Option (List ℕ)) (payload : List ℕ) (is_open plugged : Bool) (shape : ShapeRecord) (w : Result Assignment Errno) (reply : Reply)
     → is_open ≡ is_some (place_of dev desk.seats) → IfSome told (λ m. plugged ≡ is_plugged m dev) → shape ≡ shape_at front dev
-    → w ≡ write_found shape plugged is_open place name payload
+    → w ≡ write_found (kind_at front dev) shape plugged is_open place name payload
     → IfSome told (λ m. Comes m desk (write_assignment m desk dev (length payload) w) reply told' desk)
     → IfSome told (λ m. Comes m desk (write_attribute_at front m desk place name payload dev) reply told' desk)
 writes_found front None told' desk dev place name payload is_open plugged shape w reply e0 e1 e2 e c = tt
@@ -190,7 +200,7 @@ unchanged (Some m) desk e o is = (m, refl, is m)
 
 pub reads_refused : (front : Front) (told : Option Machine) (desk : DeskRecord) (dev : ℕ) (place : Place) (name : Option (List ℕ)) (is_open plugged : Bool) (shape : ShapeRecord) (errno : Errno)
     → is_open ≡ is_some (place_of dev desk.seats) → IfSome told (λ m. plugged ≡ is_plugged m dev) → shape ≡ shape_at front dev
-    → Err errno ≡ found shape plugged is_open place name
+    → Err errno ≡ found (kind_at front dev) shape plugged is_open place name
     → IfSome told (λ m. Comes m desk (read_attribute_at front m desk place name dev) (Refusal errno) told desk)
 reads_refused front told desk dev place name is_open plugged shape errno e0 e1 e2 e =
     reads_found front told told desk dev place name is_open plugged (is_of_buffer place name) shape (Err errno) (Refusal errno) e0 e1 e2 refl e
@@ -198,7 +208,7 @@ reads_refused front told desk dev place name is_open plugged shape errno e0 e1 e
 
 pub writes_refused : (front : Front) (told : Option Machine) (desk : DeskRecord) (dev : ℕ) (place : Place) (name : Option (List ℕ)) (payload : List ℕ) (is_open plugged : Bool) (shape : ShapeRecord) (errno : Errno)
     → is_open ≡ is_some (place_of dev desk.seats) → IfSome told (λ m. plugged ≡ is_plugged m dev) → shape ≡ shape_at front dev
-    → Err errno ≡ write_found shape plugged is_open place name payload
+    → Err errno ≡ write_found (kind_at front dev) shape plugged is_open place name payload
     → IfSome told (λ m. Comes m desk (write_attribute_at front m desk place name payload dev) (Refusal errno) told desk)
 writes_refused front told desk dev place name payload is_open plugged shape errno e0 e1 e2 e =
     writes_found front told told desk dev place name payload is_open plugged shape (Err errno) (Refusal errno) e0 e1 e2 e
@@ -206,7 +216,7 @@ writes_refused front told desk dev place name payload is_open plugged shape errn
 
 pub writes : (front : Front) (told told' : Option Machine) (desk : DeskRecord) (dev : ℕ) (place : Place) (name : Option (List ℕ)) (payload : List ℕ) (is_open plugged : Bool) (shape : ShapeRecord) (x : Assignment) (r : Result ⊤ No)
     → is_open ≡ is_some (place_of dev desk.seats) → IfSome told (λ m. plugged ≡ is_plugged m dev) → shape ≡ shape_at front dev
-    → Ok x ≡ write_found shape plugged is_open place name payload
+    → Ok x ≡ write_found (kind_at front dev) shape plugged is_open place name payload
     → IfSome told (λ m. Answers (write_attr_of m dev x.target.channel x.target.attribute x.value) m r told')
     → IfSome told (λ m. Comes m desk (write_attribute_at front m desk place name payload dev) (written_by (length payload) r) told' desk)
 writes front told told' desk dev place name payload is_open plugged shape x r e0 e1 e2 e a =

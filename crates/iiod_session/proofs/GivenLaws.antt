@@ -2,18 +2,19 @@
 use Rattle.std.proofs.Common.{◌≡◌, ℕ, suc, zero, ◌+◌, ◌<◌, ◌==◌, ◌||◌, nat_lt, Bool, true, false, List, [], ◌∷◌, ◌++◌, length, length-append, refl, sym, ap, ◌∙◌, Option, Some, None, option_map, inl, inr, Ok, arith, ℤ}
 use Rattle.std.proofs.lemmas.Bool.{eqb-true, lt-ltb, ltb-true}
 use Rattle.std.proofs.lemmas.Bool.Decides.{nat_tests}
-use Rattle.std.specs.Prelude.{if◌then◌else◌, remove, slice_get, slice_set}
+use Rattle.std.specs.Prelude.{◌⊎◌, MatchBool, if◌then◌else◌, remove, slice_get, slice_set}
 use Rattle.std.specs.List.{position_or_len}
 use Rattle.std.proofs.Math.ListN.{length-set}
 use Rattle.iio_text.specs.declared.errors.Errno.{Errno}
-use Rattle.iio_text.specs.declared.errors.Errno.TheVariants.{EAGAIN, EBADF, ENODEV}
+use Rattle.iio_text.specs.declared.errors.Errno.TheVariants.{EAGAIN, EBADF, ENODEV, ENOSYS}
+use Rattle.iio_desc.specs.Kind.{is_output}
 use Rattle.iiod_grammar.specs.Command.{Open, Close, ReadBuf, Remask, SetBuffers, EvOpen, EvClose}
 use Rattle.iiod_grammar.specs.Stream.{Item, Said, End}
 use Rattle.iiod_reply.specs.Reply.{Reply, Number, Refusal, Block, NoMemory}
 use Rattle.iiod_session.specs.declared.manner.Manner.{Manner}
 use Rattle.iiod_session.specs.Acts.{zero_reply}
 use Rattle.iiod_session.specs.Desk.{Bare, DeskRecord, are_apart, bare_remasked, has_seat, place_of}
-use Rattle.iiod_session.specs.Front.{Front, find_device, size_at}
+use Rattle.iiod_session.specs.Front.{Front, find_device, kind_at, size_at}
 use Rattle.iiod_session.specs.Given.{GivenIs, given_after, given_by, given_in, is_named, tale_at}
 use Rattle.iiod_session.specs.Moves.{Moves, ReadMoves, ReadsAs, ReadsAt, ReadsBy, ReadsFrom}
 use Rattle.iiod_session.specs.Reading.{Reads}
@@ -403,7 +404,16 @@ read_by front device asked k (Some i) reply seats tales tales' named at r a = re
 read_from : (front : Front) (device : List ℕ) (asked : ℕ) (dev : Option ℕ) (reply : Reply) (seats : List Bare) (tales tales' : List (Option Tale)) → find_device front device ≡ dev
     → ReadsFrom front asked seats tales dev reply tales' → AreSeated seats tales → Keeps front (Said (Ok (ReadBuf device asked))) reply seats tales seats tales'
 read_from front device asked None reply seats tales tales' named r a = rw r.0 (same front (Said (Ok (ReadBuf device asked))) (Refusal ENODEV) seats seats tales tales' refl r.1 (refusal_gives front ENODEV device asked) a)
-read_from front device asked (Some k) reply seats tales tales' named r a = read_by front device asked k (place_of k seats) reply seats tales tales' named refl r a
+read_from front device asked (Some k) reply seats tales tales' named r a = by (is_output (kind_at front k)) r
+  where
+    unread : (reply : Reply) → (reply ≡ Refusal ENODEV) ⊎ (reply ≡ Refusal ENOSYS) → tales' ≡ tales → Keeps front (Said (Ok (ReadBuf device asked))) reply seats tales seats tales'
+    unread reply (inl is) t = rw is (same front (Said (Ok (ReadBuf device asked))) (Refusal ENODEV) seats seats tales tales' refl t (refusal_gives front ENODEV device asked) a)
+    unread reply (inr is) t = rw is (same front (Said (Ok (ReadBuf device asked))) (Refusal ENOSYS) seats seats tales tales' refl t (refusal_gives front ENOSYS device asked) a)
+
+    by : (b : Bool) → MatchBool b (((reply ≡ Refusal ENODEV) ⊎ (reply ≡ Refusal ENOSYS)) × (tales' ≡ tales)) (ReadsBy front asked seats tales (place_of k seats) reply tales')
+        → Keeps front (Said (Ok (ReadBuf device asked))) reply seats tales seats tales'
+    by true x = unread reply x.0 x.1
+    by false x = read_by front device asked k (place_of k seats) reply seats tales tales' named refl x a
 
 -- ---- any item
 

@@ -15,10 +15,10 @@ use Rattle.iiod_grammar.specs.declared.command.Command.{Command as CodeCommand}
 use Rattle.iiod_grammar.specs.declared.command.Command.TheVariants as code
 use Rattle.iiod_grammar.specs.declared.command.Place.{Place as CodePlace}
 use Rattle.iiod_grammar.specs.View.{command_view}
-use Rattle.iiod_grammar.specs.Command.{Command, Exit, ReadBuf, Target, Write, command_of}
+use Rattle.iiod_grammar.specs.Command.{Command, Exit, ReadBuf, Write, WriteBuf, command_of}
 use Rattle.iiod_grammar.specs.Lines.{LinesRecord, after_piece}
 use Rattle.iiod_grammar.specs.Scans.{ScansBy, scan_on, scanner_at}
-use Rattle.iiod_grammar.specs.Stream.{Item, Said, Written, End, ItemsCutAnywhere, ScannerCutAnywhere, Scanned, AtEnd, InLine, after_line, after_said, ended_by, no_item, one_item, payload_after}
+use Rattle.iiod_grammar.specs.Stream.{Item, Said, Pending, OfWrite, OfWriteBuf, End, ItemsCutAnywhere, ScannerCutAnywhere, Scanned, AtEnd, InLine, after_line, after_said, ended_by, no_item, one_item, payload_after, payload_begun, with_payload}
 use Rattle.iiod_reply.specs.Reply.{Reply, text_of}
 use Rattle.iiod_session.specs.declared.desk.Held.{Held}
 use Rattle.iiod_session.specs.declared.manner.Going.{Going}
@@ -32,7 +32,7 @@ use Rattle.iiod_session.specs.Desk.{DeskRecord, tales_of}
 use Rattle.iiod_session.specs.Front.{Front}
 use Rattle.iiod_session.specs.Machine.{Machine}
 use Rattle.iiod_session.specs.Moves.{AnswersAlone, AnswersAs}
-use Rattle.iiod_session.specs.PendingWrite.{PendingRecord}
+use Rattle.iiod_session.specs.PendingWrite.{PendingRecord, pending_of}
 use Rattle.iiod_session.specs.Performs.{IsAllowed, IsReadOf, Performs}
 use Rattle.iiod_session.specs.Run.{State, CarriesBy, FedBy}
 use Rattle.iiod_session.specs.Seat.{SeatRecord}
@@ -58,16 +58,16 @@ end_formed : (front : Front) (error : Option Errno) → AnswersAs front (End err
 end_formed front None = tt
 end_formed front (Some e) = tt
 
-end_acts : (front : Front) (a b : State) (error : Option Errno) → IfSome a.told (λ m. b.told ≡ Some (left_machine m a.desk)) → b.desk ≡ left_desk a.desk
+end_acts : (front : Front) (a b : State) (error : Option Errno) → IfSome a.told (λ m. b.told ≡ Some (left_machine front m a.desk)) → b.desk ≡ left_desk a.desk
     → IfSome a.told (λ m. Acts front m a.desk (End error) (end_reply error) b.told b.desk)
 unfolding act
 end_acts front a b error t d = by a.told t error
   where
-    by : (told : Option Machine) → IfSome told (λ m. b.told ≡ Some (left_machine m a.desk)) → (error : Option Errno)
+    by : (told : Option Machine) → IfSome told (λ m. b.told ≡ Some (left_machine front m a.desk)) → (error : Option Errno)
         → IfSome told (λ m. Acts front m a.desk (End error) (end_reply error) b.told b.desk)
     by None x error = tt
-    by (Some m) x None = (left_machine m a.desk, x, rw d refl)
-    by (Some m) x (Some e) = (left_machine m a.desk, x, rw d refl)
+    by (Some m) x None = (left_machine front m a.desk, x, rw d refl)
+    by (Some m) x (Some e) = (left_machine front m a.desk, x, rw d refl)
 
 none_seen : {S : Type 0} (seen : S → SeatRecord) (held : List (Held S)) → held ≡ [] → tales_of seen held ≡ []
 none_seen seen held e = ap (λ hs. tales_of seen hs) e
@@ -76,7 +76,7 @@ module _ {W : Type 0} {makes : Front → Option Machine → ℕ → Item → W �
   ends : (manner : Manner) (front : Front) (a b : State) (w v : W) (error : Option Errno) (before after : List ℕ)
       → makes front a.told a.desk.who (End error) w v
       → after ≡ before ++ text_of (end_reply error)
-      → IfSome a.told (λ m. b.told ≡ Some (left_machine m a.desk)) → b.desk ≡ left_desk a.desk → b.tales ≡ []
+      → IfSome a.told (λ m. b.told ≡ Some (left_machine front m a.desk)) → b.desk ≡ left_desk a.desk → b.tales ≡ []
       → Hears makes manner front (scene a w false) (ended_by error) before after (scene b v false) (no_item AtEnd) Ended
   ends manner front a b w v error before after tells text t d none =
       feeds_of manner front (scene a w false) (scene b v false) (scene b v false) (ended_by error) (no_item AtEnd) before after Ended
@@ -92,7 +92,7 @@ module _ {W : Type 0} {makes : Front → Option Machine → ℕ → Item → W �
   pub end_feeds : {S : Type 0} (seen : S → SeatRecord) (manner : Manner) (front : Front) (a b : State) (w v : W) (held : List (Held S)) (error : Option Errno) (before after : List ℕ)
       → makes front a.told a.desk.who (End error) w v
       → after ≡ before ++ text_of (end_reply error)
-      → IfSome a.told (λ m. b.told ≡ Some (left_machine m a.desk)) → b.desk ≡ left_desk a.desk → b.tales ≡ tales_of seen held → held ≡ []
+      → IfSome a.told (λ m. b.told ≡ Some (left_machine front m a.desk)) → b.desk ≡ left_desk a.desk → b.tales ≡ tales_of seen held → held ≡ []
       → Hears makes manner front (scene a w false) (ended_by error) before after (scene b v false) (no_item AtEnd) Ended
   end_feeds seen manner front a b w v held error before after tells text t d tales none =
       ends manner front a b w v error before after tells text t d (tales ∙ none_seen seen held none)
@@ -118,26 +118,26 @@ ended_ready lines pending (Err fault) e = tt
 pub exit_line : (line : List ℕ) → command_of line ≡ Ok Exit → after_line line ≡ ended_by None
 exit_line line e = ap (λ said. after_said said) e
 
-pub overlong_line : (line device : List ℕ) (target : Option Target) (count : ℕ) → command_of line ≡ Ok (Write device target count) → MAX_PAYLOAD < count → after_line line ≡ ended_by (Some EFBIG)
-overlong_line line device target count e more = ap (λ said. after_said said) e ∙ rw (let b : nat_lt MAX_PAYLOAD count ≡ true = grind arith in b) refl
+pub overlong_line : (line : List ℕ) (of : Pending) (count : ℕ) → after_line line ≡ payload_begun of count → MAX_PAYLOAD < count → after_line line ≡ ended_by (Some EFBIG)
+overlong_line line of count e more = e ∙ rw (let b : nat_lt MAX_PAYLOAD count ≡ true = grind arith in b) refl
 
--- the line of a WRITE whose payload comes next
-write_stream : (line device : List ℕ) (target : Option Target) (count : ℕ) → command_of line ≡ Ok (Write device target count) → count ≤ MAX_PAYLOAD
-    → (asked : ℕ) → after_line line ≡ stream_by On (record (after_piece line) { wanted = Some count }) (record { device = device; target = target; asked = asked })
-write_stream line device target count e within asked =
-    ap (λ said. after_said said) e ∙ rw (let b : nat_lt MAX_PAYLOAD count ≡ false = grind arith in b) refl
+-- the line of a command whose payload comes next
+payload_stream : (line : List ℕ) (of : Pending) (count : ℕ) (kept : PendingRecord) → after_line line ≡ payload_begun of count → count ≤ MAX_PAYLOAD → pending_of kept ≡ of
+    → after_line line ≡ stream_by On (record (after_piece line) { wanted = Some count }) kept
+payload_stream line of count kept e within is = e ∙ rw ((let b : nat_lt MAX_PAYLOAD count ≡ false = grind arith in b), is) refl
 
-pub write_feeds : {W : Type 0} {makes : Front → Option Machine → ℕ → Item → W → W → Type 0} (manner : Manner) (front : Front) (a : State) (w : W) (line device : List ℕ) (target : Option Target) (count : ℕ) (before : List ℕ) (lines : LinesRecord) (kept : PendingRecord)
-    → command_of line ≡ Ok (Write device target count) → count ≤ MAX_PAYLOAD → lines ≡ record (after_piece line) { wanted = Some count } → (asked : ℕ) → kept ≡ record { device = device; target = target; asked = asked }
+pub payload_feeds : {W : Type 0} {makes : Front → Option Machine → ℕ → Item → W → W → Type 0} (manner : Manner) (front : Front) (a : State) (w : W) (line : List ℕ) (of : Pending) (count : ℕ) (before : List ℕ) (lines : LinesRecord) (kept : PendingRecord)
+    → after_line line ≡ payload_begun of count → count ≤ MAX_PAYLOAD → lines ≡ record (after_piece line) { wanted = Some count } → pending_of kept ≡ of
     → Hears makes manner front (scene a w false) (after_line line) before before (scene a w false) (stream_by On lines kept) On
-write_feeds manner front a w line device target count before lines kept e within is asked same =
-    let here : after_line line ≡ stream_by On lines kept = write_stream line device target count e within asked ∙ rw (is, same) refl in
-    goes_on manner front (scene a w false) (scene a w false) (after_line line) (stream_by On lines kept) before before (scanner_goes_on lines kept.device kept.target)
+payload_feeds manner front a w line of count before lines kept e within is same =
+    let here : after_line line ≡ stream_by On lines kept = payload_stream line of count kept e within same ∙ rw is refl in
+    goes_on manner front (scene a w false) (scene a w false) (after_line line) (stream_by On lines kept) before before (scanner_goes_on lines (pending_of kept))
     (rw here (fed_none (scene a w false) (stream_by On lines kept) before))
 
 plain_line : (said : Result Command Refused) → IsPlain said → after_said said ≡ one_item (Said said)
 plain_line (Ok Exit) p = absurd p
 plain_line (Ok (Write device target count)) p = absurd p
+plain_line (Ok (WriteBuf device count)) p = absurd p
 plain_line said p = refl
 
 abbrev pub going_of : Performed → Going
@@ -152,7 +152,7 @@ pub plain_feeds : {W : Type 0} {makes : Front → Option Machine → ℕ → Ite
 plain_feeds manner front a b w v told line kept said lines before after Done e plain is tells x =
     let all : after_line line ≡ one_item (Said said) = ap (λ z. after_said z) e ∙ plain_line said plain in
     let left : stream_by On lines kept ≡ no_item (InLine []) = rw is refl in
-    goes_on manner front (scene a w told) (scene b v false) (after_line line) (stream_by On lines kept) before after (scanner_goes_on lines kept.device kept.target)
+    goes_on manner front (scene a w told) (scene b v false) (after_line line) (stream_by On lines kept) before after (scanner_goes_on lines (pending_of kept))
     (rw (all, left) (fed_one (scene a w told) (scene b v false) (one_item (Said said)) (no_item (InLine [])) before after (Said said) x.0 refl refl x.1
     (record { tells = tells; answered = record { allowed = x.2; answer = x.3; served = x.4 }; next = refl })))
 plain_feeds manner front a b w v told line kept said lines before after (PerformedWaits dev) e plain is tells x =
@@ -166,6 +166,7 @@ plain_feeds manner front a b w v told line kept said lines before after (Perform
 pub once_plain : (said : Result Command Refused) → IsAtOnce said → IsPlain said
 once_plain (Ok Exit) once = absurd once
 once_plain (Ok (Write device target count)) once = absurd once
+once_plain (Ok (WriteBuf device count)) once = absurd once
 once_plain said once = tt
 
 no_wait : (front : Front) (dev : ℕ) (said : Result Command Refused) → IsAtOnce said → IsReadOf front dev (Said said) → ⊥
@@ -183,17 +184,21 @@ at_once_feeds manner front a b w v kept said lines before after (PerformedWaits 
 
 -- ---- payloads
 
-pub written_feeds : {W : Type 0} {makes : Front → Option Machine → ℕ → Item → W → W → Type 0} (manner : Manner) (front : Front) (a b : State) (w v : W) (lines : LinesRecord) (kept : PendingRecord) (device : List ℕ) (target : Option Target) (payload before after : List ℕ) (p : Performed)
+no_read : (front : Front) (dev : ℕ) (of : Pending) (payload : List ℕ) → IsReadOf front dev (with_payload of payload) → ⊥
+no_read front dev (OfWrite device target) payload r = r
+no_read front dev (OfWriteBuf device) payload r = r
+
+pub written_feeds : {W : Type 0} {makes : Front → Option Machine → ℕ → Item → W → W → Type 0} (manner : Manner) (front : Front) (a b : State) (w v : W) (lines : LinesRecord) (kept : PendingRecord) (of : Pending) (payload before after : List ℕ) (p : Performed)
     → lines ≡ after_piece lines.piece
-    → makes front a.told a.desk.who (Written device target payload) w v
-    → Performs manner front a.told b.told a.desk a.tales (Written device target payload) b.desk b.tales before after p
-    → Hears makes manner front (scene a w false) (one_item (Written device target payload)) before after (scene b v false) (stream_by On lines kept) On
-written_feeds manner front a b w v lines kept device target payload before after Done is tells x =
+    → makes front a.told a.desk.who (with_payload of payload) w v
+    → Performs manner front a.told b.told a.desk a.tales (with_payload of payload) b.desk b.tales before after p
+    → Hears makes manner front (scene a w false) (one_item (with_payload of payload)) before after (scene b v false) (stream_by On lines kept) On
+written_feeds manner front a b w v lines kept of payload before after Done is tells x =
     let left : stream_by On lines kept ≡ no_item (InLine []) = ap (λ (z : LinesRecord). stream_by On z kept) is in
-    goes_on manner front (scene a w false) (scene b v false) (one_item (Written device target payload)) (stream_by On lines kept) before after (scanner_goes_on lines kept.device kept.target)
-    (rw left (fed_one (scene a w false) (scene b v false) (one_item (Written device target payload)) (no_item (InLine [])) before after (Written device target payload) x.0 refl refl x.1
+    goes_on manner front (scene a w false) (scene b v false) (one_item (with_payload of payload)) (stream_by On lines kept) before after (scanner_goes_on lines (pending_of kept))
+    (rw left (fed_one (scene a w false) (scene b v false) (one_item (with_payload of payload)) (no_item (InLine [])) before after (with_payload of payload) x.0 refl refl x.1
     (record { tells = tells; answered = record { allowed = x.2; answer = x.3; served = x.4 }; next = refl })))
-written_feeds manner front a b w v lines kept device target payload before after (PerformedWaits dev) is tells x = absurd x.2
+written_feeds manner front a b w v lines kept of payload before after (PerformedWaits dev) is tells x = absurd (no_read front dev of payload x.2)
 
 pub said_feeds : {W : Type 0} {makes : Front → Option Machine → ℕ → Item → W → W → Type 0} (manner : Manner) (front : Front) (a b : State) (w v : W) (told : Bool) (kept : PendingRecord) (said : Result Command Refused) (lines : LinesRecord) (before after : List ℕ) (p : Performed)
     → lines ≡ after_piece lines.piece → command_of lines.piece ≡ said → IsPlain said
@@ -209,14 +214,14 @@ blank_line line none = ap command_of none
 -- ---- pieces of further bytes
 
 -- no piece is whole
-pub more_feeds : {S : Type 0} {Answered : S → Item → Reply → S → Type 0} {Unanswered : S → Item → S → Type 0} (manner : Manner) (front : Front) (a b : S) (all : Scanned) (before after : List ℕ) (old new : LinesRecord) (device : List ℕ) (target : Option Target) (rest whole tail : List ℕ)
-    → scan_on (scanner_at old device target) rest ≡ scanner_at new device target → rest ≡ whole → tail ≡ []
-    → FedBy Answered a all before after b (scan_on (scanner_at old device target) whole)
-    → CarriesBy Answered Unanswered manner front a all before after b (scan_on (scanner_at new device target) tail) On
-more_feeds manner front a b all before after old new device target rest whole tail scans same none f =
-    let left : scan_on (scanner_at new device target) tail ≡ scanner_at new device target =
-    ap (λ bs. scan_on (scanner_at new device target) bs) none ∙ scan_nil (scanner_at new device target) in
-    rw left (goes_on manner front a b all (scanner_at new device target) before after (scanner_goes_on new device target) (rw scans at (rw (← same) at f)))
+pub more_feeds : {S : Type 0} {Answered : S → Item → Reply → S → Type 0} {Unanswered : S → Item → S → Type 0} (manner : Manner) (front : Front) (a b : S) (all : Scanned) (before after : List ℕ) (old new : LinesRecord) (pending : Pending) (rest whole tail : List ℕ)
+    → scan_on (scanner_at old pending) rest ≡ scanner_at new pending → rest ≡ whole → tail ≡ []
+    → FedBy Answered a all before after b (scan_on (scanner_at old pending) whole)
+    → CarriesBy Answered Unanswered manner front a all before after b (scan_on (scanner_at new pending) tail) On
+more_feeds manner front a b all before after old new pending rest whole tail scans same none f =
+    let left : scan_on (scanner_at new pending) tail ≡ scanner_at new pending =
+    ap (λ bs. scan_on (scanner_at new pending) bs) none ∙ scan_nil (scanner_at new pending) in
+    rw left (goes_on manner front a b all (scanner_at new pending) before after (scanner_goes_on new pending) (rw scans at (rw (← same) at f)))
 
 ended_stays : (e : Option Errno) (bytes : List ℕ) → scan_on (ended_by e) bytes ≡ ended_by e
 ended_stays e bytes = ap (λ (s : Scanned). let x : Scanned = record { items = End e ∷ s.items; next = s.next } in x) (scan_end bytes)
@@ -238,7 +243,7 @@ none_after at taken bytes within all = ap (λ n. drop n bytes) (all_taken at tak
 
 -- a piece is whole, and the bytes after it
 pub piece_scans : ItemsCutAnywhere → ScannerCutAnywhere → (old new : LinesRecord) (kept : PendingRecord) (rest : List ℕ) (taken : ℕ) (ready : Ready) → (ready ≢ More) → old.overlong ≡ false
-    → ScansBy kept.device kept.target old rest taken ready new
+    → ScansBy (pending_of kept) old rest taken ready new
     → scan_on (stream_by On old kept) rest ≡ scan_on (piece_by ready new kept) (drop taken rest)
 piece_scans items scanner old new kept rest taken More n going scans = absurd (n refl)
 piece_scans items scanner old new kept rest taken Line n going scans =
@@ -333,11 +338,12 @@ kept_by bytes taken Ended lines pending r = tt
 -- ---- a command of the code
 
 pub at_once_command : (command : CodeCommand) → (command ≡ code.Exit → ⊥) → ((dev : Bor (List ℕ)) (target : Option (CodePlace × Option (Bor (List ℕ)))) (count : ℕ) → command ≡ code.Write dev target count → ⊥)
-    → ((dev : Bor (List ℕ)) (bytes : ℕ) → command ≡ code.ReadBuf dev bytes → ⊥) → IsAtOnce (Ok (command_view command))
-at_once_command code.Exit e w r = absurd (e refl)
-at_once_command (code.Write dev target count) e w r = absurd (w dev target count refl)
-at_once_command (code.ReadBuf dev bytes) e w r = absurd (r dev bytes refl)
-at_once_command command e w r = tt
+    → ((dev : Bor (List ℕ)) (bytes : ℕ) → command ≡ code.WriteBuf dev bytes → ⊥) → ((dev : Bor (List ℕ)) (bytes : ℕ) → command ≡ code.ReadBuf dev bytes → ⊥) → IsAtOnce (Ok (command_view command))
+at_once_command code.Exit e w s r = absurd (e refl)
+at_once_command (code.Write dev target count) e w s r = absurd (w dev target count refl)
+at_once_command (code.WriteBuf dev bytes) e w s r = absurd (s dev bytes refl)
+at_once_command (code.ReadBuf dev bytes) e w s r = absurd (r dev bytes refl)
+at_once_command command e w s r = tt
 
 -- ---- whether a connection has ended
 
@@ -351,29 +357,33 @@ pub not_ended : (lines : LinesRecord) (kept : PendingRecord) (left : List ℕ) (
 not_ended lines kept left Ended k n e = n refl
 not_ended lines kept left On k n e =
     let stays : scan_on (stream_by On lines kept) left ≡ stream_by On lines kept = ap (λ bs. scan_on (stream_by On lines kept) bs) k.1 ∙ scan_nil (stream_by On lines kept) in
-    scanner_goes_on lines kept.device kept.target (ap (λ (s : Scanned). s.next) (sym stays ∙ e))
+    scanner_goes_on lines (pending_of kept) (ap (λ (s : Scanned). s.next) (sym stays ∙ e))
 not_ended lines kept left (Waits dev) k n e =
     let one : after_line lines.piece ≡ one_item (Said (command_of lines.piece)) = plain_line (command_of lines.piece) (rw k.1 tt) in
     not_nothing _ _ (ap (λ (s : Scanned). s.items) (ap (λ s. scan_on s left) (sym one) ∙ e))
 
 -- ---- whether the first item that is left waits
 
-payload_begun : (device : List ℕ) (target : Option Target) (count : ℕ) (begun : List ℕ) (b : Bool) → (length begun == count) ≡ b → waits_in (payload_after device target count begun).items ≡ false
-payload_begun device target count begun true e = rw e refl
-payload_begun device target count begun false e = rw e refl
+no_line : (of : Pending) (payload : List ℕ) → waits_in (with_payload of payload ∷ []) ≡ false
+no_line (OfWrite device target) payload = refl
+no_line (OfWriteBuf device) payload = refl
 
-begun_waits : (x : LinesRecord) (device : List ℕ) (target : Option Target) → waits_in (scanner_at x device target).items ≡ false
-begun_waits x device target = by x.wanted
+payload_waits : (of : Pending) (count : ℕ) (begun : List ℕ) (b : Bool) → (length begun == count) ≡ b → waits_in (payload_after of count begun).items ≡ false
+payload_waits of count begun true e = rw e (no_line of begun)
+payload_waits of count begun false e = rw e refl
+
+begun_waits : (x : LinesRecord) (of : Pending) → waits_in (scanner_at x of).items ≡ false
+begun_waits x of = by x.wanted
   where
-    by : (wanted : Option ℕ) → waits_in (scanner_at (record x { wanted = wanted }) device target).items ≡ false
+    by : (wanted : Option ℕ) → waits_in (scanner_at (record x { wanted = wanted }) of).items ≡ false
     by None = refl
-    by (Some count) = payload_begun device target count x.begun (length x.begun == count) refl
+    by (Some count) = payload_waits of count x.begun (length x.begun == count) refl
 
 pub waits_by : (lines : LinesRecord) (kept : PendingRecord) (left : List ℕ) (going : Going) → IsKept going lines kept left
     → waits_in (scan_on (stream_by going lines kept) left).items ≡ is_waiting going
 waits_by lines kept left On k =
     let stays : scan_on (stream_by On lines kept) left ≡ stream_by On lines kept = ap (λ bs. scan_on (stream_by On lines kept) bs) k.1 ∙ scan_nil (stream_by On lines kept) in
-    ap (λ (s : Scanned). waits_in s.items) stays ∙ begun_waits lines kept.device kept.target
+    ap (λ (s : Scanned). waits_in s.items) stays ∙ begun_waits lines (pending_of kept)
 waits_by lines kept left (Waits dev) k =
     let one : after_line lines.piece ≡ one_item (Said (command_of lines.piece)) = plain_line (command_of lines.piece) (rw k.1 tt) in
     ap (λ (s : Scanned). waits_in (scan_on s left).items) one

@@ -1,19 +1,23 @@
 -- READBUF at a seat, by what its takes gave.
-use Rattle.std.proofs.Common.{◌≡◌, ℕ, ◌≤◌, ◌<◌, nat_lt, Bool, true, false, not, cond, List, [], ◌∷◌, length, take, drop, Option, Some, None, IfSome, option_map, Result, Ok, Err, refl, ap, arith}
+use Rattle.std.proofs.Common.{◌∙◌, ◌≡◌, ℕ, ◌≤◌, ◌<◌, nat_lt, Bool, true, false, not, cond, List, [], ◌∷◌, length, take, drop, Option, Some, None, IfSome, option_map, Result, Ok, Err, refl, ap, arith}
 use Rattle.std.proofs.Math.Seq.{take-nil}
 use Rattle.iio_base.specs.declared.Mem.{Mem}
 use Rattle.iio_text.specs.declared.errors.Errno.TheVariants.{ENODEV, EAGAIN}
 use Rattle.iiod_reply.specs.Reply.{Refusal, Block}
 use Rattle.iiod_session.specs.declared.iio.Took.{Took}
 use Rattle.iiod_session.specs.declared.iio.Took.TheVariants.{Scan, Empty, Gone}
-use Rattle.iiod_session.specs.Acts.{zero_reply, refused, read_at_seat, read_scans_of}
+use Rattle.iio_text.specs.declared.errors.Errno.{Errno}
+use Rattle.iiod_session.specs.declared.iio.No.{No}
+use Rattle.iiod_session.specs.declared.iio.No.TheVariants.{Errno as NoErrno, Mem as NoMem}
+use Rattle.iiod_session.specs.Acts.{zero_reply, refused, read_at_seat, read_scans_of, written_scans}
+use Rattle.iiod_session.specs.Calls.{write_scans_of}
 use Rattle.iiod_session.specs.Desk.{Bare, DeskRecord, bare_id}
 use Rattle.iiod_session.specs.Front.{Front, channel_count, size_at}
-use Rattle.iiod_session.specs.Machine.{Machine, queue_of, with_queue}
+use Rattle.iiod_session.specs.Machine.{Machine, MemberId, queue_of, with_queue}
 use Rattle.iiod_session.specs.Moves.{ReadsAs}
-use Rattle.iiod_session.specs.Performs.{ReadServed, ReadHeld}
+use Rattle.iiod_session.specs.Performs.{ReadServed, ReadHeld, WritesHeld, taken_by}
 use Rattle.iiod_session.specs.Reading.{ReadSome, ReadNone, ReadEnds, FoundNothing, most_scans}
-use Rattle.iiod_session.specs.Seat.{SeatRecord, Tale, after_nothing, seat_id}
+use Rattle.iiod_session.specs.Seat.{Answers, SeatRecord, Tale, after_nothing, seat_id}
 
 -- a seat takes from the queue of its member
 pub id_is : (s : Bare) (v : SeatRecord) → s.number ≡ v.number → v.mask ≡ s.mask → bare_id s ≡ seat_id v
@@ -82,6 +86,25 @@ served_none front asked gone told told' s v v' same h r =
         ≡ record { reply = Refusal (cond gone ENODEV EAGAIN); machine = n; desk = desk }))
     by None f = tt
     by (Some m) f = (m, f.2, λ desk. rw (not_less_is _ _ h, f.0, take-nil) (ap (λ e. refused e m desk) (errno_is _ f.1)))
+
+-- what an Iio answers to scans that are written is what the definitions say of the seat
+pub wrote_scans : (front : Front) (told told' : Option Machine) (s : Bare) (v : SeatRecord) (payload : List ℕ) (r : Result ℕ No) → bare_id s ≡ seat_id v
+    → IfSome told (λ m. Answers (write_scans_of front m s.dev (seat_id v) payload) m r told')
+    → WritesHeld front payload told s (taken_by r) told'
+wrote_scans front None told' s v payload r same a = tt
+wrote_scans front (Some m) told' s v payload (Ok taken) same a = λ desk. (
+  (write_scans_of front m s.dev (seat_id v) payload).machine,
+  a.1,
+  ap (λ (id : MemberId). written_scans desk (write_scans_of front m s.dev id payload).machine (write_scans_of front m s.dev id payload).answer) same
+      ∙ ap (λ (x : Result ℕ Errno). written_scans desk (write_scans_of front m s.dev (seat_id v) payload).machine x) a.0,
+)
+wrote_scans front (Some m) told' s v payload (Err (NoErrno e)) same a = λ desk. (
+  (write_scans_of front m s.dev (seat_id v) payload).machine,
+  a.1,
+  ap (λ (id : MemberId). written_scans desk (write_scans_of front m s.dev id payload).machine (write_scans_of front m s.dev id payload).answer) same
+      ∙ ap (λ (x : Result ℕ Errno). written_scans desk (write_scans_of front m s.dev (seat_id v) payload).machine x) a.0,
+)
+wrote_scans front (Some m) told' s v payload (Err NoMem) same a = λ desk. (a, refl)
 
 pub read_ends : (front : Front) (asked : ℕ) (s : Bare) (told told' : Option Machine) (v v' : SeatRecord) (before after : List ℕ) (r : Result Took Mem) → bare_id s ≡ seat_id v
     → size_at front s.dev s.mask ≤ asked

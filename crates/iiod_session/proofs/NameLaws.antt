@@ -13,14 +13,15 @@ use Rattle.iio_attr.specs.declared.attributes.Attr.TheVariants as attr
 use Rattle.iio_attr.specs.declared.attributes.Scope.{Scope}
 use Rattle.iio_attr.specs.declared.attributes.Scope.TheVariants as scope
 use Rattle.iio_attr.specs.Attributes.{attributes, check_of, find_in, find_of, is_writable, row_of, same_scope}
+use Rattle.iio_desc.specs.Kind as desc
 use Rattle.iio_layout.specs.Id.{id_of}
 use Rattle.iio_layout.specs.Shape.{ShapeRecord, channel_of, channel_with}
 use Rattle.iio_layout.specs.declared.channel.Channel.{Channel}
 use Rattle.iio_layout.specs.declared.channel.Kind.{Kind}
 use Rattle.iio_layout.specs.declared.channel.Suffix.{Suffix}
 use Rattle.iiod_grammar.specs.Command.{Place, AtDevice, AtBuffer, AtDebug, AtInput, AtOutput}
-use Rattle.iiod_session.specs.Attributes.{Assignment, Named, found, is_of_buffer, named_at, write_found}
-use Rattle.iiod_session.specs.Front.{Front, shape_at}
+use Rattle.iiod_session.specs.Attributes.{Assignment, Named, attribute_of, channel_word, found, has_attribute, is_of_buffer, named_at, write_found}
+use Rattle.iiod_session.specs.Front.{Front, kind_at, shape_at}
 use Rattle.iiod_session.specs.Target.{MayRead, MayWrite}
 
 -- ---- the table
@@ -65,6 +66,7 @@ queue_numbers_kept attr.Overruns e text = refl
 queue_numbers_kept attr.DataAvailable e text = refl
 queue_numbers_kept attr.Length e text = refl
 queue_numbers_kept attr.Discarded e text = refl
+queue_numbers_kept attr.Underruns e text = refl
 queue_numbers_kept a e text = absurd (cc)
 
 -- what a text is checked for can be written
@@ -75,54 +77,72 @@ writable_is attr.Overruns text v e = absurd (cc)
 writable_is attr.DataAvailable text v e = absurd (cc)
 writable_is attr.Length text v e = absurd (cc)
 writable_is attr.Discarded text v e = absurd (cc)
+writable_is attr.Underruns text v e = absurd (cc)
 writable_is a text v e = refl
 
 -- ---- what is named
 
-named_as : {A : Type 0} (o : Option A) (f : A → Named) (x : Named) → (ok_or o ENOENT >>= (λ a. Ok (f a))) ≡ Ok x → (a : A) × (o ≡ Some a) × (f a ≡ x)
-named_as None f x e = absurd (cc)
-named_as (Some a) f x e = (a, refl, cc)
+named_as : (kind : desc.Kind) (s : Scope) (name : List ℕ) (f : Attr → Named) (x : Named) → (attribute_of kind s name >>= (λ a. Ok (f a))) ≡ Ok x
+    → (a : Attr) × (find_of s name ≡ Some a) × (has_attribute kind a ≡ true) × (f a ≡ x)
+named_as kind s name f x e = by (find_of s name) refl e
+  where
+    had : (a : Attr) (b : Bool) → find_of s name ≡ Some a → has_attribute kind a ≡ b → ((ensure b ENOENT >>= (λ there. Ok a)) >>= (λ y. Ok (f y))) ≡ Ok x
+        → (y : Attr) × (find_of s name ≡ Some y) × (has_attribute kind y ≡ true) × (f y ≡ x)
+    had a true is own e = (a, is, own, cc)
+    had a false is own e = absurd (cc)
 
--- what is named at the device or at a channel may be read
-pub may_read : (front : Front) (dev : ℕ) (place : Place) (name : Option (List ℕ)) (x : Named) → named_at (shape_at front dev) place name ≡ Ok x → is_of_buffer place name ≡ false
+    by : (o : Option Attr) → find_of s name ≡ o → ((ok_or o ENOENT >>= (λ a. ensure (has_attribute kind a) ENOENT >>= (λ there. Ok a))) >>= (λ y. Ok (f y))) ≡ Ok x
+        → (y : Attr) × (find_of s name ≡ Some y) × (has_attribute kind y ≡ true) × (f y ≡ x)
+    by None is e = absurd (cc)
+    by (Some a) is e = had a (has_attribute kind a) is refl e
+
+-- an attribute of a channel of that ID
+at_word : (front : Front) (dev : ℕ) (word : Option (List ℕ)) (name : List ℕ) (x : Named)
+    → (ok_or word ENOENT >>= (λ channel. ok_or (channel_of (shape_at front dev) channel) ENOENT >>= (λ c. attribute_of (kind_at front dev) scope.Channel name >>= (λ a. Ok (record { channel = Some c; attribute = a }))))) ≡ Ok x
     → MayRead front dev x.channel x.attribute
-may_read front dev place None x e b = absurd (cc)
-may_read front dev AtDevice (Some name) x e b =
-    let is = named_as (find_of scope.Device name) (λ a. record { channel = None; attribute = a }) x e in
-    subst (λ (y : Named). MayRead front dev y.channel y.attribute) is.2 (find_scope attributes scope.Device name is.0 is.1)
-may_read front dev AtBuffer (Some name) x e b = absurd (cc)
-may_read front dev AtDebug (Some name) x e b = absurd (cc)
-may_read front dev (AtOutput channel) (Some name) x e b = absurd (cc)
-may_read front dev (AtInput channel) (Some name) x e b = by (channel_of (shape_at front dev) channel) refl e
+at_word front dev None name x e = absurd (cc)
+at_word front dev (Some channel) name x e = by (channel_of (shape_at front dev) channel) refl e
   where
     by : (o : Option ℕ) → channel_of (shape_at front dev) channel ≡ o
-        → (ok_or o ENOENT >>= (λ c. ok_or (find_of scope.Channel name) ENOENT >>= (λ a. Ok (record { channel = Some c; attribute = a })))) ≡ Ok x
+        → (ok_or o ENOENT >>= (λ c. attribute_of (kind_at front dev) scope.Channel name >>= (λ a. Ok (record { channel = Some c; attribute = a })))) ≡ Ok x
         → MayRead front dev x.channel x.attribute
     by None is e = absurd (cc)
     by (Some c) is e =
-        let named = named_as (find_of scope.Channel name) (λ a. record { channel = Some c; attribute = a }) x e in
-        subst (λ (y : Named). MayRead front dev y.channel y.attribute) named.2
-        (channel_within (shape_at front dev) channel c is, find_scope attributes scope.Channel name named.0 named.1)
+        let named = named_as (kind_at front dev) scope.Channel name (λ a. record { channel = Some c; attribute = a }) x e in
+        subst (λ (y : Named). MayRead front dev y.channel y.attribute) named.3
+        (channel_within (shape_at front dev) channel c is, find_scope attributes scope.Channel name named.0 named.1, named.2)
+
+-- what is named at the device or at a channel may be read
+pub may_read : (front : Front) (dev : ℕ) (place : Place) (name : Option (List ℕ)) (x : Named) → named_at (kind_at front dev) (shape_at front dev) place name ≡ Ok x → is_of_buffer place name ≡ false
+    → MayRead front dev x.channel x.attribute
+may_read front dev place None x e b = absurd (cc)
+may_read front dev AtDevice (Some name) x e b =
+    let is = named_as (kind_at front dev) scope.Device name (λ a. record { channel = None; attribute = a }) x e in
+    subst (λ (y : Named). MayRead front dev y.channel y.attribute) is.3 (find_scope attributes scope.Device name is.0 is.1, is.2)
+may_read front dev AtBuffer (Some name) x e b = absurd (cc)
+may_read front dev AtDebug (Some name) x e b = at_word front dev (channel_word (kind_at front dev) AtDebug) name x e
+may_read front dev (AtInput channel) (Some name) x e b = at_word front dev (channel_word (kind_at front dev) (AtInput channel)) name x e
+may_read front dev (AtOutput channel) (Some name) x e b = at_word front dev (channel_word (kind_at front dev) (AtOutput channel)) name x e
 
 -- what is named at the buffer stands there
-of_buffer : (shape : ShapeRecord) (place : Place) (name : Option (List ℕ)) (x : Named) → named_at shape place name ≡ Ok x → is_of_buffer place name ≡ true
+of_buffer : (kind : desc.Kind) (shape : ShapeRecord) (place : Place) (name : Option (List ℕ)) (x : Named) → named_at kind shape place name ≡ Ok x → is_of_buffer place name ≡ true
     → (row_of x.attribute).scope ≡ scope.Buffer
-of_buffer shape AtBuffer None x e b = absurd (cc)
-of_buffer shape AtBuffer (Some name) x e b =
-    let is = named_as (find_of scope.Buffer name) (λ a. record { channel = None; attribute = a }) x e in
-    subst (λ (y : Named). (row_of y.attribute).scope ≡ scope.Buffer) is.2 (find_scope attributes scope.Buffer name is.0 is.1)
-of_buffer shape AtDevice name x e b = absurd (cc)
-of_buffer shape AtDebug name x e b = absurd (cc)
-of_buffer shape (AtInput channel) name x e b = absurd (cc)
-of_buffer shape (AtOutput channel) name x e b = absurd (cc)
+of_buffer kind shape AtBuffer None x e b = absurd (cc)
+of_buffer kind shape AtBuffer (Some name) x e b =
+    let is = named_as kind scope.Buffer name (λ a. record { channel = None; attribute = a }) x e in
+    subst (λ (y : Named). (row_of y.attribute).scope ≡ scope.Buffer) is.3 (find_scope attributes scope.Buffer name is.0 is.1)
+of_buffer kind shape AtDevice name x e b = absurd (cc)
+of_buffer kind shape AtDebug name x e b = absurd (cc)
+of_buffer kind shape (AtInput channel) name x e b = absurd (cc)
+of_buffer kind shape (AtOutput channel) name x e b = absurd (cc)
 
 -- what is found is named
-pub found_named : (shape : ShapeRecord) (plugged is_open : Bool) (place : Place) (name : Option (List ℕ)) (x : Named) → found shape plugged is_open place name ≡ Ok x → named_at shape place name ≡ Ok x
-found_named shape plugged is_open place name x e = by (is_of_buffer place name) is_open plugged e
+pub found_named : (kind : desc.Kind) (shape : ShapeRecord) (plugged is_open : Bool) (place : Place) (name : Option (List ℕ)) (x : Named) → found kind shape plugged is_open place name ≡ Ok x → named_at kind shape place name ≡ Ok x
+found_named kind shape plugged is_open place name x e = by (is_of_buffer place name) is_open plugged e
   where
     by : (b o p : Bool)
-        → cond (b && o) (named_at shape place name) (ensure p ENODEV >>= (λ free. ensure (not b) EBADF >>= (λ own. named_at shape place name))) ≡ Ok x
-        → named_at shape place name ≡ Ok x
+        → cond (b && o) (named_at kind shape place name) (ensure p ENODEV >>= (λ free. ensure (not b) EBADF >>= (λ own. named_at kind shape place name))) ≡ Ok x
+        → named_at kind shape place name ≡ Ok x
     by true true p e = e
     by true false true e = absurd (cc)
     by true false false e = absurd (cc)
@@ -132,35 +152,35 @@ found_named shape plugged is_open place name x e = by (is_of_buffer place name) 
 -- ---- what is written
 
 -- what an assignment is made of
-record Assigns (shape : ShapeRecord) (place : Place) (name : Option (List ℕ)) (payload : List ℕ) (x : Assignment) : Type 0 where
-  named : named_at shape place name ≡ Ok x.target
+record Assigns (kind : desc.Kind) (shape : ShapeRecord) (place : Place) (name : Option (List ℕ)) (payload : List ℕ) (x : Assignment) : Type 0 where
+  named : named_at kind shape place name ≡ Ok x.target
   checked : check_of x.target.attribute payload ≡ Ok x.value
 
-assigns : (shape : ShapeRecord) (plugged is_open : Bool) (place : Place) (name : Option (List ℕ)) (payload : List ℕ) (x : Assignment)
-    → write_found shape plugged is_open place name payload ≡ Ok x → Assigns shape place name payload x
-assigns shape false is_open place name payload x e = absurd (cc)
-assigns shape true is_open place name payload x e = by (found shape true is_open place name) refl e
+assigns : (kind : desc.Kind) (shape : ShapeRecord) (plugged is_open : Bool) (place : Place) (name : Option (List ℕ)) (payload : List ℕ) (x : Assignment)
+    → write_found kind shape plugged is_open place name payload ≡ Ok x → Assigns kind shape place name payload x
+assigns kind shape false is_open place name payload x e = absurd (cc)
+assigns kind shape true is_open place name payload x e = by (found kind shape true is_open place name) refl e
   where
-    last : (t : Named) (v : Result Fixed Errno) → found shape true is_open place name ≡ Ok t → check_of t.attribute payload ≡ v
-        → (v >>= (λ value. Ok (record { target = t; value = value }))) ≡ Ok x → Assigns shape place name payload x
+    last : (t : Named) (v : Result Fixed Errno) → found kind shape true is_open place name ≡ Ok t → check_of t.attribute payload ≡ v
+        → (v >>= (λ value. Ok (record { target = t; value = value }))) ≡ Ok x → Assigns kind shape place name payload x
     last t (Err errno) f c e = absurd (cc)
     last t (Ok value) f c e =
         let same : record { target = t; value = value } ≡ x = cc in
-        subst (λ (y : Assignment). Assigns shape place name payload y) same (record { named = found_named shape true is_open place name t f; checked = c })
+        subst (λ (y : Assignment). Assigns kind shape place name payload y) same (record { named = found_named kind shape true is_open place name t f; checked = c })
 
-    by : (r : Result Named Errno) → found shape true is_open place name ≡ r
-        → (r >>= (λ target. check_of target.attribute payload >>= (λ value. Ok (record { target = target; value = value })))) ≡ Ok x → Assigns shape place name payload x
+    by : (r : Result Named Errno) → found kind shape true is_open place name ≡ r
+        → (r >>= (λ target. check_of target.attribute payload >>= (λ value. Ok (record { target = target; value = value })))) ≡ Ok x → Assigns kind shape place name payload x
     by (Err errno) f e = absurd (cc)
     by (Ok t) f e = last t (check_of t.attribute payload) f refl e
 
 -- what a WRITE finds may be written
 pub may_write : (front : Front) (dev : ℕ) (plugged is_open : Bool) (place : Place) (name : Option (List ℕ)) (payload : List ℕ) (x : Assignment)
-    → write_found (shape_at front dev) plugged is_open place name payload ≡ Ok x → MayWrite front dev x.target.channel x.target.attribute x.value
-may_write front dev plugged is_open place name payload x e = by (is_of_buffer place name) refl (assigns (shape_at front dev) plugged is_open place name payload x e)
+    → write_found (kind_at front dev) (shape_at front dev) plugged is_open place name payload ≡ Ok x → MayWrite front dev x.target.channel x.target.attribute x.value
+may_write front dev plugged is_open place name payload x e = by (is_of_buffer place name) refl (assigns (kind_at front dev) (shape_at front dev) plugged is_open place name payload x e)
   where
-    by : (b : Bool) → is_of_buffer place name ≡ b → Assigns (shape_at front dev) place name payload x → MayWrite front dev x.target.channel x.target.attribute x.value
+    by : (b : Bool) → is_of_buffer place name ≡ b → Assigns (kind_at front dev) (shape_at front dev) place name payload x → MayWrite front dev x.target.channel x.target.attribute x.value
     by true b is =
-        let kept = queue_numbers_kept x.target.attribute (of_buffer (shape_at front dev) place name x.target is.named b) payload in
+        let kept = queue_numbers_kept x.target.attribute (of_buffer (kind_at front dev) (shape_at front dev) place name x.target is.named b) payload in
         absurd (cc (kept, is.checked))
     by false b is = record {
       named = may_read front dev place name x.target is.named b;

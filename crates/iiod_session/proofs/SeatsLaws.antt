@@ -1,5 +1,5 @@
 -- A connection's seats as lists.
-use Rattle.std.proofs.Common.{◌≡◌, ◌≢◌, ℕ, zero, suc, ◌+◌, ◌<◌, ◌==◌, Bool, true, not, cond, List, [], ◌∷◌, ◌++◌, map, length, slice_get, slice_set, slice_index_or, remove, Option, Some, None, option_map, IfSome, is_some, Result, Ok, Err, refl, sym, ap, ◌∙◌, arith}
+use Rattle.std.proofs.Common.{◌≡◌, ◌≢◌, ℕ, zero, suc, ◌+◌, ◌<◌, ◌==◌, Bool, true, not, cond, List, [], ◌∷◌, ◌++◌, map, length, slice_get, slice_set, slice_index_or, remove, Option, Some, None, option_map, IfSome, is_some, Result, Ok, Err, refl, sym, ap, subst, ◌∙◌, arith}
 use Rattle.std.proofs.lemmas.List.{length-map}
 use Rattle.std.specs.Prelude.{⊤}
 use Rattle.std.specs.List.{position, prefix_len}
@@ -16,13 +16,13 @@ use Rattle.iiod_session.specs.declared.iio.Took.{Took}
 use Rattle.iiod_session.specs.declared.iio.Took.TheVariants.{Scan, Empty, Gone}
 use Rattle.iiod_session.specs.declared.wanted.Wanted.{Wanted as CodeWanted}
 use Rattle.iio_mask.specs.declared.Mask.{Mask}
-use Rattle.iiod_session.specs.Acts.{all_closed, all_released, zero_reply, open_at, open_wanted, joined_at, close_at, close_seat, read_at, read_seat, read_at_seat, refused, remask_at, remask_place, remask_seat}
+use Rattle.iiod_session.specs.Acts.{Acted, all_closed, all_released, zero_reply, open_at, open_wanted, joined_at, close_at, close_seat, read_at, read_seat, read_at_seat, refused, remask_at, remask_place, remask_seat, write_at_place, write_at_seat}
 use Rattle.iiod_session.specs.Calls.{closed, ev_close_of}
 use Rattle.iiod_session.specs.Desk.{IsDesk, IsWanted, Wanted, Bare, DeskRecord, are_apart, bare_of, tale_of, seats_of, tales_of, place_of, buffers_of, with_seats, wanted_of}
-use Rattle.iiod_session.specs.Front.{Front, shape_at}
+use Rattle.iiod_session.specs.Front.{Front, kind_at, shape_at}
 use Rattle.iiod_session.specs.Machine.{Machine, is_plugged}
 use Rattle.iiod_session.specs.Moves.{ReadsBy}
-use Rattle.iiod_session.specs.Performs.{Comes, JoinsBy, LeavesBy, OpensBy, ReadAt, ReadHeld, ReadServed, ReadServedAt, RemaskMoves, RemaskTold, RemasksBy, reply_by}
+use Rattle.iiod_session.specs.Performs.{Comes, JoinsBy, LeavesBy, OpensBy, ReadAt, ReadHeld, ReadServed, ReadServedAt, RemaskMoves, RemaskTold, RemasksBy, WritesHeld, reply_by}
 use Rattle.iiod_session.specs.Seat.{Answers, SeatRecord, Tale, IsNew, first_tale}
 use Rattle.iiod_session.proofs.GivenLaws.{AreSeated, apart_by, apart_kept, apart_last, apart_under, are_apart_by, none_has, placed_at}
 use Rattle.iiod_session.specs.Wanted.{wanted_of_code}
@@ -65,27 +65,31 @@ module _ {S : Type 0} (seen : S → SeatRecord) where
   get_is f (x ∷ xs) zero h l e = ap (λ y. Some (f y)) (sym e)
   get_is f (x ∷ xs) (suc i) h l e = get_is f xs i h (omega arith) e
 
+  -- the seat that was found is at that device
+  pub dev_is : (dev i : ℕ) (held : List (Held S)) (h : Held S) → Some i ≡ place_of dev (seats_of seen held) → i < length held → h ≡ slice_index_or held i h → h.dev ≡ dev
+  dev_is dev i held h at l e = placed_at dev (seats_of seen held) i (bare_of seen h) (sym at) (get_is (bare_of seen) held i h l e)
+
   map_remove : {B : Type 0} (f : Held S → B) (held : List (Held S)) (i : ℕ) → map f (remove held i) ≡ remove (map f held) i
   map_remove f [] zero = refl
   map_remove f [] (suc i) = refl
   map_remove f (x ∷ xs) zero = refl
   map_remove f (x ∷ xs) (suc i) = ap (λ ys. f x ∷ ys) (map_remove f xs i)
 
-  closed_at : (m : Machine) (base : DeskRecord) (i : ℕ) (held held' : List (Held S)) (h : Held S) (p : Option ℕ)
+  closed_at : (front : Front) (m : Machine) (base : DeskRecord) (i : ℕ) (held held' : List (Held S)) (h : Held S) (p : Option ℕ)
       → Some i ≡ p → i < length held → h ≡ slice_index_or held i h → held' ≡ remove held i
-      → close_at m (with_seats (seats_of seen held) base) p ≡ record { reply = zero_reply; machine = closed m h.dev (seen h.seat).number; desk = with_seats (seats_of seen held') base }
-  closed_at m base i held held' h p at l e gone =
-      ap (λ q. close_at m (with_seats (seats_of seen held) base) q) (sym at)
-      ∙ ap (λ s. close_seat m (with_seats (seats_of seen held) base) i s) (get_is (bare_of seen) held i h l e)
-      ∙ ap (λ (bs : List Bare). record { reply = zero_reply; machine = closed m h.dev (seen h.seat).number; desk = with_seats bs base }) (sym (ap (λ hs. seats_of seen hs) gone ∙ map_remove (bare_of seen) held i))
+      → close_at front m (with_seats (seats_of seen held) base) p ≡ record { reply = zero_reply; machine = closed front m h.dev (seen h.seat).number; desk = with_seats (seats_of seen held') base }
+  closed_at front m base i held held' h p at l e gone =
+      ap (λ q. close_at front m (with_seats (seats_of seen held) base) q) (sym at)
+      ∙ ap (λ s. close_seat front m (with_seats (seats_of seen held) base) i s) (get_is (bare_of seen) held i h l e)
+      ∙ ap (λ (bs : List Bare). record { reply = zero_reply; machine = closed front m h.dev (seen h.seat).number; desk = with_seats bs base }) (sym (ap (λ hs. seats_of seen hs) gone ∙ map_remove (bare_of seen) held i))
 
-  pub closes : (told told' : Option Machine) (base : DeskRecord) (dev i : ℕ) (held held' : List (Held S)) (h : Held S)
+  pub closes : (front : Front) (told told' : Option Machine) (base : DeskRecord) (dev i : ℕ) (held held' : List (Held S)) (h : Held S)
       → Some i ≡ place_of dev (seats_of seen held) → i < length held → h ≡ slice_index_or held i h → held' ≡ remove held i
-      → IfSome told (λ m. told' ≡ Some (closed m h.dev (seen h.seat).number))
-      → IfSome told (λ m. Comes m (with_seats (seats_of seen held) base) (close_at m (with_seats (seats_of seen held) base) (place_of dev (seats_of seen held)))
+      → IfSome told (λ m. told' ≡ Some (closed front m h.dev (seen h.seat).number))
+      → IfSome told (λ m. Comes m (with_seats (seats_of seen held) base) (close_at front m (with_seats (seats_of seen held) base) (place_of dev (seats_of seen held)))
       zero_reply told' (with_seats (seats_of seen held') base))
-  closes None told' base dev i held held' h at l e gone t = tt
-  closes (Some m) told' base dev i held held' h at l e gone t = (closed m h.dev (seen h.seat).number, t, closed_at m base i held held' h _ at l e gone)
+  closes front None told' base dev i held held' h at l e gone t = tt
+  closes front (Some m) told' base dev i held held' h at l e gone t = (closed front m h.dev (seen h.seat).number, t, closed_at front m base i held held' h _ at l e gone)
 
   pub leaves : (base : DeskRecord) (dev i : ℕ) (held held' : List (Held S)) → Some i ≡ place_of dev (seats_of seen held) → held' ≡ remove held i
       → LeavesBy dev (with_seats (seats_of seen held) base) (tales_of seen held) (Ok tt) (with_seats (seats_of seen held') base) (tales_of seen held')
@@ -148,6 +152,18 @@ module _ {S : Type 0} (seen : S → SeatRecord) where
   reads_at front dev asked i told told' base held h h' before after (Ok Empty) at l e r = (r.0, served_at front dev asked i told told' base held h h' _ (sym at) l e r.1)
   reads_at front dev asked i told told' base held h h' before after (Ok Gone) at l e r = (r.0, served_at front dev asked i told told' base held h h' _ (sym at) l e r.1)
   reads_at front dev asked i told told' base held h h' before after (Err fault) at l e r = (r.0, r.1, map_set_same (tale_of seen) held i h' h l e r.2)
+
+  pub writes_at : (front : Front) (told told' : Option Machine) (base : DeskRecord) (dev i : ℕ) (payload : List ℕ) (held : List (Held S)) (h : Held S) (reply : Reply)
+      → Some i ≡ place_of dev (seats_of seen held) → i < length held → h ≡ slice_index_or held i h
+      → WritesHeld front payload told (bare_of seen h) reply told'
+      → IfSome told (λ m. Comes m (with_seats (seats_of seen held) base)
+      (write_at_place front m (with_seats (seats_of seen held) base) payload (place_of dev (seats_of seen held))) reply told' (with_seats (seats_of seen held) base))
+  writes_at front None told' base dev i payload held h reply at l e w = tt
+  writes_at front (Some m) told' base dev i payload held h reply at l e w =
+      let desk = with_seats (seats_of seen held) base in
+      let is : write_at_place front m desk payload (place_of dev (seats_of seen held)) ≡ write_at_seat front m desk payload (Some (bare_of seen h))
+      = ap (λ (p : Option ℕ). write_at_place front m desk payload p) (sym at) ∙ ap (λ (s : Option Bare). write_at_seat front m desk payload s) (get_is (bare_of seen) held i h l e) in
+      subst (λ (a : Acted). Comes m desk a reply told' desk) (sym is) (w desk)
 
   -- a seat that changed nothing but its tale
   pub apart_set : (held : List (Held S)) (i : ℕ) (y h : Held S) → i < length held → h ≡ slice_index_or held i h → bare_of seen y ≡ bare_of seen h
@@ -225,28 +241,28 @@ module _ {S : Type 0} (seen : S → SeatRecord) where
   pub seated : (front : Front) (d : Desk S) → IsDesk seen front d → AreSeated (seats_of seen d.held.items) (tales_of seen d.held.items)
   seated front d is = record { apart = apart_by (seats_of seen d.held.items) is.apart; told = length-map d.held.items (tale_of seen) ∙ sym (length-map d.held.items (bare_of seen)) }
 
-  closed_last : (m : Machine) (xs : List Bare) (s : Bare) → all_closed m (xs ++ s ∷ []) ≡ all_closed (closed m s.dev s.number) xs
-  closed_last m [] s = refl
-  closed_last m (x ∷ xs) s = ap (λ n. closed n x.dev x.number) (closed_last m xs s)
+  closed_last : (front : Front) (m : Machine) (xs : List Bare) (s : Bare) → all_closed front m (xs ++ s ∷ []) ≡ all_closed front (closed front m s.dev s.number) xs
+  closed_last front m [] s = refl
+  closed_last front m (x ∷ xs) s = ap (λ n. closed front n x.dev x.number) (closed_last front m xs s)
 
-  closing_one : (m n : Machine) (t t' : Option Machine) (first before after : List (Held S)) (h : Held S)
-      → before ≡ after ++ h ∷ [] → t ≡ Some n → all_closed n (seats_of seen before) ≡ all_closed m (seats_of seen first)
-      → IfSome t (λ k. t' ≡ Some (closed k h.dev (seen h.seat).number))
-      → (k : Machine) × (t' ≡ Some k) × (all_closed k (seats_of seen after) ≡ all_closed m (seats_of seen first))
-  closing_one m n t t' first before after h split told same close =
-      let now : t' ≡ Some (closed n h.dev (seen h.seat).number) = rw told at close in (
-        closed n h.dev (seen h.seat).number,
+  closing_one : (front : Front) (m n : Machine) (t t' : Option Machine) (first before after : List (Held S)) (h : Held S)
+      → before ≡ after ++ h ∷ [] → t ≡ Some n → all_closed front n (seats_of seen before) ≡ all_closed front m (seats_of seen first)
+      → IfSome t (λ k. t' ≡ Some (closed front k h.dev (seen h.seat).number))
+      → (k : Machine) × (t' ≡ Some k) × (all_closed front k (seats_of seen after) ≡ all_closed front m (seats_of seen first))
+  closing_one front m n t t' first before after h split told same close =
+      let now : t' ≡ Some (closed front n h.dev (seen h.seat).number) = rw told at close in (
+        closed front n h.dev (seen h.seat).number,
         now,
-        sym (closed_last n (seats_of seen after) (bare_of seen h)) ∙ ap (λ d. all_closed n d) (sym (ap (λ hs. seats_of seen hs) split ∙ one_more_held (bare_of seen) after h)) ∙ same,
+        sym (closed_last front n (seats_of seen after) (bare_of seen h)) ∙ ap (λ d. all_closed front n d) (sym (ap (λ hs. seats_of seen hs) split ∙ one_more_held (bare_of seen) after h)) ∙ same,
       )
 
-  pub closing_more : (told t t' : Option Machine) (first before after : List (Held S)) (h : Held S)
+  pub closing_more : (front : Front) (told t t' : Option Machine) (first before after : List (Held S)) (h : Held S)
       → before ≡ after ++ h ∷ []
-      → IfSome told (λ m. (n : Machine) × (t ≡ Some n) × (all_closed n (seats_of seen before) ≡ all_closed m (seats_of seen first)))
-      → IfSome t (λ k. t' ≡ Some (closed k h.dev (seen h.seat).number))
-      → IfSome told (λ m. (n : Machine) × (t' ≡ Some n) × (all_closed n (seats_of seen after) ≡ all_closed m (seats_of seen first)))
-  closing_more None t t' first before after h split inv close = tt
-  closing_more (Some m) t t' first before after h split inv close = closing_one m inv.0 t t' first before after h split inv.1 inv.2 close
+      → IfSome told (λ m. (n : Machine) × (t ≡ Some n) × (all_closed front n (seats_of seen before) ≡ all_closed front m (seats_of seen first)))
+      → IfSome t (λ k. t' ≡ Some (closed front k h.dev (seen h.seat).number))
+      → IfSome told (λ m. (n : Machine) × (t' ≡ Some n) × (all_closed front n (seats_of seen after) ≡ all_closed front m (seats_of seen first)))
+  closing_more front None t t' first before after h split inv close = tt
+  closing_more front (Some m) t t' first before after h split inv close = closing_one front m inv.0 t t' first before after h split inv.1 inv.2 close
 
 -- ---- holdings
 
@@ -293,15 +309,15 @@ read_nowhere front dev asked told desk tales at = record { exact = by told; move
 -- what the code found is what the definitions say
 wanted_is : (front : Front) (m : Machine) (desk : DeskRecord) (dev samples : ℕ) (text : List ℕ) (cyclic is_open plugged : Bool) (shape : ShapeRecord) (buffers : ℕ) (w : Result Wanted Errno)
     → is_open ≡ is_some (place_of dev desk.seats) → plugged ≡ is_plugged m dev → shape ≡ shape_at front dev → buffers ≡ buffers_of dev desk.buffers
-    → w ≡ wanted_of is_open plugged shape buffers samples text cyclic
-    → open_at front m desk dev samples text cyclic ≡ open_wanted front m desk dev w
+    → w ≡ wanted_of is_open plugged (kind_at front dev) shape buffers samples text cyclic
+    → open_at front m desk dev samples text cyclic ≡ open_wanted front m desk dev cyclic w
 wanted_is front m desk dev samples text cyclic is_open plugged shape buffers w e0 e1 e2 e3 e =
-    ap (λ x. open_wanted front m desk dev x) (rw (sym e0, sym e1, sym e2, sym e3) (sym e))
+    ap (λ x. open_wanted front m desk dev cyclic x) (rw (sym e0, sym e1, sym e2, sym e3) (sym e))
 
 pub opens : (front : Front) (told told' : Option Machine) (desk desk' : DeskRecord) (dev samples : ℕ) (text : List ℕ) (cyclic is_open plugged : Bool) (shape : ShapeRecord) (buffers : ℕ) (w : CodeWanted) (reply : Reply)
     → is_open ≡ is_some (place_of dev desk.seats) → IfSome told (λ m. plugged ≡ is_plugged m dev) → shape ≡ shape_at front dev → buffers ≡ buffers_of dev desk.buffers
-    → Ok (wanted_of_code w) ≡ wanted_of is_open plugged shape buffers samples text cyclic
-    → IfSome told (λ m. Comes m desk (joined_at front m desk dev (wanted_of_code w)) reply told' desk')
+    → Ok (wanted_of_code w) ≡ wanted_of is_open plugged (kind_at front dev) shape buffers samples text cyclic
+    → IfSome told (λ m. Comes m desk (joined_at front m desk dev (wanted_of_code w) cyclic) reply told' desk')
     → IfSome told (λ m. Comes m desk (open_at front m desk dev samples text cyclic) reply told' desk')
 opens front None told' desk desk' dev samples text cyclic is_open plugged shape buffers w reply e0 e1 e2 e3 e c = tt
 opens front (Some m) told' desk desk' dev samples text cyclic is_open plugged shape buffers w reply e0 e1 e2 e3 e c =
@@ -309,7 +325,7 @@ opens front (Some m) told' desk desk' dev samples text cyclic is_open plugged sh
 
 pub refuses : (front : Front) (told : Option Machine) (desk : DeskRecord) (dev samples : ℕ) (text : List ℕ) (cyclic is_open plugged : Bool) (shape : ShapeRecord) (buffers : ℕ) (errno : Errno)
     → is_open ≡ is_some (place_of dev desk.seats) → IfSome told (λ m. plugged ≡ is_plugged m dev) → shape ≡ shape_at front dev → buffers ≡ buffers_of dev desk.buffers
-    → Err errno ≡ wanted_of is_open plugged shape buffers samples text cyclic
+    → Err errno ≡ wanted_of is_open plugged (kind_at front dev) shape buffers samples text cyclic
     → IfSome told (λ m. Comes m desk (open_at front m desk dev samples text cyclic) (Refusal errno) told desk)
 refuses front None desk dev samples text cyclic is_open plugged shape buffers errno e0 e1 e2 e3 e = tt
 refuses front (Some m) desk dev samples text cyclic is_open plugged shape buffers errno e0 e1 e2 e3 e =
@@ -317,7 +333,7 @@ refuses front (Some m) desk dev samples text cyclic is_open plugged shape buffer
 
 -- an OPEN by what it asks for, at the shape and the buffers count that the code found
 pub opens_by : (front : Front) (dev samples : ℕ) (text : List ℕ) (cyclic : Bool) (desk desk' : DeskRecord) (tales tales' : List (Option Tale)) (shape : ShapeRecord) (buffers : ℕ) (x : Wanted) (r : Result ⊤ No)
-    → shape ≡ shape_at front dev → buffers ≡ buffers_of dev desk.buffers → IsWanted shape buffers samples text cyclic x
+    → shape ≡ shape_at front dev → buffers ≡ buffers_of dev desk.buffers → IsWanted (kind_at front dev) shape buffers samples text cyclic x
     → JoinsBy dev x desk tales r desk' tales' → OpensBy front dev samples text cyclic desk tales r desk' tales'
 opens_by front dev samples text cyclic desk desk' tales tales' shape buffers x (Ok done) e n w j = (x, rw (e, n) at w, j)
 opens_by front dev samples text cyclic desk desk' tales tales' shape buffers x (Err why) e n w j = j

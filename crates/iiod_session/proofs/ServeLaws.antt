@@ -1,11 +1,12 @@
 -- One item and its answer.
-use Rattle.std.proofs.Common.{◌≡◌, ℕ, ◌+◌, ◌≤◌, Bool, List, ◌++◌, length, arith, inl, inr, Option, Some, None, IfSome, Result, Ok, Err, IfOk, OnOk, refl, sym, ap, ◌∙◌}
+use Rattle.std.proofs.Common.{◌≡◌, ◌⊎◌, ℕ, ◌+◌, ◌≤◌, Bool, true, false, not, cond, List, ◌++◌, length, arith, inl, inr, Option, Some, None, IfSome, Result, Ok, Err, IfOk, OnOk, refl, sym, ap, ◌∙◌}
 use Rattle.std.specs.Prelude.{⊤}
 use Rattle.iio_base.specs.declared.Mem.{Mem}
 use Rattle.iio_text.specs.declared.errors.Errno.{Errno}
-use Rattle.iio_text.specs.declared.errors.Errno.TheVariants.{EAGAIN, EBADF, ENODEV}
-use Rattle.iiod_grammar.specs.Command.{Command, Open, Close, Read, ReadBuf, GetTrig, SetTrig, SetBuffers, Remask, WriteBuf, EvOpen, EvRead, EvClose}
-use Rattle.iiod_grammar.specs.Stream.{Item, Said}
+use Rattle.iio_text.specs.declared.errors.Errno.TheVariants.{EAGAIN, EBADF, ENODEV, ENOSYS}
+use Rattle.iio_desc.specs.Kind.{is_output}
+use Rattle.iiod_grammar.specs.Command.{Command, Open, Close, Read, ReadBuf, GetTrig, SetTrig, SetBuffers, Remask, EvOpen, EvRead, EvClose}
+use Rattle.iiod_grammar.specs.Stream.{Item, Said, Streamed}
 use Rattle.iiod_reply.specs.Reply.{Reply, Nothing, Number, Refusal, Line, Value, Raw, Block, NoMemory, text_of}
 use Rattle.iiod_session.specs.declared.answers.TheConstants.{SHORT_ANSWER}
 use Rattle.iiod_session.specs.declared.iio.No.{No}
@@ -16,13 +17,13 @@ use Rattle.iiod_session.specs.declared.manner.Manner.{Manner}
 use Rattle.iiod_session.specs.declared.manner.Manner.TheVariants.{Script, Server}
 use Rattle.iiod_session.specs.declared.manner.Performed.{Performed}
 use Rattle.iiod_session.specs.declared.manner.Performed.TheVariants.{Done, Waits}
-use Rattle.iiod_session.specs.Acts.{Acted, Acts, act, at_device, refused, open_at, close_at, read_at, read_attribute_at, ev_close_at, ev_open_at, ev_read_at, get_trigger_at, remask_at, set_buffers_at, set_trigger_at, write_buffer_at, zero_reply}
+use Rattle.iiod_session.specs.Acts.{Acted, Acts, act, at_device, refused, open_at, close_at, read_at, read_buffer_at, read_attribute_at, ev_close_known, ev_open_known, ev_read_known, get_trigger_at, remask_known, set_buffers_at, set_trigger_known, where_known, write_buffer_at, zero_reply}
 use Rattle.iiod_session.specs.Answers.{IsAt}
 use Rattle.iiod_session.specs.Desk.{Bare, DeskRecord, place_of, with_count, with_holding, without_holding}
-use Rattle.iiod_session.specs.Front.{Front, find_device}
+use Rattle.iiod_session.specs.Front.{Front, find_device, kind_at}
 use Rattle.iiod_session.specs.Machine.{Machine}
-use Rattle.iiod_session.specs.Moves.{Accepts, AnswersAlone, AnswersAs, IsOrShort, Moves, ReadsBy, ReadsFrom, Serves, at_known, at_seat}
-use Rattle.iiod_session.specs.Performs.{AnswersRead, Comes, HasRoomAfter, IsAllowed, IsAnswerOf, IsFound, IsWhole, LeavesBy, OpensBy, Performs, ReadAt, ReadServedAt, RemasksBy, desk_by, reply_by}
+use Rattle.iiod_session.specs.Moves.{Accepts, AnswersAlone, AnswersAs, IsOrShort, Moves, ReadsBy, Serves, at_known, at_seat}
+use Rattle.iiod_session.specs.Performs.{AnswersRead, Comes, HasRoomAfter, IsAllowed, IsAnswerOf, IsFound, IsWhole, LeavesBy, OpensBy, Performs, ReadAt, ReadServedAt, RemasksBy, desk_by, reply_by, taken_by}
 use Rattle.iiod_session.specs.Seat.{Tale}
 
 -- an outcome that is the item's
@@ -43,6 +44,17 @@ pub all_comes : (front : Front) (told told' : Option Machine) (desk desk' : Desk
 all_comes front None told' desk desk' item o reply e c = tt
 all_comes front (Some m) told' desk desk' item o reply e c = comes_acts front m desk desk' item (o m) reply told' (e m) c
 
+-- at a device of a kind that knows the command, and at another
+pub known : (is : Bool) (told told' : Option Machine) (desk desk' : DeskRecord) (dev : ℕ) (acted : Machine → Acted) (reply : Reply) → is ≡ true
+    → IfSome told (λ m. Comes m desk (acted m) reply told' desk') → IfSome told (λ m. Comes m desk (where_known is m desk dev (acted m)) reply told' desk')
+known is told told' desk desk' dev acted reply e c = rw e c
+
+pub not_known : (is : Bool) (told : Option Machine) (desk : DeskRecord) (dev : ℕ) (acted : Machine → Acted) (reply : Reply) → is ≡ false
+    → ((d : DeskRecord) (a : Acted) → IfSome told (λ m. Comes m d (where_known false m d dev a) reply told d))
+    → IfSome told (λ m. Comes m desk (where_known is m desk dev (acted m)) reply told desk)
+not_known is None desk dev acted reply e u = tt
+not_known is (Some m) desk dev acted reply e u = rw e (u desk (acted m))
+
 -- a refusal changes nothing
 pub all_refused : (front : Front) (told : Option Machine) (desk : DeskRecord) (item : Item) (e : Errno)
     → ((m : Machine) → act front m desk item ≡ refused e m desk) → IfSome told (λ m. Acts front m desk item (Refusal e) told desk)
@@ -61,13 +73,23 @@ pub short_at : (o : Option ℕ) → IfSome (at_known (λ dev. None) o) (λ answe
 short_at None = inr refl
 short_at (Some dev) = tt
 
+short_place : (p : Option ℕ) → IfSome (at_seat p) (λ answer. IsOrShort answer NoMemory)
+short_place None = inr refl
+short_place (Some i) = tt
+
 pub short_seat : (seats : List Bare) (o : Option ℕ) → IfSome (at_known (λ dev. at_seat (place_of dev seats)) o) (λ answer. IsOrShort answer NoMemory)
 short_seat seats None = inr refl
-short_seat seats (Some dev) = by (place_of dev seats)
+short_seat seats (Some dev) = short_place (place_of dev seats)
+
+-- ... in that of a READBUF's, for which an output device is asked
+short_reader : (front : Front) (seats : List Bare) (o : Option ℕ)
+    → IfSome (at_known (λ dev. cond (is_output (kind_at front dev)) None (at_seat (place_of dev seats))) o) (λ answer. IsOrShort answer NoMemory)
+short_reader front seats None = inr refl
+short_reader front seats (Some dev) = by (is_output (kind_at front dev))
   where
-    by : (p : Option ℕ) → IfSome (at_seat p) (λ answer. IsOrShort answer NoMemory)
-    by None = inr refl
-    by (Some i) = tt
+    by : (b : Bool) → IfSome (cond b None (at_seat (place_of dev seats))) (λ answer. IsOrShort answer NoMemory)
+    by true = tt
+    by false = short_place (place_of dev seats)
 
 -- a command that is answered by 0 where it isn't refused
 pub settles : (front : Front) (item : Item) (r : Result ⊤ No) → Accepts front item zero_reply → AnswersAs front item (reply_by r)
@@ -80,32 +102,30 @@ settles front item (Err NoMem) a = tt
 -- what it makes at the device of that number
 abbrev pub on_device : Front → Machine → DeskRecord → Command → ℕ → Acted
 on_device front m desk (Open device samples text cyclic) = λ dev. open_at front m desk dev samples text cyclic
-on_device front m desk (Close device) = λ dev. close_at m desk (place_of dev desk.seats)
+on_device front m desk (Close device) = λ dev. close_at front m desk (place_of dev desk.seats)
 on_device front m desk (Read device place name) = λ dev. read_attribute_at front m desk place name dev
-on_device front m desk (WriteBuf device bytes) = λ dev. write_buffer_at m desk dev
 on_device front m desk (GetTrig device) = λ dev. get_trigger_at front m desk dev
-on_device front m desk (SetTrig device name) = λ dev. set_trigger_at front m desk name dev
+on_device front m desk (SetTrig device name) = λ dev. set_trigger_known front m desk name dev
 on_device front m desk (SetBuffers device n) = λ dev. set_buffers_at m desk n dev
-on_device front m desk (Remask device text) = λ dev. remask_at front m desk text dev
-on_device front m desk (EvOpen device) = λ dev. ev_open_at m desk dev
-on_device front m desk (EvRead device) = λ dev. ev_read_at m desk dev
-on_device front m desk (EvClose device) = λ dev. ev_close_at m desk dev
+on_device front m desk (Remask device text) = λ dev. remask_known front m desk text dev
+on_device front m desk (EvOpen device) = λ dev. ev_open_known front m desk dev
+on_device front m desk (EvRead device) = λ dev. ev_read_known front m desk dev
+on_device front m desk (EvClose device) = λ dev. ev_close_known front m desk dev
 on_device front m desk command = λ dev. refused ENODEV m desk
 
 act_at : (front : Front) (m : Machine) (desk : DeskRecord) (o : Option ℕ) (command : Command) → IsAt front o command
     → act front m desk (Said (Ok command)) ≡ at_device m desk (on_device front m desk command) o
 unfolding act
 act_at front m desk o (Open device samples text cyclic) e = ap (λ x. at_device m desk (λ dev. open_at front m desk dev samples text cyclic) x) (sym e)
-act_at front m desk o (Close device) e = ap (λ x. at_device m desk (λ dev. close_at m desk (place_of dev desk.seats)) x) (sym e)
+act_at front m desk o (Close device) e = ap (λ x. at_device m desk (λ dev. close_at front m desk (place_of dev desk.seats)) x) (sym e)
 act_at front m desk o (Read device place name) e = ap (λ x. at_device m desk (λ dev. read_attribute_at front m desk place name dev) x) (sym e)
-act_at front m desk o (WriteBuf device bytes) e = ap (λ x. at_device m desk (λ dev. write_buffer_at m desk dev) x) (sym e)
 act_at front m desk o (GetTrig device) e = ap (λ x. at_device m desk (λ dev. get_trigger_at front m desk dev) x) (sym e)
-act_at front m desk o (SetTrig device name) e = ap (λ x. at_device m desk (λ dev. set_trigger_at front m desk name dev) x) (sym e)
+act_at front m desk o (SetTrig device name) e = ap (λ x. at_device m desk (λ dev. set_trigger_known front m desk name dev) x) (sym e)
 act_at front m desk o (SetBuffers device n) e = ap (λ x. at_device m desk (λ dev. set_buffers_at m desk n dev) x) (sym e)
-act_at front m desk o (Remask device text) e = ap (λ x. at_device m desk (λ dev. remask_at front m desk text dev) x) (sym e)
-act_at front m desk o (EvOpen device) e = ap (λ x. at_device m desk (λ dev. ev_open_at m desk dev) x) (sym e)
-act_at front m desk o (EvRead device) e = ap (λ x. at_device m desk (λ dev. ev_read_at m desk dev) x) (sym e)
-act_at front m desk o (EvClose device) e = ap (λ x. at_device m desk (λ dev. ev_close_at m desk dev) x) (sym e)
+act_at front m desk o (Remask device text) e = ap (λ x. at_device m desk (λ dev. remask_known front m desk text dev) x) (sym e)
+act_at front m desk o (EvOpen device) e = ap (λ x. at_device m desk (λ dev. ev_open_known front m desk dev) x) (sym e)
+act_at front m desk o (EvRead device) e = ap (λ x. at_device m desk (λ dev. ev_read_known front m desk dev) x) (sym e)
+act_at front m desk o (EvClose device) e = ap (λ x. at_device m desk (λ dev. ev_close_known front m desk dev) x) (sym e)
 act_at front m desk o command e = absurd e
 
 -- where there is none of its name
@@ -120,7 +140,6 @@ pub serves_unknown : (front : Front) (told : Option Machine) (desk : DeskRecord)
 serves_unknown front told desk tales (Open device samples text cyclic) e = unknown front told desk tales (Open device samples text cyclic) e (rw (sym e) (inl refl)) (refl, refl)
 serves_unknown front told desk tales (Close device) e = unknown front told desk tales (Close device) e (rw (sym e) (inl refl)) (refl, refl)
 serves_unknown front told desk tales (Read device place name) e = unknown front told desk tales (Read device place name) e (rw (sym e) (inl refl)) (refl, refl)
-serves_unknown front told desk tales (WriteBuf device bytes) e = unknown front told desk tales (WriteBuf device bytes) e (rw (sym e) (inl refl)) (refl, refl)
 serves_unknown front told desk tales (GetTrig device) e = unknown front told desk tales (GetTrig device) e (rw (sym e) (inl refl)) (refl, refl)
 serves_unknown front told desk tales (SetTrig device name) e = unknown front told desk tales (SetTrig device name) e (rw (sym e) (inl refl)) (refl, refl)
 serves_unknown front told desk tales (SetBuffers device n) e = unknown front told desk tales (SetBuffers device n) e (rw (sym e) (inl refl)) (refl, refl)
@@ -167,7 +186,7 @@ serves_open front told told' desk desk' tales tales' device samples text cyclic 
 
 pub serves_close : (front : Front) (told told' : Option Machine) (desk desk' : DeskRecord) (tales tales' : List (Option Tale)) (device : List ℕ) (dev : ℕ) (r : Result ⊤ No)
     → Some dev ≡ find_device front device
-    → IfSome told (λ m. Comes m desk (close_at m desk (place_of dev desk.seats)) (reply_by r) told' desk')
+    → IfSome told (λ m. Comes m desk (close_at front m desk (place_of dev desk.seats)) (reply_by r) told' desk')
     → (place_of dev desk.seats ≡ None → r ≡ Err (NoErrno EBADF))
     → LeavesBy dev desk tales r desk' tales'
     → Serves front told desk tales (Said (Ok (Close device))) (reply_by r) told' desk' tales'
@@ -183,7 +202,7 @@ serves_close front told told' desk desk' tales tales' device dev r e t none j =
 
 pub serves_remask : (front : Front) (told told' : Option Machine) (desk desk' : DeskRecord) (tales tales' : List (Option Tale)) (device text : List ℕ) (dev : ℕ) (r : Result ⊤ No)
     → Some dev ≡ find_device front device
-    → IfSome told (λ m. Comes m desk (remask_at front m desk text dev) (reply_by r) told' desk')
+    → IfSome told (λ m. Comes m desk (remask_known front m desk text dev) (reply_by r) told' desk')
     → RemasksBy front dev text desk tales r desk' tales'
     → Serves front told desk tales (Said (Ok (Remask device text))) (reply_by r) told' desk' tales'
 serves_remask front told told' desk desk' tales tales' device text dev r e t j =
@@ -196,17 +215,18 @@ serves_remask front told told' desk desk' tales tales' device text dev r e t j =
 
 -- ---- READBUF
 
-read_is : (front : Front) (desk : DeskRecord) (device : List ℕ) (asked dev : ℕ) → find_device front device ≡ Some dev → (m : Machine)
+read_is : (front : Front) (desk : DeskRecord) (device : List ℕ) (asked dev : ℕ) → find_device front device ≡ Some dev → is_output (kind_at front dev) ≡ false → (m : Machine)
     → act front m desk (Said (Ok (ReadBuf device asked))) ≡ read_at front m desk asked (place_of dev desk.seats)
 unfolding act
-read_is front desk device asked dev e m = ap (λ o. at_device m desk (λ k. read_at front m desk asked (place_of k desk.seats)) o) e
+read_is front desk device asked dev e read m =
+    ap (λ o. at_device m desk (read_buffer_at front m desk asked) o) e ∙ ap (λ (b : Bool). where_known (not b) m desk dev (read_at front m desk asked (place_of dev desk.seats))) read
 
 pub serves_read : (front : Front) (told told' : Option Machine) (desk desk' : DeskRecord) (tales tales' : List (Option Tale)) (device : List ℕ) (asked dev : ℕ) (reply : Reply)
-    → find_device front device ≡ Some dev → desk' ≡ desk
+    → find_device front device ≡ Some dev → is_output (kind_at front dev) ≡ false → desk' ≡ desk
     → ReadServedAt front dev asked told told' desk tales tales' reply
     → Serves front told desk tales (Said (Ok (ReadBuf device asked))) reply told' desk' tales'
-serves_read front told told' desk desk' tales tales' device asked dev reply e same r =
-    record { alone = rw e (unseated (place_of dev desk.seats) r.moves); formed = formed reply; exact = by told r.exact; moves = moved reply r.whole r.moves }
+serves_read front told told' desk desk' tales tales' device asked dev reply e read same r =
+    record { alone = rw (e, read) (unseated (place_of dev desk.seats) r.moves); formed = formed reply; exact = by told r.exact; moves = moved reply r.whole r.moves }
   where
     unseated : (p : Option ℕ) → ReadsBy front asked desk.seats tales p reply tales' → IfSome (at_seat p) (λ answer. IsOrShort answer reply)
     unseated None x = inl x.0
@@ -217,15 +237,15 @@ serves_read front told told' desk desk' tales tales' device asked dev reply e sa
     formed NoMemory = tt
     formed reply = tt
 
-    moved : (reply : Reply) → IsWhole reply → ReadsFrom front asked desk.seats tales (Some dev) reply tales' → Moves front desk tales (Said (Ok (ReadBuf device asked))) reply desk' tales'
+    moved : (reply : Reply) → IsWhole reply → ReadsBy front asked desk.seats tales (place_of dev desk.seats) reply tales' → Moves front desk tales (Said (Ok (ReadBuf device asked))) reply desk' tales'
     moved NoMemory w x = absurd w
-    moved Nothing w x = (same, rw e x)
-    moved (Number n) w x = (same, rw e x)
-    moved (Refusal k) w x = (same, rw e x)
-    moved (Line t) w x = (same, rw e x)
-    moved (Value t) w x = (same, rw e x)
-    moved (Raw t) w x = (same, rw e x)
-    moved (Block a b c d) w x = (same, rw e x)
+    moved Nothing w x = (same, rw (e, read) x)
+    moved (Number n) w x = (same, rw (e, read) x)
+    moved (Refusal k) w x = (same, rw (e, read) x)
+    moved (Line t) w x = (same, rw (e, read) x)
+    moved (Value t) w x = (same, rw (e, read) x)
+    moved (Raw t) w x = (same, rw (e, read) x)
+    moved (Block a b c d) w x = (same, rw (e, read) x)
 
     acts : (m n : Machine) (reply : Reply) → IsWhole reply → told' ≡ Some n → read_at front m desk asked (place_of dev desk.seats) ≡ record { reply = reply; machine = n; desk = desk }
         → Comes m desk (read_at front m desk asked (place_of dev desk.seats)) reply told' desk'
@@ -242,12 +262,12 @@ serves_read front told told' desk desk' tales tales' device asked dev reply e sa
         → IfSome told (λ m. (n : Machine) × (told' ≡ Some n) × (read_at front m desk asked (place_of dev desk.seats) ≡ record { reply = reply; machine = n; desk = desk }))
         → IfSome told (λ m. Acts front m desk (Said (Ok (ReadBuf device asked))) reply told' desk')
     by None x = tt
-    by (Some m) x = comes_acts front m desk desk' (Said (Ok (ReadBuf device asked))) _ reply told' (read_is front desk device asked dev e m) (acts m x.0 reply r.whole x.1 x.2)
+    by (Some m) x = comes_acts front m desk desk' (Said (Ok (ReadBuf device asked))) _ reply told' (read_is front desk device asked dev e read m) (acts m x.0 reply r.whole x.1 x.2)
 
 unknown_read : (front : Front) (desk : DeskRecord) (device : List ℕ) (asked : ℕ) → find_device front device ≡ None → (m : Machine)
     → act front m desk (Said (Ok (ReadBuf device asked))) ≡ refused ENODEV m desk
 unfolding act
-unknown_read front desk device asked e m = ap (λ o. at_device m desk (λ k. read_at front m desk asked (place_of k desk.seats)) o) e
+unknown_read front desk device asked e m = ap (λ o. at_device m desk (read_buffer_at front m desk asked) o) e
 
 pub no_read : (front : Front) (told : Option Machine) (desk : DeskRecord) (tales : List (Option Tale)) (device : List ℕ) (asked : ℕ) → find_device front device ≡ None
     → Serves front told desk tales (Said (Ok (ReadBuf device asked))) (Refusal ENODEV) told desk tales
@@ -257,7 +277,7 @@ no_read front told desk tales device asked e =
 -- want of memory, before which nothing had changed
 short_read : (front : Front) (told told' : Option Machine) (desk desk' : DeskRecord) (tales tales' : List (Option Tale)) (device : List ℕ) (asked : ℕ)
     → told' ≡ told → desk' ≡ desk → tales' ≡ tales → Serves front told desk tales (Said (Ok (ReadBuf device asked))) NoMemory told' desk' tales'
-short_read front told told' desk desk' tales tales' device asked t d s = record { alone = short_seat desk.seats (find_device front device); formed = tt; exact = by told t; moves = (d, s) }
+short_read front told told' desk desk' tales tales' device asked t d s = record { alone = short_reader front desk.seats (find_device front device); formed = tt; exact = by told t; moves = (d, s) }
   where
     by : (told : Option Machine) → told' ≡ told → IfSome told (λ m. (told' ≡ Some m) × (desk' ≡ desk))
     by None t = tt
@@ -309,37 +329,41 @@ found_answer device asked Server (Raw t) f = tt
 found_answer device asked Server (Block a b c d) f = tt
 found_answer device asked Server NoMemory f = tt
 
+pub unread_answer : (device : List ℕ) (asked : ℕ) (manner : Manner) (e : Errno) → (e ≡ ENODEV) ⊎ (e ≡ ENOSYS) → IsAnswerOf (Said (Ok (ReadBuf device asked))) manner (Refusal e)
+unread_answer device asked manner e (inl is) = rw is (found_answer device asked manner (Refusal ENODEV) tt)
+unread_answer device asked manner e (inr is) = rw is (found_answer device asked manner (Refusal ENOSYS) tt)
+
 answered : (manner : Manner) (front : Front) (told told' : Option Machine) (desk desk' : DeskRecord) (tales tales' : List (Option Tale)) (device : List ℕ) (asked dev : ℕ)
     (before mid after : List ℕ) (took : Result Took Mem) (p : Performed)
-    → find_device front device ≡ Some dev → desk' ≡ desk
+    → find_device front device ≡ Some dev → is_output (kind_at front dev) ≡ false → desk' ≡ desk
     → ReadAt front dev asked told told' desk tales tales' before mid took
     → AnswersRead manner dev took mid after p
     → Performs manner front told told' desk tales (Said (Ok (ReadBuf device asked))) desk' tales' before after p
-answered manner front told told' desk desk' tales tales' device asked dev before mid after (Ok Scan) p e same r a =
-    rw a.1 (r.0, a.0 ∙ r.1, allowed manner r.0 r.3.whole, found_answer device asked manner r.0 r.2, serves_read front told told' desk desk' tales tales' device asked dev r.0 e same r.3)
-answered manner front told told' desk desk' tales tales' device asked dev before mid after (Ok Gone) p e same r a =
-    rw a.1 (Refusal ENODEV, a.0 ∙ ap (λ (xs : List ℕ). xs ++ text_of (Refusal ENODEV)) r.0, allowed manner (Refusal ENODEV) tt, found_answer device asked manner (Refusal ENODEV) tt, serves_read front told told' desk desk' tales tales' device asked dev _ e same r.1)
-answered Server front told told' desk desk' tales tales' device asked dev before mid after (Ok Empty) p e same r a =
-    rw a.1 (a.0 ∙ r.0, refl, e, serves_read front told told' desk desk' tales tales' device asked dev _ e same r.1)
-answered Script front told told' desk desk' tales tales' device asked dev before mid after (Ok Empty) p e same r a =
-    rw a.1 (Refusal EAGAIN, a.0 ∙ ap (λ (xs : List ℕ). xs ++ text_of (Refusal EAGAIN)) r.0, tt, tt, serves_read front told told' desk desk' tales tales' device asked dev _ e same r.1)
-answered manner front told told' desk desk' tales tales' device asked dev before mid after (Err fault) p e same r a =
+answered manner front told told' desk desk' tales tales' device asked dev before mid after (Ok Scan) p e read same r a =
+    rw a.1 (r.0, a.0 ∙ r.1, allowed manner r.0 r.3.whole, found_answer device asked manner r.0 r.2, serves_read front told told' desk desk' tales tales' device asked dev r.0 e read same r.3)
+answered manner front told told' desk desk' tales tales' device asked dev before mid after (Ok Gone) p e read same r a =
+    rw a.1 (Refusal ENODEV, a.0 ∙ ap (λ (xs : List ℕ). xs ++ text_of (Refusal ENODEV)) r.0, allowed manner (Refusal ENODEV) tt, found_answer device asked manner (Refusal ENODEV) tt, serves_read front told told' desk desk' tales tales' device asked dev _ e read same r.1)
+answered Server front told told' desk desk' tales tales' device asked dev before mid after (Ok Empty) p e read same r a =
+    rw a.1 (a.0 ∙ r.0, refl, e, serves_read front told told' desk desk' tales tales' device asked dev _ e read same r.1)
+answered Script front told told' desk desk' tales tales' device asked dev before mid after (Ok Empty) p e read same r a =
+    rw a.1 (Refusal EAGAIN, a.0 ∙ ap (λ (xs : List ℕ). xs ++ text_of (Refusal EAGAIN)) r.0, tt, tt, serves_read front told told' desk desk' tales tales' device asked dev _ e read same r.1)
+answered manner front told told' desk desk' tales tales' device asked dev before mid after (Err fault) p e read same r a =
     rw a.1 (NoMemory, a.0 ∙ ap (λ (xs : List ℕ). xs ++ text_of NoMemory) r.0, a.2, found_answer device asked manner NoMemory tt, short_read front told told' desk desk' tales tales' device asked r.1 same r.2)
 
 pub answers : (manner : Manner) (front : Front) (told told' : Option Machine) (desk desk' : DeskRecord) (tales tales' : List (Option Tale)) (device : List ℕ) (asked dev : ℕ)
     (before mid after : List ℕ) (took : Result Took Mem) (r : Result Performed Mem)
-    → find_device front device ≡ Some dev → desk' ≡ desk
+    → find_device front device ≡ Some dev → is_output (kind_at front dev) ≡ false → desk' ≡ desk
     → ReadAt front dev asked told told' desk tales tales' before mid took
     → IfOk r (AnswersRead manner dev took mid after)
     → IfOk r (Performs manner front told told' desk tales (Said (Ok (ReadBuf device asked))) desk' tales' before after)
-answers manner front told told' desk desk' tales tales' device asked dev before mid after took (Ok p) e same r a = answered manner front told told' desk desk' tales tales' device asked dev before mid after took p e same r a
-answers manner front told told' desk desk' tales tales' device asked dev before mid after took (Err fault) e same r a = tt
+answers manner front told told' desk desk' tales tales' device asked dev before mid after took (Ok p) e read same r a = answered manner front told told' desk desk' tales tales' device asked dev before mid after took p e read same r a
+answers manner front told told' desk desk' tales tales' device asked dev before mid after took (Err fault) e read same r a = tt
 
 -- ---- SETTRIG
 
 pub serves_set_trigger : (front : Front) (told told' : Option Machine) (desk : DeskRecord) (tales : List (Option Tale)) (device : List ℕ) (name : Option (List ℕ)) (dev : ℕ) (r : Result ⊤ No)
     → Some dev ≡ find_device front device
-    → IfSome told (λ m. Comes m desk (set_trigger_at front m desk name dev) (reply_by r) told' desk)
+    → IfSome told (λ m. Comes m desk (set_trigger_known front m desk name dev) (reply_by r) told' desk)
     → Serves front told desk tales (Said (Ok (SetTrig device name))) (reply_by r) told' desk tales
 serves_set_trigger front told told' desk tales device name dev r e c =
     serves_at front told told' desk desk tales tales (SetTrig device name) dev (reply_by r) e (rw (sym e) tt) (settles front (Said (Ok (SetTrig device name))) r refl) c (moved r)
@@ -377,7 +401,7 @@ serves_get_trigger front told desk tales device dev reply e c formed =
 
 pub serves_ev_open : (front : Front) (told told' : Option Machine) (desk desk' : DeskRecord) (tales tales' : List (Option Tale)) (device : List ℕ) (dev : ℕ) (r : Result ⊤ No)
     → Some dev ≡ find_device front device
-    → IfSome told (λ m. Comes m desk (ev_open_at m desk dev) (reply_by r) told' desk')
+    → IfSome told (λ m. Comes m desk (ev_open_known front m desk dev) (reply_by r) told' desk')
     → desk' ≡ desk_by (with_holding dev) desk r → tales' ≡ tales
     → Serves front told desk tales (Said (Ok (EvOpen device))) (reply_by r) told' desk' tales'
 serves_ev_open front told told' desk desk' tales tales' device dev r e c a t =
@@ -392,7 +416,7 @@ serves_ev_open front told told' desk desk' tales tales' device dev r e c a t =
 
 pub serves_ev_close : (front : Front) (told told' : Option Machine) (desk desk' : DeskRecord) (tales tales' : List (Option Tale)) (device : List ℕ) (dev : ℕ) (r : Result ⊤ No)
     → Some dev ≡ find_device front device
-    → IfSome told (λ m. Comes m desk (ev_close_at m desk dev) (reply_by r) told' desk')
+    → IfSome told (λ m. Comes m desk (ev_close_known front m desk dev) (reply_by r) told' desk')
     → desk' ≡ desk_by (without_holding dev) desk r → tales' ≡ tales
     → Serves front told desk tales (Said (Ok (EvClose device))) (reply_by r) told' desk' tales'
 serves_ev_close front told told' desk desk' tales tales' device dev r e c a t =
@@ -407,19 +431,76 @@ serves_ev_close front told told' desk desk' tales tales' device dev r e c a t =
 
 pub serves_ev_read : (front : Front) (told told' : Option Machine) (desk : DeskRecord) (tales : List (Option Tale)) (device : List ℕ) (dev : ℕ) (reply : Reply)
     → Some dev ≡ find_device front device
-    → IfSome told (λ m. Comes m desk (ev_read_at m desk dev) reply told' desk) → AnswersAs front (Said (Ok (EvRead device))) reply
+    → IfSome told (λ m. Comes m desk (ev_read_known front m desk dev) reply told' desk) → AnswersAs front (Said (Ok (EvRead device))) reply
     → Serves front told desk tales (Said (Ok (EvRead device))) reply told' desk tales
 serves_ev_read front told told' desk tales device dev reply e c formed =
     serves_at front told told' desk desk tales tales (EvRead device) dev reply e (rw (sym e) tt) formed c (refl, refl)
 
+-- ---- READBUF of an output device, which is refused
+
+output_is : (front : Front) (desk : DeskRecord) (device : List ℕ) (asked dev : ℕ) → find_device front device ≡ Some dev → is_output (kind_at front dev) ≡ true → (m : Machine)
+    → act front m desk (Said (Ok (ReadBuf device asked))) ≡ where_known false m desk dev (read_at front m desk asked (place_of dev desk.seats))
+unfolding act
+output_is front desk device asked dev e output m =
+    ap (λ o. at_device m desk (read_buffer_at front m desk asked) o) e ∙ ap (λ (b : Bool). where_known (not b) m desk dev (read_at front m desk asked (place_of dev desk.seats))) output
+
+pub serves_unread : (front : Front) (told : Option Machine) (desk : DeskRecord) (tales : List (Option Tale)) (device : List ℕ) (asked dev : ℕ) (e : Errno)
+    → find_device front device ≡ Some dev → is_output (kind_at front dev) ≡ true → (e ≡ ENODEV) ⊎ (e ≡ ENOSYS)
+    → ((d : DeskRecord) (a : Acted) → IfSome told (λ m. Comes m d (where_known false m d dev a) (Refusal e) told d))
+    → Serves front told desk tales (Said (Ok (ReadBuf device asked))) (Refusal e) told desk tales
+serves_unread front told desk tales device asked dev e named output one u = record {
+  alone = rw (named, output) tt;
+  formed = tt;
+  exact = by told u;
+  moves = (refl, rw (named, output) (either one, refl));
+}
+  where
+    either : (e ≡ ENODEV) ⊎ (e ≡ ENOSYS) → (Refusal e ≡ Refusal ENODEV) ⊎ (Refusal e ≡ Refusal ENOSYS)
+    either (inl x) = inl (ap Refusal x)
+    either (inr x) = inr (ap Refusal x)
+
+    by : (told : Option Machine) → ((d : DeskRecord) (a : Acted) → IfSome told (λ m. Comes m d (where_known false m d dev a) (Refusal e) told d))
+        → IfSome told (λ m. Acts front m desk (Said (Ok (ReadBuf device asked))) (Refusal e) told desk)
+    by None u = tt
+    by (Some m) u = comes_acts front m desk desk (Said (Ok (ReadBuf device asked))) _ (Refusal e) (Some m) (output_is front desk device asked dev named output m) (u desk (read_at front m desk asked (place_of dev desk.seats)))
+
 -- ---- WRITEBUF
 
-pub serves_write_buffer : (front : Front) (told : Option Machine) (desk : DeskRecord) (tales : List (Option Tale)) (device : List ℕ) (bytes dev : ℕ) (why : Errno)
+streamed_at : (front : Front) (m : Machine) (desk : DeskRecord) (o : Option ℕ) (device payload : List ℕ) → o ≡ find_device front device
+    → act front m desk (Streamed device payload) ≡ at_device m desk (write_buffer_at front m desk payload) o
+unfolding act
+streamed_at front m desk o device payload e = ap (λ x. at_device m desk (write_buffer_at front m desk payload) x) (sym e)
+
+pub serves_streamed : (front : Front) (told told' : Option Machine) (desk desk' : DeskRecord) (tales tales' : List (Option Tale)) (device payload : List ℕ) (dev : ℕ) (r : Result ℕ No)
     → Some dev ≡ find_device front device
-    → IfSome told (λ m. Comes m desk (write_buffer_at m desk dev) (Refusal why) told desk)
-    → Serves front told desk tales (Said (Ok (WriteBuf device bytes))) (Refusal why) told desk tales
-serves_write_buffer front told desk tales device bytes dev why e c =
-    serves_at front told told desk desk tales tales (WriteBuf device bytes) dev (Refusal why) e (rw (sym e) tt) tt c (refl, refl)
+    → IfSome told (λ m. Comes m desk (write_buffer_at front m desk payload dev) (taken_by r) told' desk)
+    → desk' ≡ desk → tales' ≡ tales → IfOk r (λ taken. taken ≤ length payload)
+    → Serves front told desk tales (Streamed device payload) (taken_by r) told' desk' tales'
+serves_streamed front told told' desk desk' tales tales' device payload dev r e c d t within = record {
+  alone = rw (sym e) tt;
+  formed = formed r within;
+  exact = rw d (all_comes front told told' desk desk _ (λ m. write_buffer_at front m desk payload dev) (taken_by r) (λ m. streamed_at front m desk (Some dev) device payload e) c);
+  moves = moved r;
+}
+  where
+    formed : (r : Result ℕ No) → IfOk r (λ taken. taken ≤ length payload) → AnswersAs front (Streamed device payload) (taken_by r)
+    formed (Ok taken) within = (taken, within, refl)
+    formed (Err (NoErrno e)) within = tt
+    formed (Err NoMem) within = tt
+
+    moved : (r : Result ℕ No) → Moves front desk tales (Streamed device payload) (taken_by r) desk' tales'
+    moved (Ok taken) = (d, t)
+    moved (Err (NoErrno e)) = (d, t)
+    moved (Err NoMem) = (d, t)
+
+pub serves_unstreamed : (front : Front) (told : Option Machine) (desk : DeskRecord) (tales : List (Option Tale)) (device payload : List ℕ) → None ≡ find_device front device
+    → Serves front told desk tales (Streamed device payload) (Refusal ENODEV) told desk tales
+serves_unstreamed front told desk tales device payload e = record {
+  alone = rw (sym e) (inl refl);
+  formed = tt;
+  exact = all_refused front told desk _ ENODEV (λ m. streamed_at front m desk None device payload e);
+  moves = (refl, refl);
+}
 
 -- ---- the room for an answer
 

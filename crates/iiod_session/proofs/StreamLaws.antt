@@ -2,10 +2,9 @@
 use Rattle.std.proofs.Common.{◌≡◌, ◌≢◌, ℕ, nat_lt, ◌==◌, Bool, true, false, List, [], ◌∷◌, ◌++◌, take, drop, length, refl, sym, ap, ◌∙◌, if◌then◌else◌, append-nil, append_assoc, Option, Some, None, arith}
 use Rattle.std.proofs.lemmas.List.{take-append-drop}
 use Rattle.iiod_grammar.specs.declared.lines.Ready.TheVariants.{More, Payload, TooLong}
-use Rattle.iiod_grammar.specs.Command.{Target}
 use Rattle.iiod_grammar.specs.Lines.{Cut, NotYet, WholeLine, WholePayload, Overlong, Fed as LinesFed, LinesRecord, cut, feed_of, feed_of_cut}
 use Rattle.iiod_grammar.specs.Scans.{scan_on, scanner_at}
-use Rattle.iiod_grammar.specs.Stream.{Item, Scanner, AtEnd, InLine, InPayload, Scanned, ItemsCutAnywhere, ScannerCutAnywhere, after_bytes, items_from, no_item, payload_after, scanner_after}
+use Rattle.iiod_grammar.specs.Stream.{Item, Pending, Scanner, AtEnd, InLine, InPayload, Scanned, ItemsCutAnywhere, ScannerCutAnywhere, after_bytes, items_from, no_item, payload_after, scanner_after}
 
 scanned_is : (i j : List Item) (s t : Scanner) → i ≡ j → s ≡ t → (let x : Scanned = record { items = i; next = s } in x) ≡ record { items = j; next = t }
 scanned_is i j s t e f =
@@ -34,48 +33,48 @@ pub scan_end : (bytes : List ℕ) → scan_on (no_item AtEnd) bytes ≡ no_item 
 scan_end bytes = end_stays bytes
 
 -- in a line or a payload a stream goes on
-payload_goes_on : (device : List ℕ) (target : Option Target) (count : ℕ) (begun : List ℕ) (b : Bool) → (length begun == count) ≡ b → (payload_after device target count begun).next ≢ AtEnd
-payload_goes_on device target count begun true e h = let n : InLine [] ≡ AtEnd = rw e at h in cc
-payload_goes_on device target count begun false e h = let n : InPayload device target count begun ≡ AtEnd = rw e at h in cc
+payload_goes_on : (pending : Pending) (count : ℕ) (begun : List ℕ) (b : Bool) → (length begun == count) ≡ b → (payload_after pending count begun).next ≢ AtEnd
+payload_goes_on pending count begun true e h = let n : InLine [] ≡ AtEnd = rw e at h in cc
+payload_goes_on pending count begun false e h = let n : InPayload pending count begun ≡ AtEnd = rw e at h in cc
 
-pub scanner_goes_on : (x : LinesRecord) (device : List ℕ) (target : Option Target) → (scanner_at x device target).next ≢ AtEnd
-scanner_goes_on x device target = by x.wanted
+pub scanner_goes_on : (x : LinesRecord) (pending : Pending) → (scanner_at x pending).next ≢ AtEnd
+scanner_goes_on x pending = by x.wanted
   where
-    by : (wanted : Option ℕ) → (scanner_at (record x { wanted = wanted }) device target).next ≢ AtEnd
+    by : (wanted : Option ℕ) → (scanner_at (record x { wanted = wanted }) pending).next ≢ AtEnd
     by None h = let n : InLine x.begun ≡ AtEnd = h in cc
-    by (Some count) h = payload_goes_on device target count x.begun (length x.begun == count) refl h
+    by (Some count) h = payload_goes_on pending count x.begun (length x.begun == count) refl h
 
 -- where no piece is whole, no item is
-payload_waits : (device : List ℕ) (target : Option Target) (count : ℕ) (begun : List ℕ) → nat_lt (length begun) count ≡ true → (payload_after device target count begun).items ≡ []
-payload_waits device target count begun less = by (length begun == count) refl
+payload_waits : (pending : Pending) (count : ℕ) (begun : List ℕ) → nat_lt (length begun) count ≡ true → (payload_after pending count begun).items ≡ []
+payload_waits pending count begun less = by (length begun == count) refl
   where
-    by : (b : Bool) → (length begun == count) ≡ b → (payload_after device target count begun).items ≡ []
+    by : (b : Bool) → (length begun == count) ≡ b → (payload_after pending count begun).items ≡ []
     by false e = rw e refl
     by true e = absurd (grind arith)
 
-more_by : (x : LinesRecord) (bytes : List ℕ) (device : List ℕ) (target : Option Target) (wanted : Option ℕ) → x.wanted ≡ wanted
-    → (feed_of_cut x bytes (cut wanted (x.begun ++ bytes))).ready ≡ More → (scanner_at (feed_of_cut x bytes (cut wanted (x.begun ++ bytes))).lines device target).items ≡ []
-more_by x bytes device target None is ready = by (cut None (x.begun ++ bytes)) ready
+more_by : (x : LinesRecord) (bytes : List ℕ) (pending : Pending) (wanted : Option ℕ) → x.wanted ≡ wanted
+    → (feed_of_cut x bytes (cut wanted (x.begun ++ bytes))).ready ≡ More → (scanner_at (feed_of_cut x bytes (cut wanted (x.begun ++ bytes))).lines pending).items ≡ []
+more_by x bytes pending None is ready = by (cut None (x.begun ++ bytes)) ready
   where
-    by : (c : Cut) → (feed_of_cut x bytes c).ready ≡ More → (scanner_at (feed_of_cut x bytes c).lines device target).items ≡ []
+    by : (c : Cut) → (feed_of_cut x bytes c).ready ≡ More → (scanner_at (feed_of_cut x bytes c).lines pending).items ≡ []
     by NotYet r = rw is refl
     by (WholeLine line size) r = cc
     by (WholePayload payload) r = cc
     by Overlong r = cc
-more_by x bytes device target (Some count) is ready = by (nat_lt (length (x.begun ++ bytes)) count) refl
+more_by x bytes pending (Some count) is ready = by (nat_lt (length (x.begun ++ bytes)) count) refl
   where
-    by : (b : Bool) → nat_lt (length (x.begun ++ bytes)) count ≡ b → (scanner_at (feed_of_cut x bytes (cut (Some count) (x.begun ++ bytes))).lines device target).items ≡ []
-    by true e = rw (e, is) (payload_waits device target count (x.begun ++ bytes) e)
+    by : (b : Bool) → nat_lt (length (x.begun ++ bytes)) count ≡ b → (scanner_at (feed_of_cut x bytes (cut (Some count) (x.begun ++ bytes))).lines pending).items ≡ []
+    by true e = rw (e, is) (payload_waits pending count (x.begun ++ bytes) e)
     by false e = let n : Payload ≡ More = rw e at ready in cc
 
 is_cut : (x : LinesRecord) (bytes : List ℕ) → x.overlong ≡ false → feed_of x bytes ≡ feed_of_cut x bytes (cut x.wanted (x.begun ++ bytes))
 is_cut x bytes going = ap (λ (b : Bool). if b then record { taken = 0; ready = TooLong; lines = x } else feed_of_cut x bytes (cut x.wanted (x.begun ++ bytes))) going
 
-pub more_waits : (x : LinesRecord) (bytes : List ℕ) (device : List ℕ) (target : Option Target) → x.overlong ≡ false → (feed_of x bytes).ready ≡ More
-    → (scanner_at (feed_of x bytes).lines device target).items ≡ []
-more_waits x bytes device target going ready =
+pub more_waits : (x : LinesRecord) (bytes : List ℕ) (pending : Pending) → x.overlong ≡ false → (feed_of x bytes).ready ≡ More
+    → (scanner_at (feed_of x bytes).lines pending).items ≡ []
+more_waits x bytes pending going ready =
     let same = is_cut x bytes going in
-    ap (λ (f : LinesFed). (scanner_at f.lines device target).items) same ∙ more_by x bytes device target x.wanted refl (ap (λ (f : LinesFed). f.ready) (sym same) ∙ ready)
+    ap (λ (f : LinesFed). (scanner_at f.lines pending).items) same ∙ more_by x bytes pending x.wanted refl (ap (λ (f : LinesFed). f.ready) (sym same) ∙ ready)
 
 -- and all bytes are taken
 pub more_takes : (x : LinesRecord) (bytes : List ℕ) → x.overlong ≡ false → (feed_of x bytes).ready ≡ More → (feed_of x bytes).taken ≡ length bytes

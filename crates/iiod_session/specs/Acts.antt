@@ -1,5 +1,5 @@
 -- What an item is answered over a told state, and what stands then.
-use Rattle.std.specs.Prelude.{◌≡◌, ℕ, pos, Bool, true, false, ◌&&◌, nat_le, nat_lt, codes, ⊤, List, [], ◌∷◌, ◌++◌, take, drop, length, slice_get, slice_set, remove, Option, Some, None, is_some, Result, Ok, Err, if◌then◌else◌}
+use Rattle.std.specs.Prelude.{◌≡◌, ℕ, pos, Bool, true, false, not, ◌&&◌, nat_le, nat_lt, codes, ⊤, List, [], ◌∷◌, ◌++◌, take, drop, length, slice_get, slice_set, remove, Option, Some, None, is_some, Result, Ok, Err, if◌then◌else◌}
 use Rattle.std.specs.Fmt.{decimal}
 use Rattle.std.specs.Option.{ok_or}
 use Rattle.iio_base.specs.Refusals.{ensure, ◌>>=◌}
@@ -7,17 +7,18 @@ use Rattle.iio_text.specs.declared.errors.Errno.{Errno}
 use Rattle.iio_text.specs.declared.errors.Errno.TheVariants.{EAGAIN, EBADF, EINVAL, ENODEV, ENOENT, ENOSYS}
 use Rattle.iio_attr.specs.declared.attributes.Attr.{Attr}
 use Rattle.iio_attr.specs.declared.values.Value.{Value as AttrValue}
+use Rattle.iio_desc.specs.Kind.{is_average, is_input, is_output}
 use Rattle.iio_event.specs.Code.{event_bytes}
 use Rattle.iio_event.specs.declared.event.EventData.{EventData}
 use Rattle.iiod_grammar.specs.declared.command.Refused.TheVariants.{Empty}
-use Rattle.iiod_grammar.specs.Command.{Place, Help, Version, Print, Timeout, Open, Close, Read, ReadBuf, WriteBuf, GetTrig, SetTrig, SetBuffers, Remask, EvOpen, EvRead, EvClose}
-use Rattle.iiod_grammar.specs.Stream.{Item, Said, Written, End}
+use Rattle.iiod_grammar.specs.Command.{Place, Help, Version, Print, Timeout, Open, Close, Read, ReadBuf, GetTrig, SetTrig, SetBuffers, Remask, EvOpen, EvRead, EvClose}
+use Rattle.iiod_grammar.specs.Stream.{Item, Said, Written, Streamed, End}
 use Rattle.iiod_reply.specs.Reply.{Reply, Nothing, Number, Refusal, Line, Value, Raw, Block, NoMemory}
 use Rattle.iiod_session.specs.declared.desk.TheConstants.{MAX_BUFFERS}
 use Rattle.iiod_session.specs.Attributes.{Assignment, Named, buffer_number, found, is_of_buffer, text_of_value, write_found}
-use Rattle.iiod_session.specs.Front.{Front, channel_count, find_device, find_trigger, shape_at, size_at, trigger_name}
-use Rattle.iiod_session.specs.Machine.{Machine, is_plugged, lost_of, queue_of, station_at, with_queue}
-use Rattle.iiod_session.specs.Calls.{Outcome, closed, ev_close_of, ev_open_of, ev_read_of, open_of, read_attr_of, remask_of, set_trigger_of, write_attr_of}
+use Rattle.iiod_session.specs.Front.{Front, channel_count, find_device, find_trigger, kind_at, shape_at, size_at, trigger_name}
+use Rattle.iiod_session.specs.Machine.{Machine, is_plugged, lost_of, queue_of, with_queue}
+use Rattle.iiod_session.specs.Calls.{Outcome, closed, ev_close_of, ev_open_of, ev_read_of, open_of, read_attr_of, remask_of, set_trigger_of, trigger_of, write_attr_of, write_scans_of}
 use Rattle.iiod_session.specs.Desk.{Wanted, Bare, DeskRecord, wanted_of, mask_wanted, buffers_of, bare_id, bare_remasked, place_of, with_count, with_holding, with_seats, without_holding}
 use Rattle.iiod_session.specs.Reading.{most_scans}
 
@@ -51,27 +52,27 @@ opened desk dev x m (Err e) = refused e m desk
 opened desk dev x m (Ok number) =
     record { reply = zero_reply; machine = m; desk = with_seats (desk.seats ++ record { dev = dev; number = number; mask = x.mask; capacity = x.capacity; discarded = 0 } ∷ []) desk }
 
-abbrev pub joined_at : Front → Machine → DeskRecord → ℕ → Wanted → Acted
-joined_at front m desk dev x = let o = open_of front m dev x.mask x.capacity in opened desk dev x o.machine o.answer
+abbrev pub joined_at : Front → Machine → DeskRecord → ℕ → Wanted → Bool → Acted
+joined_at front m desk dev x cyclic = let o = open_of front m dev x.mask x.capacity cyclic in opened desk dev x o.machine o.answer
 
-abbrev pub open_wanted : Front → Machine → DeskRecord → ℕ → Result Wanted Errno → Acted
-open_wanted front m desk dev (Err e) = refused e m desk
-open_wanted front m desk dev (Ok x) = joined_at front m desk dev x
+abbrev pub open_wanted : Front → Machine → DeskRecord → ℕ → Bool → Result Wanted Errno → Acted
+open_wanted front m desk dev cyclic (Err e) = refused e m desk
+open_wanted front m desk dev cyclic (Ok x) = joined_at front m desk dev x cyclic
 
 abbrev pub open_at : Front → Machine → DeskRecord → ℕ → ℕ → List ℕ → Bool → Acted
 open_at front m desk dev samples text cyclic =
-    open_wanted front m desk dev
-    (wanted_of (is_some (place_of dev desk.seats)) (is_plugged m dev) (shape_at front dev) (buffers_of dev desk.buffers) samples text cyclic)
+    open_wanted front m desk dev cyclic
+    (wanted_of (is_some (place_of dev desk.seats)) (is_plugged m dev) (kind_at front dev) (shape_at front dev) (buffers_of dev desk.buffers) samples text cyclic)
 
 -- ---- CLOSE
 
-abbrev pub close_seat : Machine → DeskRecord → ℕ → Option Bare → Acted
-close_seat m desk i None = refused EBADF m desk
-close_seat m desk i (Some s) = record { reply = zero_reply; machine = closed m s.dev s.number; desk = with_seats (remove desk.seats i) desk }
+abbrev pub close_seat : Front → Machine → DeskRecord → ℕ → Option Bare → Acted
+close_seat front m desk i None = refused EBADF m desk
+close_seat front m desk i (Some s) = record { reply = zero_reply; machine = closed front m s.dev s.number; desk = with_seats (remove desk.seats i) desk }
 
-abbrev pub close_at : Machine → DeskRecord → Option ℕ → Acted
-close_at m desk None = refused EBADF m desk
-close_at m desk (Some i) = close_seat m desk i (slice_get desk.seats i)
+abbrev pub close_at : Front → Machine → DeskRecord → Option ℕ → Acted
+close_at front m desk None = refused EBADF m desk
+close_at front m desk (Some i) = close_seat front m desk i (slice_get desk.seats i)
 
 -- ---- REMASK
 
@@ -139,9 +140,17 @@ if_plugged m desk dev acted = if is_plugged m dev then acted else refused ENODEV
 abbrev pub remask_at : Front → Machine → DeskRecord → List ℕ → ℕ → Acted
 remask_at front m desk text dev = if_plugged m desk dev (remask_place front m desk text (place_of dev desk.seats))
 
+-- a command that devices of some kinds alone know
+abbrev pub where_known : Bool → Machine → DeskRecord → ℕ → Acted → Acted
+where_known is_known m desk dev acted = if is_known then acted else if_plugged m desk dev (refused ENOSYS m desk)
+
 -- 1 to 64 buffers
 abbrev pub is_buffers_count : ℕ → Bool
 is_buffers_count n = nat_le 1 n && nat_le n MAX_BUFFERS
+
+-- READBUF of a device: an output device isn't read
+abbrev pub read_buffer_at : Front → Machine → DeskRecord → ℕ → ℕ → Acted
+read_buffer_at front m desk asked dev = where_known (not (is_output (kind_at front dev))) m desk dev (read_at front m desk asked (place_of dev desk.seats))
 
 -- SET
 abbrev pub set_buffers_at : Machine → DeskRecord → ℕ → ℕ → Acted
@@ -153,7 +162,7 @@ trigger_reply front None = zero_reply
 trigger_reply front (Some t) = Value (trigger_name front t)
 
 abbrev pub get_trigger_at : Front → Machine → DeskRecord → ℕ → Acted
-get_trigger_at front m desk dev = if_plugged m desk dev (only (trigger_reply front (station_at m dev).site.trigger) m desk)
+get_trigger_at front m desk dev = if_plugged m desk dev (only (trigger_reply front (trigger_of front m dev)) m desk)
 
 -- SETTRIG
 abbrev pub trigger_named : Front → Option (List ℕ) → Result (Option ℕ) Errno
@@ -169,9 +178,22 @@ set_found m desk dev (Err e) = refused e m desk
 abbrev pub set_trigger_at : Front → Machine → DeskRecord → Option (List ℕ) → ℕ → Acted
 set_trigger_at front m desk name dev = if_plugged m desk dev (set_found m desk dev (trigger_named front name))
 
--- WRITEBUF: nothing is written to a device
-abbrev pub write_buffer_at : Machine → DeskRecord → ℕ → Acted
-write_buffer_at m desk dev = if_plugged m desk dev (refused ENOSYS m desk)
+-- WRITEBUF is answered by the number of bytes that were taken
+abbrev pub written_scans : DeskRecord → Machine → Result ℕ Errno → Acted
+written_scans desk m (Ok taken) = only (Number (pos taken)) m desk
+written_scans desk m (Err e) = refused e m desk
+
+abbrev pub write_at_seat : Front → Machine → DeskRecord → List ℕ → Option Bare → Acted
+write_at_seat front m desk payload None = refused EBADF m desk
+write_at_seat front m desk payload (Some s) = let o = write_scans_of front m s.dev (bare_id s) payload in written_scans desk o.machine o.answer
+
+abbrev pub write_at_place : Front → Machine → DeskRecord → List ℕ → Option ℕ → Acted
+write_at_place front m desk payload None = refused EBADF m desk
+write_at_place front m desk payload (Some i) = write_at_seat front m desk payload (slice_get desk.seats i)
+
+abbrev pub write_buffer_at : Front → Machine → DeskRecord → List ℕ → ℕ → Acted
+write_buffer_at front m desk payload dev =
+    if_plugged m desk dev (if is_output (kind_at front dev) then write_at_place front m desk payload (place_of dev desk.seats) else refused ENOSYS m desk)
 
 -- EVOPEN, EVREAD and EVCLOSE
 abbrev pub ev_open_at : Machine → DeskRecord → ℕ → Acted
@@ -187,6 +209,23 @@ ev_read_at m desk dev = let o = ev_read_of m dev desk.who in record { reply = ev
 
 abbrev pub ev_close_at : Machine → DeskRecord → ℕ → Acted
 ev_close_at m desk dev = if_plugged m desk dev (let o = ev_close_of m dev desk.who in altered (without_holding dev) desk o.machine o.answer)
+
+-- ---- the same at devices of all kinds
+
+abbrev pub remask_known : Front → Machine → DeskRecord → List ℕ → ℕ → Acted
+remask_known front m desk text dev = where_known (is_input (kind_at front dev)) m desk dev (remask_at front m desk text dev)
+
+abbrev pub set_trigger_known : Front → Machine → DeskRecord → Option (List ℕ) → ℕ → Acted
+set_trigger_known front m desk name dev = where_known (not (is_average (kind_at front dev))) m desk dev (set_trigger_at front m desk name dev)
+
+abbrev pub ev_open_known : Front → Machine → DeskRecord → ℕ → Acted
+ev_open_known front m desk dev = where_known (is_input (kind_at front dev)) m desk dev (ev_open_at m desk dev)
+
+abbrev pub ev_read_known : Front → Machine → DeskRecord → ℕ → Acted
+ev_read_known front m desk dev = where_known (is_input (kind_at front dev)) m desk dev (ev_read_at m desk dev)
+
+abbrev pub ev_close_known : Front → Machine → DeskRecord → ℕ → Acted
+ev_close_known front m desk dev = where_known (is_input (kind_at front dev)) m desk dev (ev_close_at m desk dev)
 
 -- ---- READ and WRITE
 
@@ -219,7 +258,7 @@ read_named front m desk dev false (Ok target) = read_device_attribute front m de
 
 abbrev pub read_attribute_at : Front → Machine → DeskRecord → Place → Option (List ℕ) → ℕ → Acted
 read_attribute_at front m desk place name dev =
-    read_named front m desk dev (is_of_buffer place name) (found (shape_at front dev) (is_plugged m dev) (is_some (place_of dev desk.seats)) place name)
+    read_named front m desk dev (is_of_buffer place name) (found (kind_at front dev) (shape_at front dev) (is_plugged m dev) (is_some (place_of dev desk.seats)) place name)
 
 -- a WRITE is answered by the number of the payload's bytes
 abbrev pub written : DeskRecord → (count : ℕ) → Machine → Result ⊤ Errno → Acted
@@ -232,21 +271,21 @@ write_assignment m desk dev count (Ok x) = let o = write_attr_of m dev x.target.
 
 abbrev pub write_attribute_at : Front → Machine → DeskRecord → Place → Option (List ℕ) → (payload : List ℕ) → ℕ → Acted
 write_attribute_at front m desk place name payload dev =
-    write_assignment m desk dev (length payload) (write_found (shape_at front dev) (is_plugged m dev) (is_some (place_of dev desk.seats)) place name payload)
+    write_assignment m desk dev (length payload) (write_found (kind_at front dev) (shape_at front dev) (is_plugged m dev) (is_some (place_of dev desk.seats)) place name payload)
 
 -- ---- the end of a connection
 
 -- the state once all seats are closed, and all holdings of events have ended, the last one first
-abbrev pub all_closed : Machine → List Bare → Machine
-all_closed m [] = m
-all_closed m (s ∷ ss) = closed (all_closed m ss) s.dev s.number
+abbrev pub all_closed : Front → Machine → List Bare → Machine
+all_closed front m [] = m
+all_closed front m (s ∷ ss) = closed front (all_closed front m ss) s.dev s.number
 
 abbrev pub all_released : Machine → ℕ → List ℕ → Machine
 all_released m who [] = m
 all_released m who (dev ∷ devs) = (ev_close_of (all_released m who devs) dev who).machine
 
-abbrev pub left_machine : Machine → DeskRecord → Machine
-left_machine m desk = all_released (all_closed m desk.seats) desk.who desk.holdings
+abbrev pub left_machine : Front → Machine → DeskRecord → Machine
+left_machine front m desk = all_released (all_closed front m desk.seats) desk.who desk.holdings
 
 abbrev pub left_desk : DeskRecord → DeskRecord
 left_desk desk = record desk { seats = []; holdings = [] }
@@ -256,8 +295,8 @@ abbrev pub end_reply : Option Errno → Reply
 end_reply None = Nothing
 end_reply (Some e) = Refusal e
 
-abbrev pub ended : Machine → DeskRecord → Option Errno → Acted
-ended m desk error = record { reply = end_reply error; machine = left_machine m desk; desk = left_desk desk }
+abbrev pub ended : Front → Machine → DeskRecord → Option Errno → Acted
+ended front m desk error = record { reply = end_reply error; machine = left_machine front m desk; desk = left_desk desk }
 
 -- ---- items
 
@@ -269,8 +308,8 @@ at_device m desk on (Some dev) = on dev
 -- what an item is answered, and what stands then
 unfoldable pub act : Front → Machine → DeskRecord → Item → Acted
 act front m desk (Said (Ok (Open device samples text cyclic))) = at_device m desk (λ dev. open_at front m desk dev samples text cyclic) (find_device front device)
-act front m desk (Said (Ok (Close device))) = at_device m desk (λ dev. close_at m desk (place_of dev desk.seats)) (find_device front device)
-act front m desk (Said (Ok (ReadBuf device asked))) = at_device m desk (λ dev. read_at front m desk asked (place_of dev desk.seats)) (find_device front device)
+act front m desk (Said (Ok (Close device))) = at_device m desk (λ dev. close_at front m desk (place_of dev desk.seats)) (find_device front device)
+act front m desk (Said (Ok (ReadBuf device asked))) = at_device m desk (read_buffer_at front m desk asked) (find_device front device)
 act front m desk (Said (Ok Help)) = only help_reply m desk
 act front m desk (Said (Ok Version)) = only version_reply m desk
 act front m desk (Said (Ok Print)) = only (Value front.context) m desk
@@ -279,17 +318,17 @@ act front m desk (Said (Ok (Read device place name))) = at_device m desk (λ dev
 act front m desk (Written device None payload) = refused EINVAL m desk
 act front m desk (Written device (Some target) payload) =
     at_device m desk (λ dev. write_attribute_at front m desk target.0 target.1 payload dev) (find_device front device)
-act front m desk (Said (Ok (WriteBuf device bytes))) = at_device m desk (λ dev. write_buffer_at m desk dev) (find_device front device)
-act front m desk (Said (Ok (GetTrig device))) = at_device m desk (λ dev. get_trigger_at front m desk dev) (find_device front device)
-act front m desk (Said (Ok (SetTrig device name))) = at_device m desk (λ dev. set_trigger_at front m desk name dev) (find_device front device)
-act front m desk (Said (Ok (SetBuffers device n))) = at_device m desk (λ dev. set_buffers_at m desk n dev) (find_device front device)
-act front m desk (Said (Ok (Remask device text))) = at_device m desk (λ dev. remask_at front m desk text dev) (find_device front device)
-act front m desk (Said (Ok (EvOpen device))) = at_device m desk (λ dev. ev_open_at m desk dev) (find_device front device)
-act front m desk (Said (Ok (EvRead device))) = at_device m desk (λ dev. ev_read_at m desk dev) (find_device front device)
-act front m desk (Said (Ok (EvClose device))) = at_device m desk (λ dev. ev_close_at m desk dev) (find_device front device)
+act front m desk (Streamed device payload) = at_device m desk (write_buffer_at front m desk payload) (find_device front device)
+act front m desk (Said (Ok (GetTrig device))) = at_device m desk (get_trigger_at front m desk) (find_device front device)
+act front m desk (Said (Ok (SetTrig device name))) = at_device m desk (set_trigger_known front m desk name) (find_device front device)
+act front m desk (Said (Ok (SetBuffers device n))) = at_device m desk (set_buffers_at m desk n) (find_device front device)
+act front m desk (Said (Ok (Remask device text))) = at_device m desk (remask_known front m desk text) (find_device front device)
+act front m desk (Said (Ok (EvOpen device))) = at_device m desk (ev_open_known front m desk) (find_device front device)
+act front m desk (Said (Ok (EvRead device))) = at_device m desk (ev_read_known front m desk) (find_device front device)
+act front m desk (Said (Ok (EvClose device))) = at_device m desk (ev_close_known front m desk) (find_device front device)
 act front m desk (Said (Err Empty)) = only Nothing m desk
 act front m desk (Said (Err why)) = refused EINVAL m desk
-act front m desk (End error) = ended m desk error
+act front m desk (End error) = ended front m desk error
 act front m desk item = only Nothing m desk
 
 -- ... or want of memory, which changes nothing

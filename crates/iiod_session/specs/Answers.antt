@@ -3,7 +3,7 @@
 use Rattle.std.specs.Prelude.{◌≡◌, ◌⊎◌, ℕ, ◌≤◌, pos, ⊤, List, ◌++◌, length, Option, Result, Ok, Err, string_bytes}
 use Rattle.std.specs.Fmt.{decimal, signed_decimal}
 use Rattle.iio_event.specs.Code.{event_bytes}
-use Rattle.iiod_grammar.specs.Command.{Command, Open, Close, Read, WriteBuf, GetTrig, SetTrig, SetBuffers, Remask, EvOpen, EvRead, EvClose}
+use Rattle.iiod_grammar.specs.Command.{Command, Open, Close, Read, GetTrig, SetTrig, SetBuffers, Remask, EvOpen, EvRead, EvClose}
 use Rattle.iiod_grammar.specs.Stream.{Item}
 use Rattle.iiod_reply.specs.Reply.{Reply, Number, Value, Raw, NoMemory, text_of}
 use Rattle.iiod_session.specs.declared.answers.Answer.{Answer}
@@ -79,7 +79,6 @@ abbrev pub IsAt : Front → Option ℕ → Command → Type 0
 IsAt front dev (Open device samples text cyclic) = dev ≡ find_device front device
 IsAt front dev (Close device) = dev ≡ find_device front device
 IsAt front dev (Read device place name) = dev ≡ find_device front device
-IsAt front dev (WriteBuf device bytes) = dev ≡ find_device front device
 IsAt front dev (GetTrig device) = dev ≡ find_device front device
 IsAt front dev (SetTrig device name) = dev ≡ find_device front device
 IsAt front dev (SetBuffers device n) = dev ≡ find_device front device

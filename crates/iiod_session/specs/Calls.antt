@@ -1,24 +1,30 @@
 -- What the calls of an `Iio` answer over a told state, and what stands then.
-use Rattle.std.specs.Prelude.{ℕ, ℤ, suc, ◌+◌, ◌-◌, ◌^◌, ◌==◌, ◌&&◌, ◌||◌, not, nat_lt, Bool, true, false, ⊤, List, [], ◌∷◌, ◌++◌, map, length, Option, Some, None, is_none, slice_get, Result, Ok, Err, if◌then◌else◌}
+use Rattle.std.specs.Prelude.{ℕ, ℤ, suc, ◌+◌, ◌-◌, ◌*◌, ◌^◌, ◌==◌, ◌&&◌, ◌||◌, not, nat_lt, Bool, true, false, ⊤, List, [], ◌∷◌, ◌++◌, map, filter, length, Option, Some, None, is_none, unwrap_or, slice_get, slice_index_or, pos, Result, Ok, Err, if◌then◌else◌}
 use Rattle.std.specs.Option.{option_map_or}
 use Rattle.iio_base.specs.Refusals.{ensure, ◌>>=◌, first_refusal, unless_refused}
 use Rattle.iio_text.specs.declared.errors.Errno.{Errno}
-use Rattle.iio_text.specs.declared.errors.Errno.TheVariants.{EBADF, EBUSY, EINVAL, EIO, ENODEV}
+use Rattle.iio_text.specs.declared.errors.Errno.TheVariants.{EAGAIN, EBADF, EBUSY, EINVAL, EIO, ENODEV}
 use Rattle.iio_text.specs.declared.values.Fixed.{Fixed}
 use Rattle.iio_attr.specs.declared.attributes.Attr.{Attr}
 use Rattle.iio_attr.specs.declared.attributes.Attr.TheVariants as attr
 use Rattle.iio_attr.specs.declared.values.Value.{Value}
 use Rattle.iio_attr.specs.declared.values.Value.TheVariants.{Int}
+use Rattle.iio_desc.specs.Kind.{Kind, Output, Average, is_input, is_output, is_over}
+use Rattle.iio_derive.specs.Window.{Window, full_mask, no_window}
+use Rattle.std.specs.List.{list_any}
+use Rattle.iio_device.specs.declared.totals.Totals.{Totals}
+use Rattle.iiod_session.specs.Places.{map_from}
 use Rattle.iio_layout.specs.Shape.{ShapeRecord}
+use Rattle.iio_output.specs.Written.{is_bad_size, is_full as is_full_of, is_standing, scans_of, taken_of}
 use Rattle.iio_sensor.specs.Driver.{value_of, ask_fails}
 use Rattle.iio_event.specs.declared.event.EventData.{EventData}
 use Rattle.iio_event.specs.Monitor.{is_holder, after_open, after_read, after_close}
 use Rattle.iio_device.specs.Active.{is_without_union}
 use Rattle.iio_device.specs.Site.{is_empty, attached, sampled, site_written, with_monitor}
 use Rattle.iio_device.specs.Stored.{attr_value}
-use Rattle.iio_device.specs.Totals.{with_left}
-use Rattle.iiod_session.specs.Front.{Front, shape_at, device_name, place_count}
-use Rattle.iiod_session.specs.Machine.{Member, MemberId, Station, Machine, queue_of, station_at, with_station, with_site, lost_by, masks_of, member_in, without}
+use Rattle.iio_device.specs.Totals.{with_left, with_lost}
+use Rattle.iiod_session.specs.Front.{Front, kind_at, shape_at, size_at, device_name, place_count}
+use Rattle.iiod_session.specs.Machine.{Member, MemberId, Station, Machine, queue_of, station_at, with_station, with_site, lost_by, masks_of, member_in, is_id_of, without}
 use Rattle.iiod_session.specs.Opening.{join_refusals}
 
 -- an answer, and what stands then
@@ -31,6 +37,11 @@ module _ {A : Type 0} where
   abbrev pub unless : (Station → Station) → ℕ → Machine → Result A Errno → Outcome A
   unless change dev m (Ok x) = record { answer = Ok x; machine = with_station change dev m }
   unless change dev m (Err e) = record { answer = Err e; machine = m }
+
+-- ... or several of them
+abbrev pub unless_made : {A : Type 0} → (Machine → Machine) → Machine → Result A Errno → Outcome A
+unless_made change m (Ok x) = record { answer = Ok x; machine = change m }
+unless_made change m (Err e) = record { answer = Err e; machine = m }
 
 -- ---- members
 
@@ -47,37 +58,102 @@ abbrev pub has_no_place : Front → List Station → Option ℕ → Bool
 has_no_place front stations None = false
 has_no_place front stations (Some trigger) = not (nat_lt (attached_count trigger stations) (place_count front trigger))
 
+-- where a new member wants a trigger, a listed mask and a place: at the device itself; at an averaging device its base, for the
+-- inner member, where there is none yet
+pub record Host : Type 0 where
+  pub station : Station
+  pub shape : ShapeRecord
+  pub mask : ℕ
+  pub beside : List ℕ
+  pub joins : Bool
+
+abbrev pub own_host : Station → ShapeRecord → ℕ → Host
+own_host st shape mask = record { station = st; shape = shape; mask = mask; beside = masks_of st.members; joins = true }
+
+abbrev pub host_by : Front → List Station → Kind → Station → ShapeRecord → ℕ → Host
+host_by front stations (Average base window) st shape mask = elim (slice_get stations base) [
+  | None ↦ own_host st shape mask
+  | Some b ↦ record { station = b; shape = shape_at front base; mask = full_mask (shape_at front base); beside = []; joins = is_empty st.members }
+]
+host_by front stations kind st shape mask = own_host st shape mask
+
+abbrev pub host_of : Front → Machine → ℕ → ℕ → Host
+host_of front m dev mask = host_by front m.stations (kind_at front dev) (station_at m dev) (shape_at front dev) mask
+
+-- whether a device's numbers of members end
+abbrev pub has_no_number : Station → Bool
+has_no_number st = st.next == 2 ^ 64 - 1
+
 -- whether there is no place for one member more: the first one wants one at the trigger, and numbers end
-abbrev pub is_full : Front → List Station → Station → Bool
-is_full front stations st = is_empty st.members && has_no_place front stations st.site.trigger || st.next == 2 ^ 64 - 1
+abbrev pub is_full : Front → List Station → Host → Station → Bool
+is_full front stations host st =
+    host.joins && is_empty host.station.members && has_no_place front stations host.station.site.trigger || has_no_number st || host.joins && has_no_number host.station
 
--- why a member of that mask can't join, in this order
-abbrev pub open_refusals : Front → List Station → ShapeRecord → Station → ℕ → List (Bool × Errno)
-open_refusals front stations shape st mask =
+-- why a member of that mask can't join, in this order; an output device has one writer
+abbrev pub open_refusals : Front → List Station → Kind → Host → Station → List (Bool × Errno)
+open_refusals front stations kind host st =
     (not st.site.plugged, ENODEV)
-    ∷ join_refusals (is_none st.site.trigger) (is_without_union shape (masks_of st.members) mask) (is_full front stations st)
+    ∷ (is_output kind && not (is_empty st.members), EBUSY)
+    ∷ join_refusals (is_none host.station.site.trigger) (host.joins && is_without_union host.shape host.beside host.mask) (is_full front stations host st)
 
-abbrev pub newcomer : ℕ → ℕ → Station → Member
-newcomer mask capacity st = record { number = st.next; mask = mask; capacity = capacity; scans = []; lost = 0 }
+abbrev pub newcomer : ℕ → ℕ → Bool → Option ℕ → Station → Member
+newcomer mask capacity cyclic inner st = record { number = st.next; mask = mask; capacity = capacity; scans = []; lost = 0; cyclic = cyclic; inner = inner }
 
 -- a device with a member more: the first one's joining is a new attachment
-abbrev pub joined : ℕ → ℕ → Station → Station
-joined mask capacity st =
-    record st { next = st.next + 1; members = st.members ++ newcomer mask capacity st ∷ []; site = attached (is_empty st.members) st.site }
+abbrev pub joined : ℕ → ℕ → Bool → Option ℕ → Station → Station
+joined mask capacity cyclic inner st =
+    record st { next = st.next + 1; members = st.members ++ newcomer mask capacity cyclic inner st ∷ []; site = attached (is_empty st.members) st.site }
 
--- `open`: the new member's number
-unfoldable pub open_of : Front → Machine → ℕ → ℕ → ℕ → Outcome ℕ
-open_of front m dev mask capacity =
-    unless (joined mask capacity) dev m
-    (unless_refused (station_at m dev).next (first_refusal (open_refusals front m.stations (shape_at front dev) (station_at m dev) mask)))
+-- whether a member is the inner one of averaging device j
+abbrev pub is_inner_of : ℕ → Member → Bool
+is_inner_of j x = option_map_or (λ i. i == j) x.inner false
+
+-- the base with the inner member of averaging device j, where it has none yet
+abbrev pub inner_joined : ℕ → ShapeRecord → Station → Station
+inner_joined j shape b = if list_any (is_inner_of j) b.members then b else joined (full_mask shape) 1 false (Some j) b
+
+-- device k, where a member joined averaging device j over it
+abbrev pub with_inner : Front → ℕ → ℕ → Station → Station
+with_inner front j k st = if is_over (kind_at front j) k && is_input (kind_at front k) then inner_joined j (shape_at front k) st else st
+
+-- the devices after a joining of device `dev`
+abbrev pub all_joined : Front → ℕ → (Station → Station) → Machine → Machine
+all_joined front dev change m = record m { stations = map_from (λ k st. if dev == k then change st else with_inner front dev k st) 0 m.stations }
+
+-- `open`, and `open_out` of an output device: the new member's number
+unfoldable pub open_of : Front → Machine → ℕ → (mask capacity : ℕ) → (cyclic : Bool) → Outcome ℕ
+open_of front m dev mask capacity cyclic =
+    unless_made (all_joined front dev (joined mask capacity cyclic None)) m
+    (unless_refused (station_at m dev).next (first_refusal (open_refusals front m.stations (kind_at front dev) (host_of front m dev mask) (station_at m dev))))
+
+-- the captures that count towards the next mean end with the last member's leaving
+abbrev pub window_left : (before after : List Member) → Window → Window
+window_left before after w = if not (is_empty before) && is_empty after then no_window else w
 
 -- a device with the member of that number less; what it lost is counted
 abbrev pub left : ℕ → Station → Station
-left number st = record st { totals = with_left (lost_by number st.members) st.totals; members = without number st.members }
+left number st =
+    record st { totals = with_left (lost_by number st.members) st.totals; members = without number st.members; window = window_left st.members (without number st.members) st.window }
+
+-- the base without the inner members of averaging device j; what they lost is counted
+abbrev pub with_inner_lost : ℕ → List Member → Totals → Totals
+with_inner_lost j [] t = t
+with_inner_lost j (x ∷ xs) t = with_inner_lost j xs (if is_inner_of j x then with_lost x.lost t else t)
+
+abbrev pub inner_gone : ℕ → Station → Station
+inner_gone j b = let members = filter (λ (x : Member). not (is_inner_of j x)) b.members in
+    record b { totals = with_inner_lost j b.members b.totals; members = members; window = window_left b.members members b.window }
+
+-- device k, where nobody is at averaging device j over it
+abbrev pub without_inner : Front → Machine → ℕ → ℕ → Station → Station
+without_inner front m j k st = if is_over (kind_at front j) k && is_input (kind_at front k) && is_empty (station_at m j).members then inner_gone j st else st
+
+abbrev pub inner_left : Front → ℕ → Machine → Machine
+inner_left front dev m = record m { stations = map_from (without_inner front m dev) 0 m.stations }
 
 -- `close`
-unfoldable pub closed : Machine → ℕ → ℕ → Machine
-closed m dev number = with_station (left number) dev m
+unfoldable pub closed : Front → Machine → ℕ → ℕ → Machine
+closed front m dev number = inner_left front dev (with_station (left number) dev m)
 
 -- why a member can't have another mask, in this order; the others' masks stay
 abbrev pub remask_refusals : ShapeRecord → Station → MemberId → ℕ → List (Bool × Errno)
@@ -102,6 +178,40 @@ remask_of front m dev id mask capacity =
     unless (remasked id.number mask capacity) dev m
     (unless_refused (length (queue_of m dev id)) (first_refusal (remask_refusals (shape_at front dev) (station_at m dev) id mask)))
 
+-- ---- scans that are written
+
+-- a member that writes these scans
+abbrev pub writes : MemberId → List (List ℕ) → Member → Member
+writes id scans x = if is_id_of id x then record x { scans = x.scans ++ taken_of x.cyclic x.capacity x.scans scans } else x
+
+-- why a payload of that size isn't taken, in this order
+abbrev pub write_refusals : Member → (size : ℕ) → List ℕ → List (Bool × Errno)
+write_refusals x size bytes =
+    (is_bad_size x.cyclic x.capacity size (length bytes), EINVAL)
+    ∷ (is_standing x.cyclic x.scans, EBUSY)
+    ∷ (is_full_of x.cyclic x.capacity x.scans (scans_of size bytes), EAGAIN)
+    ∷ []
+
+-- how many bytes of it are taken
+abbrev pub bytes_taken : Member → (size : ℕ) → List ℕ → ℕ
+bytes_taken x size bytes = size * length (taken_of x.cyclic x.capacity x.scans (scans_of size bytes))
+
+-- in the place of a member that isn't there
+abbrev pub no_member : Member
+no_member = record { number = 0; mask = 0; capacity = 0; scans = []; lost = 0; cyclic = false; inner = None }
+
+abbrev pub write_scans_at : Station → MemberId → (size : ℕ) → List ℕ → Result ℕ Errno
+write_scans_at st id size bytes = do
+  plugged ← ensure st.site.plugged ENODEV
+  unless_refused (bytes_taken (unwrap_or (member_in id st.members) no_member) size bytes)
+      (first_refusal (write_refusals (unwrap_or (member_in id st.members) no_member) size bytes))
+
+-- `write_scans`: the number of bytes that are taken
+unfoldable pub write_scans_of : Front → Machine → ℕ → MemberId → List ℕ → Outcome ℕ
+write_scans_of front m dev id bytes =
+    unless (λ st. record st { members = map (writes id (scans_of (size_at front dev id.mask) bytes)) st.members }) dev m
+    (write_scans_at (station_at m dev) id (size_at front dev id.mask) bytes)
+
 -- ---- attributes
 
 abbrev pub is_raw : Option ℕ → Attr → Bool
@@ -115,24 +225,29 @@ raw_answer shape clock c st = do
   answered ← ensure (not (ask_fails st.site.driver)) EIO
   Ok (Int (value_of st.site.driver shape clock c 0))
 
-abbrev pub attr_answer : (name : List ℕ) → ShapeRecord → ℤ → Option ℕ → Attr → Station → Result Value Errno
-attr_answer name shape clock (Some c) attr.Raw st = raw_answer shape clock c st
-attr_answer name shape clock channel a st = Ok (attr_value name channel a st.site)
+-- ... and of an output device it is the last one that it was given
+abbrev pub raw_by : Kind → ShapeRecord → ℤ → ℕ → Station → Result Value Errno
+raw_by Output shape clock c st = Ok (Int (slice_index_or st.last c (pos 0)))
+raw_by kind shape clock c st = raw_answer shape clock c st
 
-abbrev pub read_answer : (name : List ℕ) → ShapeRecord → ℤ → Option ℕ → Attr → Station → Result Value Errno
-read_answer name shape clock channel a st = do
+abbrev pub attr_answer : (name : List ℕ) → Kind → ShapeRecord → ℤ → Option ℕ → Attr → Station → Result Value Errno
+attr_answer name kind shape clock (Some c) attr.Raw st = raw_by kind shape clock c st
+attr_answer name kind shape clock channel a st = Ok (attr_value name channel a st.site)
+
+abbrev pub read_answer : (name : List ℕ) → Kind → ShapeRecord → ℤ → Option ℕ → Attr → Station → Result Value Errno
+read_answer name kind shape clock channel a st = do
   plugged ← ensure st.site.plugged ENODEV
-  attr_answer name shape clock channel a st
+  attr_answer name kind shape clock channel a st
 
 -- whether a read asks the sensor
-abbrev pub is_asking : Option ℕ → Attr → Station → Bool
-is_asking channel a st = is_raw channel a && st.site.plugged && is_empty st.members
+abbrev pub is_asking : Kind → Option ℕ → Attr → Station → Bool
+is_asking kind channel a st = is_raw channel a && st.site.plugged && is_empty st.members && is_input kind
 
 -- `read_attr`: the sensor is asked also where its ask fails
 unfoldable pub read_attr_of : Front → Machine → ℕ → Option ℕ → Attr → Outcome Value
 read_attr_of front m dev channel a = record {
-  answer = read_answer (device_name front dev) (shape_at front dev) m.clock channel a (station_at m dev);
-  machine = if is_asking channel a (station_at m dev) then with_station (with_site sampled) dev m else m;
+  answer = read_answer (device_name front dev) (kind_at front dev) (shape_at front dev) m.clock channel a (station_at m dev);
+  machine = if is_asking (kind_at front dev) channel a (station_at m dev) then with_station (with_site sampled) dev m else m;
 }
 
 -- `write_attr`
@@ -140,6 +255,14 @@ unfoldable pub write_attr_of : Machine → ℕ → Option ℕ → Attr → Fixed
 write_attr_of m dev channel a v = unless (with_site (site_written channel a v)) dev m (ensure (station_at m dev).site.plugged ENODEV)
 
 -- ---- triggers
+
+-- the trigger of a device; of an averaging device it is its base's
+abbrev pub trigger_by : Kind → Machine → ℕ → Option ℕ
+trigger_by (Average base window) m dev = (station_at m base).site.trigger
+trigger_by kind m dev = (station_at m dev).site.trigger
+
+unfoldable pub trigger_of : Front → Machine → ℕ → Option ℕ
+trigger_of front m dev = trigger_by (kind_at front dev) m dev
 
 abbrev pub trigger_answer : Station → Result ⊤ Errno
 trigger_answer st = do

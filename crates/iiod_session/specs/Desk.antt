@@ -3,6 +3,7 @@
 use Rattle.std.specs.Prelude.{◌≡◌, ℕ, ◌+◌, ◌-◌, ◌*◌, ◌^◌, ◌==◌, ◌<◌, ◌≤◌, ◌||◌, ◌&&◌, min, nat_lt, not, Bool, true, false, List, [], ◌∷◌, ◌++◌, map, filter, length, if◌then◌else◌, Option, Some, is_none, unwrap_or, All, Result, position}
 use Rattle.iio_base.specs.Refusals.{first_refusal, unless_refused}
 use Rattle.iio_text.specs.declared.errors.Errno.{Errno}
+use Rattle.iio_desc.specs.Kind.{Kind, is_input, is_output}
 use Rattle.iio_mask.specs.Text.{mask_of}
 use Rattle.iio_kfifo.specs.declared.limits.TheConstants.{MAX_BYTES}
 use Rattle.iio_layout.specs.Active.{has_data}
@@ -12,7 +13,7 @@ use Rattle.iiod_session.specs.declared.desk.BuffersCount.{BuffersCount}
 use Rattle.iiod_session.specs.declared.desk.Desk.{Desk}
 use Rattle.iiod_session.specs.declared.desk.Held.{Held}
 use Rattle.iiod_session.specs.declared.desk.TheConstants.{FIRST_BUFFERS}
-use Rattle.iiod_session.specs.Front.{Front, size_at}
+use Rattle.iiod_session.specs.Front.{Front, kind_at, size_at}
 use Rattle.iiod_session.specs.Machine.{MemberId}
 use Rattle.iiod_session.specs.Opening.{asked_refusals, is_excess, mask_refusals}
 use Rattle.iiod_session.specs.Seat.{SeatRecord, Tale, MayOpen, IsOwned}
@@ -76,20 +77,20 @@ pub record Wanted : Type 0 where
   pub mask : ℕ
   pub capacity : ℕ
 
--- the capacity is the samples times the buffers count
-unfoldable pub wanted_of : (is_open plugged : Bool) → ShapeRecord → (buffers samples : ℕ) → (text : List ℕ) → (cyclic : Bool) → Result Wanted Errno
-wanted_of is_open plugged shape buffers samples text cyclic =
+-- the capacity is the samples times the buffers count; scans come round again at an output device alone
+unfoldable pub wanted_of : (is_open plugged : Bool) → Kind → ShapeRecord → (buffers samples : ℕ) → (text : List ℕ) → (cyclic : Bool) → Result Wanted Errno
+wanted_of is_open plugged kind shape buffers samples text cyclic =
     let mask = unwrap_or (mask_of text (count_of shape)) 0 in
     let capacity = samples * buffers in
     unless_refused (record { mask = mask; capacity = capacity })
-    (first_refusal (asked_refusals (not plugged) cyclic (is_none (mask_of text (count_of shape))) (not (has_data shape mask)) (is_excess capacity (scan_size shape mask)) is_open))
+    (first_refusal (asked_refusals (not plugged) (cyclic && not (is_output kind)) (is_none (mask_of text (count_of shape))) (not (has_data shape mask)) (is_excess capacity (scan_size shape mask)) is_open))
 
 -- what an OPEN asks for, where that isn't refused: the mask of its text, the samples times the buffers count as the capacity,
--- and no CYCLIC
-pub record IsWanted (shape : ShapeRecord) (buffers samples : ℕ) (text : List ℕ) (cyclic : Bool) (x : Wanted) : Type 0 where
+-- and CYCLIC at an output device alone
+pub record IsWanted (kind : Kind) (shape : ShapeRecord) (buffers samples : ℕ) (text : List ℕ) (cyclic : Bool) (x : Wanted) : Type 0 where
   pub mask : mask_of text (count_of shape) ≡ Some x.mask
   pub capacity : x.capacity ≡ samples * buffers
-  pub once : cyclic ≡ false
+  pub cycles : (cyclic && not (is_output kind)) ≡ false
 
 -- the mask of a REMASK, for a queue of that capacity
 unfoldable pub mask_wanted : ShapeRecord → (capacity : ℕ) → (text : List ℕ) → Result ℕ Errno
@@ -105,6 +106,11 @@ more_discarded n waiting = min (n + waiting) (2 ^ 64 - 1)
 -- a seat under another mask: the scans that waited are discarded and counted
 abbrev pub bare_remasked : (mask waiting : ℕ) → Bare → Bare
 bare_remasked mask waiting s = record s { mask = mask; discarded = more_discarded s.discarded waiting }
+
+-- a device whose events can be held: an input device that is there
+pub record IsHolding (front : Front) (dev : ℕ) : Type 0 where
+  pub there : dev < length front.devices
+  pub input : is_input (kind_at front dev) ≡ true
 
 -- ---- a connection's seats as these lists
 
@@ -134,8 +140,8 @@ module _ {S : Type 0} (seen : S → SeatRecord) where
   abbrev pub AllHeld : Front → List (Held S) → Type 0
   AllHeld front held = All (IsHeld front) held
 
-  -- each seat is, no two are at one device, and each device whose events are held is there
+  -- each seat is, no two are at one device, and events are held of input devices that are there
   pub record IsDesk (front : Front) (d : Desk S) : Type 0 where
     pub seats : AllHeld front d.held.items
     pub apart : are_apart (seats_of d.held.items) ≡ true
-    pub holdings : All (λ dev. dev < length front.devices) d.holdings.items
+    pub holdings : All (IsHolding front) d.holdings.items

@@ -1,38 +1,32 @@
--- What no call of an `Iio` changes: the context, the triggers, and the names and shapes of the devices.
-use Rattle.std.specs.Prelude.{ℕ, List, [], map, Option, None, position, slice_get}
+-- What no call of an `Iio` changes: the context, the triggers, and the names, kinds and shapes of the devices.
+use Rattle.std.specs.Prelude.{ℕ, List, [], Option, position, slice_get}
 use Rattle.std.specs.Option.{option_map_or}
 use Rattle.std.specs.Str.{bytes_eq}
 use Rattle.iio_layout.specs.Shape.{ShapeRecord, count_of}
 use Rattle.iio_layout.specs.Layout.{scan_size}
-use Rattle.iio_desc.specs.Description.{Description, DeviceRecord, trigger_number}
+use Rattle.iio_desc.specs.Description.{Description, DeviceHead, heads_of, no_shape, trigger_number}
+use Rattle.iio_desc.specs.Kind.{Kind, Input}
 use Rattle.iio_desc.specs.declared.description.TriggerDesc.{TriggerDesc}
-
-pub record DeviceFront : Type 0 where
-  pub name : List ℕ
-  pub shape : ShapeRecord
 
 pub record Front : Type 0 where
   pub context : List ℕ
   pub triggers : List TriggerDesc
-  pub devices : List DeviceFront
+  pub devices : List DeviceHead
 
 -- those of a description
-abbrev pub first_face : DeviceRecord → DeviceFront
-first_face d = record { name = d.name; shape = d.shape }
-
 abbrev pub first_front : Description → Front
-first_front desc = record { context = desc.context; triggers = desc.triggers; devices = map first_face desc.devices }
+first_front desc = record { context = desc.context; triggers = desc.triggers; devices = heads_of desc }
 
 -- the number of the device, or of the trigger, of that name
 unfoldable pub find_device : Front → List ℕ → Option ℕ
-find_device front name = position (λ (d : DeviceFront). bytes_eq d.name name) front.devices
+find_device front name = position (λ (d : DeviceHead). bytes_eq d.name name) front.devices
 
 unfoldable pub find_trigger : Front → List ℕ → Option ℕ
 find_trigger front name = trigger_number front.triggers name
 
 -- the name of the device, or of the trigger, of that number
 unfoldable pub device_name : Front → ℕ → List ℕ
-device_name front dev = option_map_or (λ (d : DeviceFront). d.name) (slice_get front.devices dev) []
+device_name front dev = option_map_or (λ (d : DeviceHead). d.name) (slice_get front.devices dev) []
 
 unfoldable pub trigger_name : Front → ℕ → List ℕ
 trigger_name front trigger = option_map_or (λ (t : TriggerDesc). t.name) (slice_get front.triggers trigger) []
@@ -41,12 +35,11 @@ trigger_name front trigger = option_map_or (λ (t : TriggerDesc). t.name) (slice
 abbrev pub place_count : Front → ℕ → ℕ
 place_count front trigger = option_map_or (λ (t : TriggerDesc). t.places) (slice_get front.triggers trigger) 0
 
--- in the place of the shape of a device that isn't there
-abbrev pub no_shape : ShapeRecord
-no_shape = record { channels = []; stamp = None; listed = [] }
-
 unfoldable pub shape_at : Front → ℕ → ShapeRecord
-shape_at front dev = option_map_or (λ (d : DeviceFront). d.shape) (slice_get front.devices dev) no_shape
+shape_at front dev = option_map_or (λ (d : DeviceHead). d.shape) (slice_get front.devices dev) no_shape
+
+unfoldable pub kind_at : Front → ℕ → Kind
+kind_at front dev = option_map_or (λ (d : DeviceHead). d.kind) (slice_get front.devices dev) Input
 
 -- how many channels a device has, with the timestamp
 abbrev pub channel_count : Front → ℕ → ℕ

@@ -1,4 +1,5 @@
 pub mod Front
+pub mod Kinds
 pub mod Machine
 pub mod Opening
 pub mod Calls
@@ -10,6 +11,7 @@ pub mod Desk
 pub mod Acts
 pub mod Moves
 pub mod Performs
+pub mod Places
 pub mod Wanted
 pub mod Given
 pub mod Run

@@ -1,16 +1,17 @@
 -- What an item may be answered, and what it and its answer make of a connection's seats, over any `Iio`.
-use Rattle.std.specs.Prelude.{◌≡◌, ◌⊎◌, ℕ, pos, nat_lt, Bool, false, true, List, [], ◌∷◌, ◌++◌, length, slice_get, slice_set, remove, Option, Some, None, option_map, IfSome, MatchBool, Ok, Err}
-use Rattle.iio_text.specs.declared.errors.Errno.TheVariants.{EAGAIN, EBADF, EINVAL, ENODEV}
+use Rattle.std.specs.Prelude.{◌≡◌, ◌⊎◌, ◌≤◌, ℕ, pos, nat_lt, Bool, false, true, List, [], ◌∷◌, ◌++◌, length, slice_get, slice_set, remove, Option, Some, None, option_map, IfSome, MatchBool, Ok, Err, if◌then◌else◌}
+use Rattle.iio_text.specs.declared.errors.Errno.TheVariants.{EAGAIN, EBADF, EINVAL, ENODEV, ENOSYS}
+use Rattle.iio_desc.specs.Kind.{is_output}
 use Rattle.iio_event.specs.Code.{event_bytes}
 use Rattle.iio_layout.specs.Shape.{count_of}
 use Rattle.iio_mask.specs.Text.{mask_of}
 use Rattle.iio_event.specs.declared.event.EventData.{EventData}
 use Rattle.iiod_grammar.specs.declared.command.Refused.TheVariants.{Empty}
 use Rattle.iiod_grammar.specs.Command.{Help, Exit, Version, Print, Timeout, Open, Close, Read, Write, ReadBuf, WriteBuf, GetTrig, SetTrig, SetBuffers, Remask, EvOpen, EvRead, EvClose}
-use Rattle.iiod_grammar.specs.Stream.{Item, Said, Written, End}
+use Rattle.iiod_grammar.specs.Stream.{Item, Said, Written, Streamed, End}
 use Rattle.iiod_reply.specs.Reply.{Reply, Nothing, Number, Refusal, Value, Raw, Block, NoMemory}
 use Rattle.iiod_session.specs.Acts.{Acts, end_reply, help_reply, left_desk, trigger_reply, version_reply, zero_reply}
-use Rattle.iiod_session.specs.Front.{Front, channel_count, find_device, shape_at, size_at}
+use Rattle.iiod_session.specs.Front.{Front, channel_count, find_device, kind_at, shape_at, size_at}
 use Rattle.iiod_session.specs.Machine.{Machine}
 use Rattle.iiod_session.specs.Seat.{Tale, after_nothing, first_tale}
 use Rattle.iiod_session.specs.Desk.{Bare, DeskRecord, IsWanted, bare_remasked, buffers_of, place_of, with_count, with_holding, with_seats, without_holding}
@@ -46,7 +47,9 @@ ReadsBy front asked seats tales (Some i) reply tales' = ReadsAt front asked seat
 
 abbrev pub ReadsFrom : Front → ℕ → List Bare → List (Option Tale) → Option ℕ → Reply → List (Option Tale) → Type 0
 ReadsFrom front asked seats tales None reply tales' = (reply ≡ Refusal ENODEV) × (tales' ≡ tales)
-ReadsFrom front asked seats tales (Some dev) reply tales' = ReadsBy front asked seats tales (place_of dev seats) reply tales'
+ReadsFrom front asked seats tales (Some dev) reply tales' = MatchBool (is_output (kind_at front dev))
+    (((reply ≡ Refusal ENODEV) ⊎ (reply ≡ Refusal ENOSYS)) × (tales' ≡ tales))
+    (ReadsBy front asked seats tales (place_of dev seats) reply tales')
 
 -- a seat more at a device where there was none, under the mask of the OPEN's text, of a capacity that is its samples times the
 -- buffers count of the device. Nothing was taken of it yet
@@ -55,7 +58,7 @@ pub record Joins (front : Front) (device : List ℕ) (samples : ℕ) (text : Lis
   pub t : Option Tale
   pub named : find_device front device ≡ Some s.dev
   pub free : place_of s.dev desk.seats ≡ None
-  pub wanted : IsWanted (shape_at front s.dev) (buffers_of s.dev desk.buffers) samples text cyclic (record { mask = s.mask; capacity = s.capacity })
+  pub wanted : IsWanted (kind_at front s.dev) (shape_at front s.dev) (buffers_of s.dev desk.buffers) samples text cyclic (record { mask = s.mask; capacity = s.capacity })
   pub added : desk' ≡ with_seats (desk.seats ++ s ∷ []) desk
   pub told : tales' ≡ tales ++ t ∷ []
   pub fresh : t ≡ option_map (λ (x : Tale). first_tale) t
@@ -140,8 +143,8 @@ answer_alone front desk (Said (Ok (Open device samples text cyclic))) = of_devic
 answer_alone front desk (Said (Ok (Close device))) = of_seat front desk device
 answer_alone front desk (Said (Ok (Read device place name))) = of_device front device
 answer_alone front desk (Said (Ok (Write device target count))) = Some Nothing
-answer_alone front desk (Said (Ok (ReadBuf device asked))) = of_seat front desk device
-answer_alone front desk (Said (Ok (WriteBuf device bytes))) = of_device front device
+answer_alone front desk (Said (Ok (ReadBuf device asked))) = at_known (λ dev. if is_output (kind_at front dev) then None else at_seat (place_of dev desk.seats)) (find_device front device)
+answer_alone front desk (Said (Ok (WriteBuf device count))) = Some Nothing
 answer_alone front desk (Said (Ok (GetTrig device))) = of_device front device
 answer_alone front desk (Said (Ok (SetTrig device name))) = of_device front device
 answer_alone front desk (Said (Ok (SetBuffers device n))) = of_device front device
@@ -153,6 +156,7 @@ answer_alone front desk (Said (Err Empty)) = Some Nothing
 answer_alone front desk (Said (Err why)) = Some (Refusal EINVAL)
 answer_alone front desk (Written device None payload) = Some (Refusal EINVAL)
 answer_alone front desk (Written device (Some target) payload) = of_device front device
+answer_alone front desk (Streamed device payload) = of_device front device
 answer_alone front desk (End error) = Some (end_reply error)
 
 -- an answer; want of memory, where it is one
@@ -170,7 +174,6 @@ abbrev pub Accepts : Front → Item → Reply → Type 0
 Accepts front (Said (Ok (Open device samples text cyclic))) reply = reply ≡ zero_reply
 Accepts front (Said (Ok (Close device))) reply = reply ≡ zero_reply
 Accepts front (Said (Ok (Read device place name))) reply = (text : List ℕ) × (reply ≡ Value text)
-Accepts front (Said (Ok (WriteBuf device bytes))) reply = ⊥
 Accepts front (Said (Ok (GetTrig device))) reply = (trigger : Option ℕ) × (reply ≡ trigger_reply front trigger)
 Accepts front (Said (Ok (SetTrig device name))) reply = reply ≡ zero_reply
 Accepts front (Said (Ok (SetBuffers device n))) reply = reply ≡ zero_reply
@@ -179,6 +182,7 @@ Accepts front (Said (Ok (EvOpen device))) reply = reply ≡ zero_reply
 Accepts front (Said (Ok (EvRead device))) reply = (event : EventData) × (reply ≡ Raw (event_bytes event))
 Accepts front (Said (Ok (EvClose device))) reply = reply ≡ zero_reply
 Accepts front (Written device (Some target) payload) reply = reply ≡ Number (pos (length payload))
+Accepts front (Streamed device payload) reply = (taken : ℕ) × (taken ≤ length payload) × (reply ≡ Number (pos taken))
 Accepts front item reply = Unit {0}
 
 -- ... or it is refused, or there was no memory for it

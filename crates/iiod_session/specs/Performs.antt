@@ -1,12 +1,12 @@
 -- What the functions below a command promise. Cited by private functions alone.
-use Rattle.std.specs.Prelude.{◌≡◌, ℕ, ◌+◌, ◌≤◌, Bool, List, [], ◌∷◌, ◌++◌, length, remove, slice_set, Option, Some, None, option_map, IfSome, IsOk, Result, Ok, Err, ⊤}
+use Rattle.std.specs.Prelude.{◌≡◌, ℕ, pos, ◌+◌, ◌≤◌, Bool, List, [], ◌∷◌, ◌++◌, length, remove, slice_set, Option, Some, None, option_map, IfSome, IsOk, Result, Ok, Err, ⊤}
 use Rattle.iio_base.specs.declared.Mem.{Mem}
 use Rattle.iio_text.specs.declared.errors.Errno.TheVariants.{EAGAIN, ENODEV}
 use Rattle.iio_layout.specs.Shape.{count_of}
 use Rattle.iio_mask.specs.Text.{mask_of}
 use Rattle.iiod_grammar.specs.Command.{ReadBuf}
 use Rattle.iiod_grammar.specs.Stream.{Item, Said}
-use Rattle.iiod_reply.specs.Reply.{Reply, Refusal, NoMemory, text_of}
+use Rattle.iiod_reply.specs.Reply.{Reply, Number, Refusal, NoMemory, text_of}
 use Rattle.iiod_session.specs.declared.answers.TheConstants.{SHORT_ANSWER}
 use Rattle.iiod_session.specs.declared.iio.No.{No}
 use Rattle.iiod_session.specs.declared.iio.No.TheVariants.{Errno as NoErrno, Mem as NoMem}
@@ -16,11 +16,11 @@ use Rattle.iiod_session.specs.declared.manner.Manner.{Manner}
 use Rattle.iiod_session.specs.declared.manner.Manner.TheVariants.{Script, Server}
 use Rattle.iiod_session.specs.declared.manner.Performed.{Performed}
 use Rattle.iiod_session.specs.declared.manner.Performed.TheVariants.{Done, Waits}
-use Rattle.iiod_session.specs.Front.{Front, find_device, shape_at}
+use Rattle.iiod_session.specs.Front.{Front, find_device, kind_at, shape_at}
 use Rattle.iiod_session.specs.Machine.{Machine}
 use Rattle.iiod_session.specs.Seat.{Tale, first_tale}
 use Rattle.iiod_session.specs.Desk.{Bare, DeskRecord, IsWanted, Wanted, bare_remasked, buffers_of, place_of, with_seats}
-use Rattle.iiod_session.specs.Acts.{Acted, read_at, read_at_seat, remask_seat, zero_reply}
+use Rattle.iiod_session.specs.Acts.{Acted, read_at, read_at_seat, remask_seat, write_at_seat, zero_reply}
 use Rattle.iiod_session.specs.Moves.{ReadMoves, ReadsBy, RemasksAt, Serves}
 
 -- the reply to an answer by 0 or a refusal
@@ -72,7 +72,7 @@ JoinsBy dev x desk tales (Err e) desk' tales' = (desk' ≡ desk) × (tales' ≡ 
 -- a seat more by an OPEN's words, or nothing more
 abbrev pub OpensBy : Front → (dev samples : ℕ) → (text : List ℕ) → (cyclic : Bool) → DeskRecord → List (Option Tale) → Result ⊤ No → DeskRecord → List (Option Tale) → Type 0
 OpensBy front dev samples text cyclic desk tales (Ok done) desk' tales' =
-    (x : Wanted) × IsWanted (shape_at front dev) (buffers_of dev desk.buffers) samples text cyclic x × JoinsAt dev x desk tales desk' tales'
+    (x : Wanted) × IsWanted (kind_at front dev) (shape_at front dev) (buffers_of dev desk.buffers) samples text cyclic x × JoinsAt dev x desk tales desk' tales'
 OpensBy front dev samples text cyclic desk tales (Err e) desk' tales' = (desk' ≡ desk) × (tales' ≡ tales)
 
 -- a seat less, or nothing less
@@ -100,6 +100,17 @@ abbrev pub RemaskMoves : Front → List ℕ → Bare → Option Tale → Result 
 RemaskMoves front text s tale (Ok done) s' tale' = (mask waiting : ℕ)
     × (mask_of text (count_of (shape_at front s.dev)) ≡ Some mask) × (s' ≡ bare_remasked mask waiting s) × (tale' ≡ option_map (λ (x : Tale). first_tale) tale)
 RemaskMoves front text s tale (Err e) s' tale' = (s' ≡ s) × (tale' ≡ tale)
+
+-- ---- WRITEBUF
+
+-- the reply by the number of bytes that were taken
+abbrev pub taken_by : Result ℕ No → Reply
+taken_by (Ok taken) = Number (pos taken)
+taken_by (Err why) = reply_by (Err why)
+
+-- at a seat, over a told state
+abbrev pub WritesHeld : Front → (payload : List ℕ) → Option Machine → Bare → Reply → Option Machine → Type 0
+WritesHeld front payload told s reply told' = IfSome told (λ m. (desk : DeskRecord) → Comes m desk (write_at_seat front m desk payload (Some s)) reply told' desk)
 
 -- ---- READBUF
 

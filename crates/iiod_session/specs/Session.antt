@@ -4,15 +4,15 @@ use Rattle.iio_text.specs.declared.errors.Errno.TheVariants.{E2BIG}
 use Rattle.iiod_grammar.specs.declared.command.Refused.{Refused}
 use Rattle.iiod_grammar.specs.declared.lines.Ready.{Ready}
 use Rattle.iiod_grammar.specs.declared.lines.Ready.TheVariants.{More, Line, Payload, TooLong}
-use Rattle.iiod_grammar.specs.Command.{Command, Exit, ReadBuf, Write, command_of}
+use Rattle.iiod_grammar.specs.Command.{Command, Exit, ReadBuf, Write, WriteBuf, command_of}
 use Rattle.iiod_grammar.specs.Lines.{LinesRecord, after_piece}
 use Rattle.iiod_grammar.specs.Scans.{scanner_at}
-use Rattle.iiod_grammar.specs.Stream.{AtEnd, InLine, Scanned, Written, after_line, ended_by, no_item, one_item}
+use Rattle.iiod_grammar.specs.Stream.{AtEnd, InLine, Scanned, with_payload, after_line, ended_by, no_item, one_item}
 use Rattle.iiod_session.specs.declared.desk.Desk.{Desk}
 use Rattle.iiod_session.specs.declared.manner.Going.{Going}
 use Rattle.iiod_session.specs.declared.manner.Going.TheVariants.{On, Waits, Ended}
 use Rattle.iiod_session.specs.declared.manner.Manner.{Manner}
-use Rattle.iiod_session.specs.PendingWrite.{PendingRecord}
+use Rattle.iiod_session.specs.PendingWrite.{PendingRecord, pending_of}
 
 -- how it is served, what the connection has, and its stream: the items that are whole and not answered yet, and where the
 -- stream stands after all bytes that came
@@ -23,23 +23,25 @@ pub record SessionRecord (S : Type 0) : Type 0 where
 
 -- ---- the stream by the session's fields
 
--- where the stream stands: in a line or in the payload of the WRITE that is kept, before a READBUF that waits, which
+-- where the stream stands: in a line or in the payload of the command that is kept, before a READBUF that waits, which
 -- is the last piece, or at its end
 abbrev pub stream_by : Going → LinesRecord → (pending : PendingRecord) → Scanned
-stream_by On lines pending = scanner_at lines pending.device pending.target
+stream_by On lines pending = scanner_at lines (pending_of pending)
 stream_by (Waits dev) lines pending = after_line lines.piece
 stream_by Ended lines pending = no_item AtEnd
 
--- a line that says neither EXIT nor WRITE: it is an item by itself
+-- a line that says none of EXIT, WRITE and WRITEBUF: it is an item by itself
 abbrev pub IsPlain : Result Command Refused → Type 0
 IsPlain (Ok Exit) = ⊥
 IsPlain (Ok (Write device target count)) = ⊥
+IsPlain (Ok (WriteBuf device count)) = ⊥
 IsPlain said = Unit {0}
 
--- a line that says none of EXIT, WRITE and READBUF: it is answered as soon as it is whole
+-- a line that says none of EXIT, WRITE, WRITEBUF and READBUF: it is answered as soon as it is whole
 abbrev pub IsAtOnce : Result Command Refused → Type 0
 IsAtOnce (Ok Exit) = ⊥
 IsAtOnce (Ok (Write device target count)) = ⊥
+IsAtOnce (Ok (WriteBuf device count)) = ⊥
 IsAtOnce (Ok (ReadBuf device asked)) = ⊥
 IsAtOnce said = Unit {0}
 
@@ -53,7 +55,7 @@ IsReady Ended lines pending = Unit {0}
 abbrev pub piece_by : Ready → LinesRecord → (pending : PendingRecord) → Scanned
 piece_by More lines pending = stream_by On lines pending
 piece_by Line lines pending = after_line lines.piece
-piece_by Payload lines pending = one_item (Written pending.device pending.target lines.piece)
+piece_by Payload lines pending = one_item (with_payload (pending_of pending) lines.piece)
 piece_by TooLong lines pending = ended_by (Some E2BIG)
 
 -- a whole piece, after which nothing is begun; none where the line is too long

@@ -1,17 +1,19 @@
 -- What READ and WRITE name, and what they answer, as contracts see it of the code. Cited by private functions alone.
-use Rattle.std.specs.Prelude.{ℕ, pos, ⊤, List, Option, Result, Ok, Err}
+use Rattle.std.specs.Prelude.{ℕ, pos, ⊤, List, Option, Some, Result, Ok, Err}
 use Rattle.std.specs.Option.{ok_or}
 use Rattle.iio_base.specs.Refusals.{◌>>=◌}
 use Rattle.iio_text.specs.declared.errors.Errno.{Errno}
 use Rattle.iio_text.specs.declared.errors.Errno.TheVariants.{ENOENT}
 use Rattle.iio_attr.specs.declared.attributes.Scope.{Scope}
-use Rattle.iio_attr.specs.Attributes.{find_of}
+use Rattle.iio_attr.specs.declared.attributes.Scope.TheVariants as scope
+use Rattle.iio_desc.specs.Kind.{Kind}
+use Rattle.iio_layout.specs.Shape.{ShapeRecord, channel_of}
 use Rattle.iiod_reply.specs.Reply.{Reply, Number, Refusal, NoMemory}
 use Rattle.iiod_session.specs.declared.iio.No.{No}
 use Rattle.iiod_session.specs.declared.iio.No.TheVariants.{Errno as NoErrno, Mem as NoMem}
 use Rattle.iiod_session.specs.declared.targets.Assignment.{Assignment as CodeAssignment}
 use Rattle.iiod_session.specs.declared.targets.Named.{Named as CodeNamed}
-use Rattle.iiod_session.specs.Attributes.{Assignment, Named}
+use Rattle.iiod_session.specs.Attributes.{Assignment, Named, attribute_of}
 
 -- ---- names
 
@@ -30,10 +32,16 @@ assignment_view (Ok x) = Ok (assignment_of_code x)
 assignment_view (Err e) = Err e
 
 -- the attribute of that name in a scope
-abbrev pub named_in : Scope → Option ℕ → List ℕ → Result Named Errno
-named_in scope channel name = do
-  a ← ok_or (find_of scope name) ENOENT
+abbrev pub named_in : Kind → Scope → Option ℕ → List ℕ → Result Named Errno
+named_in kind scope channel name = do
+  a ← attribute_of kind scope name
   Ok (record { channel = channel; attribute = a })
+
+-- ... of the channel of that ID
+abbrev pub named_at_channel : Kind → ShapeRecord → (id name : List ℕ) → Result Named Errno
+named_at_channel kind shape id name = do
+  c ← ok_or (channel_of shape id) ENOENT
+  named_in kind scope.Channel (Some c) name
 
 -- ---- replies
 

@@ -2,8 +2,8 @@
 use Rattle.std.specs.Prelude.{◌≡◌, ℕ, ◌<◌, min, Bool, true, false, List, ◌∷◌, length, Option, Some, None, MatchBool, Ok, Err}
 use Rattle.iio_text.specs.declared.errors.Errno.TheVariants.{E2BIG, EFBIG}
 use Rattle.iiod_grammar.specs.declared.lines.TheConstants.{MAX_PAYLOAD}
-use Rattle.iiod_grammar.specs.Command.{Target, Exit, Write}
-use Rattle.iiod_grammar.specs.Stream.{Item, Said, Written, End, Scanned}
+use Rattle.iiod_grammar.specs.Command.{Command as SaidCommand, Exit, Write, WriteBuf}
+use Rattle.iiod_grammar.specs.Stream.{Item, Said, Written, Streamed, End, Scanned}
 use Rattle.iiod_grammar.specs.View.{command_view}
 use Rattle.iiod_reply.specs.Reply.{Reply}
 use Rattle.iiod_session.specs.declared.desk.Desk.{Desk}
@@ -18,15 +18,21 @@ use Rattle.iiod_session.specs.Run.{State, CarriesBy, FedBy, FindsNone, IsAnswere
 use Rattle.iiod_session.specs.Seat.{SeatRecord}
 use Rattle.iiod_session.specs.Session.{IsPlain}
 
--- an item as a watch is told it: EXIT comes as the end that it is, a WRITE as the command once its payload is whole, and so
--- does one whose payload is too large. (A payload has no more bytes than a payload may have.)
+-- a command whose payload is too large
+abbrev pub IsTooLarge : SaidCommand → Type 0
+IsTooLarge (Write device target count) = MAX_PAYLOAD < count
+IsTooLarge (WriteBuf device count) = MAX_PAYLOAD < count
+IsTooLarge said = ⊥
+
+-- an item as a watch is told it: EXIT comes as the end that it is, a WRITE or WRITEBUF as the command once its payload is
+-- whole, and so does one whose payload is too large. (A payload has no more bytes than a payload may have.)
 abbrev pub IsSeen : Item → Seen → Type 0
 IsSeen (Said (Ok said)) (Command command) = IsPlain (Ok said) × (command_view command ≡ said)
 IsSeen (Said (Err why)) Refused = Unit {0}
 IsSeen (Written device target payload) (Command command) = command_view command ≡ Write device target (min (length payload) MAX_PAYLOAD)
+IsSeen (Streamed device payload) (Command command) = command_view command ≡ WriteBuf device (min (length payload) MAX_PAYLOAD)
 IsSeen (End None) (Command command) = command_view command ≡ Exit
-IsSeen (End (Some EFBIG)) (Command command) =
-    (device : List ℕ) × (target : Option Target) × (count : ℕ) × (command_view command ≡ Write device target count) × (MAX_PAYLOAD < count)
+IsSeen (End (Some EFBIG)) (Command command) = IsTooLarge (command_view command)
 IsSeen (End (Some E2BIG)) TooLong = Unit {0}
 IsSeen item seen = ⊥
 

@@ -31,7 +31,7 @@ const ENOMEM: i64 = 12;
 /// What a command is answered, where it isn't refused.
 #[derive(Drop)]
 pub(crate) enum Answer {
-    /// 0, or how many bytes a WRITE has.
+    /// 0, how many bytes a WRITE has, or how many of a WRITEBUF were taken.
     Number(usize),
     /// The line that names the profile.
     Help,

@@ -17,6 +17,7 @@ ghost use Rattle.iiod_session.specs.Targets.{named_of_code, written_by};
 use crate::answers::{Answer, answered};
 use crate::desk::{Desk, Held};
 use crate::iio::{Iio, No};
+use crate::kinds::kind_of;
 use crate::seats;
 use crate::targets::{Named, found, is_of_buffer, write_found};
 use iio_attr::{Attr, Value};
@@ -59,7 +60,7 @@ fn buffer_number<I: Iio>(iio: &mut I, h: &mut Held<I::Seat>, attribute: Attr) ->
 {
     let counts = iio.counts(h.dev, &mut h.seat);
     match attribute {
-        Attr::Overruns => counts.lost,
+        Attr::Overruns | Attr::Underruns => counts.lost,
         Attr::DataAvailable => counts.waiting,
         Attr::Discarded => h.discarded,
         _ => u64::from(h.capacity),
@@ -112,7 +113,8 @@ pub(crate) fn read_attribute_at<I: Iio>(
     let is_open = seats::place(iio, &desk.held, dev).is_some();
     let plugged = iio.plugged(dev);
     let of_buffer = is_of_buffer(place, name);
-    match found(iio.shape(dev), plugged, is_open, place, name) {
+    let kind = kind_of(iio, dev);
+    match found(kind, iio.shape(dev), plugged, is_open, place, name) {
         Err(errno) => Err(No::Errno(errno)),
         Ok(target) => {
             if of_buffer {
@@ -140,7 +142,8 @@ fn write_attribute_at<I: Iio>(
         (written_by (length payload.now) result) (I.told iio.new) desk) }
 {
     let plugged = iio.plugged(dev);
-    match write_found(iio.shape(dev), plugged, is_open, place, name, payload) {
+    let kind = kind_of(iio, dev);
+    match write_found(kind, iio.shape(dev), plugged, is_open, place, name, payload) {
         Err(errno) => Err(No::Errno(errno)),
         Ok(x) => iio.write_attr(dev, x.target.channel, x.target.attribute, x.value),
     }

@@ -1,19 +1,23 @@
 //! The commands of threshold events: EVOPEN, EVREAD and EVCLOSE.
 
-ghost use Rattle.std.specs.Prelude.{◌≡◌, ◌==◌, ◌<◌, length, filter, not, IfSome};
-ghost use Rattle.iiod_session.specs.Acts.{ev_close_at, ev_open_at, ev_read_at};
+ghost use Rattle.std.specs.Prelude.{◌≡◌, ◌==◌, ◌<◌, true, length, filter, not, IfSome};
+ghost use Rattle.iio_desc.specs.Kind.{is_input};
+ghost use Rattle.iiod_session.specs.Acts.{ev_close_at, ev_close_known, ev_open_at, ev_open_known, ev_read_at, ev_read_known};
 ghost use Rattle.iiod_session.specs.Answers.{IsEvent, reply_of};
 ghost use Rattle.iiod_session.specs.Desk.{IsDesk, desk_of, with_holding, without_holding};
+ghost use Rattle.iiod_session.specs.Front.{kind_at};
 ghost use Rattle.iiod_session.specs.Performs.{Comes, desk_by, reply_by};
 
 use crate::answers::Answer;
 use crate::desk::Desk;
 use crate::iio::{Iio, No};
+use crate::kinds::{is_input, unknown_refusal};
 use iio_text::Errno;
 
-/// EVOPEN at the device of that number. The room for the holding is taken first.
-pub(crate) fn ev_open_at<I: Iio>(desk: &mut Desk<I::Seat>, iio: &mut I, dev: u32) -> Result<(), No>
+// EVOPEN at an input device. The room for the holding is taken first.
+fn ev_open_at<I: Iio>(desk: &mut Desk<I::Seat>, iio: &mut I, dev: u32) -> Result<(), No>
     requires dev { dev < length (I.front (I.kept iio.old)).devices }
+    requires input { is_input (kind_at (I.front (I.kept iio.old)) dev) ≡ true }
     requires desk { IsDesk I.seen (I.front (I.kept iio.old)) desk.old }
     ensures kept { I.kept iio.new ≡ I.kept iio.old }
     ensures desk { IsDesk I.seen (I.front (I.kept iio.new)) desk.new }
@@ -34,6 +38,27 @@ pub(crate) fn ev_open_at<I: Iio>(desk: &mut Desk<I::Seat>, iio: &mut I, dev: u32
     }
 }
 
+/// EVOPEN at the device of that number, of whichever kind: input devices alone have events.
+pub(crate) fn ev_open_known<I: Iio>(
+    desk: &mut Desk<I::Seat>,
+    iio: &mut I,
+    dev: u32,
+) -> Result<(), No>
+    requires dev { dev < length (I.front (I.kept iio.old)).devices }
+    requires desk { IsDesk I.seen (I.front (I.kept iio.old)) desk.old }
+    ensures kept { I.kept iio.new ≡ I.kept iio.old }
+    ensures desk { IsDesk I.seen (I.front (I.kept iio.new)) desk.new }
+    ensures told { IfSome (I.told iio.old) (λ m. Comes m (desk_of I.seen desk.old)
+        (ev_open_known (I.front (I.kept iio.old)) m (desk_of I.seen desk.old) dev) (reply_by result) (I.told iio.new) (desk_of I.seen desk.new)) }
+    ensures alters { desk_of I.seen desk.new ≡ desk_by (with_holding dev) (desk_of I.seen desk.old) result }
+    ensures held { desk.new.held ≡ desk.old.held }
+{
+    if !is_input(iio, dev) {
+        return Err(No::Errno(unknown_refusal(iio, dev)));
+    }
+    ev_open_at(desk, iio, dev)
+}
+
 // Removes a device from those whose events are held.
 fn forget_holding(holdings: &mut Vec<u32>, dev: u32)
     ensures { holdings.new.items ≡ filter (λ d. not (d == dev)) holdings.old.items }
@@ -41,9 +66,10 @@ fn forget_holding(holdings: &mut Vec<u32>, dev: u32)
     holdings.retain(|d| *d != dev);
 }
 
-/// EVCLOSE at the device of that number.
-pub(crate) fn ev_close_at<I: Iio>(desk: &mut Desk<I::Seat>, iio: &mut I, dev: u32) -> Result<(), No>
+// EVCLOSE at an input device.
+fn ev_close_at<I: Iio>(desk: &mut Desk<I::Seat>, iio: &mut I, dev: u32) -> Result<(), No>
     requires dev { dev < length (I.front (I.kept iio.old)).devices }
+    requires input { is_input (kind_at (I.front (I.kept iio.old)) dev) ≡ true }
     requires desk { IsDesk I.seen (I.front (I.kept iio.old)) desk.old }
     ensures kept { I.kept iio.new ≡ I.kept iio.old }
     ensures desk { IsDesk I.seen (I.front (I.kept iio.new)) desk.new }
@@ -64,9 +90,31 @@ pub(crate) fn ev_close_at<I: Iio>(desk: &mut Desk<I::Seat>, iio: &mut I, dev: u3
     }
 }
 
-/// EVREAD at the device of that number.
-pub(crate) fn ev_read_at<I: Iio>(desk: &Desk<I::Seat>, iio: &mut I, dev: u32) -> Result<Answer, No>
+/// EVCLOSE at the device of that number, of whichever kind: input devices alone have events.
+pub(crate) fn ev_close_known<I: Iio>(
+    desk: &mut Desk<I::Seat>,
+    iio: &mut I,
+    dev: u32,
+) -> Result<(), No>
     requires dev { dev < length (I.front (I.kept iio.old)).devices }
+    requires desk { IsDesk I.seen (I.front (I.kept iio.old)) desk.old }
+    ensures kept { I.kept iio.new ≡ I.kept iio.old }
+    ensures desk { IsDesk I.seen (I.front (I.kept iio.new)) desk.new }
+    ensures told { IfSome (I.told iio.old) (λ m. Comes m (desk_of I.seen desk.old)
+        (ev_close_known (I.front (I.kept iio.old)) m (desk_of I.seen desk.old) dev) (reply_by result) (I.told iio.new) (desk_of I.seen desk.new)) }
+    ensures alters { desk_of I.seen desk.new ≡ desk_by (without_holding dev) (desk_of I.seen desk.old) result }
+    ensures held { desk.new.held ≡ desk.old.held }
+{
+    if !is_input(iio, dev) {
+        return Err(No::Errno(unknown_refusal(iio, dev)));
+    }
+    ev_close_at(desk, iio, dev)
+}
+
+// EVREAD at an input device.
+fn ev_read_at<I: Iio>(desk: &Desk<I::Seat>, iio: &mut I, dev: u32) -> Result<Answer, No>
+    requires dev { dev < length (I.front (I.kept iio.old)).devices }
+    requires input { is_input (kind_at (I.front (I.kept iio.old)) dev) ≡ true }
     ensures kept { I.kept iio.new ≡ I.kept iio.old }
     ensures event { IsEvent result }
     ensures told { IfSome (I.told iio.old) (λ m. Comes m (desk_of I.seen desk.now) (ev_read_at m (desk_of I.seen desk.now) dev)
@@ -77,4 +125,23 @@ pub(crate) fn ev_read_at<I: Iio>(desk: &Desk<I::Seat>, iio: &mut I, dev: u32) ->
         Ok(None) => Err(No::Errno(Errno::EAGAIN)),
         Err(no) => Err(no),
     }
+}
+
+/// EVREAD at the device of that number, of whichever kind.
+pub(crate) fn ev_read_known<I: Iio>(
+    desk: &Desk<I::Seat>,
+    iio: &mut I,
+    dev: u32,
+) -> Result<Answer, No>
+    requires dev { dev < length (I.front (I.kept iio.old)).devices }
+    ensures kept { I.kept iio.new ≡ I.kept iio.old }
+    ensures event { IsEvent result }
+    ensures told { IfSome (I.told iio.old) (λ m. Comes m (desk_of I.seen desk.now)
+        (ev_read_known (I.front (I.kept iio.old)) m (desk_of I.seen desk.now) dev)
+        (reply_of (I.front (I.kept iio.old)) result) (I.told iio.new) (desk_of I.seen desk.now)) }
+{
+    if !is_input(iio, dev) {
+        return Err(No::Errno(unknown_refusal(iio, dev)));
+    }
+    ev_read_at(desk, iio, dev)
 }

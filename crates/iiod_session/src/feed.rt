@@ -4,12 +4,12 @@ ghost use Rattle.std.specs.Prelude.{◌≡◌, ◌≤◌, ◌++◌, [], Ok, Err,
 ghost use Rattle.iiod_grammar.specs.Command.{ReadBuf, command_of};
 ghost use Rattle.iiod_grammar.specs.Lines.{LinesRecord, after_piece};
 ghost use Rattle.iiod_grammar.specs.Scans.{scan_on};
-ghost use Rattle.iiod_grammar.specs.Stream.{AtEnd, End, Written, after_line, ended_by, no_item};
+ghost use Rattle.iiod_grammar.specs.Stream.{AtEnd, End, after_line, ended_by, no_item, with_payload};
 ghost use Rattle.iiod_grammar.specs.View.{command_view};
 ghost use Rattle.iiod_reply.specs.Reply.{text_of};
 ghost use Rattle.iiod_session.specs.Acts.{end_reply};
 ghost use Rattle.iiod_session.specs.Desk.{IsDesk, desk_of, tales_of};
-ghost use Rattle.iiod_session.specs.PendingWrite.{PendingRecord};
+ghost use Rattle.iiod_session.specs.PendingWrite.{PendingRecord, pending_of};
 ghost use Rattle.iiod_session.specs.Performs.{Performs};
 ghost use Rattle.iiod_session.specs.Session.{IsAtOnce, IsKept, IsReady, IsWhole, piece_by, stream_by, unread_of};
 ghost use Rattle.iiod_session.specs.Watch.{Hears, IsSeen, is_waiting, scene_of};
@@ -24,7 +24,7 @@ use crate::iio::Iio;
 use crate::leave::leave;
 use crate::manner::{Going, Manner, Performed};
 use crate::pending_write::PendingWrite;
-use crate::perform::{perform, perform_refused, perform_written};
+use crate::perform::{perform, perform_refused, perform_streamed, perform_written};
 use crate::watch::{Seen, Watch, count_of};
 use iio_base::Mem;
 use iio_text::Errno;
@@ -85,7 +85,7 @@ fn hear_refused<I: Iio, W: Watch<I>>(
     Ok(Going::On)
 }
 
-// A command that is answered at once: not EXIT, WRITE or READBUF.
+// A command that is answered at once: not EXIT, WRITE, WRITEBUF or READBUF.
 fn hear_said<I: Iio, W: Watch<I>>(
     alloc: Global,
     manner: Manner,
@@ -173,7 +173,7 @@ fn hear_again<I: Iio, W: Watch<I>>(
     }
 }
 
-// A whole line. What a WRITE names is kept until its payload has come.
+// A whole line. What a WRITE or WRITEBUF names is kept until its payload has come.
 fn hear_line<I: Iio, W: Watch<I>>(
     alloc: Global,
     manner: Manner,
@@ -207,6 +207,16 @@ fn hear_line<I: Iio, W: Watch<I>>(
                 lines.want(count);
                 Ok(Going::On)
             }
+            Command::WriteBuf { dev, bytes } => {
+                if *bytes > MAX_PAYLOAD {
+                    let told = Seen::Command(*command);
+                    return end(desk, iio, watch, Some(Errno::EFBIG), &told, out);
+                }
+                let count = *bytes;
+                pending.keep_scans(dev)?;
+                lines.want(count);
+                Ok(Going::On)
+            }
             Command::ReadBuf { dev, bytes } => {
                 hear_read(manner, desk, iio, watch, dev, *bytes, pending, out)
             }
@@ -215,7 +225,7 @@ fn hear_line<I: Iio, W: Watch<I>>(
     }
 }
 
-// A whole payload, of the WRITE that was kept.
+// A whole payload, of the WRITE or WRITEBUF that was kept.
 fn hear_payload<I: Iio, W: Watch<I>>(
     alloc: Global,
     manner: Manner,
@@ -230,12 +240,20 @@ fn hear_payload<I: Iio, W: Watch<I>>(
     ensures kept { I.kept iio.new ≡ I.kept iio.old }
     ensures desk { IsDesk I.seen (I.front (I.kept iio.new)) desk.new }
     ensures told { W.makes (I.front (I.kept iio.old)) (I.told iio.old) desk.old.who
-        (Written pending.now.device pending.now.target payload.now) watch.old watch.new }
+        (with_payload (pending_of pending.now) payload.now) watch.old watch.new }
     ensures served { IfOk result (Performs manner (I.front (I.kept iio.old)) (I.told iio.old) (I.told iio.new)
         (desk_of I.seen desk.old) (tales_of I.seen desk.old.held.items)
-        (Written pending.now.device pending.now.target payload.now)
+        (with_payload (pending_of pending.now) payload.now)
         (desk_of I.seen desk.new) (tales_of I.seen desk.new.held.items) out.old.items out.new.items) }
 {
+    if pending.is_scans() {
+        let command = Command::WriteBuf {
+            dev: pending.device(),
+            bytes: count_of(payload),
+        };
+        watch.before(iio, desk.who, &Seen::Command(command));
+        return perform_streamed(manner, desk, iio, pending.device(), payload, out);
+    }
     let command = Command::Write {
         dev: pending.device(),
         target: pending.target(),
@@ -254,7 +272,7 @@ fn hear_payload<I: Iio, W: Watch<I>>(
     )
 }
 
-// A piece that is whole: a line, the payload of the WRITE before it, or a line that is too long.
+// A piece that is whole: a line, the payload of the WRITE or WRITEBUF before it, or a line that is too long.
 fn hear_piece<I: Iio, W: Watch<I>>(
     alloc: Global,
     manner: Manner,

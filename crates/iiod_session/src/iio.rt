@@ -1,6 +1,6 @@
 //! What a session needs of the devices.
 
-ghost use Rattle.std.specs.Prelude.{◌≡◌, ◌≢◌, ℕ, ◌+◌, ◌*◌, ◌^◌, ◌≤◌, ◌<◌, length, Option, Some, option_map, vec_capacity, IfOk, IfSome, Ok, Err};
+ghost use Rattle.std.specs.Prelude.{◌≡◌, ◌≢◌, ℕ, ◌+◌, ◌*◌, ◌^◌, ◌≤◌, ◌<◌, true, false, length, Option, Some, option_map, vec_capacity, IfOk, IfSome, Ok, Err};
 ghost use Rattle.iiod_session.specs.Opening.{no_of, remask_no};
 
 use iio_attr::{Attr, Scope, Value};
@@ -72,9 +72,10 @@ pub trait Iio {
     ghost use Rattle.iio_attr.specs.Attributes.{is_writable, row_of};
     ghost use Rattle.iio_text.specs.Fixed.{IsFixed};
     ghost use Rattle.iio_desc.specs.declared.limits.TheConstants.{MAX_TRIGGERS};
-    ghost use Rattle.iiod_session.specs.Front.{Front, find_device, find_trigger, shape_at, trigger_name};
-    ghost use Rattle.iiod_session.specs.Machine.{Machine, is_plugged, lost_of, queue_of, station_at};
-    ghost use Rattle.iiod_session.specs.Calls.{closed, ev_close_of, ev_open_of, ev_read_of, open_of, read_attr_of, remask_of, set_trigger_of, write_attr_of};
+    ghost use Rattle.iio_desc.specs.Kind.{is_average, is_input, is_output};
+    ghost use Rattle.iiod_session.specs.Front.{Front, find_device, find_trigger, kind_at, shape_at, trigger_name};
+    ghost use Rattle.iiod_session.specs.Machine.{Machine, is_plugged, lost_of, queue_of};
+    ghost use Rattle.iiod_session.specs.Calls.{closed, ev_close_of, ev_open_of, ev_read_of, open_of, read_attr_of, remask_of, set_trigger_of, trigger_of, write_attr_of, write_scans_of};
     ghost use Rattle.iiod_session.specs.Reading.{TakesScans};
     ghost use Rattle.iiod_session.specs.Seat.{Answers, IsNew, IsOfDevice, MayOpen, Remasks, SeatRecord, Takes, after_take, seat_id, number_by};
     ghost use Rattle.iiod_session.specs.Target.{MayRead, MayWrite};
@@ -103,50 +104,93 @@ pub trait Iio {
         requires { dev < length (front (kept self.now)).devices }
         ensures { result.now ≡ shape_at (front (kept self.now)) dev };
 
+    /// Whether it is an output device, which is given what its one member writes.
+    fn is_output(&self, dev: u32) -> bool
+        requires { dev < length (front (kept self.now)).devices }
+        ensures { result ≡ is_output (kind_at (front (kept self.now)) dev) };
+
+    /// Whether it is an averaging device, which makes means of the captures of another one.
+    fn is_average(&self, dev: u32) -> bool
+        requires { dev < length (front (kept self.now)).devices }
+        ensures { result ≡ is_average (kind_at (front (kept self.now)) dev) };
+
     /// Whether the device is plugged.
     fn plugged(&self, dev: u32) -> bool
         requires { dev < length (front (kept self.now)).devices }
         ensures { IfSome (told self.now) (λ m. result ≡ is_plugged m dev) };
 
-    /// A member more at the device, with a queue for `capacity` scans. `ENODEV` comes where it is unplugged, then `EINVAL`
-    /// where it has no trigger, `EINVAL` where no listed mask serves all members, `ENOSPC` where there is no place.
+    /// A member more at a device that is no output device, with a queue for `capacity` scans. `ENODEV` comes where it is
+    /// unplugged, then `EINVAL` where it has no trigger, `EINVAL` where no listed mask serves all members, `ENOSPC` where
+    /// there is no place. An averaging device's first member joins its base besides, where these are looked at.
     fn open(&mut self, dev: u32, mask: Mask, capacity: u32) -> Result<Self::Seat, No>
-        requires { MayOpen (front (kept self.old)) dev mask.bits capacity }
+        requires may_open { MayOpen (front (kept self.old)) dev mask.bits capacity }
+        requires read { is_output (kind_at (front (kept self.old)) dev) ≡ false }
         ensures kept { kept self.new ≡ kept self.old }
         ensures seat { IfOk result (λ s. IsNew (front (kept self.old)) dev mask.bits capacity (seen s)) }
-        ensures told { IfSome (told self.old) (λ m. Answers (open_of (front (kept self.old)) m dev mask.bits capacity) m (number_by seen result) (told self.new)) };
+        ensures told { IfSome (told self.old) (λ m. Answers (open_of (front (kept self.old)) m dev mask.bits capacity false) m (number_by seen result) (told self.new)) };
 
-    /// The member begins anew under another mask: how many scans waited, which are gone. The seat keeps its capacity, and what
-    /// it tells begins anew. `ENODEV` comes where the device is unplugged, then `EBADF` where the member isn't there, then
-    /// `EINVAL` where no listed mask serves the other members and this one; want of memory comes last. A refusal changes
-    /// nothing.
+    /// The writer of an output device, with a queue for `capacity` scans; those of a cyclic one come round again. `ENODEV`
+    /// comes where the device is unplugged, then `EBUSY` where it has a writer, `EINVAL` where it has no trigger, `ENOSPC`
+    /// where there is no place.
+    fn open_out(
+        &mut self,
+        dev: u32,
+        mask: Mask,
+        capacity: u32,
+        cyclic: bool,
+    ) -> Result<Self::Seat, No>
+        requires may_open { MayOpen (front (kept self.old)) dev mask.bits capacity }
+        requires written { is_output (kind_at (front (kept self.old)) dev) ≡ true }
+        ensures kept { kept self.new ≡ kept self.old }
+        ensures seat { IfOk result (λ s. IsNew (front (kept self.old)) dev mask.bits capacity (seen s)) }
+        ensures told { IfSome (told self.old) (λ m. Answers (open_of (front (kept self.old)) m dev mask.bits capacity cyclic) m (number_by seen result) (told self.new)) };
+
+    /// Writes scans to an output device: how many of the bytes were taken, the first ones. `ENODEV` comes where the device is
+    /// unplugged, then `EINVAL` where they aren't whole scans, or not as many as can be a cycle, `EBUSY` where a cyclic writer
+    /// has written its cycle, `EAGAIN` where the queue is full.
+    fn write_scans(&mut self, dev: u32, seat: &mut Self::Seat, bytes: &[u8]) -> Result<u32, No>
+        requires dev { dev < length (front (kept self.old)).devices }
+        requires written { is_output (kind_at (front (kept self.old)) dev) ≡ true }
+        requires owned { IsOfDevice (front (kept self.old)) dev (seen seat.old) }
+        ensures kept { kept self.new ≡ kept self.old }
+        ensures seat { seen seat.new ≡ seen seat.old }
+        ensures within { IfOk result (λ taken. taken ≤ length bytes.now) }
+        ensures told { IfSome (told self.old) (λ m. Answers (write_scans_of (front (kept self.old)) m dev (seat_id (seen seat.old)) bytes.now) m result (told self.new)) };
+
+    /// The member of an input device begins anew under another mask: how many scans waited, which are gone. The seat keeps
+    /// its capacity, and what it tells begins anew. `ENODEV` comes where the device is unplugged, then `EBADF` where the
+    /// member isn't there, then `EINVAL` where no listed mask serves the other members and this one; want of memory comes
+    /// last. A refusal changes nothing.
     fn remask(&mut self, dev: u32, seat: &mut Self::Seat, mask: Mask) -> Result<u64, No>
         requires may_open { MayOpen (front (kept self.old)) dev mask.bits (seen seat.old).capacity }
+        requires input { is_input (kind_at (front (kept self.old)) dev) ≡ true }
         requires owned { IsOfDevice (front (kept self.old)) dev (seen seat.old) }
         ensures kept { kept self.new ≡ kept self.old }
         ensures seat { Remasks (front (kept self.old)) dev mask.bits result (seen seat.old) (seen seat.new) }
         ensures told { IfSome (told self.old) (λ m. Answers (remask_of (front (kept self.old)) m dev (seat_id (seen seat.old)) mask.bits (seen seat.old).capacity) m result (told self.new)) };
 
-    /// The member leaves; scans that wait are gone with it.
+    /// The member leaves; scans that wait are gone with it. An averaging device's last one leaves its base besides.
     fn close(&mut self, dev: u32, seat: Self::Seat)
         requires dev { dev < length (front (kept self.old)).devices }
         requires owned { IsOfDevice (front (kept self.old)) dev (seen seat) }
         ensures kept { kept self.new ≡ kept self.old }
-        ensures told { IfSome (told self.old) (λ m. told self.new ≡ Some (closed m dev (seen seat).number)) };
+        ensures told { IfSome (told self.old) (λ m. told self.new ≡ Some (closed (front (kept self.old)) m dev (seen seat).number)) };
 
-    /// Takes the oldest scan that waits into `out`, which has its size.
+    /// Takes the oldest scan that waits, at no output device, into `out`, which has its size.
     fn take(&mut self, dev: u32, seat: &mut Self::Seat, out: &mut [u8]) -> Took
         requires dev { dev < length (front (kept self.old)).devices }
+        requires read { is_output (kind_at (front (kept self.old)) dev) ≡ false }
         requires owned { IsOfDevice (front (kept self.old)) dev (seen seat.old) }
         requires size { length out.old ≡ (seen seat.old).size }
         ensures kept { kept self.new ≡ kept self.old }
         ensures seat { seen seat.new ≡ record (seen seat.old) { tale = option_map (after_take result out.new) (seen seat.old).tale } }
         ensures told { IfSome (told self.old) (λ m. Takes m dev (seat_id (seen seat.old)) result out.new (told self.new)) };
 
-    /// Takes the oldest scans that wait, at most `most`, and appends their bytes to `out`, which has room for `most` scans.
-    /// `Scan` comes where there was one at least.
+    /// Takes the oldest scans that wait, at no output device, at most `most`, and appends their bytes to `out`, which has room
+    /// for `most` scans. `Scan` comes where there was one at least.
     fn take_scans(&mut self, dev: u32, seat: &mut Self::Seat, most: u32, out: &mut Vec<u8>) -> Took
         requires dev { dev < length (front (kept self.old)).devices }
+        requires read { is_output (kind_at (front (kept self.old)) dev) ≡ false }
         requires owned { IsOfDevice (front (kept self.old)) dev (seen seat.old) }
         requires some { 1 ≤ most }
         requires room { length out.old.items + most * (seen seat.old).size ≤ vec_capacity out.old }
@@ -155,7 +199,7 @@ pub trait Iio {
         ensures most { length out.new.items ≤ length out.old.items + most * (seen seat.old).size }
         ensures room { vec_capacity out.old ≤ vec_capacity out.new };
 
-    /// The numbers of the seat's queue.
+    /// The numbers of the seat's queue; at an output device `lost` is how often none waited there for the device.
     fn counts(&mut self, dev: u32, seat: &mut Self::Seat) -> Counts
         requires dev { dev < length (front (kept self.old)).devices }
         requires owned { IsOfDevice (front (kept self.old)) dev (seen seat.old) }
@@ -165,8 +209,8 @@ pub trait Iio {
         ensures lost { IfSome (told self.old) (λ m. result.lost ≡ lost_of m dev (seat_id (seen seat.old))) }
         ensures told { IfSome (told self.old) (λ m. told self.new ≡ Some m) };
 
-    /// The value of an attribute of the device, or of its input channel of that number. `ENODEV` comes where it is
-    /// unplugged; for `raw` then `EBUSY` where it has a member, and `EIO` where the sensor's ask failed.
+    /// The value of an attribute that the device has, or its channel of that number. `ENODEV` comes where it is unplugged;
+    /// for `raw` of an input device then `EBUSY` where it has a member, and `EIO` where the sensor's ask failed.
     fn read_attr(&mut self, dev: u32, channel: Option<u32>, attr: Attr) -> Result<Value, No>
         requires dev { dev < length (front (kept self.old)).devices }
         requires may_read { MayRead (front (kept self.old)) dev channel attr }
@@ -186,10 +230,10 @@ pub trait Iio {
         ensures kept { kept self.new ≡ kept self.old }
         ensures told { IfSome (told self.old) (λ m. Answers (write_attr_of m dev channel attr value) m result (told self.new)) };
 
-    /// The number of the device's trigger.
+    /// The number of the device's trigger; of an averaging device it is its base's.
     fn trigger(&self, dev: u32) -> Option<u32>
         requires { dev < length (front (kept self.now)).devices }
-        ensures { IfSome (told self.now) (λ m. result ≡ (station_at m dev).site.trigger) };
+        ensures { IfSome (told self.now) (λ m. result ≡ trigger_of (front (kept self.now)) m dev) };
 
     /// The name of a trigger; empty where none has that number.
     fn trigger_name(&self, trigger: u32) -> &[u8]
@@ -200,9 +244,11 @@ pub trait Iio {
         ensures value { result ≡ find_trigger (front (kept self.now)) name.now }
         ensures within { IfSome result (λ trigger. trigger < MAX_TRIGGERS) };
 
-    /// Gives the device another trigger, or none. `ENODEV` comes where it is unplugged, then `EBUSY` where it has a member.
+    /// Gives a device that is no averaging device another trigger, or none. `ENODEV` comes where it is unplugged, then `EBUSY`
+    /// where it has a member.
     fn set_trigger(&mut self, dev: u32, trigger: Option<u32>) -> Result<(), No>
         requires dev { dev < length (front (kept self.old)).devices }
+        requires own { is_average (kind_at (front (kept self.old)) dev) ≡ false }
         requires trigger { IfSome trigger (λ t. t < MAX_TRIGGERS) }
         ensures kept { kept self.new ≡ kept self.old }
         ensures told { IfSome (told self.old) (λ m. Answers (set_trigger_of m dev trigger) m result (told self.new)) };
@@ -211,10 +257,11 @@ pub trait Iio {
     fn context(&self) -> &[u8]
         ensures { result.now ≡ (front (kept self.now)).context };
 
-    /// The device's events go to connection `who` from now on. `ENODEV` comes where it is unplugged, then `EBUSY` where
-    /// they go to somebody.
+    /// The events of an input device go to connection `who` from now on. `ENODEV` comes where it is unplugged, then `EBUSY`
+    /// where they go to somebody.
     fn ev_open(&mut self, dev: u32, who: u32) -> Result<(), No>
         requires dev { dev < length (front (kept self.old)).devices }
+        requires input { is_input (kind_at (front (kept self.old)) dev) ≡ true }
         ensures kept { kept self.new ≡ kept self.old }
         ensures told { IfSome (told self.old) (λ m. Answers (ev_open_of m dev who) m result (told self.new)) };
 
@@ -222,6 +269,7 @@ pub trait Iio {
     /// connection `who`.
     fn ev_read(&mut self, dev: u32, who: u32) -> Result<Option<EventData>, No>
         requires dev { dev < length (front (kept self.old)).devices }
+        requires input { is_input (kind_at (front (kept self.old)) dev) ≡ true }
         ensures kept { kept self.new ≡ kept self.old }
         ensures told { IfSome (told self.old) (λ m. Answers (ev_read_of m dev who) m result (told self.new)) };
 
@@ -229,6 +277,7 @@ pub trait Iio {
     /// don't go to connection `who`. It takes no memory.
     fn ev_close(&mut self, dev: u32, who: u32) -> Result<(), No>
         requires dev { dev < length (front (kept self.old)).devices }
+        requires input { is_input (kind_at (front (kept self.old)) dev) ≡ true }
         ensures kept { kept self.new ≡ kept self.old }
         ensures no_memory { result ≢ Err No.Mem }
         ensures told { IfSome (told self.old) (λ m. Answers (ev_close_of m dev who) m result (told self.new)) };

@@ -1,8 +1,8 @@
 //! The end of a connection at the devices.
 
-ghost use Rattle.std.specs.Prelude.{◌≡◌, ◌<◌, All, [], length, Some, IfSome};
+ghost use Rattle.std.specs.Prelude.{◌≡◌, All, [], Some, IfSome};
 ghost use Rattle.iiod_session.specs.Acts.{all_closed, all_released, left_desk, left_machine};
-ghost use Rattle.iiod_session.specs.Desk.{AllHeld, IsDesk, desk_of, seats_of};
+ghost use Rattle.iiod_session.specs.Desk.{AllHeld, IsDesk, IsHolding, desk_of, seats_of};
 
 use crate::desk::{Desk, Held};
 use crate::iio::Iio;
@@ -12,7 +12,7 @@ fn close_all<I: Iio>(held: &mut Vec<Held<I::Seat>>, iio: &mut I)
     requires { AllHeld I.seen (I.front (I.kept iio.old)) held.old.items }
     ensures kept { I.kept iio.new ≡ I.kept iio.old }
     ensures none { held.new.items ≡ [] }
-    ensures told { IfSome (I.told iio.old) (λ m. I.told iio.new ≡ Some (all_closed m (seats_of I.seen held.old.items))) }
+    ensures told { IfSome (I.told iio.old) (λ m. I.told iio.new ≡ Some (all_closed (I.front (I.kept iio.old)) m (seats_of I.seen held.old.items))) }
 {
     while let Some(h) = held.pop() {
         let Held {
@@ -29,7 +29,7 @@ fn close_all<I: Iio>(held: &mut Vec<Held<I::Seat>>, iio: &mut I)
 
 // Ends each holding, the last one first.
 fn release_all<I: Iio>(holdings: &mut Vec<u32>, iio: &mut I, who: u32)
-    requires { All (λ dev. dev < length (I.front (I.kept iio.old)).devices) holdings.old.items }
+    requires { All (IsHolding (I.front (I.kept iio.old))) holdings.old.items }
     ensures kept { I.kept iio.new ≡ I.kept iio.old }
     ensures none { holdings.new.items ≡ [] }
     ensures told { IfSome (I.told iio.old) (λ m. I.told iio.new ≡ Some (all_released m who holdings.old.items)) }
@@ -46,7 +46,7 @@ pub(crate) fn leave<I: Iio>(desk: &mut Desk<I::Seat>, iio: &mut I)
     ensures desk { IsDesk I.seen (I.front (I.kept iio.new)) desk.new }
     ensures none { desk.new.held.items ≡ [] }
     ensures left { desk_of I.seen desk.new ≡ left_desk (desk_of I.seen desk.old) }
-    ensures told { IfSome (I.told iio.old) (λ m. I.told iio.new ≡ Some (left_machine m (desk_of I.seen desk.old))) }
+    ensures told { IfSome (I.told iio.old) (λ m. I.told iio.new ≡ Some (left_machine (I.front (I.kept iio.old)) m (desk_of I.seen desk.old))) }
 {
     close_all(&mut desk.held, iio);
     release_all(&mut desk.holdings, iio, desk.who);

@@ -8,6 +8,7 @@ mod desk;
 mod events;
 mod feed;
 mod iio;
+mod kinds;
 mod leave;
 mod limits;
 mod manner;

@@ -1,6 +1,6 @@
-//! The command that isn't done: a WRITE whose payload comes, or a READBUF that waits.
+//! The command that isn't done: a WRITE or WRITEBUF whose payload comes, or a READBUF that waits.
 
-ghost use Rattle.std.specs.Prelude.{◌≡◌, option_map, OnOk};
+ghost use Rattle.std.specs.Prelude.{◌≡◌, true, false, option_map, OnOk};
 ghost use Rattle.iiod_grammar.specs.View.{place_view, target_view};
 ghost use Rattle.iiod_session.specs.PendingWrite.{PendingRecord, place_by, target_of_parts};
 
@@ -20,8 +20,8 @@ pub(crate) enum PlaceKind {
     Output,
 }
 
-/// What the WRITE whose payload comes names, or the READBUF that waits. Its words are kept in rooms that serve one command
-/// after another.
+/// What the WRITE or WRITEBUF whose payload comes names, or the READBUF that waits. Its words are kept in rooms that serve one
+/// command after another.
 #[derive(Drop)]
 pub(crate) struct PendingWrite {
     device: Word,
@@ -30,6 +30,8 @@ pub(crate) struct PendingWrite {
     channel: Word,
     has_attribute: bool,
     attribute: Word,
+    // Whether it is a WRITEBUF.
+    is_scans: bool,
     // The bytes that a READBUF asks for.
     asked: u32,
 }
@@ -42,6 +44,7 @@ impl Model for PendingWrite {
     ghost view = { λ x. record {
       device = x.device;
       target = target_of_parts x.kind x.channel x.has_attribute x.attribute;
+      is_scans = x.is_scans;
       asked = x.asked;
     } };
 }
@@ -81,6 +84,7 @@ impl PendingWrite {
             channel: Word::new(alloc),
             has_attribute: false,
             attribute: Word::new(alloc),
+            is_scans: false,
             asked: 0,
         }
     }
@@ -91,9 +95,10 @@ impl PendingWrite {
         device: &[u8],
         target: Option<(Place<'_>, Option<&[u8]>)>,
     ) -> Result<(), Mem>
-        ensures { OnOk result (self.new ≡ record { device = device.now; target = option_map target_view target.entry; asked = self.old.asked }) }
+        ensures { OnOk result (self.new ≡ record { device = device.now; target = option_map target_view target.entry; is_scans = false; asked = self.old.asked }) }
     {
         self.device.set(device)?;
+        self.is_scans = false;
         let Some((place, attribute)) = target else {
             self.kind = None;
             return Ok(());
@@ -103,6 +108,22 @@ impl PendingWrite {
         self.channel.set(channel)?;
         self.has_attribute = attribute.is_some();
         self.attribute.set(attribute.unwrap_or(b""))
+    }
+
+    /// Keeps the device that a WRITEBUF names.
+    pub(crate) fn keep_scans(&mut self, device: &[u8]) -> Result<(), Mem>
+        ensures { OnOk result ((self.new.device ≡ device.now) × (self.new.is_scans ≡ true)) }
+    {
+        self.device.set(device)?;
+        self.is_scans = true;
+        Ok(())
+    }
+
+    /// Whether it is a WRITEBUF.
+    pub(crate) fn is_scans(&self) -> bool
+        ensures { result ≡ self.now.is_scans }
+    {
+        self.is_scans
     }
 
     /// Keeps what a READBUF asks for.

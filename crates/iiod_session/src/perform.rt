@@ -1,7 +1,7 @@
 //! One item of a connection.
 
 ghost use Rattle.std.specs.Prelude.{◌≡◌, ◌<◌, length, option_map, vec_capacity, Ok, Err, IfOk, IfSome, OnOk};
-ghost use Rattle.iiod_grammar.specs.Stream.{Said, Written};
+ghost use Rattle.iiod_grammar.specs.Stream.{Said, Streamed, Written};
 ghost use Rattle.iiod_grammar.specs.View.{command_view, target_view};
 ghost use Rattle.iiod_session.specs.Answers.{Fits, IsAt, ServesBy};
 ghost use Rattle.iiod_session.specs.Desk.{IsDesk, desk_of, tales_of};
@@ -11,13 +11,13 @@ ghost use Rattle.iiod_session.specs.declared.manner.Performed.{Performed};
 
 use crate::answers::{ANSWER_ROOM, Answer, answered, finish, push_answer, push_no};
 use crate::attributes::{read_attribute_at, write_attribute};
-use crate::buffers::{set_buffers_at, write_buffer_refusal};
+use crate::buffers::{remask_known, set_buffers_at, write_buffer};
 use crate::desk::Desk;
-use crate::events::{ev_close_at, ev_open_at, ev_read_at};
+use crate::events::{ev_close_known, ev_open_known, ev_read_known};
 use crate::iio::{Iio, No};
 use crate::manner::{Manner, Performed};
-use crate::seats::{close_at, open_at, remask_at};
-use crate::triggers::{get_trigger_at, set_trigger_at};
+use crate::seats::{close_at, open_at};
+use crate::triggers::{get_trigger_at, set_trigger_known};
 use iio_base::Mem;
 use iio_text::Errno;
 use iiod_grammar::{Command, Place, Refused};
@@ -54,26 +54,26 @@ fn at_device<I: Iio>(
             Command::Read { place, attr, .. } => read_attribute_at(
                 alloc, desk, iio, dev, place, attr,
             ),
-            Command::WriteBuf { .. } => Err(No::Errno(write_buffer_refusal(iio, dev))),
             Command::GetTrig { .. } => get_trigger_at(iio, dev),
-            Command::SetTrig { trigger, .. } => answered(0, set_trigger_at(iio, dev, trigger)),
+            Command::SetTrig { trigger, .. } => answered(0, set_trigger_known(iio, dev, trigger)),
             Command::SetBuffers { count, .. } => answered(0, set_buffers_at(desk, iio, dev, count)),
-            Command::Remask { mask, .. } => answered(0, remask_at(desk, iio, dev, mask)),
-            Command::EvOpen { .. } => answered(0, ev_open_at(desk, iio, dev)),
-            Command::EvRead { .. } => ev_read_at(desk, iio, dev),
-            Command::EvClose { .. } => answered(0, ev_close_at(desk, iio, dev)),
+            Command::Remask { mask, .. } => answered(0, remask_known(desk, iio, dev, mask)),
+            Command::EvOpen { .. } => answered(0, ev_open_known(desk, iio, dev)),
+            Command::EvRead { .. } => ev_read_known(desk, iio, dev),
+            Command::EvClose { .. } => answered(0, ev_close_known(desk, iio, dev)),
             Command::Help
             | Command::Exit
             | Command::Version
             | Command::Print
             | Command::Timeout { .. }
             | Command::Write { .. }
+            | Command::WriteBuf { .. }
             | Command::ReadBuf { .. } => Ok(Answer::Number(0)),
         },
     }
 }
 
-// A command that is answered at once: not EXIT, WRITE or READBUF.
+// A command that is answered at once: not EXIT, WRITE, WRITEBUF or READBUF.
 #[inline(always)]
 fn answer_to<I: Iio>(
     alloc: Global,
@@ -94,11 +94,13 @@ fn answer_to<I: Iio>(
         Command::Version => Ok(Answer::Version),
         Command::Print => Ok(Answer::Context),
         Command::Timeout { .. } => Ok(Answer::Number(0)),
-        Command::Exit | Command::Write { .. } | Command::ReadBuf { .. } => Ok(Answer::Number(0)),
+        Command::Exit
+        | Command::Write { .. }
+        | Command::WriteBuf { .. }
+        | Command::ReadBuf { .. } => Ok(Answer::Number(0)),
         Command::Open { dev, .. } => at_device(alloc, iio.find(dev), desk, iio, command),
         Command::Close { dev } => at_device(alloc, iio.find(dev), desk, iio, command),
         Command::Read { dev, .. } => at_device(alloc, iio.find(dev), desk, iio, command),
-        Command::WriteBuf { dev, .. } => at_device(alloc, iio.find(dev), desk, iio, command),
         Command::GetTrig { dev } => at_device(alloc, iio.find(dev), desk, iio, command),
         Command::SetTrig { dev, .. } => at_device(alloc, iio.find(dev), desk, iio, command),
         Command::SetBuffers { dev, .. } => at_device(alloc, iio.find(dev), desk, iio, command),
@@ -109,7 +111,7 @@ fn answer_to<I: Iio>(
     }
 }
 
-/// A command that is answered at once, not EXIT, WRITE or READBUF, is performed, and answered at the end of `out`.
+/// A command that is answered at once, not EXIT, WRITE, WRITEBUF or READBUF, is performed, and answered at the end of `out`.
 ///
 /// A server answers want of memory, as long as there is the room for a short answer; a script ends with `Mem`.
 #[inline(always)]
@@ -183,6 +185,32 @@ pub(crate) fn perform_written<I: Iio>(
         return finish(manner, No::Mem, out);
     }
     let answer = write_attribute(desk, iio, device, target, payload);
+    push_answer(manner, iio, answer, out)?;
+    Ok(Performed::Done)
+}
+
+/// A WRITEBUF is performed with its payload, and answered at the end of `out`, as by [`perform`].
+pub(crate) fn perform_streamed<I: Iio>(
+    manner: Manner,
+    desk: &mut Desk<I::Seat>,
+    iio: &mut I,
+    device: &[u8],
+    payload: &[u8],
+    out: &mut Vec<u8>,
+) -> Result<Performed, Mem>
+    requires desk { IsDesk I.seen (I.front (I.kept iio.old)) desk.old }
+    ensures kept { I.kept iio.new ≡ I.kept iio.old }
+    ensures desk { IsDesk I.seen (I.front (I.kept iio.new)) desk.new }
+    ensures done { IfOk result (λ p. p ≡ Performed.Done) }
+    ensures served { IfOk result (Performs manner (I.front (I.kept iio.old)) (I.told iio.old) (I.told iio.new)
+        (desk_of I.seen desk.old) (tales_of I.seen desk.old.held.items) (Streamed device.now payload.now)
+        (desk_of I.seen desk.new) (tales_of I.seen desk.new.held.items) out.old.items out.new.items) }
+    ensures answers { AnswersInRoom manner out.old.items (vec_capacity out.old) result }
+{
+    if out.reserve(ANSWER_ROOM).is_err() {
+        return finish(manner, No::Mem, out);
+    }
+    let answer = write_buffer(desk, iio, device, payload);
     push_answer(manner, iio, answer, out)?;
     Ok(Performed::Done)
 }

@@ -1,8 +1,9 @@
 //! Scans taken from a seat.
 
-ghost use Rattle.std.specs.Prelude.{◌≡◌, ◌+◌, ◌-◌, ◌*◌, ◌/◌, ◌≤◌, ◌<◌, ◌^◌, ◌++◌, length, take, drop, vec_capacity, true, ℕ, IfSome, Some};
+ghost use Rattle.std.specs.Prelude.{◌≡◌, ◌+◌, ◌-◌, ◌*◌, ◌/◌, ◌≤◌, ◌<◌, ◌^◌, ◌++◌, length, take, drop, vec_capacity, true, false, ℕ, IfSome, Some};
 ghost use Rattle.iiod_reply.specs.Reply.{block_text, head_text};
-ghost use Rattle.iiod_session.specs.Front.{channel_count, size_at};
+ghost use Rattle.iio_desc.specs.Kind.{is_output};
+ghost use Rattle.iiod_session.specs.Front.{channel_count, kind_at, size_at};
 ghost use Rattle.iiod_session.specs.Reading.{ReadEnds, ReadsBlock};
 ghost use Rattle.iiod_session.specs.Seat.{IsOfDevice, IsOwned, MayOpen};
 
@@ -31,6 +32,7 @@ fn read_into<I: Iio>(
     out: &mut Vec<u8>,
 ) -> Took
     requires dev { dev < length (I.front (I.kept iio.old)).devices }
+    requires read { is_output (kind_at (I.front (I.kept iio.old)) dev) ≡ false }
     requires owned { IsOfDevice (I.front (I.kept iio.old)) dev (I.seen seat.old) }
     requires size { size ≡ (I.seen seat.old).size }
     requires some { 1 ≤ size }
@@ -72,6 +74,7 @@ pub(crate) fn read_sized<I: Iio>(
     out: &mut Vec<u8>,
 ) -> Result<Took, Mem>
     requires may_open { MayOpen (I.front (I.kept iio.old)) dev mask.bits capacity }
+    requires read { is_output (kind_at (I.front (I.kept iio.old)) dev) ≡ false }
     requires owned { IsOwned (I.front (I.kept iio.old)) dev mask.bits capacity (I.seen seat.old) }
     requires size { size ≡ size_at (I.front (I.kept iio.old)) dev mask.bits }
     requires some { 1 ≤ size }
@@ -86,9 +89,9 @@ pub(crate) fn read_sized<I: Iio>(
     Ok(read_into(iio, dev, seat, mask, size, want, asked, out))
 }
 
-/// One READBUF of `asked` bytes at a seat that `open` gave for this mask and capacity: the block of as many scans as are
-/// asked for and wait, as bytes appended to `out`. The room for it is taken first, and of the devices it asks for nothing but
-/// their shapes and these scans.
+/// One READBUF of `asked` bytes at a seat that `open`, not `open_out`, gave for this mask and capacity: the block of as many
+/// scans as are asked for and wait, as bytes appended to `out`. The room for it is taken first, and of the devices it asks for
+/// nothing but their shapes and these scans.
 ///
 /// `Scan`: at least one scan was taken. `Empty` and `Gone` are the first take's answer, and `out` is unchanged. `Mem`: no
 /// take was made, and `out` is unchanged.
@@ -102,6 +105,7 @@ pub fn read_scans<I: Iio>(
     out: &mut Vec<u8>,
 ) -> Result<Took, Mem>
     requires may_open { MayOpen (I.front (I.kept iio.old)) dev mask.bits capacity }
+    requires read { is_output (kind_at (I.front (I.kept iio.old)) dev) ≡ false }
     requires owned { IsOwned (I.front (I.kept iio.old)) dev mask.bits capacity (I.seen seat.old) }
     requires asked { size_at (I.front (I.kept iio.old)) dev mask.bits ≤ asked }
     ensures kept { I.kept iio.new ≡ I.kept iio.old }

@@ -1,12 +1,14 @@
-//! A connection's seats: OPEN, CLOSE, REMASK and READBUF at the device of a number.
+//! A connection's seats: OPEN, CLOSE, REMASK, READBUF and WRITEBUF at the device of a number.
 
-ghost use Rattle.std.specs.Prelude.{◌≡◌, ◌==◌, ◌<◌, ◌≤◌, ◌++◌, ℕ, length, IfSome, IfOk, Some, None, Err, is_some, Bool, List, vec_capacity};
+ghost use Rattle.std.specs.Prelude.{◌≡◌, ◌==◌, ◌<◌, ◌≤◌, ◌++◌, ◌&&◌, not, true, false, ℕ, length, IfSome, IfOk, Some, None, Err, is_some, Bool, List, vec_capacity};
 ghost use Rattle.std.specs.List.{position};
-ghost use Rattle.iiod_session.specs.Acts.{close_at, joined_at, open_at, remask_at};
-ghost use Rattle.iiod_session.specs.Front.{size_at};
+ghost use Rattle.iiod_session.specs.Acts.{close_at, joined_at, open_at, remask_at, write_at_place};
+ghost use Rattle.iio_desc.specs.Kind.{is_input, is_output};
+ghost use Rattle.iiod_session.specs.Front.{kind_at, size_at};
 ghost use Rattle.iiod_session.specs.Desk.{IsDesk, IsHeld, bare_of, buffers_of, desk_of, place_of, seats_of, tale_of, tales_of};
-ghost use Rattle.iiod_session.specs.Performs.{Comes, JoinsBy, LeavesBy, OpensBy, ReadAt, ReadHeld, RemaskMoves, RemaskTold, RemasksBy, reply_by};
-ghost use Rattle.iiod_session.specs.Seat.{MayOpen};
+ghost use Rattle.iiod_session.specs.Performs.{Comes, JoinsBy, LeavesBy, OpensBy, ReadAt, ReadHeld, RemaskMoves, RemaskTold, RemasksBy, WritesHeld, reply_by, taken_by};
+ghost use Rattle.iiod_session.specs.Calls.{open_of};
+ghost use Rattle.iiod_session.specs.Seat.{Answers, IsNew, MayOpen, number_by};
 ghost use Rattle.iiod_session.specs.Wanted.{wanted_of_code};
 ghost use Rattle.iio_text.specs.declared.errors.Errno.{Errno};
 ghost use Rattle.iiod_session.specs.declared.desk.Held.{Held};
@@ -18,6 +20,7 @@ use crate::iio::{Iio, No, Took};
 use crate::reading::read_sized;
 use crate::wanted::{Wanted, mask_wanted_by, wanted_by};
 use iio_base::Mem;
+use iio_mask::Mask;
 use iio_text::Errno;
 use iiod_reply::number;
 
@@ -49,17 +52,46 @@ fn buffers_of(buffers: &[BuffersCount], dev: u32) -> u32
     FIRST_BUFFERS
 }
 
+// A seat of a device, whichever kind it is of.
+fn open_seat<I: Iio>(
+    iio: &mut I,
+    dev: u32,
+    mask: Mask,
+    capacity: u32,
+    cyclic: bool,
+) -> Result<I::Seat, No>
+    requires may_open { MayOpen (I.front (I.kept iio.old)) dev mask.bits capacity }
+    requires cycles { (cyclic && not (is_output (kind_at (I.front (I.kept iio.old)) dev))) ≡ false }
+    ensures kept { I.kept iio.new ≡ I.kept iio.old }
+    ensures seat { IfOk result (λ s. IsNew (I.front (I.kept iio.old)) dev mask.bits capacity (I.seen s)) }
+    ensures told { IfSome (I.told iio.old) (λ m. Answers (open_of (I.front (I.kept iio.old)) m dev mask.bits capacity cyclic) m
+        (number_by I.seen result) (I.told iio.new)) }
+{
+    if iio.is_output(dev) {
+        iio.open_out(dev, mask, capacity, cyclic)
+    } else {
+        iio.open(dev, mask, capacity)
+    }
+}
+
 // The last part of OPEN: a seat more. The room for it is taken first.
-fn join<I: Iio>(desk: &mut Desk<I::Seat>, iio: &mut I, dev: u32, wanted: Wanted) -> Result<(), No>
+fn join<I: Iio>(
+    desk: &mut Desk<I::Seat>,
+    iio: &mut I,
+    dev: u32,
+    wanted: Wanted,
+    cyclic: bool,
+) -> Result<(), No>
     requires may_open { MayOpen (I.front (I.kept iio.old)) dev wanted.mask.bits wanted.capacity }
     requires size { wanted.size ≡ size_at (I.front (I.kept iio.old)) dev wanted.mask.bits }
     requires some { 1 ≤ wanted.size }
     requires free { place_of dev (seats_of I.seen desk.old.held.items) ≡ None }
+    requires cycles { (cyclic && not (is_output (kind_at (I.front (I.kept iio.old)) dev))) ≡ false }
     requires desk { IsDesk I.seen (I.front (I.kept iio.old)) desk.old }
     ensures kept { I.kept iio.new ≡ I.kept iio.old }
     ensures desk { IsDesk I.seen (I.front (I.kept iio.new)) desk.new }
     ensures told { IfSome (I.told iio.old) (λ m. Comes m (desk_of I.seen desk.old)
-        (joined_at (I.front (I.kept iio.old)) m (desk_of I.seen desk.old) dev (wanted_of_code wanted))
+        (joined_at (I.front (I.kept iio.old)) m (desk_of I.seen desk.old) dev (wanted_of_code wanted) cyclic)
         (reply_by result) (I.told iio.new) (desk_of I.seen desk.new)) }
     ensures moves { JoinsBy dev (wanted_of_code wanted) (desk_of I.seen desk.old) (tales_of I.seen desk.old.held.items)
         result (desk_of I.seen desk.new) (tales_of I.seen desk.new.held.items) }
@@ -72,7 +104,7 @@ fn join<I: Iio>(desk: &mut Desk<I::Seat>, iio: &mut I, dev: u32, wanted: Wanted)
         capacity,
         size,
     } = wanted;
-    match iio.open(dev, mask, capacity) {
+    match open_seat(iio, dev, mask, capacity, cyclic) {
         Err(no) => Err(no),
         Ok(seat) => {
             desk.held.push_reserved(Held {
@@ -88,7 +120,7 @@ fn join<I: Iio>(desk: &mut Desk<I::Seat>, iio: &mut I, dev: u32, wanted: Wanted)
     }
 }
 
-/// OPEN. It is refused as by [`wanted_by`], then as by [`Iio::open`].
+/// OPEN. It is refused as by [`wanted_by`], then as by [`Iio::open`], or [`Iio::open_out`] at an output device.
 pub(crate) fn open_at<I: Iio>(
     desk: &mut Desk<I::Seat>,
     iio: &mut I,
@@ -113,6 +145,7 @@ pub(crate) fn open_at<I: Iio>(
     match wanted_by(
         is_open,
         plugged,
+        iio.is_output(dev),
         iio.shape(dev),
         buffers,
         samples,
@@ -120,7 +153,7 @@ pub(crate) fn open_at<I: Iio>(
         cyclic,
     ) {
         Err(errno) => Err(No::Errno(errno)),
-        Ok(wanted) => join(desk, iio, dev, wanted),
+        Ok(wanted) => join(desk, iio, dev, wanted, cyclic),
     }
 }
 
@@ -130,7 +163,7 @@ pub(crate) fn close_at<I: Iio>(desk: &mut Desk<I::Seat>, iio: &mut I, dev: u32) 
     ensures kept { I.kept iio.new ≡ I.kept iio.old }
     ensures desk { IsDesk I.seen (I.front (I.kept iio.new)) desk.new }
     ensures told { IfSome (I.told iio.old) (λ m. Comes m (desk_of I.seen desk.old)
-        (close_at m (desk_of I.seen desk.old) (place_of dev (seats_of I.seen desk.old.held.items)))
+        (close_at (I.front (I.kept iio.old)) m (desk_of I.seen desk.old) (place_of dev (seats_of I.seen desk.old.held.items)))
         (reply_by result) (I.told iio.new) (desk_of I.seen desk.new)) }
     ensures none { place_of dev (seats_of I.seen desk.old.held.items) ≡ None → result ≡ Err (No.Errno Errno.EBADF) }
     ensures moves { LeavesBy dev (desk_of I.seen desk.old) (tales_of I.seen desk.old.held.items)
@@ -155,7 +188,8 @@ pub(crate) fn close_at<I: Iio>(desk: &mut Desk<I::Seat>, iio: &mut I, dev: u32) 
 
 // REMASK at a seat: its mask is exchanged, and what its queue held is counted as discarded.
 fn remask_held<I: Iio>(iio: &mut I, h: &mut Held<I::Seat>, text: &[u8]) -> Result<(), No>
-    requires { IsHeld I.seen (I.front (I.kept iio.old)) h.old }
+    requires held { IsHeld I.seen (I.front (I.kept iio.old)) h.old }
+    requires input { is_input (kind_at (I.front (I.kept iio.old)) h.old.dev) ≡ true }
     ensures kept { I.kept iio.new ≡ I.kept iio.old }
     ensures held { IsHeld I.seen (I.front (I.kept iio.new)) h.new }
     ensures dev { h.new.dev ≡ h.old.dev }
@@ -179,8 +213,8 @@ fn remask_held<I: Iio>(iio: &mut I, h: &mut Held<I::Seat>, text: &[u8]) -> Resul
     }
 }
 
-/// REMASK. `ENODEV` comes where the device is unplugged, `EBADF` where the connection has no seat at it; then it is refused as
-/// by [`mask_wanted_by`], and then as by [`Iio::remask`]. A refusal changes nothing.
+/// REMASK at an input device. `ENODEV` comes where the device is unplugged, `EBADF` where the connection has no seat at it;
+/// then it is refused as by [`mask_wanted_by`], and then as by [`Iio::remask`]. A refusal changes nothing.
 pub(crate) fn remask_at<I: Iio>(
     desk: &mut Desk<I::Seat>,
     iio: &mut I,
@@ -188,6 +222,7 @@ pub(crate) fn remask_at<I: Iio>(
     text: &[u8],
 ) -> Result<(), No>
     requires dev { dev < length (I.front (I.kept iio.old)).devices }
+    requires input { is_input (kind_at (I.front (I.kept iio.old)) dev) ≡ true }
     requires desk { IsDesk I.seen (I.front (I.kept iio.old)) desk.old }
     ensures kept { I.kept iio.new ≡ I.kept iio.old }
     ensures desk { IsDesk I.seen (I.front (I.kept iio.new)) desk.new }
@@ -213,7 +248,8 @@ fn read_held<I: Iio>(
     asked: u32,
     out: &mut Vec<u8>,
 ) -> Result<Took, Mem>
-    requires { IsHeld I.seen (I.front (I.kept iio.old)) h.old }
+    requires held { IsHeld I.seen (I.front (I.kept iio.old)) h.old }
+    requires read { is_output (kind_at (I.front (I.kept iio.old)) h.old.dev) ≡ false }
     ensures kept { I.kept iio.new ≡ I.kept iio.old }
     ensures held { IsHeld I.seen (I.front (I.kept iio.new)) h.new }
     ensures bare { bare_of I.seen h.new ≡ bare_of I.seen h.old }
@@ -237,7 +273,7 @@ fn read_held<I: Iio>(
     )
 }
 
-/// READBUF. `EBADF` is answered where the connection has no seat at the device.
+/// READBUF at a device that is no output device. `EBADF` is answered where the connection has no seat at the device.
 pub(crate) fn read_at<I: Iio>(
     desk: &mut Desk<I::Seat>,
     iio: &mut I,
@@ -245,6 +281,7 @@ pub(crate) fn read_at<I: Iio>(
     asked: u32,
     out: &mut Vec<u8>,
 ) -> Result<Took, Mem>
+    requires read { is_output (kind_at (I.front (I.kept iio.old)) dev) ≡ false }
     requires desk { IsDesk I.seen (I.front (I.kept iio.old)) desk.old }
     ensures kept { I.kept iio.new ≡ I.kept iio.old }
     ensures desk { IsDesk I.seen (I.front (I.kept iio.new)) desk.new }
@@ -260,4 +297,43 @@ pub(crate) fn read_at<I: Iio>(
         }
         Some(i) => read_held(iio, &mut desk.held[i], asked, out),
     }
+}
+
+// WRITEBUF at a seat.
+fn write_held<I: Iio>(iio: &mut I, h: &mut Held<I::Seat>, payload: &[u8]) -> Result<u32, No>
+    requires held { IsHeld I.seen (I.front (I.kept iio.old)) h.old }
+    requires written { is_output (kind_at (I.front (I.kept iio.old)) h.old.dev) ≡ true }
+    ensures kept { I.kept iio.new ≡ I.kept iio.old }
+    ensures held { IsHeld I.seen (I.front (I.kept iio.new)) h.new }
+    ensures bare { bare_of I.seen h.new ≡ bare_of I.seen h.old }
+    ensures tale { tale_of I.seen h.new ≡ tale_of I.seen h.old }
+    ensures within { IfOk result (λ taken. taken ≤ length payload.now) }
+    ensures told { WritesHeld (I.front (I.kept iio.old)) payload.now (I.told iio.old) (bare_of I.seen h.old) (taken_by result) (I.told iio.new) }
+{
+    iio.write_scans(h.dev, &mut h.seat, payload)
+}
+
+/// WRITEBUF at an output device: how many of the bytes were taken. `EBADF` comes where the connection has no seat at it; then
+/// it is refused as by [`Iio::write_scans`].
+pub(crate) fn write_at<I: Iio>(
+    desk: &mut Desk<I::Seat>,
+    iio: &mut I,
+    dev: u32,
+    payload: &[u8],
+) -> Result<u32, No>
+    requires written { is_output (kind_at (I.front (I.kept iio.old)) dev) ≡ true }
+    requires desk { IsDesk I.seen (I.front (I.kept iio.old)) desk.old }
+    ensures kept { I.kept iio.new ≡ I.kept iio.old }
+    ensures desk { IsDesk I.seen (I.front (I.kept iio.new)) desk.new }
+    ensures same { desk_of I.seen desk.new ≡ desk_of I.seen desk.old }
+    ensures tales { tales_of I.seen desk.new.held.items ≡ tales_of I.seen desk.old.held.items }
+    ensures within { IfOk result (λ taken. taken ≤ length payload.now) }
+    ensures told { IfSome (I.told iio.old) (λ m. Comes m (desk_of I.seen desk.old)
+        (write_at_place (I.front (I.kept iio.old)) m (desk_of I.seen desk.old) payload.now (place_of dev (seats_of I.seen desk.old.held.items)))
+        (taken_by result) (I.told iio.new) (desk_of I.seen desk.old)) }
+{
+    let Some(i) = place(iio, &desk.held, dev) else {
+        return Err(No::Errno(Errno::EBADF));
+    };
+    write_held(iio, &mut desk.held[i], payload)
 }

@@ -34,7 +34,7 @@ pub struct Session<S> {
     manner: Manner,
     desk: Desk<S>,
     lines: Lines,
-    // The WRITE whose payload comes, or the READBUF that waits.
+    // The WRITE or WRITEBUF whose payload comes, or the READBUF that waits.
     pending: PendingWrite,
     going: Going,
     // The bytes after a READBUF that waits.
@@ -171,7 +171,7 @@ impl<S> Session<S> {
         ensures kept { I.kept iio.new ≡ I.kept iio.old }
         ensures desk { IsDesk I.seen (I.front (I.kept iio.new)) self.new.desk }
         ensures left { desk_of I.seen self.new.desk ≡ left_desk (desk_of I.seen self.old.desk) }
-        ensures told { IfSome (I.told iio.old) (λ m. I.told iio.new ≡ Some (left_machine m (desk_of I.seen self.old.desk))) }
+        ensures told { IfSome (I.told iio.old) (λ m. I.told iio.new ≡ Some (left_machine (I.front (I.kept iio.old)) m (desk_of I.seen self.old.desk))) }
         ensures stream { self.new.stream ≡ self.old.stream }
         ensures manner { self.new.manner ≡ self.old.manner }
     {
@@ -182,7 +182,7 @@ impl<S> Session<S> {
     pub fn end<I: Iio<Seat = S>>(self, iio: &mut I)
         requires { IsDesk I.seen (I.front (I.kept iio.old)) self.desk }
         ensures kept { I.kept iio.new ≡ I.kept iio.old }
-        ensures told { IfSome (I.told iio.old) (λ m. I.told iio.new ≡ Some (left_machine m (desk_of I.seen self.desk))) }
+        ensures told { IfSome (I.told iio.old) (λ m. I.told iio.new ≡ Some (left_machine (I.front (I.kept iio.old)) m (desk_of I.seen self.desk))) }
     {
         let Session {
             manner: _,

@@ -1,15 +1,18 @@
 //! The commands of triggers: SETTRIG and GETTRIG.
 
-ghost use Rattle.std.specs.Prelude.{◌≡◌, ◌<◌, length, IfOk, IfSome};
+ghost use Rattle.std.specs.Prelude.{◌≡◌, ◌<◌, false, length, IfOk, IfSome};
 ghost use Rattle.std.specs.Option.{option_copied};
 ghost use Rattle.iio_desc.specs.declared.limits.TheConstants.{MAX_TRIGGERS};
-ghost use Rattle.iiod_session.specs.Acts.{get_trigger_at, set_trigger_at, trigger_named};
+ghost use Rattle.iio_desc.specs.Kind.{is_average};
+ghost use Rattle.iiod_session.specs.Acts.{get_trigger_at, set_trigger_at, set_trigger_known, trigger_named};
 ghost use Rattle.iiod_session.specs.Answers.{IsTrigger, reply_of};
 ghost use Rattle.iiod_session.specs.Desk.{DeskRecord};
+ghost use Rattle.iiod_session.specs.Front.{kind_at};
 ghost use Rattle.iiod_session.specs.Performs.{Comes, reply_by};
 
 use crate::answers::Answer;
 use crate::iio::{Iio, No};
+use crate::kinds::unknown_refusal;
 use iio_text::Errno;
 
 // The number of the trigger that a SETTRIG names, or none where it names none.
@@ -26,9 +29,10 @@ fn named_trigger<I: Iio>(iio: &I, name: Option<&[u8]>) -> Result<Option<u32>, Er
     }
 }
 
-/// SETTRIG at the device of that number.
-pub(crate) fn set_trigger_at<I: Iio>(iio: &mut I, dev: u32, name: Option<&[u8]>) -> Result<(), No>
+// SETTRIG at a device that is no averaging device.
+fn set_trigger_at<I: Iio>(iio: &mut I, dev: u32, name: Option<&[u8]>) -> Result<(), No>
     requires dev { dev < length (I.front (I.kept iio.old)).devices }
+    requires own { is_average (kind_at (I.front (I.kept iio.old)) dev) ≡ false }
     ensures kept { I.kept iio.new ≡ I.kept iio.old }
     ensures told { (desk : DeskRecord) → IfSome (I.told iio.old) (λ m. Comes m desk
         (set_trigger_at (I.front (I.kept iio.old)) m desk (option_copied name.entry) dev) (reply_by result) (I.told iio.new) desk) }
@@ -40,6 +44,23 @@ pub(crate) fn set_trigger_at<I: Iio>(iio: &mut I, dev: u32, name: Option<&[u8]>)
         Err(errno) => Err(No::Errno(errno)),
         Ok(trigger) => iio.set_trigger(dev, trigger),
     }
+}
+
+/// SETTRIG at the device of that number, of whichever kind: an averaging device has no trigger of its own.
+pub(crate) fn set_trigger_known<I: Iio>(
+    iio: &mut I,
+    dev: u32,
+    name: Option<&[u8]>,
+) -> Result<(), No>
+    requires dev { dev < length (I.front (I.kept iio.old)).devices }
+    ensures kept { I.kept iio.new ≡ I.kept iio.old }
+    ensures told { (desk : DeskRecord) → IfSome (I.told iio.old) (λ m. Comes m desk
+        (set_trigger_known (I.front (I.kept iio.old)) m desk (option_copied name.entry) dev) (reply_by result) (I.told iio.new) desk) }
+{
+    if iio.is_average(dev) {
+        return Err(No::Errno(unknown_refusal(iio, dev)));
+    }
+    set_trigger_at(iio, dev, name)
 }
 
 /// GETTRIG at the device of that number: 0 where it has no trigger.

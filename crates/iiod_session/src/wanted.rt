@@ -1,6 +1,7 @@
 //! What an OPEN and a REMASK ask for.
 
 ghost use Rattle.std.specs.Prelude.{◌≡◌, ◌<◌, ◌≤◌, ◌^◌, ℕ, true, IfOk, Ok, Some, false, length};
+ghost use Rattle.iio_desc.specs.Kind.{Kind, is_output};
 ghost use Rattle.iio_base.specs.Refusals.{ensure};
 ghost use Rattle.iio_layout.specs.Active.{has_data};
 ghost use Rattle.iio_layout.specs.Layout.{scan_size};
@@ -43,27 +44,28 @@ pub(crate) fn ensure(holds: bool, errno: Errno) -> Result<(), Errno>
 }
 
 /// The mask and the capacity, which is the samples times the buffers count. Of the refusals the first that applies is the
-/// answer: the device is unplugged, CYCLIC is given, the text is no mask, the mask has no data channel, the capacity is 0
-/// or too large, the connection has the device open.
+/// answer: the device is unplugged, CYCLIC is given at another than an output device, the text is no mask, the mask has no
+/// data channel, the capacity is 0 or too large, the connection has the device open.
 #[tactic(auto, unfolding(crate::specs::Desk::wanted_of))]
 pub(crate) fn wanted_by(
     is_open: bool,
     plugged: bool,
+    may_cycle: bool,
     shape: &Shape,
     buffers: u32,
     samples: u32,
     text: &[u8],
     cyclic: bool,
 ) -> Result<Wanted, Errno>
-    ensures value { wanted_view result ≡ wanted_of is_open plugged shape.now buffers samples text.now cyclic }
-    ensures wanted { IfOk result (λ x. IsWanted shape.now buffers samples text.now cyclic (wanted_of_code x)) }
+    ensures value { (kind : Kind) → may_cycle ≡ is_output kind → wanted_view result ≡ wanted_of is_open plugged kind shape.now buffers samples text.now cyclic }
+    ensures wanted { (kind : Kind) → may_cycle ≡ is_output kind → IfOk result (λ x. IsWanted kind shape.now buffers samples text.now cyclic (wanted_of_code x)) }
     ensures free { IfOk result (λ x. is_open ≡ false) }
     ensures size { IfOk result (λ x. x.size ≡ scan_size shape.now x.mask.bits) }
     ensures some { IfOk result (λ x. 1 ≤ x.size) }
     ensures may_open { (front : Front) (dev : ℕ) → shape.now ≡ shape_at front dev → dev < length front.devices → IfOk result (λ x. MayOpen front dev x.mask.bits x.capacity) }
 {
     ensure(plugged, Errno::ENODEV)?;
-    ensure(!cyclic, Errno::ENOSYS)?;
+    ensure(!(cyclic && !may_cycle), Errno::ENOSYS)?;
     let mask = Mask::read(text, shape.count()).ok_or(Errno::EINVAL)?;
     ensure(has_data(shape, mask), Errno::EINVAL)?;
     let capacity = u64::from(samples) * u64::from(buffers);

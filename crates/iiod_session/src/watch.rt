@@ -9,7 +9,7 @@ use iiod_grammar::{Command, MAX_PAYLOAD};
 /// An item of a stream, as a [`Watch`] is told it.
 #[derive(Clone, Copy, Debug, PartialEq, Eq)]
 pub enum Seen<'a> {
-    /// A command: EXIT too, a WRITE once its payload is whole, and a WRITE whose payload is too large.
+    /// A command: EXIT too, a WRITE or WRITEBUF once its payload is whole, and one whose payload is too large.
     Command(Command<'a>),
     /// A line that is no command.
     Refused,

@@ -2,8 +2,7 @@
 
 ghost use Rattle.std.specs.Prelude.{◌≡◌, ◌+◌, ◌≤◌, false, length, option_map, vec_capacity, IfOk};
 ghost use Rattle.iio_desc.specs.WellFormed.{IsWellFormed};
-ghost use Rattle.iiod_bank.specs.FrontOf.{front_of};
-ghost use Rattle.iiod_session.specs.Front.{first_front};
+ghost use Rattle.iiod_bank.specs.FrontOf.{front_of, served_front};
 ghost use Rattle.iiod_session.specs.Seat.{after_nothing};
 ghost use Rattle.iiod_session_tests.specs.Shelf.{Gives, seen_of};
 
@@ -13,7 +12,7 @@ use iio_desc::Desc;
 use iio_event::EventData;
 use iio_layout::{Shape, scan_size};
 use iio_mask::Mask;
-use iio_text::Fixed;
+use iio_text::{Errno, Fixed};
 use iiod_bank::{HubFront, Parts, parts_of};
 use iiod_session::{Counts, Iio, No, Took};
 use std::alloc::Global;
@@ -54,7 +53,7 @@ impl Shelf {
     /// The devices of a description, at which nothing waits.
     pub fn new(alloc: Global, desc: Desc) -> Result<Shelf, Mem>
         requires { IsWellFormed 0 desc }
-        ensures { IfOk result (λ s. front_of s.front ≡ first_front desc) }
+        ensures { IfOk result (λ s. front_of s.front ≡ served_front desc) }
     {
         let Parts {
             front,
@@ -116,6 +115,14 @@ impl Iio for Shelf {
         self.front.shape(dev)
     }
 
+    fn is_output(&self, dev: u32) -> bool {
+        self.front.is_output(dev)
+    }
+
+    fn is_average(&self, dev: u32) -> bool {
+        self.front.is_average(dev)
+    }
+
     fn plugged(&self, _dev: u32) -> bool {
         true
     }
@@ -129,6 +136,21 @@ impl Iio for Shelf {
             given: Vec::new(self.alloc),
             empties: 0,
         })
+    }
+
+    // no device is an output device
+    fn open_out(
+        &mut self,
+        _dev: u32,
+        _mask: Mask,
+        _capacity: u32,
+        _cyclic: bool,
+    ) -> Result<ShelfSeat, No> {
+        Err(No::Errno(Errno::ENOSYS))
+    }
+
+    fn write_scans(&mut self, _dev: u32, _seat: &mut ShelfSeat, _bytes: &[u8]) -> Result<u32, No> {
+        Err(No::Errno(Errno::ENOSYS))
     }
 
     fn remask(&mut self, dev: u32, seat: &mut ShelfSeat, mask: Mask) -> Result<u64, No> {

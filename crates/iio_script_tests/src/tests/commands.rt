@@ -6,13 +6,23 @@ use std::process::Abort;
 use std::test::Fail;
 
 /// Two triggers, and a device on the first of them. A scan of its first channel has 2 bytes.
-const DEVICE: &str = r#"context "<c/>"
+const INPUT: &str = r#"context "<c/>"
 trigger t 1
 trigger u 1
 device d t
 channel voltage0 le:u8/16>>0
 channel temp le:s8/8>>0
 timestamp
+%%
+"#;
+
+/// The same with an output device.
+const OUTPUT: &str = r#"context "<c/>"
+trigger t 1
+trigger u 1
+output d t
+channel voltage0 le:u8/16>>0
+channel temp le:s8/8>>0
 %%
 "#;
 
@@ -43,7 +53,7 @@ d unplugged
     ("unplug d\n", "d unplugged\n"),
 ];
 
-/// Lines, a WRITE's with its payload, and their answers in these states.
+/// Lines, a WRITE's or WRITEBUF's with its payload, and their answers in these states at an input device.
 const COMMANDS: &[(&str, [&str; 5])] = &[
     (r"OPEN d 1 00000001\n", ["0", "-16", "0", "-19", "-19"]),
     (
@@ -73,7 +83,8 @@ const COMMANDS: &[(&str, [&str; 5])] = &[
     (r"READBUF d 2\n", ["-9", "-11", "-9", "-19", "-9"]),
     (r"READBUF d 1\n", ["-9", "0", "-9", "0", "-9"]),
     (r"READBUF d 0000000002\n", ["-9", "-11", "-9", "-19", "-9"]),
-    (r"WRITEBUF d 4\n", ["-38", "-38", "-38", "-19", "-19"]),
+    (r"WRITEBUF d 4\nabcd", ["-38", "-38", "-38", "-19", "-19"]),
+    (r"WRITEBUF d 0\n", ["-38", "-38", "-38", "-19", "-19"]),
     (r"READ d\n", ["-38", "-38", "-38", "-19", "-19"]),
     (r"READ d name\n", [r"1\nd", r"1\nd", r"1\nd", "-19", "-19"]),
     (
@@ -94,6 +105,10 @@ const COMMANDS: &[(&str, [&str; 5])] = &[
     (
         r"READ d BUFFER length\n",
         ["-9", r"1\n4", "-9", r"1\n4", "-19"],
+    ),
+    (
+        r"READ d BUFFER underruns\n",
+        ["-9", "-2", "-9", "-2", "-19"],
     ),
     (r"READ d BUFFER name\n", ["-9", "-2", "-9", "-2", "-19"]),
     (r"READ d DEBUG\n", ["-38", "-38", "-38", "-19", "-19"]),
@@ -261,6 +276,155 @@ const COMMANDS: &[(&str, [&str; 5])] = &[
     ),
 ];
 
+/// The same at an output device.
+const OUTPUT_COMMANDS: &[(&str, [&str; 5])] = &[
+    (r"OPEN d 1 00000001\n", ["0", "-16", "-16", "-19", "-19"]),
+    (
+        r"OPEN d 1 00000001 CYCLIC\n",
+        ["0", "-16", "-16", "-19", "-19"],
+    ),
+    (
+        r"OPEN d 0 0000000g CYCLIC\n",
+        ["-22", "-22", "-22", "-19", "-19"],
+    ),
+    (r"OPEN d 1 1\n", ["-22", "-22", "-22", "-19", "-19"]),
+    (r"OPEN d 1 00000004\n", ["-22", "-22", "-22", "-19", "-19"]),
+    (r"OPEN d 1 00000000\n", ["-22", "-22", "-22", "-19", "-19"]),
+    (r"OPEN d 0 00000001\n", ["-22", "-22", "-22", "-19", "-19"]),
+    (
+        r"OPEN d 16385 00000001\n",
+        ["-22", "-22", "-22", "-19", "-19"],
+    ),
+    (
+        r"OPEN d 16384 00000001\n",
+        ["0", "-16", "-16", "-19", "-19"],
+    ),
+    (r"CLOSE d\n", ["-9", "0", "-9", "0", "-9"]),
+    (r"READBUF d 2\n", ["-38", "-38", "-38", "-19", "-19"]),
+    (r"READBUF d 0\n", ["-38", "-38", "-38", "-19", "-19"]),
+    (r"WRITEBUF d 4\nabcd", ["-9", "4", "-9", "-19", "-19"]),
+    (r"WRITEBUF d 0\n", ["-9", "0", "-9", "-19", "-19"]),
+    (r"WRITEBUF d 3\nabc", ["-9", "-22", "-9", "-19", "-19"]),
+    (
+        r"WRITEBUF d 10\nabcdefghij",
+        ["-9", "8", "-9", "-19", "-19"],
+    ),
+    (r"READ d\n", ["-38", "-38", "-38", "-19", "-19"]),
+    (r"READ d name\n", [r"1\nd", r"1\nd", r"1\nd", "-19", "-19"]),
+    (
+        r"READ d sampling_frequency\n",
+        ["-2", "-2", "-2", "-19", "-19"],
+    ),
+    (r"READ d BUFFER\n", ["-38", "-38", "-38", "-19", "-19"]),
+    (
+        r"READ d BUFFER length\n",
+        ["-9", r"1\n4", "-9", r"1\n4", "-19"],
+    ),
+    (
+        r"READ d BUFFER data_available\n",
+        ["-9", r"1\n0", "-9", r"1\n0", "-19"],
+    ),
+    (
+        r"READ d BUFFER underruns\n",
+        ["-9", r"1\n0", "-9", r"1\n0", "-19"],
+    ),
+    (r"READ d BUFFER overruns\n", ["-9", "-2", "-9", "-2", "-19"]),
+    (
+        r"READ d BUFFER discarded\n",
+        ["-9", "-2", "-9", "-2", "-19"],
+    ),
+    (r"READ d BUFFER name\n", ["-9", "-2", "-9", "-2", "-19"]),
+    (r"READ d DEBUG\n", ["-38", "-38", "-38", "-19", "-19"]),
+    (r"READ d DEBUG name\n", ["-2", "-2", "-2", "-19", "-19"]),
+    (
+        r"READ d INPUT voltage0\n",
+        ["-38", "-38", "-38", "-19", "-19"],
+    ),
+    (
+        r"READ d INPUT voltage0 raw\n",
+        ["-2", "-2", "-2", "-19", "-19"],
+    ),
+    (
+        r"READ d OUTPUT voltage0\n",
+        ["-38", "-38", "-38", "-19", "-19"],
+    ),
+    (
+        r"READ d OUTPUT voltage0 raw\n",
+        [r"1\n0", r"1\n0", r"1\n0", "-19", "-19"],
+    ),
+    (
+        r"READ d OUTPUT temp raw\n",
+        [r"1\n0", r"1\n0", r"1\n0", "-19", "-19"],
+    ),
+    (
+        r"READ d OUTPUT voltage1 raw\n",
+        ["-2", "-2", "-2", "-19", "-19"],
+    ),
+    (
+        r"READ d OUTPUT temp scale\n",
+        ["-2", "-2", "-2", "-19", "-19"],
+    ),
+    (
+        r"READ d OUTPUT temp name\n",
+        ["-2", "-2", "-2", "-19", "-19"],
+    ),
+    (r"WRITE d 1\n5", ["-38", "-38", "-38", "-19", "-19"]),
+    (r"WRITE d name 1\n5", ["-13", "-13", "-13", "-19", "-19"]),
+    (
+        r"WRITE d sampling_frequency 1\n5",
+        ["-2", "-2", "-2", "-19", "-19"],
+    ),
+    (r"WRITE d BUFFER 1\n5", ["-38", "-38", "-38", "-19", "-19"]),
+    (
+        r"WRITE d BUFFER length 1\n5",
+        ["-9", "-13", "-9", "-19", "-19"],
+    ),
+    (
+        r"WRITE d BUFFER underruns 1\n5",
+        ["-9", "-13", "-9", "-19", "-19"],
+    ),
+    (
+        r"WRITE d BUFFER overruns 1\n5",
+        ["-9", "-2", "-9", "-19", "-19"],
+    ),
+    (r"WRITE d DEBUG 1\n5", ["-38", "-38", "-38", "-19", "-19"]),
+    (r"WRITE d DEBUG name 1\n5", ["-2", "-2", "-2", "-19", "-19"]),
+    (
+        r"WRITE d INPUT temp 1\n5",
+        ["-38", "-38", "-38", "-19", "-19"],
+    ),
+    (
+        r"WRITE d INPUT temp raw 1\n5",
+        ["-2", "-2", "-2", "-19", "-19"],
+    ),
+    (
+        r"WRITE d OUTPUT temp 1\n5",
+        ["-38", "-38", "-38", "-19", "-19"],
+    ),
+    (
+        r"WRITE d OUTPUT temp raw 1\n5",
+        ["-13", "-13", "-13", "-19", "-19"],
+    ),
+    (
+        r"WRITE d OUTPUT temp calibbias 1\n5",
+        ["-2", "-2", "-2", "-19", "-19"],
+    ),
+    (r"GETTRIG d\n", [r"1\nt", r"1\nt", r"1\nt", "-19", "-19"]),
+    (r"SETTRIG d\n", ["0", "-16", "-16", "-19", "-19"]),
+    (r"SETTRIG d u\n", ["0", "-16", "-16", "-19", "-19"]),
+    (r"SETTRIG d d\n", ["-2", "-2", "-2", "-19", "-19"]),
+    (r"SET d BUFFERS_COUNT 1\n", ["0", "0", "0", "-19", "-19"]),
+    (
+        r"SET d BUFFERS_COUNT 65\n",
+        ["-22", "-22", "-22", "-19", "-19"],
+    ),
+    (r"EVOPEN d\n", ["-38", "-38", "-38", "-19", "-19"]),
+    (r"EVREAD d\n", ["-38", "-38", "-38", "-19", "-19"]),
+    (r"EVCLOSE d\n", ["-38", "-38", "-38", "-19", "-19"]),
+    (r"REMASK d 00000002\n", ["-38", "-38", "-38", "-19", "-19"]),
+    (r"REMASK d 0000000g\n", ["-38", "-38", "-38", "-19", "-19"]),
+];
+
 /// Lines that are answered the same in each of these states: no device is named, or an unknown one, or the form is wrong.
 const PLAIN: &[(&str, &str)] = &[
     (
@@ -279,7 +443,8 @@ const PLAIN: &[(&str, &str)] = &[
     (r"READ t BUFFER nosuch\n", r"-19\n"),
     (r"WRITE t raw 1\n5", r"-19\n"),
     (r"READBUF t 2\n", r"-19\n"),
-    (r"WRITEBUF t 4\n", r"-19\n"),
+    (r"WRITEBUF t 4\nHELP", r"-19\n"),
+    (r"WRITEBUF t 0\n", r"-19\n"),
     (r"GETTRIG t\n", r"-19\n"),
     (r"SETTRIG t nosuch\n", r"-19\n"),
     (r"SET t BUFFERS_COUNT 0\n", r"-19\n"),
@@ -323,7 +488,16 @@ const PLAIN: &[(&str, &str)] = &[
     (r"WRITE t INPUT 5\nHELP\n", r"-22\n"),
     (r"READBUF d\n", r"-22\n"),
     (r"READBUF d 2x\n", r"-22\n"),
-    (r"WRITEBUF d x\n", r"-22\n"),
+    (r"WRITEBUF\n", r"-22\n"),
+    (r"WRITEBUF d\n", r"-22\n"),
+    (
+        r"WRITEBUF d 4x\nHELP\n",
+        r"-22\nCommands of libiio 0.25 iiod, profile iiosim0\n",
+    ),
+    (
+        r"WRITEBUF d 4 4\nHELP\n",
+        r"-22\nCommands of libiio 0.25 iiod, profile iiosim0\n",
+    ),
     (r"GETTRIG\n", r"-22\n"),
     (r"SETTRIG\n", r"-22\n"),
     (r"SETTRIG d u u\n", r"-22\n"),
@@ -337,37 +511,54 @@ const PLAIN: &[(&str, &str)] = &[
     (r"REMASK d 00000001 x\n", r"-22\n"),
 ];
 
-// A line of A in one of the states, and what is printed of it: the answer, and what ends it.
+// A line of A in one of the states of a described device, and what is printed of it: the answer, and what ends it.
 fn check_command(
     rt: &impl Abort,
     alloc: Global,
+    device: &str,
     line: &str,
     state: (&str, &str),
     answer: &str,
     ending: &str,
 ) -> Result<(), Fail> {
     let (steps, lines) = state;
-    let text = joined(alloc, &[DEVICE, steps, "A \"", line, "\"\n"])?;
+    let text = joined(alloc, &[device, steps, "A \"", line, "\"\n"])?;
     let printed = joined(alloc, &[lines, "A \"", answer, ending])?;
     check_play(rt, alloc, line, text, printed.as_slice(), 0)
 }
 
 // In each of the states, which is made again for each line.
-#[test]
-fn commands_in_each_state(rt: HostRuntime) -> Result<(), Fail> {
-    for (line, answers) in COMMANDS {
+fn check_commands(
+    rt: &impl Abort,
+    alloc: Global,
+    device: &str,
+    commands: &[(&str, [&str; 5])],
+) -> Result<(), Fail> {
+    for (line, answers) in commands {
         for (state, answer) in STATES.iter().zip(answers) {
-            check_command(&rt, rt.alloc(), line, *state, answer, "\\n\"\n")?;
+            check_command(rt, alloc, device, line, *state, answer, "\\n\"\n")?;
         }
     }
     Ok(())
 }
 
 #[test]
+fn commands_in_each_state(rt: HostRuntime) -> Result<(), Fail> {
+    check_commands(&rt, rt.alloc(), INPUT, COMMANDS)
+}
+
+#[test]
+fn commands_at_an_output_in_each_state(rt: HostRuntime) -> Result<(), Fail> {
+    check_commands(&rt, rt.alloc(), OUTPUT, OUTPUT_COMMANDS)
+}
+
+#[test]
 fn plain_lines_in_each_state(rt: HostRuntime) -> Result<(), Fail> {
     for (line, answer) in PLAIN {
-        for state in STATES {
-            check_command(&rt, rt.alloc(), line, state, answer, "\"\n")?;
+        for device in [INPUT, OUTPUT] {
+            for state in STATES {
+                check_command(&rt, rt.alloc(), device, line, state, answer, "\"\n")?;
+            }
         }
     }
     Ok(())

@@ -9,7 +9,7 @@ ghost use Rattle.iio_system.specs.Seat.{seen_of};
 
 use iio_desc::DescReader;
 use iio_device::Handled;
-use iio_system::{Bench, Seat};
+use iio_system::{Became, Bench, Seat};
 use iio_trigger::Polled;
 use iiod_session::{Going, Manner, Session};
 use std::alloc::Global;
@@ -52,7 +52,10 @@ fn fire(rt: &impl Abort, bench: &mut Bench, t: i64)
     ensures { front_of bench.new ≡ front_of bench.old }
 {
     assert_eq!(rt; bench.poll(0, t), Polled::Accepted(1), "at {t}");
-    assert_eq!(rt; bench.handle(0, 0), Some(Handled::Captured(1)));
+    assert_eq!(rt;
+        bench.handle(0, 0),
+        Some(Became::Asked(Handled::Captured(1)))
+    );
 }
 
 // Feeds bytes, after which the answers are these, and the connection stands so.

@@ -35,7 +35,7 @@ A "Commands of libiio 0.25 iiod, profile iiosim0\n"
 A ""
 A ""
 A "3\n3\n123\n-22\n"
-A "-22\n-38\nCommands of libiio 0.25 iiod, profile iiosim0\n-22\n-22\n"
+A "-22\n-38\n-22\n-22\n"
 "#,
     ),
     (
@@ -112,13 +112,13 @@ const AFTER: &[(&str, &str)] = &[
 
 /// A script and what it prints.
 #[derive(Drop)]
-struct Session {
+pub(crate) struct Session {
     text: Vec<u8>,
     printed: Vec<u8>,
 }
 
-// The bytes of lines.
-fn stream_of(alloc: Global, lines: &[(&str, &str)]) -> Result<Vec<u8>, Fail> {
+/// The bytes of lines.
+pub(crate) fn stream_of(alloc: Global, lines: &[(&str, &str)]) -> Result<Vec<u8>, Fail> {
     let mut bytes = Vec::new(alloc);
     for (line, _) in lines {
         push(&mut bytes, line)?;
@@ -159,17 +159,17 @@ fn push_answers(
 }
 
 impl Session {
-    // The description of the session.
-    fn begun(alloc: Global) -> Result<Session, Fail> {
+    /// The description of the session.
+    pub(crate) fn begun(alloc: Global, description: &str) -> Result<Session, Fail> {
         Ok(Session {
-            text: joined(alloc, &["context \"<context/>\"\n", ADC, "%%\n"])?,
+            text: joined(alloc, &["context \"<context/>\"\n", description, "%%\n"])?,
             printed: Vec::new(alloc),
         })
     }
 
-    // A step of A: the bytes of these lines from one place to another, each written as an escape. The lines that end in
-    // them are answered.
-    fn piece(
+    /// A step of A: the bytes of these lines from one place to another, each written as an escape. The lines that end in
+    /// them are answered.
+    pub(crate) fn piece(
         &mut self,
         alloc: Global,
         lines: &[(&str, &str)],
@@ -185,8 +185,8 @@ impl Session {
         push(&mut self.printed, "\"\n")
     }
 
-    // A step of A for each byte of these lines.
-    fn bytes(&mut self, alloc: Global, lines: &[(&str, &str)]) -> Result<(), Fail> {
+    /// A step of A for each byte of these lines.
+    pub(crate) fn bytes(&mut self, alloc: Global, lines: &[(&str, &str)]) -> Result<(), Fail> {
         let len = stream_of(alloc, lines)?.len();
         for (from, to) in (0..len).zip(1..=len) {
             self.piece(alloc, lines, from, to)?;
@@ -194,14 +194,14 @@ impl Session {
         Ok(())
     }
 
-    // The two captures.
-    fn captures(&mut self) -> Result<(), Fail> {
-        push(&mut self.text, CAPTURES)?;
-        push(&mut self.printed, CAPTURED_TWICE)
+    /// Steps, and what they print.
+    pub(crate) fn steps(&mut self, steps: &str, printed: &str) -> Result<(), Fail> {
+        push(&mut self.text, steps)?;
+        push(&mut self.printed, printed)
     }
 
-    // The end of the session, after its EXIT.
-    fn check(mut self, rt: &impl Abort, alloc: Global, name: &str) -> Result<(), Fail> {
+    /// The end of the session, after its EXIT.
+    pub(crate) fn check(mut self, rt: &impl Abort, alloc: Global, name: &str) -> Result<(), Fail> {
         push(&mut self.printed, "A closed\n")?;
         check_play(rt, alloc, name, self.text, self.printed.as_slice(), 0)
     }
@@ -215,10 +215,10 @@ fn check_cut(
     first: usize,
     second: usize,
 ) -> Result<(), Fail> {
-    let mut played = Session::begun(alloc)?;
+    let mut played = Session::begun(alloc, ADC)?;
     played.piece(alloc, BEFORE, 0, first)?;
     played.piece(alloc, BEFORE, first, 1000)?;
-    played.captures()?;
+    played.steps(CAPTURES, CAPTURED_TWICE)?;
     played.piece(alloc, AFTER, 0, second)?;
     played.piece(alloc, AFTER, second, 1000)?;
     played.check(rt, alloc, name)
@@ -240,9 +240,9 @@ fn usual_session_in_any_pieces(rt: HostRuntime) -> Result<(), Fail> {
 
 #[test]
 fn usual_session_byte_by_byte(rt: HostRuntime) -> Result<(), Fail> {
-    let mut played = Session::begun(rt.alloc())?;
+    let mut played = Session::begun(rt.alloc(), ADC)?;
     played.bytes(rt.alloc(), BEFORE)?;
-    played.captures()?;
+    played.steps(CAPTURES, CAPTURED_TWICE)?;
     played.bytes(rt.alloc(), AFTER)?;
     played.check(&rt, rt.alloc(), "byte by byte")
 }

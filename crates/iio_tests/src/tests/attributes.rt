@@ -88,6 +88,7 @@ const ROWS: &[(Scope, &str, Option<Attr>, bool)] = &[
     ),
     (Scope::Buffer, "length", Some(Attr::Length), false),
     (Scope::Buffer, "discarded", Some(Attr::Discarded), false),
+    (Scope::Buffer, "underruns", Some(Attr::Underruns), false),
     (Scope::Device, "raw", None, false),
     (Scope::Channel, "name", None, false),
     (Scope::Buffer, "scale", None, false),

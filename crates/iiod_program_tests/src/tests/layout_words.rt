@@ -72,6 +72,21 @@ const ENDS: &[(&[u8], &str, &str, &[u8], u8)] = &[
     (ADC0, "t0", "00000009", b"refused 0 device\n", 1),
     (b"", "adc0", "00000009", b"refused 0 device\n", 1),
     (b"%%\n", "adc0", "5", b"refused 0 device\n", 1),
+    // An output device has no layout here.
+    (
+        b"output dac0 -\nchannel temp le:s8/8\n",
+        "dac0",
+        "00000001",
+        b"refused 0 device\n",
+        1,
+    ),
+    (
+        b"output dac0 -\nchannel temp le:s8/8\ndevice d -\nchannel magn_x le:s16/16\n",
+        "d",
+        "00000001",
+        b"magn_x 0 2 le:s16/16>>0\nscan 2\n",
+        0,
+    ),
     (b"%% more\n", "adc0", "5", b"refused 1 count\n", 1),
     (
         b"# a comment\n\nchannel\n",

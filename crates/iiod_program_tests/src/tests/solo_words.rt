@@ -131,6 +131,7 @@ const HARMLESS: &[&str] = &[
     // Not ended yet.
     r"OPEN adc1 1 00000001",
     r"WRITE adc0 INPUT accel_x calibbias 2\n1",
+    r"WRITEBUF adc0 2\n1",
 ];
 
 /// What may change A's answers.
@@ -148,6 +149,8 @@ const OFFENDING: &[&str] = &[
     r"WRITE adc0 INPUT accel_x calibbias 1\n1",
     r"WRITE adc0 INPUT accel_x calibbias 0\n",
     r"WRITE adc0 INPUT accel_x calibbias 65537\n",
+    r"WRITEBUF adc0 1\n1",
+    r"WRITEBUF adc0 0\n",
     r"WRITEBUF adc0 65537\n",
     r"EVOPEN adc0\n",
     r"EVREAD adc0\n",
@@ -220,6 +223,10 @@ const PARTINGS: &[(&str, &str)] = &[
         "A \"WRITE adc0 INPUT accel_x calibbias 65537\\n\"\n",
         "A \"-27\\n\"\nA closed\n",
     ),
+    (
+        "A \"WRITEBUF nothing 65537\\n\"\n",
+        "A \"-27\\n\"\nA closed\n",
+    ),
 ];
 
 // Not beside B; but after B has left.
@@ -254,7 +261,7 @@ fn what_isnt_shared_is_parted_from(rt: HostRuntime) -> Result<(), Fail> {
     let steps = r#"A "CLOSE adc1\nOPEN adc1 1 00000001\nCLOSE adc1\n"
 A "OPEN adc0 1 00000005\n"
 B "OPEN adc0 1 00000002\n"
-A "CLOSE adc1\nOPEN adc1 1 00000001\nCLOSE adc1\nREMASK nothing 00000001\nWRITEBUF adc0 65537\n"
+A "CLOSE adc1\nOPEN adc1 1 00000001\nCLOSE adc1\nREMASK nothing 00000001\nWRITEBUF adc0 2\nab"
 "#;
     let text = joined(alloc, &[ADC, ADC1, "%%\n", steps])?;
     let printed = r#"A "-9\n0\n0\n"
@@ -262,6 +269,47 @@ A "0\n"
 A "-9\n0\n0\n-19\n-38\n"
 "#;
     check_worlds(&rt, alloc, "adc1", "A", &text, printed)
+}
+
+/// Two lines after those of `ADC`, of which there are seven: an output device on that trigger.
+const DAC: &str = "output dac0 t0
+channel voltage0 le:u8/8>>0
+";
+
+/// What a neighbour sends to A's output device.
+const NAMING: &[&str] = &[
+    r"OPEN dac0 1 00000001\n",
+    r"CLOSE dac0\n",
+    r"READBUF dac0 1\n",
+    r"READ dac0 name\n",
+    r"READ dac0 OUTPUT voltage0 raw\n",
+    r"GETTRIG dac0\n",
+    r"SET dac0 BUFFERS_COUNT 2\n",
+    r"REMASK dac0 00000001\n",
+    r"WRITEBUF dac0 1\nx",
+];
+
+// A writer beside one that reads: neither may name the other's device, and A is given the same scans in both worlds.
+#[test]
+fn an_output_beside_a_neighbour(rt: HostRuntime) -> Result<(), Fail> {
+    let alloc = rt.alloc();
+    let opening = r#"A "OPEN dac0 1 00000001\nOPEN adc0 1 00000005\nWRITEBUF dac0 1\nx"
+B "OPEN adc0 1 00000002\n"
+fire t0 5
+"#;
+    let text = joined(alloc, &[ADC, DAC, "%%\n", opening, "A \"CLOSE dac0\\n\"\n"])?;
+    let printed = r#"A "0\n0\n1\n"
+poll t0 accepted 2
+handle t0 adc0 captured
+handle t0 dac0 given 78
+A "0\n"
+"#;
+    check_worlds(&rt, alloc, "a writer", "A", &text, printed)?;
+    for sent in NAMING {
+        let text = joined(alloc, &[ADC, DAC, "%%\n", opening, "B \"", sent, "\"\n"])?;
+        check_solo(&rt, alloc, sent, "A", &text, b"refused 14 bystander\n", 1)?;
+    }
+    Ok(())
 }
 
 // What a step completes counts, not where it began: B's WRITE is whole at line 14.

@@ -1,12 +1,14 @@
 //! Hubs: a usual session, a lost one, and a bank without locks.
 
-ghost use Rattle.std.specs.Prelude.{◌<◌, length};
+ghost use Rattle.std.specs.Prelude.{IfOk, ◌<◌, length};
+ghost use Rattle.iio_desc.specs.WellFormed.{IsWellFormed};
 ghost use Rattle.iiod_hub.specs.Link.{seen_of};
 ghost use Rattle.iiod_session.specs.Desk.{IsDesk};
 
 use super::doubles::Texts;
 use super::sessions::{handle, hear, link_to, poll, tick_once, unplug};
-use super::{end_of, hub_of, link_of};
+use super::{end_of, hub_of, link_of, read_line};
+use iio_desc::{Desc, DescReader};
 use iio_device::Handled;
 use iio_io::ListTicker;
 use iio_kfifo::Ended;
@@ -83,6 +85,39 @@ fn a_lost_connection_leaves_no_member(rt: HostRuntime) -> Result<(), Fail> {
         let answer = answer_after(&rt, rt.alloc(), end)?;
         assert!(rt; answer.as_slice() == b"0\n".as_slice(), "lost after {end}");
     }
+    Ok(())
+}
+
+// An output device, and a device on the same trigger.
+fn described_with_an_output(alloc: Global) -> Result<Desc, Fail>
+    ensures { IfOk result (λ desc. IsWellFormed 0 desc) }
+{
+    let mut reader = DescReader::new(alloc, 0)?;
+    read_line(&mut reader, b"trigger t0 2")?;
+    read_line(&mut reader, b"output dac0 t0")?;
+    read_line(&mut reader, b"channel voltage0 le:u8/8>>0")?;
+    read_line(&mut reader, b"device adc0 t0")?;
+    read_line(&mut reader, b"channel voltage0 le:u8/8>>0")?;
+    read_line(&mut reader, b"row 0 7")?;
+    Ok(reader.finish()?)
+}
+
+const NAMING: &[u8] =
+    b"OPEN dac0 1 00000001\nWRITEBUF dac0 1\nxREAD dac0 name\nGETTRIG dac0\nWRITEBUF adc0 1\nxOPEN adc0 1 00000001 CYCLIC\n";
+
+// A hub doesn't know the names of output devices, and nothing is written to its devices.
+#[test]
+fn an_output_device_is_unknown(rt: HostRuntime) -> Result<(), Fail> {
+    let alloc = rt.alloc();
+    let hub = Hub::new(alloc, described_with_an_output(alloc)?, Vec::new(alloc))?;
+    let opening = b"OPEN adc0 1 00000001\n".as_slice();
+    let reading = b"READBUF adc0 1\nREAD adc0 BUFFER underruns\nEXIT\n".as_slice();
+    let (end, answers) = session_of(&rt, alloc, &hub, &[NAMING, opening, reading], 2)?;
+    assert_eq!(rt; end, SessionEnd::Ended);
+    assert_eq!(rt;
+        answers.as_slice(),
+        b"-19\n-19\n-19\n-19\n-38\n-38\n0\n1\n00000001\n\x07-2\n".as_slice()
+    );
     Ok(())
 }
 

@@ -63,6 +63,11 @@ const ROWS: &[Row<'static>] = &[
         ..SERVED
     },
     Row {
+        name: "an output device isn't served",
+        input: "trigger t0 2\noutput dac0 t0\nchannel voltage0 le:u8/8>>0\n%%\n",
+        ..SERVED
+    },
+    Row {
         name: "a script is left alone",
         input: "trigger t 1\n%%\nfire\n",
         ..SERVED

@@ -46,5 +46,6 @@ returns-in-Name-clause-site g c plugged trigger attachment =
       | inr (inr (inr (inl e))) ↦ rw (e, at_place_same (with_value attr.Overruns c.args.value) c.args.c c.args.stored.now.values.items (λ x. refl)) refl
       | inr (inr (inr (inr (inl e)))) ↦ rw (e, at_place_same (with_value attr.DataAvailable c.args.value) c.args.c c.args.stored.now.values.items (λ x. refl)) refl
       | inr (inr (inr (inr (inr (inl e))))) ↦ rw (e, at_place_same (with_value attr.Length c.args.value) c.args.c c.args.stored.now.values.items (λ x. refl)) refl
-      | inr (inr (inr (inr (inr (inr e))))) ↦ rw (e, at_place_same (with_value attr.Discarded c.args.value) c.args.c c.args.stored.now.values.items (λ x. refl)) refl
+      | inr (inr (inr (inr (inr (inr (inl e)))))) ↦ rw (e, at_place_same (with_value attr.Discarded c.args.value) c.args.c c.args.stored.now.values.items (λ x. refl)) refl
+      | inr (inr (inr (inr (inr (inr (inr e)))))) ↦ rw (e, at_place_same (with_value attr.Underruns c.args.value) c.args.c c.args.stored.now.values.items (λ x. refl)) refl
     ]

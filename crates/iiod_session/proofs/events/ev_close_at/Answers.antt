@@ -1,4 +1,5 @@
-use Rattle.std.proofs.Common.{◌<◌, ◌==◌, not, length}
+use Rattle.std.proofs.Common.{◌==◌, not}
+use Rattle.iiod_session.specs.Desk.{IsHolding}
 use Rattle.std.proofs.lemmas.List.Elements.{All-filter}
 use Rattle.iiod_session.proofs.events.ev_close_at.Goals as goal
 
@@ -7,5 +8,5 @@ returns-in-Ok-clause-desk g c = record {
   seats = rw c.ev_close.ensures.kept c.requires.desk.seats;
   apart = c.requires.desk.apart;
   holdings = rw (c.ev_close.ensures.kept, c.forget_holding.ensures)
-      (All-filter (λ d. not (d == c.args.dev)) (λ dev. dev < length (g.I.Iio.front (g.I.Iio.kept c.args.iio.now)).devices) c.args.desk.now.holdings.items c.requires.desk.holdings);
+      (All-filter (λ d. not (d == c.args.dev)) (IsHolding (g.I.Iio.front (g.I.Iio.kept c.args.iio.now))) c.args.desk.now.holdings.items c.requires.desk.holdings);
 }

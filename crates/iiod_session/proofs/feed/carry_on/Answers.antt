@@ -3,14 +3,15 @@ use Rattle.std.proofs.lemmas.List.{take_rest}
 use Rattle.iiod_grammar.specs.Scans.{scan_on}
 use Rattle.iiod_session.specs.Session.{stream_by}
 use Rattle.iiod_session.specs.declared.manner.Going.TheVariants.{On}
+use Rattle.iiod_session.specs.PendingWrite.{pending_of}
 use Rattle.iiod_session.proofs.HearLaws.{all_taken, more_feeds, none_after, on_fed, piece_scans, rest_after, stop_feeds}
 use Rattle.iiod_session.proofs.StreamLaws.{more_takes, more_waits}
 use Rattle.iiod_session.proofs.feed.carry_on.Goals as goal
 
 pub returns-in-More-clause-hears : goal.returns-in-More-clause-hears
 returns-in-More-clause-hears g c =
-    more_feeds _ _ _ _ _ _ _ c.loop-desk.lines c.feed-taken.new.self c.loop-desk.pending.device c.loop-desk.pending.target _ _ _
-    (rw c.in-More.is at (c.feed-taken.ensures.items c.loop-desk.pending.device c.loop-desk.pending.target))
+    more_feeds _ _ _ _ _ _ _ c.loop-desk.lines c.feed-taken.new.self (pending_of c.loop-desk.pending) _ _ _
+    (rw c.in-More.is at (c.feed-taken.ensures.items (pending_of c.loop-desk.pending)))
     (take_rest c.args.bytes.now c.loop-desk.at)
     (none_after c.loop-desk.at c.feed-taken.result.0 c.args.bytes.now c.loop-desk.invariant.within
     (c.feed-taken.ensures.taken ∙ more_takes c.loop-desk.lines _ c.loop-desk.invariant.ready (sym c.feed-taken.ensures.ready ∙ c.in-More.is))) c.loop-desk.invariant.fed
@@ -19,7 +20,7 @@ pub returns-in-More-clause-all : goal.returns-in-More-clause-all
 returns-in-More-clause-all g c on = (
   all_taken c.loop-desk.at c.feed-taken.result.0 c.args.bytes.now c.loop-desk.invariant.within
       (c.feed-taken.ensures.taken ∙ more_takes c.loop-desk.lines _ c.loop-desk.invariant.ready (sym c.feed-taken.ensures.ready ∙ c.in-More.is)),
-  rw c.feed-taken.ensures.state (more_waits c.loop-desk.lines _ _ _ c.loop-desk.invariant.ready (sym c.feed-taken.ensures.ready ∙ c.in-More.is)),
+  rw c.feed-taken.ensures.state (more_waits c.loop-desk.lines _ (pending_of c.loop-desk.pending) c.loop-desk.invariant.ready (sym c.feed-taken.ensures.ready ∙ c.in-More.is)),
 )
 
 pub loop-desk-preserved : goal.loop-desk-preserved
@@ -33,7 +34,7 @@ loop-desk-preserved g c = record {
   fed = on_fed _ _ _ _ _ _ _ _ _ _ _ _ _ _
       (ap (λ bs. scan_on (stream_by On c.loop-desk.lines c.loop-desk.pending) bs) (sym (take_rest c.args.bytes.now c.loop-desk.at))
       ∙ piece_scans c.cut_anywhere.ensures.items c.cut_anywhere.ensures.scanner c.loop-desk.lines c.feed-taken.new.self c.loop-desk.pending _ c.feed-taken.result.0 c.feed-taken.result.1
-      c.in_default.not-More c.loop-desk.invariant.ready (c.feed-taken.ensures.items _ _))
+      c.in_default.not-More c.loop-desk.invariant.ready (c.feed-taken.ensures.items (pending_of c.loop-desk.pending)))
       (rest_after c.loop-desk.at c.feed-taken.result.0 c.args.bytes.now) c.loop-desk.invariant.fed (rw (c.in-On.is, c.loop-desk.invariant.kept) at c.in_ok-going.ensures.hears);
 }
 
@@ -42,5 +43,5 @@ returns-in_default-2-clause-hears g c =
     stop_feeds _ _ _ _ _ _ _ _ _ _ _ _ _ _ c.in_ok-going.going c.in_default-2.not-On
     (ap (λ bs. scan_on (stream_by On c.loop-desk.lines c.loop-desk.pending) bs) (sym (take_rest c.args.bytes.now c.loop-desk.at))
     ∙ piece_scans c.cut_anywhere.ensures.items c.cut_anywhere.ensures.scanner c.loop-desk.lines c.feed-taken.new.self c.loop-desk.pending _ c.feed-taken.result.0 c.feed-taken.result.1
-    c.in_default.not-More c.loop-desk.invariant.ready (c.feed-taken.ensures.items _ _))
+    c.in_default.not-More c.loop-desk.invariant.ready (c.feed-taken.ensures.items (pending_of c.loop-desk.pending)))
     (rest_after c.loop-desk.at c.feed-taken.result.0 c.args.bytes.now) c.loop-desk.invariant.fed (rw c.loop-desk.invariant.kept at c.in_ok-going.ensures.hears)

@@ -1,6 +1,7 @@
 use Rattle.std.proofs.Common.{◌≡◌, ◌∙◌, [], ap, arith, sym, Some}
 use Rattle.std.proofs.lemmas.Grind.{common_steps}
 use Rattle.iio_text.specs.declared.errors.Errno.TheVariants.{E2BIG}
+use Rattle.iiod_session.specs.PendingWrite.{pending_of}
 use Rattle.iiod_session.specs.Session.{piece_by}
 use Rattle.iiod_session.proofs.HearLaws.{blank_line, ended_line, written_feeds}
 use Rattle.iiod_session.proofs.feed.hear_piece.Goals as goal
@@ -17,7 +18,7 @@ pub returns-in_ok-hear_payload-in-Payload-clause-hears :
     goal.returns-in_ok-hear_payload-in-Payload-clause-hears
 returns-in_ok-hear_payload-in-Payload-clause-hears g c =
     rw c.in-Payload.is
-    (written_feeds _ _ _ _ _ _ c.args.lines.now c.args.pending.now c.args.pending.now.device c.args.pending.now.target c.args.lines.now.piece
+    (written_feeds _ _ _ _ _ _ c.args.lines.now c.args.pending.now (pending_of c.args.pending.now) c.args.lines.now.piece
     _ _ c.in_ok-hear_payload-in-Payload.field-0 (rw c.in-Payload.is at c.requires.whole) (rw c.piece-in-Payload.ensures at c.in_ok-hear_payload-in-Payload.ensures.told) (rw c.piece-in-Payload.ensures at c.in_ok-hear_payload-in-Payload.ensures.served))
 
 pub returns-in-TooLong-clause-hears : goal.returns-in-TooLong-clause-hears

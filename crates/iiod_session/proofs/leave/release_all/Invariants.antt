@@ -1,12 +1,13 @@
-use Rattle.std.proofs.Common.{◌≡◌, ◌<◌, All, length, vec_len, IfSome, Some}
+use Rattle.std.proofs.Common.{◌≡◌, All, vec_len, IfSome, Some}
 use Rattle.iiod_session.specs.Machine.{Machine}
 use Rattle.iiod_session.specs.Acts.{all_released}
+use Rattle.iiod_session.specs.Desk.{IsHolding}
 use Rattle.iiod_session.proofs.leave.release_all.Given as goal
 
 abbrev pub invariant-loop-dev : goal.invariant-loop-dev
 invariant-loop-dev g l = let iio = g.I.Iio in record {
   kept : iio.kept l.iio ≡ iio.kept l.fn.iio;
-  known : All (λ dev. dev < length (iio.front (iio.kept l.fn.iio)).devices) l.holdings.items;
+  known : All (IsHolding (iio.front (iio.kept l.fn.iio))) l.holdings.items;
   told : IfSome (iio.told l.fn.iio) (λ m. (n : Machine) × (iio.told l.iio ≡ Some n) × (all_released n l.who l.holdings.items ≡ all_released m l.who l.fn.holdings.items));
 }
 

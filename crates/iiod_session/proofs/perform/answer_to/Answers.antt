@@ -18,5 +18,6 @@ pub returns-in-Exit-clause-served : goal.returns-in-Exit-clause-served
 returns-in-Exit-clause-served g c = elim c.in-Exit.is [
   | inl exit ↦ absurd (rw exit at c.requires.at_once)
   | inr (inl write) ↦ absurd (rw write.3 at c.requires.at_once)
-  | inr (inr read) ↦ absurd (rw read.2 at c.requires.at_once)
+  | inr (inr (inl scans)) ↦ absurd (rw scans.2 at c.requires.at_once)
+  | inr (inr (inr read)) ↦ absurd (rw read.2 at c.requires.at_once)
 ]

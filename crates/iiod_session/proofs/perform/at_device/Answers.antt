@@ -4,7 +4,7 @@ use Rattle.iiod_grammar.specs.View.{command_view, place_view}
 use Rattle.iiod_session.specs.Desk.{desk_of}
 use Rattle.iiod_session.proofs.AnswerLaws.{by_event, by_no, by_text, by_zero, event_fits, event_formed, serves_short, text_fits, text_formed, trigger_fits, trigger_formed}
 use Rattle.iiod_session.proofs.AttributeLaws.{serves_read_attribute}
-use Rattle.iiod_session.proofs.ServeLaws.{serves_close, serves_ev_close, serves_ev_open, serves_ev_read, serves_get_trigger, serves_open, serves_remask, serves_set_buffers, serves_set_trigger, serves_unknown, serves_write_buffer, short_at}
+use Rattle.iiod_session.proofs.ServeLaws.{serves_close, serves_ev_close, serves_ev_open, serves_ev_read, serves_get_trigger, serves_open, serves_remask, serves_set_buffers, serves_set_trigger, serves_unknown, short_at}
 use Rattle.iiod_session.proofs.perform.at_device.Goals as goal
 
 pub returns-in-None-clause-served : goal.returns-in-None-clause-served
@@ -34,12 +34,6 @@ returns-in-Read-clause-served g c =
 pub returns-in-Read-clause-fits : goal.returns-in-Read-clause-fits
 returns-in-Read-clause-fits g c = text_fits c.read_attribute_at.result c.read_attribute_at.ensures.text
 
-pub returns-in-WriteBuf-clause-served : goal.returns-in-WriteBuf-clause-served
-returns-in-WriteBuf-clause-served g c =
-    let here = rw (c.in-Some.is, c.in-WriteBuf.is) at c.requires.at in
-    rw c.in-WriteBuf.is
-    (by_no _ _ _ _ _ _ _ _ _ (serves_write_buffer _ _ _ _ _ _ c.in-Some.dev c.write_buffer_refusal.result here (c.write_buffer_refusal.ensures (desk_of g.I.Iio.seen c.args.desk.now))))
-
 pub returns-in-GetTrig-clause-served : goal.returns-in-GetTrig-clause-served
 returns-in-GetTrig-clause-served g c =
     let here = rw (c.in-Some.is, c.in-GetTrig.is) at c.requires.at in
@@ -56,7 +50,7 @@ pub returns-in-SetTrig-clause-served : goal.returns-in-SetTrig-clause-served
 returns-in-SetTrig-clause-served g c =
     let here = rw (c.in-Some.is, c.in-SetTrig.is) at c.requires.at in
     rw (c.in-SetTrig.is, c.answered-in-SetTrig.ensures.value)
-    (by_zero _ _ _ _ _ _ _ _ c.set_trigger_at.result (serves_set_trigger _ _ _ _ _ _ _ c.in-Some.dev c.set_trigger_at.result here (c.set_trigger_at.ensures.told (desk_of g.I.Iio.seen c.args.desk.now))))
+    (by_zero _ _ _ _ _ _ _ _ c.set_trigger_known.result (serves_set_trigger _ _ _ _ _ _ _ c.in-Some.dev c.set_trigger_known.result here (c.set_trigger_known.ensures.told (desk_of g.I.Iio.seen c.args.desk.now))))
 
 pub returns-in-SetBuffers-clause-served : goal.returns-in-SetBuffers-clause-served
 returns-in-SetBuffers-clause-served g c =
@@ -69,31 +63,31 @@ pub returns-in-Remask-clause-served : goal.returns-in-Remask-clause-served
 returns-in-Remask-clause-served g c =
     let here = rw (c.in-Some.is, c.in-Remask.is) at c.requires.at in
     rw (c.in-Remask.is, c.answered-in-Remask.ensures.value)
-    (by_zero _ _ _ _ _ _ _ _ c.remask_at.result (serves_remask _ _ _ _ _ _ _ _ _ c.in-Some.dev c.remask_at.result here c.remask_at.ensures.told c.remask_at.ensures.moves))
+    (by_zero _ _ _ _ _ _ _ _ c.remask_known.result (serves_remask _ _ _ _ _ _ _ _ _ c.in-Some.dev c.remask_known.result here c.remask_known.ensures.told c.remask_known.ensures.moves))
 
 pub returns-in-EvOpen-clause-served : goal.returns-in-EvOpen-clause-served
 returns-in-EvOpen-clause-served g c =
     let here = rw (c.in-Some.is, c.in-EvOpen.is) at c.requires.at in
     rw (c.in-EvOpen.is, c.answered-in-EvOpen.ensures.value)
-    (by_zero _ _ _ _ _ _ _ _ c.ev_open_at.result
-    (serves_ev_open _ _ _ _ _ _ _ _ c.in-Some.dev c.ev_open_at.result here c.ev_open_at.ensures.told c.ev_open_at.ensures.alters (search rules)))
+    (by_zero _ _ _ _ _ _ _ _ c.ev_open_known.result
+    (serves_ev_open _ _ _ _ _ _ _ _ c.in-Some.dev c.ev_open_known.result here c.ev_open_known.ensures.told c.ev_open_known.ensures.alters (search rules)))
 
 pub returns-in-EvRead-clause-served : goal.returns-in-EvRead-clause-served
 returns-in-EvRead-clause-served g c =
     let here = rw (c.in-Some.is, c.in-EvRead.is) at c.requires.at in
     rw c.in-EvRead.is
-    (by_event _ _ _ _ _ _ _ _ c.ev_read_at.result c.ev_read_at.ensures.event
-    (serves_ev_read _ _ _ _ _ _ c.in-Some.dev _ here c.ev_read_at.ensures.told (event_formed _ c.in-EvRead.dev.now c.ev_read_at.result c.ev_read_at.ensures.event)))
+    (by_event _ _ _ _ _ _ _ _ c.ev_read_known.result c.ev_read_known.ensures.event
+    (serves_ev_read _ _ _ _ _ _ c.in-Some.dev _ here c.ev_read_known.ensures.told (event_formed _ c.in-EvRead.dev.now c.ev_read_known.result c.ev_read_known.ensures.event)))
 
 pub returns-in-EvRead-clause-fits : goal.returns-in-EvRead-clause-fits
-returns-in-EvRead-clause-fits g c = event_fits c.ev_read_at.result c.ev_read_at.ensures.event
+returns-in-EvRead-clause-fits g c = event_fits c.ev_read_known.result c.ev_read_known.ensures.event
 
 pub returns-in-EvClose-clause-served : goal.returns-in-EvClose-clause-served
 returns-in-EvClose-clause-served g c =
     let here = rw (c.in-Some.is, c.in-EvClose.is) at c.requires.at in
     rw (c.in-EvClose.is, c.answered-in-EvClose.ensures.value)
-    (by_zero _ _ _ _ _ _ _ _ c.ev_close_at.result
-    (serves_ev_close _ _ _ _ _ _ _ _ c.in-Some.dev c.ev_close_at.result here c.ev_close_at.ensures.told c.ev_close_at.ensures.alters (search rules)))
+    (by_zero _ _ _ _ _ _ _ _ c.ev_close_known.result
+    (serves_ev_close _ _ _ _ _ _ _ _ c.in-Some.dev c.ev_close_known.result here c.ev_close_known.ensures.told c.ev_close_known.ensures.alters (search rules)))
 
 pub returns-in-Help-clause-served : goal.returns-in-Help-clause-served
 returns-in-Help-clause-served g c = elim c.in-Help.is [
@@ -103,5 +97,6 @@ returns-in-Help-clause-served g c = elim c.in-Help.is [
   | inr (inr (inr (inl print))) ↦ absurd (rw print at c.requires.at)
   | inr (inr (inr (inr (inl timeout)))) ↦ absurd (rw timeout.1 at c.requires.at)
   | inr (inr (inr (inr (inr (inl write))))) ↦ absurd (rw write.3 at c.requires.at)
-  | inr (inr (inr (inr (inr (inr read))))) ↦ absurd (rw read.2 at c.requires.at)
+  | inr (inr (inr (inr (inr (inr (inl scans)))))) ↦ absurd (rw scans.2 at c.requires.at)
+  | inr (inr (inr (inr (inr (inr (inr read)))))) ↦ absurd (rw read.2 at c.requires.at)
 ]

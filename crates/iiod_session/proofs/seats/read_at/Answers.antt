@@ -1,9 +1,11 @@
-use Rattle.std.proofs.Common.{ap, rules, List}
+use Rattle.std.proofs.Common.{ℕ, ◌∙◌, List, ap, rules}
 use Rattle.std.proofs.lemmas.List.Elements.{All-set}
 use Rattle.iio_text.specs.declared.errors.Errno.TheVariants.{EBADF}
 use Rattle.iiod_reply.specs.Reply.{Refusal}
+use Rattle.iio_desc.specs.Kind.{is_output}
+use Rattle.iiod_session.specs.Front.{kind_at}
 use Rattle.iiod_session.specs.Desk.{Bare, IsHeld, bare_of, desk_of, with_seats}
-use Rattle.iiod_session.proofs.SeatsLaws.{apart_set, read_nowhere, map_set_same, reads_at}
+use Rattle.iiod_session.proofs.SeatsLaws.{apart_set, dev_is, map_set_same, read_nowhere, reads_at}
 use Rattle.iiod_session.proofs.seats.read_at.Goals as goal
 
 pub returns-in_ok-push_refusal-in-None-clause-read : goal.returns-in_ok-push_refusal-in-None-clause-read
@@ -26,3 +28,9 @@ pub returns-in-Some-clause-read : goal.returns-in-Some-clause-read
 returns-in-Some-clause-read g c =
     reads_at g.I.Iio.seen _ c.args.dev _ c.in-Some.i _ _ (desk_of g.I.Iio.seen c.args.desk.now) c.args.desk.now.held.items c.index_mut.result.now c.read_held.new.h _ _ _
     (search rules) (search rules) c.index_mut.ensures.value c.read_held.ensures.read
+
+pub read_held-requires-clause-read : goal.read_held-requires-clause-read
+read_held-requires-clause-read g c =
+    ap (λ (d : ℕ). is_output (kind_at (g.I.Iio.front (g.I.Iio.kept c.args.iio.now)) d))
+    (dev_is g.I.Iio.seen c.args.dev c.in-Some.i c.args.desk.now.held.items c.index_mut.result.now (search rules) (search rules) c.index_mut.ensures.value)
+    ∙ c.requires.read

@@ -1,7 +1,9 @@
-use Rattle.std.proofs.Common.{rules}
+use Rattle.std.proofs.Common.{ℕ, ◌∙◌, ap, rules}
 use Rattle.std.proofs.lemmas.List.Elements.{All-set}
+use Rattle.iio_desc.specs.Kind.{is_input}
+use Rattle.iiod_session.specs.Front.{kind_at}
 use Rattle.iiod_session.specs.Desk.{IsHeld, desk_of}
-use Rattle.iiod_session.proofs.SeatsLaws.{apart_under_mask, remask_comes, remasks_by}
+use Rattle.iiod_session.proofs.SeatsLaws.{apart_under_mask, dev_is, remask_comes, remasks_by}
 use Rattle.iiod_session.proofs.seats.remask_at.Goals as goal
 
 pub returns-clause-desk : goal.returns-clause-desk
@@ -21,3 +23,9 @@ pub returns-clause-moves : goal.returns-clause-moves
 returns-clause-moves g c =
     remasks_by g.I.Iio.seen _ (desk_of g.I.Iio.seen c.args.desk.now) c.args.dev c.in-Some.i _ c.args.desk.now.held.items c.index_mut.result.now c.remask_held.new.h c.remask_held.result
     (search rules) (search rules) c.index_mut.ensures.value c.remask_held.ensures.moves
+
+pub remask_held-requires-clause-input : goal.remask_held-requires-clause-input
+remask_held-requires-clause-input g c =
+    ap (λ (d : ℕ). is_input (kind_at (g.I.Iio.front (g.I.Iio.kept c.args.iio.now)) d))
+    (dev_is g.I.Iio.seen c.args.dev c.in-Some.i c.args.desk.now.held.items c.index_mut.result.now (search rules) (search rules) c.index_mut.ensures.value)
+    ∙ c.requires.input

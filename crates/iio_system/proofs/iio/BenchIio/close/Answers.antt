@@ -1,40 +1,41 @@
 use Rattle.std.proofs.Common.{◌∙◌, ◌<◌, subst}
 use Rattle.std.proofs.lemmas.Option.{slice_get_read}
 use Rattle.iio_device.specs.Plug.{driver_of}
-use Rattle.iio_system.specs.Station.{front_by, view_by}
+use Rattle.iio_system.specs.Station.{any_front, any_station, number_by}
 use Rattle.iio_system.proofs.ListLemmas.{element_at, numbered_after}
 use Rattle.iio_system.proofs.IioLemmas.{device_and_trigger_keep}
-use Rattle.iio_system.proofs.OpenLemmas.{leaves_keep, leaves_tell, own_along, sound_leaves, told_leaves, told_none, told_past}
+use Rattle.iio_system.proofs.OpenLemmas.{leaves_tell, own_along, sound_leaves, told_leaves, told_none, told_past}
 use Rattle.iio_system.proofs.iio.BenchIio.close.Goals as goal
 
 pub returns-in-None-clause-told : goal.returns-in-None-clause-told
-returns-in-None-clause-told g c = told_none (driver_of (λ b. (g.dyn-1.0.entry b.vtable).1.driver b.value)) _ _ c.args.self.now.devices.items c.args.self.now.clock c.args.dev c.index.result.now c.args.self.now.sound (element_at front_by _ _ _ c.requires.dev c.index.ensures) c.args.seat.number c.in-None.ensures
+returns-in-None-clause-told g c =
+    told_none (driver_of (λ b. (g.dyn-1.0.entry b.vtable).1.driver b.value)) c.args.self.now.context.items c.args.self.now.described.items c.args.self.now.devices.items c.args.self.now.clock c.args.dev c.index.result.now (element_at any_front _ _ _ c.requires.dev c.index.ensures) c.args.seat.number _ c.args.self.now.sound c.in-None.ensures
 
 pub returns-else-trigger-len-clause-told : goal.returns-else-trigger-len-clause-told
 returns-else-trigger-len-clause-told g c =
-    told_past (driver_of (λ b. (g.dyn-1.0.entry b.vtable).1.driver b.value)) _ _ c.args.self.now.devices.items c.args.self.now.clock c.args.dev c.index.result.now c.args.self.now.sound (element_at front_by _ _ _ c.requires.dev c.index.ensures) c.args.seat.number c.in-Some.trigger c.len.result c.in-Some.ensures (c.len.ensures ∙ c.args.self.now.triggers.ok.0) c.if-trigger-len.false
+    told_past (driver_of (λ b. (g.dyn-1.0.entry b.vtable).1.driver b.value)) c.args.self.now.context.items c.args.self.now.described.items c.args.self.now.devices.items c.args.self.now.clock c.args.dev c.index.result.now (element_at any_front _ _ _ c.requires.dev c.index.ensures) c.args.seat.number _ c.args.self.now.sound
+    c.in-Some.trigger c.len.result c.in-Some.ensures (c.len.ensures ∙ c.args.self.now.triggers.ok.0) c.if-trigger-len.false
 
 pub invariant_of-self-then-trigger-len : goal.invariant_of-self-then-trigger-len
 invariant_of-self-then-trigger-len g c =
-    let at = (element_at front_by _ _ _ c.requires.dev c.index_mut.ensures.value) in
+    let at = element_at any_front _ _ _ c.requires.dev c.index_mut.ensures.value in
     record {
       sound =
-          sound_leaves (driver_of (λ b. (g.dyn-1.0.entry b.vtable).1.driver b.value)) _ _ _ _ _ c.index_mut.result.now c.leave-tail.new.self c.index_mut-then-trigger-len.result.now c.leave-tail.new.trigger c.args.self.now.sound c.args.self.now.numbered at
+          sound_leaves (driver_of (λ b. (g.dyn-1.0.entry b.vtable).1.driver b.value)) _ _ _ _ _ c.index_mut.result.now c.leave.new.self c.index_mut-then-trigger-len.result.now c.leave.new.trigger c.args.self.now.sound c.args.self.now.numbered at
           (slice_get_read _ c.len.result _ _ (c.len.ensures ∙ c.args.self.now.triggers.ok.0) c.if-trigger-len.true c.index_mut-then-trigger-len.ensures.value)
-          (own_along (driver_of (λ b. (g.dyn-1.0.entry b.vtable).1.driver b.value)) c.args.self.now.devices.items c.args.dev c.in-Some.trigger c.index.result.now c.index_mut.result.now (element_at front_by _ _ _ c.requires.dev c.index.ensures) at c.in-Some.ensures)
-          (subst (λ n. c.in-Some.trigger < n) (c.len.ensures ∙ c.args.self.now.triggers.ok.0) c.if-trigger-len.true) c.args.seat.number c.leave-tail.result c.leave-tail.ensures;
-      numbered = numbered_after _ _ _ _ _ c.args.self.now.numbered at (leaves_keep c.args.seat.number c.leave-tail.result (view_by (driver_of (λ b. (g.dyn-1.0.entry b.vtable).1.driver b.value)) c.index_mut.result.now) (view_by (driver_of (λ b. (g.dyn-1.0.entry b.vtable).1.driver b.value)) c.leave-tail.new.self) c.index_mut-then-trigger-len.result.now c.leave-tail.new.trigger c.leave-tail.ensures).device.number;
+          (own_along (driver_of (λ b. (g.dyn-1.0.entry b.vtable).1.driver b.value)) c.args.self.now.devices.items c.args.dev c.in-Some.trigger c.index.result.now c.index_mut.result.now (element_at any_front _ _ _ c.requires.dev c.index.ensures) at c.in-Some.ensures)
+          (subst (λ n. c.in-Some.trigger < n) (c.len.ensures ∙ c.args.self.now.triggers.ok.0) c.if-trigger-len.true) c.args.seat.number c.leave.ensures.station c.leave.ensures.trigger;
+      numbered = numbered_after _ _ _ _ _ c.args.self.now.numbered at c.leave.ensures.keeps.head.number;
     }
 
 pub returns-then-trigger-len-clause-kept : goal.returns-then-trigger-len-clause-kept
 returns-then-trigger-len-clause-kept g c =
-    let drive = driver_of (λ b. (g.dyn-1.0.entry b.vtable).1.driver b.value) in
-    device_and_trigger_keep drive _ _ _ _ _ _ _ (element_at front_by _ _ _ c.requires.dev c.index_mut.ensures.value)
-    (leaves_keep c.args.seat.number c.leave-tail.result (view_by drive c.index_mut.result.now) (view_by drive c.leave-tail.new.self) c.index_mut-then-trigger-len.result.now c.leave-tail.new.trigger c.leave-tail.ensures)
-    c.in-Some.trigger c.index_mut-then-trigger-len.result.now c.leave-tail.new.trigger
+    let drive = (driver_of (λ b. (g.dyn-1.0.entry b.vtable).1.driver b.value)) in
+    device_and_trigger_keep _ _ _ _ _ _ _ (element_at any_front _ _ _ c.requires.dev c.index_mut.ensures.value) c.leave.ensures.keeps
+    c.in-Some.trigger c.index_mut-then-trigger-len.result.now c.leave.new.trigger
     (slice_get_read _ c.len.result _ _ (c.len.ensures ∙ c.args.self.now.triggers.ok.0) c.if-trigger-len.true c.index_mut-then-trigger-len.ensures.value)
-    (leaves_tell c.args.seat.number c.leave-tail.result (view_by drive c.index_mut.result.now) (view_by drive c.leave-tail.new.self) c.index_mut-then-trigger-len.result.now c.leave-tail.new.trigger c.leave-tail.ensures)
+    (leaves_tell (number_by c.index_mut.result.now) (any_station drive c.index_mut.result.now) (any_station drive c.leave.new.self) c.index_mut-then-trigger-len.result.now c.leave.new.trigger c.leave.ensures.trigger)
 
 pub returns-then-trigger-len-clause-told : goal.returns-then-trigger-len-clause-told
 returns-then-trigger-len-clause-told g c =
-    told_leaves (driver_of (λ b. (g.dyn-1.0.entry b.vtable).1.driver b.value)) c.args.self.now.devices.items c.args.self.now.clock c.args.dev c.index_mut.result.now (element_at front_by _ _ _ c.requires.dev c.index_mut.ensures.value) c.args.seat.number c.leave-tail.new.self c.index_mut-then-trigger-len.result.now c.leave-tail.new.trigger c.leave-tail.result c.leave-tail.ensures
+    told_leaves (driver_of (λ b. (g.dyn-1.0.entry b.vtable).1.driver b.value)) c.args.self.now.context.items c.args.self.now.described.items c.args.self.now.devices.items c.args.self.now.clock c.args.dev c.index_mut.result.now (element_at any_front _ _ _ c.requires.dev c.index_mut.ensures.value) c.args.seat.number c.leave.new.self c.leave.ensures.station

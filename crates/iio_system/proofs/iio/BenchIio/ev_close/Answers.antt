@@ -1,6 +1,9 @@
+use Rattle.std.proofs.Common.{ap, sym, ◌∙◌}
+use Rattle.iio_desc.specs.Kind.{is_input}
+use Rattle.iio_system.specs.Station.{any_front}
 use Rattle.iio_system.proofs.ListLemmas.{element_at, numbered_after}
 use Rattle.iio_system.proofs.IioLemmas.{device_keeps, sound_ev_close}
-use Rattle.iio_system.proofs.ToldLemmas.{told_ev_close}
+use Rattle.iio_system.proofs.ToldLemmas.{kind_is, told_ev_close}
 use Rattle.iio_system.proofs.iio.BenchIio.ev_close.Goals as goal
 
 pub invariant_of-self : goal.invariant_of-self
@@ -8,15 +11,20 @@ invariant_of-self g c =
     let at = element_at _ _ _ _ c.requires.dev c.index_mut.ensures.value in
     record {
       sound = sound_ev_close _ _ _ _ _ _ _ c.args.self.now.sound at _ _ c.ev_close.ensures.acts;
-      numbered = numbered_after _ _ _ _ _ c.args.self.now.numbered at c.ev_close.ensures.keeps.device.number;
+      numbered = numbered_after _ _ _ _ _ c.args.self.now.numbered at c.ev_close.ensures.keeps.head.number;
     }
 
 pub returns-clause-kept : goal.returns-clause-kept
 returns-clause-kept g c =
     let at = element_at _ _ _ _ c.requires.dev c.index_mut.ensures.value in
-    device_keeps _ _ _ _ _ _ _ _ at c.ev_close.ensures.keeps
+    device_keeps _ _ _ _ _ _ _ at c.ev_close.ensures.keeps
 
 pub returns-clause-told : goal.returns-clause-told
 returns-clause-told g c =
     let at = element_at _ _ _ _ c.requires.dev c.index_mut.ensures.value in
     told_ev_close _ _ _ _ _ _ at _ _ c.ev_close.ensures.acts
+
+pub ev_close-requires : goal.ev_close-requires
+ev_close-requires g c =
+    ap is_input (sym (kind_is any_front c.args.self.now.context.items c.args.self.now.described.items c.args.self.now.devices.items c.args.dev c.index_mut.result.now (element_at any_front _ _ _ c.requires.dev c.index_mut.ensures.value)))
+    ∙ c.requires.input

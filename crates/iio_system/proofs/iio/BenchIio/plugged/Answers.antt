@@ -1,8 +1,8 @@
 use Rattle.std.proofs.Common.{◌∙◌, sym}
-use Rattle.iio_system.specs.Station.{front_by, station_by}
+use Rattle.iio_system.specs.Station.{any_front, any_station}
 use Rattle.iio_system.proofs.ListLemmas.{element_at}
 use Rattle.iio_system.proofs.ToldLemmas.{plugged_is}
 use Rattle.iio_system.proofs.iio.BenchIio.plugged.Goals as goal
 
 pub returns : goal.returns
-returns g c = c.plugged.ensures ∙ sym (plugged_is (station_by _) _ _ _ _ (element_at front_by _ _ _ c.requires c.index.ensures))
+returns g c = c.plugged.ensures ∙ sym (plugged_is (any_station _) _ _ _ _ (element_at any_front _ _ _ c.requires c.index.ensures))

@@ -8,13 +8,13 @@ invariant_of-self g c =
     let at = element_at _ _ _ _ c.requires.dev c.index_mut.ensures.value in
     record {
       sound = sound_trigger _ _ _ _ _ _ _ c.args.self.now.sound at _ _ c.set_trigger.ensures.acts;
-      numbered = numbered_after _ _ _ _ _ c.args.self.now.numbered at c.set_trigger.ensures.keeps.device.number;
+      numbered = numbered_after _ _ _ _ _ c.args.self.now.numbered at c.set_trigger.ensures.keeps.head.number;
     }
 
 pub returns-clause-kept : goal.returns-clause-kept
 returns-clause-kept g c =
     let at = element_at _ _ _ _ c.requires.dev c.index_mut.ensures.value in
-    device_keeps _ _ _ _ _ _ _ _ at c.set_trigger.ensures.keeps
+    device_keeps _ _ _ _ _ _ _ at c.set_trigger.ensures.keeps
 
 pub returns-clause-told : goal.returns-clause-told
 returns-clause-told g c =

@@ -1,7 +1,10 @@
+use Rattle.std.proofs.Common.{ap, sym, ◌∙◌}
+use Rattle.iio_desc.specs.Kind.{is_average}
 use Rattle.iio_system.proofs.ListLemmas.{element_at, numbered_after}
-use Rattle.iio_system.proofs.IioLemmas.{channel_within, device_keeps, sound_write}
-use Rattle.iio_system.specs.Station.{front_by}
-use Rattle.iio_system.proofs.ToldLemmas.{shape_is, told_write}
+use Rattle.iio_system.proofs.AnyLemmas.{no_average}
+use Rattle.iio_system.proofs.IioLemmas.{device_keeps, is_written, sound_write}
+use Rattle.iio_system.specs.Station.{any_front}
+use Rattle.iio_system.proofs.ToldLemmas.{kind_is, shape_is, told_write}
 use Rattle.iio_system.proofs.iio.BenchIio.write_attr.Goals as goal
 
 pub invariant_of-self : goal.invariant_of-self
@@ -9,13 +12,13 @@ invariant_of-self g c =
     let at = element_at _ _ _ _ c.requires.dev c.index_mut.ensures.value in
     record {
       sound = sound_write _ _ _ _ _ _ _ c.args.self.now.sound at _ _ _ _ c.write_attr.ensures.acts;
-      numbered = numbered_after _ _ _ _ _ c.args.self.now.numbered at c.write_attr.ensures.keeps.device.number;
+      numbered = numbered_after _ _ _ _ _ c.args.self.now.numbered at c.write_attr.ensures.keeps.head.number;
     }
 
 pub returns-clause-kept : goal.returns-clause-kept
 returns-clause-kept g c =
     let at = element_at _ _ _ _ c.requires.dev c.index_mut.ensures.value in
-    device_keeps _ _ _ _ _ _ _ _ at c.write_attr.ensures.keeps
+    device_keeps _ _ _ _ _ _ _ at c.write_attr.ensures.keeps
 
 pub returns-clause-told : goal.returns-clause-told
 returns-clause-told g c =
@@ -24,5 +27,9 @@ returns-clause-told g c =
 
 pub write_attr-requires : goal.write_attr-requires
 write_attr-requires g c =
-    let at = element_at _ _ _ _ c.requires.dev c.index_mut.ensures.value in
-    channel_within _ _ _ _ _ (shape_is front_by _ _ _ _ _ at) c.requires.may_write.named
+    let at = element_at any_front _ _ _ c.requires.dev c.index_mut.ensures.value in
+    let kind = kind_is any_front c.args.self.now.context.items c.args.self.now.described.items _ _ _ at in
+    let w =
+    is_written _ c.args.dev c.args.channel c.args.attr c.args.value (any_front c.index_mut.result.now) kind (shape_is any_front c.args.self.now.context.items c.args.self.now.described.items _ _ _ at) c.requires.may_write
+    (ap is_average (sym kind) ∙ no_average c.args.self.now.context.items c.args.self.now.described.items c.args.self.now.devices.items c.args.dev) in
+    record { input = w.0; channel = w.1 }

@@ -1,0 +1,33 @@
+use Rattle.std.proofs.Common.{◌∙◌, ap, sym}
+use Rattle.iio_device.specs.Plug.{driver_of}
+use Rattle.iio_system.specs.Handling.{entry_answer, entry_station, is_last}
+use Rattle.iio_system.specs.Station.{any_front, any_station, captures_by}
+use Rattle.iio_system.proofs.TriggerLemmas.{done_off, due_dev, due_is, none_off}
+use Rattle.iio_system.proofs.any_device.AnyDevice.handle.Goals as goal
+
+pub handle_due-became-requires : goal.handle_due-became-requires
+handle_due-became-requires g c = due_dev c.args.dev c.args.trigger.now.outstanding c.in-Some.due (sym c.in-Some.ensures.due) ∙ c.requires.number
+
+pub returns-in-None-clause-answer : goal.returns-in-None-clause-answer
+returns-in-None-clause-answer g c =
+    ap (λ o. entry_answer (any_front c.args.self.now).kind o (is_last (captures_by c.args.self.now)) (any_station (driver_of (λ b. (g.dyn-1.0.entry b.vtable).1.driver b.value)) c.args.self.now)) (c.in-None.ensures.due ∙ due_is c.args.dev c.args.trigger.now.outstanding c.requires.idle)
+
+pub returns-in-None-clause-station : goal.returns-in-None-clause-station
+returns-in-None-clause-station g c =
+    ap (λ o. entry_station (any_front c.args.self.now).kind o (is_last (captures_by c.args.self.now)) (any_front c.args.self.now).shape (any_station (driver_of (λ b. (g.dyn-1.0.entry b.vtable).1.driver b.value)) c.args.self.now)) (c.in-None.ensures.due ∙ due_is c.args.dev c.args.trigger.now.outstanding c.requires.idle)
+
+pub returns-in-None-clause-trigger : goal.returns-in-None-clause-trigger
+returns-in-None-clause-trigger g c = none_off c.args.dev c.args.trigger.now c.due.new.self c.requires.idle c.in-None.ensures.due c.in-None.ensures.after
+
+pub returns-in-Some-clause-answer : goal.returns-in-Some-clause-answer
+returns-in-Some-clause-answer g c =
+    c.handle_due-became.ensures.answer
+    ∙ ap (λ o. entry_answer (any_front c.args.self.now).kind o (is_last (captures_by c.args.self.now)) (any_station (driver_of (λ b. (g.dyn-1.0.entry b.vtable).1.driver b.value)) c.args.self.now)) (c.in-Some.ensures.due ∙ due_is c.args.dev c.args.trigger.now.outstanding c.requires.idle)
+
+pub returns-in-Some-clause-station : goal.returns-in-Some-clause-station
+returns-in-Some-clause-station g c =
+    c.handle_due-became.ensures.station
+    ∙ ap (λ o. entry_station (any_front c.args.self.now).kind o (is_last (captures_by c.args.self.now)) (any_front c.args.self.now).shape (any_station (driver_of (λ b. (g.dyn-1.0.entry b.vtable).1.driver b.value)) c.args.self.now)) (c.in-Some.ensures.due ∙ due_is c.args.dev c.args.trigger.now.outstanding c.requires.idle)
+
+pub returns-in-Some-clause-trigger : goal.returns-in-Some-clause-trigger
+returns-in-Some-clause-trigger g c = done_off c.args.dev c.in-Some.due c.done.result c.args.trigger.now c.due.new.self c.done.new.self c.in-Some.ensures.due c.in-Some.ensures.after c.done.ensures.found c.done.ensures.taken

@@ -1,0 +1,414 @@
+//! A device of a bench, of whichever kind.
+
+ghost use Rattle.std.specs.Prelude.{◌≡◌, ◌≢◌, ◌==◌, ◌&&◌, ◌+◌, ◌-◌, ◌*◌, ◌^◌, ◌≤◌, ◌<◌, not, true, false, Err, IfOk, IfSome, None, Some, is_some, length, map, vec_capacity};
+ghost use Rattle.iio_base.specs.Refusals.{ensure, first_refusal};
+ghost use Rattle.iio_text.specs.declared.errors.Errno.TheVariants.{EBADF, ENODEV};
+ghost use Rattle.iio_desc.specs.Kind.{is_input, is_output};
+ghost use Rattle.iio_desc.specs.declared.limits.TheConstants.{MAX_TRIGGERS};
+ghost use Rattle.iio_event.specs.Monitor.{after_close, after_open, after_read};
+ghost use Rattle.iio_kfifo.specs.declared.limits.TheConstants.{MAX_BYTES};
+ghost use Rattle.iio_layout.specs.Active.{has_data};
+ghost use Rattle.iio_layout.specs.Layout.{scan_size};
+ghost use Rattle.iio_layout.specs.Shape.{count_of};
+ghost use Rattle.iio_output.specs.Written.{scans_of};
+ghost use Rattle.iio_trigger.specs.Trigger.{without_entry};
+ghost use Rattle.iio_device.specs.Device.{has_no_place};
+ghost use Rattle.iio_device.specs.Site.{site_written, with_monitor};
+ghost use Rattle.iiod_session.specs.declared.iio.No.TheVariants.{Mem};
+ghost use Rattle.iiod_session.specs.Calls.{ev_open_answer, ev_read_answer, holds_events, left, remasked, trigger_answer, write_scans_at, writes};
+ghost use Rattle.iiod_session.specs.Machine.{scans_in, with_site};
+ghost use Rattle.iio_system.specs.Acting.{Acts, MayReadOf, Reads, TakesAt, TakesScansAt, id_of, lost_in};
+ghost use Rattle.iio_system.specs.Faults.{HostsAny, JoinsAny, any_refusals};
+ghost use Rattle.iio_system.specs.Handling.{IsRoom, counted, entry_answer, entry_station, is_last, sensed_answer, sensed_station, unplugged_station};
+ghost use Rattle.iio_system.specs.Places.{entry_of, has_in_hand, is_hosted, place_left, trigger_of};
+ghost use Rattle.iio_system.specs.Remasking.{remask_answer};
+ghost use Rattle.iio_system.specs.Station.{KeepsFront, KeepsHead, any_front, any_station, captures_by, number_by, room_by};
+
+use crate::calls;
+use crate::joining::{host_input, join_input};
+use crate::out_device::{Gave, OutDevice};
+use crate::remasking::remask;
+use crate::seat::Seat;
+use iio_attr::{Attr, Name, Value};
+use iio_device::{Device, Handled, Member, Plug, Sensed};
+use iio_event::EventData;
+use iio_kfifo::Kfifo;
+use iio_layout::Shape;
+use iio_mask::Mask;
+use iio_sensor::Sensor;
+use iio_text::Fixed;
+use iio_trigger::{Due, Trigger};
+use iiod_session::{Counts, No, Took};
+use std::alloc::Global;
+
+/// A device of a bench.
+#[derive(Drop)]
+pub enum AnyDevice {
+    /// Its sensor is asked.
+    Input(Device<Kfifo>),
+    /// It is given what its one member writes.
+    Output(OutDevice),
+}
+
+/// What became of a device's entry.
+#[derive(Clone, Copy, Debug, PartialEq, Eq, Hash)]
+pub enum Became {
+    /// At an input device.
+    Asked(Handled),
+    /// At an output device.
+    Gave(Gave),
+}
+
+impl AnyDevice {
+    /// Its name.
+    pub(crate) fn name(&self) -> &Name
+        ensures { result.now ≡ (any_front self.now).name }
+    {
+        match self {
+            AnyDevice::Input(device) => &device.core.name,
+            AnyDevice::Output(device) => &device.name,
+        }
+    }
+
+    /// Its channels.
+    pub(crate) fn shape(&self) -> &Shape
+        ensures { result.now ≡ (any_front self.now).shape }
+    {
+        match self {
+            AnyDevice::Input(device) => device.shape(),
+            AnyDevice::Output(device) => device.out.shape(),
+        }
+    }
+
+    /// Whether it is an output device.
+    pub(crate) fn is_output(&self) -> bool
+        ensures { result ≡ is_output (any_front self.now).kind }
+    {
+        match self {
+            AnyDevice::Input(_) => false,
+            AnyDevice::Output(_) => true,
+        }
+    }
+
+    /// Whether it is plugged.
+    pub(crate) fn plugged(&self) -> bool
+        ensures { result ≡ (any_station ⟦<Plug as Sensor>⟧.driver self.now).site.plugged }
+    {
+        match self {
+            AnyDevice::Input(device) => device.plugged(),
+            AnyDevice::Output(device) => device.plugged,
+        }
+    }
+
+    /// The number of its trigger, where it has one.
+    pub(crate) fn trigger(&self) -> Option<u32>
+        ensures { result ≡ (any_station ⟦<Plug as Sensor>⟧.driver self.now).site.trigger }
+    {
+        match self {
+            AnyDevice::Input(device) => device.trigger(),
+            AnyDevice::Output(device) => device.trigger,
+        }
+    }
+
+    /// Gives it another trigger, or none; a number that is given is below 16.
+    pub(crate) fn set_trigger(&mut self, trigger: Option<u32>) -> Result<(), No>
+        requires { IfSome trigger (λ t. t < MAX_TRIGGERS) }
+        ensures acts { Acts (with_site (λ site. record site { trigger = trigger })) (trigger_answer (any_station ⟦<Plug as Sensor>⟧.driver self.old))
+            result (any_station ⟦<Plug as Sensor>⟧.driver self.old) (any_station ⟦<Plug as Sensor>⟧.driver self.new) }
+        ensures keeps { KeepsFront self.old self.new }
+    {
+        match self {
+            AnyDevice::Input(device) => calls::set_trigger(device, trigger),
+            AnyDevice::Output(device) => device.set_trigger(trigger),
+        }
+    }
+
+    /// The number of the device's trigger, where a member of that mask may join by it.
+    pub(crate) fn host(&self, triggers: &[Trigger], mask: Mask) -> Result<usize, No>
+        requires hosted { is_hosted (length triggers.now) (any_station ⟦<Plug as Sensor>⟧.driver self.now) ≡ true }
+        requires below { mask.bits < 2 ^ count_of (any_front self.now).shape }
+        requires channel { has_data (any_front self.now).shape mask.bits ≡ true }
+        ensures { HostsAny triggers.now (any_front self.now).kind (number_by self.now) (any_front self.now).shape (any_station ⟦<Plug as Sensor>⟧.driver self.now) mask.bits result }
+    {
+        match self {
+            AnyDevice::Input(device) => host_input(device, triggers, mask),
+            AnyDevice::Output(device) => device.host(triggers),
+        }
+    }
+
+    /// A member more, which may join by that trigger; the scans of an output device's come round again where it is cyclic.
+    pub(crate) fn join(
+        &mut self,
+        alloc: Global,
+        trigger: &mut Trigger,
+        mask: Mask,
+        capacity: u32,
+        cyclic: bool,
+    ) -> Result<Seat, No>
+        requires trigger { is_some (any_station ⟦<Plug as Sensor>⟧.driver self.old).site.trigger ≡ true }
+        requires may { first_refusal (any_refusals (has_no_place (number_by self.old) trigger.old) (any_front self.old).kind (any_front self.old).shape (any_station ⟦<Plug as Sensor>⟧.driver self.old) mask.bits) ≡ None }
+        requires cycles { (cyclic && not (is_output (any_front self.old).kind)) ≡ false }
+        requires below { mask.bits < 2 ^ count_of (any_front self.old).shape }
+        requires channel { has_data (any_front self.old).shape mask.bits ≡ true }
+        requires some { 1 ≤ capacity }
+        requires bytes { capacity * scan_size (any_front self.old).shape mask.bits ≤ MAX_BYTES }
+        ensures joins { JoinsAny mask capacity cyclic (number_by self.old) (any_front self.old).shape result (any_station ⟦<Plug as Sensor>⟧.driver self.old) (any_station ⟦<Plug as Sensor>⟧.driver self.new) trigger.old trigger.new }
+        ensures keeps { KeepsFront self.old self.new }
+    {
+        match self {
+            AnyDevice::Input(device) => join_input(alloc, device, trigger, mask, capacity),
+            AnyDevice::Output(device) => device.start(trigger, mask, capacity, cyclic),
+        }
+    }
+
+    /// Writes scans by the member of that number, under that mask, at an output device: how many of the bytes were taken.
+    pub(crate) fn write(&mut self, number: u64, mask: Mask, bytes: &[u8]) -> Result<u32, No>
+        requires { is_output (any_front self.old).kind ≡ true }
+        ensures acts { Acts (λ st. record st { members = map (writes (id_of number mask) (scans_of (scan_size (any_front self.old).shape mask.bits) bytes.now)) st.members })
+            (write_scans_at (any_station ⟦<Plug as Sensor>⟧.driver self.old) (id_of number mask) (scan_size (any_front self.old).shape mask.bits) bytes.now)
+            result (any_station ⟦<Plug as Sensor>⟧.driver self.old) (any_station ⟦<Plug as Sensor>⟧.driver self.new) }
+        ensures within { IfOk result (λ taken. taken ≤ length bytes.now) }
+        ensures keeps { KeepsFront self.old self.new }
+    {
+        match self {
+            AnyDevice::Input(_) => unreachable!(),
+            AnyDevice::Output(device) => device.write(number, mask, bytes),
+        }
+    }
+
+    /// The member of that number leaves, by the device's trigger.
+    pub(crate) fn leave(&mut self, number: u64, trigger: &mut Trigger)
+        ensures station { any_station ⟦<Plug as Sensor>⟧.driver self.new ≡ left number (any_station ⟦<Plug as Sensor>⟧.driver self.old) }
+        ensures trigger { trigger.new ≡ place_left (number_by self.old) (any_station ⟦<Plug as Sensor>⟧.driver self.old) (any_station ⟦<Plug as Sensor>⟧.driver self.new) trigger.old }
+        ensures keeps { KeepsFront self.old self.new }
+    {
+        match self {
+            AnyDevice::Input(device) => {
+                let _tail = device.leave(Member { number }, trigger);
+            }
+            AnyDevice::Output(device) => device.leave(number, trigger),
+        }
+    }
+
+    /// The member of a seat at an input device begins anew under another mask, whose scans have `size` bytes: how many scans
+    /// waited for it. The seat is to have that mask and that size then.
+    pub(crate) fn remask(
+        &mut self,
+        alloc: Global,
+        seat: &Seat,
+        mask: Mask,
+        size: u32,
+    ) -> Result<u64, No>
+        requires input { is_input (any_front self.old).kind ≡ true }
+        requires below { mask.bits < 2 ^ count_of (any_front self.old).shape }
+        requires channel { has_data (any_front self.old).shape mask.bits ≡ true }
+        requires sized { size ≡ scan_size (any_front self.old).shape mask.bits }
+        requires some { 1 ≤ seat.now.capacity }
+        requires bytes { 1 ≤ size }
+        requires fits { seat.now.capacity * size ≤ MAX_BYTES }
+        ensures acts { Acts (remasked seat.now.number mask.bits seat.now.capacity)
+            (remask_answer (any_front self.old).shape (any_station ⟦<Plug as Sensor>⟧.driver self.old) (id_of seat.now.number seat.now.mask) mask.bits)
+            result (any_station ⟦<Plug as Sensor>⟧.driver self.old) (any_station ⟦<Plug as Sensor>⟧.driver self.new) }
+        ensures keeps { KeepsFront self.old self.new }
+    {
+        match self {
+            AnyDevice::Input(device) => remask(alloc, device, seat, mask, size),
+            AnyDevice::Output(_) => unreachable!(),
+        }
+    }
+
+    /// Takes the oldest scan of the member of that number, under that mask, at an input device.
+    pub(crate) fn take(&mut self, number: u64, mask: Mask, out: &mut [u8]) -> Took
+        requires read { is_output (any_front self.old).kind ≡ false }
+        requires size { length out.old ≡ scan_size (any_front self.old).shape mask.bits }
+        ensures takes { TakesAt (id_of number mask) result out.new (any_station ⟦<Plug as Sensor>⟧.driver self.old) (any_station ⟦<Plug as Sensor>⟧.driver self.new) }
+        ensures keeps { KeepsFront self.old self.new }
+    {
+        match self {
+            AnyDevice::Input(device) => calls::take(device, number, mask, out),
+            AnyDevice::Output(_) => unreachable!(),
+        }
+    }
+
+    /// Takes the oldest scans of the member of that number, under that mask, at most `most`, and appends them.
+    pub(crate) fn take_scans(
+        &mut self,
+        number: u64,
+        mask: Mask,
+        most: u32,
+        out: &mut Vec<u8>,
+    ) -> Took
+        requires read { is_output (any_front self.old).kind ≡ false }
+        requires some { 1 ≤ most }
+        requires room { length out.old.items + most * scan_size (any_front self.old).shape mask.bits ≤ vec_capacity out.old }
+        ensures takes { TakesScansAt (id_of number mask) most result out.old.items out.new.items (any_station ⟦<Plug as Sensor>⟧.driver self.old) (any_station ⟦<Plug as Sensor>⟧.driver self.new) }
+        ensures keeps { KeepsFront self.old self.new }
+        ensures most { length out.new.items ≤ length out.old.items + most * scan_size (any_front self.old).shape mask.bits }
+        ensures room { vec_capacity out.old ≤ vec_capacity out.new }
+    {
+        match self {
+            AnyDevice::Input(device) => calls::take_scans(device, number, mask, most, out),
+            AnyDevice::Output(_) => unreachable!(),
+        }
+    }
+
+    /// The numbers of the queue of the member of that number, under that mask.
+    pub(crate) fn counts(&self, number: u64, mask: Mask) -> Counts
+        ensures waiting { result.waiting ≡ length (scans_in (id_of number mask) (any_station ⟦<Plug as Sensor>⟧.driver self.now).members) }
+        ensures lost { result.lost ≡ lost_in (id_of number mask) (any_station ⟦<Plug as Sensor>⟧.driver self.now).members }
+    {
+        match self {
+            AnyDevice::Input(device) => calls::counts(device, number, mask),
+            AnyDevice::Output(device) => device.counts(number, mask),
+        }
+    }
+
+    /// The value of an attribute that it has. `raw` of an input device asks the sensor at `t`.
+    pub(crate) fn read_attr(
+        &mut self,
+        t: i64,
+        channel: Option<u32>,
+        attr: Attr,
+    ) -> Result<Value, No>
+        requires { MayReadOf (any_front self.old) channel attr }
+        ensures reads { Reads (any_front self.old) t channel attr (any_station ⟦<Plug as Sensor>⟧.driver self.old) result (any_station ⟦<Plug as Sensor>⟧.driver self.new) }
+        ensures keeps { KeepsFront self.old self.new }
+    {
+        match self {
+            AnyDevice::Input(device) => calls::read_attr(device, t, channel, attr),
+            AnyDevice::Output(device) => device.read_attr(t, channel, attr),
+        }
+    }
+
+    /// Writes an attribute; an output device has none that can be written.
+    pub(crate) fn write_attr(
+        &mut self,
+        channel: Option<u32>,
+        attr: Attr,
+        value: Fixed,
+    ) -> Result<(), No>
+        requires input { is_input (any_front self.old).kind ≡ true }
+        requires channel { IfSome channel (λ c. c < length (any_front self.old).shape.channels) }
+        ensures acts { Acts (with_site (site_written channel attr value)) (ensure (any_station ⟦<Plug as Sensor>⟧.driver self.old).site.plugged ENODEV)
+            result (any_station ⟦<Plug as Sensor>⟧.driver self.old) (any_station ⟦<Plug as Sensor>⟧.driver self.new) }
+        ensures keeps { KeepsFront self.old self.new }
+    {
+        match self {
+            AnyDevice::Input(device) => calls::write_attr(device, channel, attr, value),
+            AnyDevice::Output(_) => unreachable!(),
+        }
+    }
+
+    /// Makes that connection the holder of an input device's events.
+    pub(crate) fn ev_open(&mut self, who: u32) -> Result<(), No>
+        requires { is_input (any_front self.old).kind ≡ true }
+        ensures acts { Acts (with_site (with_monitor (after_open who))) (ev_open_answer (any_station ⟦<Plug as Sensor>⟧.driver self.old))
+            result (any_station ⟦<Plug as Sensor>⟧.driver self.old) (any_station ⟦<Plug as Sensor>⟧.driver self.new) }
+        ensures keeps { KeepsFront self.old self.new }
+    {
+        match self {
+            AnyDevice::Input(device) => calls::ev_open(device, who),
+            AnyDevice::Output(_) => unreachable!(),
+        }
+    }
+
+    /// Takes the oldest event of that connection.
+    pub(crate) fn ev_read(&mut self, who: u32) -> Result<Option<EventData>, No>
+        requires { is_input (any_front self.old).kind ≡ true }
+        ensures acts { Acts (with_site (with_monitor (after_read (λ a b. a == b) who))) (ev_read_answer who (any_station ⟦<Plug as Sensor>⟧.driver self.old))
+            result (any_station ⟦<Plug as Sensor>⟧.driver self.old) (any_station ⟦<Plug as Sensor>⟧.driver self.new) }
+        ensures keeps { KeepsFront self.old self.new }
+    {
+        match self {
+            AnyDevice::Input(device) => calls::ev_read(device, who),
+            AnyDevice::Output(_) => unreachable!(),
+        }
+    }
+
+    /// Ends that connection's holding of the device's events; an output device's are held by nobody.
+    pub(crate) fn ev_close(&mut self, who: u32) -> Result<(), No>
+        requires { is_input (any_front self.old).kind ≡ true }
+        ensures no_memory { result ≢ Err Mem }
+        ensures acts { Acts (with_site (with_monitor (after_close (λ a b. a == b) who))) (ensure (holds_events who (any_station ⟦<Plug as Sensor>⟧.driver self.old)) EBADF)
+            result (any_station ⟦<Plug as Sensor>⟧.driver self.old) (any_station ⟦<Plug as Sensor>⟧.driver self.new) }
+        ensures keeps { KeepsFront self.old self.new }
+    {
+        match self {
+            AnyDevice::Input(device) => calls::ev_close(device, who),
+            AnyDevice::Output(_) => unreachable!(),
+        }
+    }
+
+    // Handles an entry of it that was handed out.
+    #[inline(always)]
+    fn handle_due(&mut self, due: &Due) -> Became
+        requires { due.now.dev ≡ number_by self.old }
+        ensures answer { Some result ≡ entry_answer (any_front self.old).kind (Some due.now) (is_last (captures_by self.old)) (any_station ⟦<Plug as Sensor>⟧.driver self.old) }
+        ensures station { any_station ⟦<Plug as Sensor>⟧.driver self.new ≡ entry_station (any_front self.old).kind (Some due.now) (is_last (captures_by self.old)) (any_front self.old).shape (any_station ⟦<Plug as Sensor>⟧.driver self.old) }
+        ensures room { IsRoom (Some result) (any_station ⟦<Plug as Sensor>⟧.driver self.old).members (room_by self.new) }
+        ensures captures { captures_by self.new ≡ counted (Some result) (captures_by self.old) }
+        ensures keeps { KeepsHead self.old self.new }
+    {
+        match self {
+            AnyDevice::Input(device) => Became::Asked(calls::handle_due(device, due)),
+            AnyDevice::Output(device) => Became::Gave(device.handle(due)),
+        }
+    }
+
+    /// Handles the entry that the device, whose number is `dev`, has at a trigger, and takes it off. `None` comes exactly where
+    /// it has none.
+    #[inline(always)]
+    pub(crate) fn handle(&mut self, trigger: &mut Trigger, dev: u32) -> Option<Became>
+        requires number { dev ≡ number_by self.old }
+        requires idle { has_in_hand trigger.old.outstanding ≡ false }
+        ensures answer { result ≡ entry_answer (any_front self.old).kind (entry_of dev (trigger_of trigger.old).entries) (is_last (captures_by self.old)) (any_station ⟦<Plug as Sensor>⟧.driver self.old) }
+        ensures station { any_station ⟦<Plug as Sensor>⟧.driver self.new ≡ entry_station (any_front self.old).kind (entry_of dev (trigger_of trigger.old).entries) (is_last (captures_by self.old)) (any_front self.old).shape (any_station ⟦<Plug as Sensor>⟧.driver self.old) }
+        ensures room { IsRoom result (any_station ⟦<Plug as Sensor>⟧.driver self.old).members (room_by self.new) }
+        ensures captures { captures_by self.new ≡ counted result (captures_by self.old) }
+        ensures keeps { KeepsHead self.old self.new }
+        ensures trigger { trigger.new ≡ record trigger.old { outstanding = without_entry dev trigger.old.outstanding } }
+    {
+        match trigger.due(dev) {
+            None => None,
+            Some(due) => {
+                let became = self.handle_due(&due);
+                trigger.done(due);
+                Some(became)
+            }
+        }
+    }
+
+    /// The scan that an output device was given last.
+    pub(crate) fn room(&self) -> &[u8]
+        ensures { result.now ≡ room_by self.now }
+    {
+        match self {
+            AnyDevice::Input(_) => &[],
+            AnyDevice::Output(device) => &device.room,
+        }
+    }
+
+    /// Looks at its thresholds at a moment; an output device has none.
+    pub(crate) fn sense(&mut self, t: i64) -> Sensed
+        ensures answer { result ≡ sensed_answer (any_front self.old).shape t (any_station ⟦<Plug as Sensor>⟧.driver self.old) }
+        ensures station { any_station ⟦<Plug as Sensor>⟧.driver self.new ≡ sensed_station (any_front self.old).shape t (any_station ⟦<Plug as Sensor>⟧.driver self.old) }
+        ensures keeps { KeepsFront self.old self.new }
+    {
+        match self {
+            AnyDevice::Input(device) => device.sense(t),
+            AnyDevice::Output(device) => device.sense(t),
+        }
+    }
+
+    /// Unplugs it. It says whether it was plugged.
+    pub(crate) fn unplug(&mut self) -> bool
+        ensures answer { result ≡ (any_station ⟦<Plug as Sensor>⟧.driver self.old).site.plugged }
+        ensures station { any_station ⟦<Plug as Sensor>⟧.driver self.new ≡ unplugged_station (any_station ⟦<Plug as Sensor>⟧.driver self.old) }
+        ensures keeps { KeepsFront self.old self.new }
+    {
+        match self {
+            AnyDevice::Input(device) => device.unplug(),
+            AnyDevice::Output(device) => device.unplug(),
+        }
+    }
+}
