@@ -1,6 +1,6 @@
 -- The handling of an entry, as the machine has it.
-use Rattle.std.proofs.Common.{◌≡◌, ℕ, ◌+◌, ◌-◌, ◌^◌, Bool, true, false, List, map, Option, Some, None, refl, sym, ap, ◌∙◌, cond}
-use Rattle.std.specs.Prelude.{◌==◌, ◌&&◌, not, ℤ}
+use Rattle.std.proofs.Common.{◌≡◌, ◌+◌, ◌-◌, ◌^◌, Bool, true, false, map, Option, Some, None, refl, sym, ap, ◌∙◌, cond}
+use Rattle.std.specs.Prelude.{◌==◌, ◌&&◌, ℤ}
 use Rattle.iio_layout.specs.Shape.{ShapeRecord}
 use Rattle.iio_desc.specs.Kind.{Kind, Input, Output, Average}
 use Rattle.iio_derive.specs.Window.{no_window}

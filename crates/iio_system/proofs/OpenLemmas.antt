@@ -10,7 +10,6 @@ use Rattle.iio_layout.specs.Active.{has_data}
 use Rattle.iio_layout.specs.Layout.{scan_size}
 use Rattle.iio_layout.specs.Shape.{ShapeRecord, count_of}
 use Rattle.iio_desc.specs.declared.description.TriggerDesc.{TriggerDesc}
-use Rattle.iio_desc.specs.Kind.{Kind}
 use Rattle.iio_kfifo.specs.Queue.{Queue}
 use Rattle.iio_kfifo.specs.declared.limits.TheConstants.{MAX_BYTES}
 use Rattle.iio_sensor.specs.Driver.{Driver}
@@ -23,8 +22,8 @@ use Rattle.iio_device.specs.Members.{member_of as membership_of}
 use Rattle.iio_device.specs.Site.{Site, attached, is_empty, no_driver}
 use Rattle.iiod_session.specs.declared.iio.No.{No}
 use Rattle.iiod_session.specs.declared.iio.No.TheVariants.{Errno as NoErrno, Mem as NoMem}
-use Rattle.iiod_session.specs.Front.{kind_at, shape_at}
-use Rattle.iiod_session.specs.Machine.{Machine, Member, Station, lost_by, with_station, without}
+use Rattle.iiod_session.specs.Front.{shape_at}
+use Rattle.iiod_session.specs.Machine.{Machine, Member, Station, with_station}
 use Rattle.iiod_session.specs.Calls.{closed, is_attached, joined, left, newcomer, open_of, open_refusals, own_host, unless}
 use Rattle.iiod_session.specs.Seat.{Answers, IsNew, MayOpen, number_by as number_of}
 use Rattle.iio_history.specs.Devices.{queue_waits}
@@ -35,14 +34,14 @@ use Rattle.iio_system.specs.declared.seat.Seat.{Seat}
 use Rattle.iio_system.specs.Acting.{KeepsCaptures}
 use Rattle.iio_system.specs.Faults.{HostsAny, JoinsAny, any_refusals, lacks_place}
 use Rattle.iio_system.specs.OutStation.{out_station}
-use Rattle.iio_system.specs.Places.{IsBench, IsNumbered, has_trigger, is_hosted, place_left, place_taken, places_from, trigger_of}
+use Rattle.iio_system.specs.Places.{IsBench, IsNumbered, has_trigger, is_hosted, place_left, places_from, trigger_of}
 use Rattle.iio_system.specs.Seat.{seen_of}
 use Rattle.iio_system.specs.Station.{any_front, any_station, member_of, number_by, station_by, station_of, stations_by}
 use Rattle.iio_system.proofs.ListLemmas.{at_place_same, empty_list, is_empty-map, length_map_is, map_at, same_element}
 use Rattle.iio_system.proofs.BenchLemmas.{KeepsPlace, bench_attached, bench_by, bench_detached, bench_stays, kept_along, none_attached}
 use Rattle.iio_system.proofs.IioLemmas.{keeps_along}
 use Rattle.iio_system.proofs.JoinLemmas.{refusals_any}
-use Rattle.iio_system.proofs.AnyLemmas.{attached_as, closed_alone, hosted_as, no_average, open_alone}
+use Rattle.iio_system.proofs.AnyLemmas.{closed_alone, hosted_as, no_average, open_alone}
 use Rattle.iio_system.proofs.ToldLemmas.{fronts_by, kind_is, machine_by, shape_is, station_is, told_changed, told_same}
 
 pub as_many : (triggers : List TriggerDesc) (states : List State) → map (λ (s : State). s.places) states ≡ map (λ (t : TriggerDesc). t.places) triggers → length states ≡ length triggers

@@ -1,6 +1,6 @@
 -- REMASK at a bench.
 use Rattle.std.proofs.Common.{◌≡◌, ℕ, true, false, List, [], ◌∷◌, map, length, set, slice_get, Option, Some, None, IfSome, Result, Ok, Err, refl, sym, ap, subst, ◌∙◌, arith}
-use Rattle.std.specs.Prelude.{◌==◌, is_none, option_and_then, ℤ}
+use Rattle.std.specs.Prelude.{is_none, option_and_then, ℤ}
 use Rattle.std.specs.Option.{option_map_or}
 use Rattle.std.proofs.lemmas.Bool.Decides.{nat_tests}
 use Rattle.iio_base.specs.Refusals.{first_refusal, unless_refused}

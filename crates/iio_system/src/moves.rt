@@ -91,6 +91,7 @@ pub(crate) fn poll(bench: &mut Bench, trigger: u32, t: i64, out: &mut Vec<u8>) -
 }
 
 // The line of an entry that was handled.
+#[inline(always)]
 fn push_became(
     bench: &Bench,
     trigger: u32,

@@ -1,10 +1,10 @@
-use Rattle.std.proofs.Common.{length, map, sym, ap, subst, List, ℕ, ◌∙◌}
+use Rattle.std.proofs.Common.{length, map, sym, subst, List, ℕ}
 use Rattle.std.proofs.lemmas.Option.{slice_get_read}
 use Rattle.iio_device.specs.Plug.{driver_of}
 use Rattle.iio_device.specs.Site.{no_driver}
 use Rattle.iiod_session.specs.Front.{kind_at, shape_at}
 use Rattle.iiod_session.specs.Machine.{Station, station_at}
-use Rattle.iio_system.specs.Bench.{has_ended, room_at, trigger_in}
+use Rattle.iio_system.specs.Bench.{has_ended, trigger_in}
 use Rattle.iio_system.specs.Handling.{IsRoom, counted, is_last}
 use Rattle.iio_system.specs.Places.{entry_of, trigger_of}
 use Rattle.iio_system.specs.Station.{any_front, any_station, captures_by, room_by, stations_by}

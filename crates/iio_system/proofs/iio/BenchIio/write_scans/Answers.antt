@@ -1,7 +1,6 @@
-use Rattle.std.proofs.Common.{◌∙◌, ℕ, List, map, ap, sym}
+use Rattle.std.proofs.Common.{◌∙◌, ap, sym}
 use Rattle.iio_desc.specs.Kind.{is_output}
 use Rattle.iio_device.specs.Plug.{driver_of}
-use Rattle.iiod_session.specs.Calls.{write_scans_of}
 use Rattle.iio_system.specs.Acting.{id_of}
 use Rattle.iio_system.specs.Station.{any_front, any_station}
 use Rattle.iio_system.proofs.ListLemmas.{element_at, numbered_after}
