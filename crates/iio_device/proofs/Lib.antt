@@ -11,3 +11,4 @@ mod SensingLemmas
 mod SoundLemmas
 mod StoredLemmas
 mod TakeLemmas
+mod WantedLemmas

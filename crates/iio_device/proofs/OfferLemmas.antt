@@ -28,7 +28,7 @@ use Rattle.iio_device.proofs.SoundLemmas.{wanted_at}
 use Rattle.iio_device.specs.Sound.{IsMember, IsSound, bits_of, is_nil}
 
 -- the active mask contains what is wanted
-rule_contains : (shape : ShapeRecord) (wanted m : ℕ) → active_of shape wanted ≡ Some m → is_within wanted m ≡ true
+pub rule_contains : (shape : ShapeRecord) (wanted m : ℕ) → active_of shape wanted ≡ Some m → is_within wanted m ≡ true
 rule_contains shape wanted m found = by (matching_mask shape.listed (data_part shape wanted)) refl found
   where
     by : (o : Option ℕ) → matching_mask shape.listed (data_part shape wanted) ≡ o → option_map (with_stamp shape wanted) o ≡ Some m → is_within wanted m ≡ true

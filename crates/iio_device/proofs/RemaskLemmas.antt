@@ -65,7 +65,7 @@ module _ {Q : Type 0} where
       append_none (x ∷ xs) = ap (λ ys. x ∷ ys) (append_none xs)
 
   -- one member is another one
-  union_instead : (before after : List (Membership Q)) (y : Membership Q) → union_of_all (masks_of (before ++ y ∷ after)) ≡ union_of y.mask.bits (union_of_all (masks_of (before ++ after)))
+  pub union_instead : (before after : List (Membership Q)) (y : Membership Q) → union_of_all (masks_of (before ++ y ∷ after)) ≡ union_of y.mask.bits (union_of_all (masks_of (before ++ after)))
   union_instead before after y =
       ap union_of_all (map-append mask_of before (y ∷ after))
       ∙ union_of_all-more (masks_of before) (masks_of after) y.mask.bits

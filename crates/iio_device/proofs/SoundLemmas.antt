@@ -177,7 +177,7 @@ module _ {Q : Type 0} (taken lost size : Q → ℕ) where
   nil_other [] after x = refl
   nil_other (y ∷ ys) after x = refl
 
-  all_without : {A : Type 0} (P : A → Type 0) (before after : List A) (x : A) → All P (before ++ x ∷ after) → All P (before ++ after)
+  pub all_without : {A : Type 0} (P : A → Type 0) (before after : List A) (x : A) → All P (before ++ x ∷ after) → All P (before ++ after)
   all_without P [] after x all = All-tail P x after all
   all_without P (y ∷ ys) after x all = All-cons P y (ys ++ after) (All-head P y (ys ++ x ∷ after) all) (all_without P ys after x (All-tail P y (ys ++ x ∷ after) all))
 

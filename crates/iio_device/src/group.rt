@@ -65,7 +65,8 @@ impl Group {
         }
     }
 
-    fn is_of(&self, mask: Mask) -> bool
+    /// Whether it is of that mask.
+    pub(crate) fn is_of(&self, mask: Mask) -> bool
         ensures { result ≡ (self.now.mask == mask.bits) }
     {
         self.mask == mask
@@ -82,13 +83,6 @@ impl Group {
         ensures { result ≡ self.now.table.active_size }
     {
         self.table.active_size()
-    }
-
-    /// The mask that the group is of.
-    pub(crate) fn mask(&self) -> Mask
-        ensures { result.bits ≡ self.now.mask }
-    {
-        self.mask
     }
 }
 

@@ -70,13 +70,14 @@ fn stands_at<Q>(members: &[Membership<Q>], at: usize, number: u64) -> bool
     at < members.len() && members[at].number == number
 }
 
-// Where a member of that number stands if none left between the first member's joining and its own. Members stand in the
-// order of their joining, which their numbers count.
+// Where a member of that number stands if none left between the first member's joining and its own, or at the last place
+// where that is past it. Members stand in the order of their joining, which their numbers count.
 fn likely_place<Q>(members: &[Membership<Q>], number: u64) -> usize {
     if members.is_empty() {
         return 0;
     }
-    number.wrapping_sub(members[0].number) as usize
+    let joined_before = number.wrapping_sub(members[0].number) as usize;
+    joined_before.min(members.len() - 1)
 }
 
 /// Where the member of that number stands.

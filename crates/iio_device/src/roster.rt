@@ -1,6 +1,6 @@
 //! A device's members, with their groups and the active mask.
 
-ghost use Rattle.std.specs.Prelude.{◌≡◌, ◌==◌, ◌&&◌, ℕ, ℤ, ◌+◌, ◌-◌, ◌*◌, ◌^◌, ◌<◌, ◌≤◌, true, false, All, IfOk, IfErr, OnOk, IfSome, IfNone, filter, is_err, is_none, length, take, List, unwrap_or, vec_len, vec_capacity, option_map, Some, None};
+ghost use Rattle.std.specs.Prelude.{◌≡◌, ◌==◌, ◌&&◌, ◌||◌, not, ℕ, ℤ, ◌+◌, ◌-◌, ◌*◌, ◌^◌, ◌<◌, ◌≤◌, true, false, All, IfOk, IfErr, OnOk, IfSome, IfNone, filter, is_err, is_none, length, take, List, unwrap_or, vec_len, vec_capacity, option_map, Some, None};
 ghost use Rattle.std.specs.List.{AllZip};
 ghost use Rattle.std.proofs.Props.{props};
 ghost use Rattle.iio_mask.specs.Mask.{is_within, union_of, union_of_all};
@@ -44,6 +44,8 @@ pub struct Roster<Q: Tail> {
     pub next: u64,
     pub members: Vec<Membership<Q>>,
     groups: Vec<Group>,
+    // The union of the members' masks.
+    wanted: Mask,
     // Where each member's group was found last.
     places: Vec<usize>,
     // The bytes of a scan under the active mask, and room for it.
@@ -53,6 +55,7 @@ pub struct Roster<Q: Tail> {
     ghost sized: { IsSize shape active size } by { Prim.hlevel props },
     ghost roomy: { HasRoom shape room.items },
     ghost placed: { length places.items ≡ length members.items },
+    ghost united: { wanted.bits ≡ union_of_all (masks_of members.items) },
 }
 
 /// Why a join was refused.
@@ -99,9 +102,10 @@ pub struct RemaskRefused<Q> {
     pub tail: Q,
 }
 
-/// The mask that the sensor is asked under for these members.
-fn active_for<Q>(shape: &Shape, members: &[Membership<Q>]) -> Option<Mask>
-    requires { All (λ (m : Membership Q). m.mask.bits < 2 ^ count_of shape.now) members.now }
+/// The mask that the sensor is asked under for these members, whose masks have that union.
+fn active_for<Q>(shape: &Shape, members: &[Membership<Q>], wanted: Mask) -> Option<Mask>
+    requires each { All (λ (m : Membership Q). m.mask.bits < 2 ^ count_of shape.now) members.now }
+    requires wanted { wanted.bits ≡ union_of_all (masks_of members.now) }
     ensures value { bits_of result ≡ active_for shape.now (masks_of members.now) }
     ensures contains { IfSome result (λ m. is_within (union_of_all (masks_of members.now)) m.bits ≡ true) }
     ensures below { IfSome result (λ m. m.bits < 2 ^ count_of shape.now) }
@@ -109,7 +113,7 @@ fn active_for<Q>(shape: &Shape, members: &[Membership<Q>]) -> Option<Mask>
     if members.is_empty() {
         return None;
     }
-    active(shape, union_mask(members))
+    active(shape, wanted)
 }
 
 // Adds a group, where there is one to add.
@@ -122,13 +126,26 @@ fn add_group(groups: &mut Vec<Group>, group: Option<Group>)
     }
 }
 
-// Keeps the groups that a member wants.
-fn keep_wanted<Q>(groups: &mut Vec<Group>, members: &[Membership<Q>])
+// Takes out the group of that mask.
+fn drop_group(groups: &mut Vec<Group>, gone: Mask)
+    ensures kept { groups.new.items ≡ filter (λ (g : GroupRecord). not (g.mask == gone.bits)) groups.old.items }
+    ensures bound { vec_len groups.new ≤ vec_len groups.old }
+    ensures capacity { vec_capacity groups.new ≡ vec_capacity groups.old }
+{
+    groups.retain(|group| !group.is_of(gone));
+}
+
+// Keeps the groups that a member wants, where each other group than that of one mask is wanted.
+fn keep_wanted<Q>(groups: &mut Vec<Group>, members: &[Membership<Q>], gone: Mask)
+    requires { All (λ (g : GroupRecord). (is_wanted members.now g.mask || g.mask == gone.bits) ≡ true) groups.old.items }
     ensures kept { groups.new.items ≡ filter (λ (g : GroupRecord). is_wanted members.now g.mask) groups.old.items }
     ensures bound { vec_len groups.new ≤ vec_len groups.old }
     ensures capacity { vec_capacity groups.new ≡ vec_capacity groups.old }
 {
-    groups.retain(|group| is_wanted(members, group.mask()));
+    if is_wanted(members, gone) {
+        return;
+    }
+    drop_group(groups, gone);
 }
 
 // Makes the tables again, where there is an active mask and it isn't the one that they are made for.
@@ -204,6 +221,7 @@ impl<Q: Tail> Roster<Q> {
             next: 0,
             members: Vec::new(alloc),
             groups: Vec::new(alloc),
+            wanted: Mask { bits: 0 },
             places: Vec::new(alloc),
             size,
             room,
@@ -217,7 +235,11 @@ impl<Q: Tail> Roster<Q> {
         ensures contains { IfSome result (λ m. (is_within mask.bits m.bits ≡ true) × (is_within (union_of_all (masks_of self.now.members.items)) m.bits ≡ true)) }
         ensures below { IfSome result (λ m. m.bits < 2 ^ count_of self.now.shape) }
     {
-        active(&self.shape, mask.union(union_mask(&self.members)))
+        let wanted = mask.union(self.wanted);
+        if wanted == self.wanted && self.active.is_some() {
+            return self.active;
+        }
+        active(&self.shape, wanted)
     }
 
     // Makes room for one group more, and the group of that mask where there is none.
@@ -306,6 +328,7 @@ impl<Q: Tail> Roster<Q> {
         });
         self.places.push_reserved(0);
         self.next += 1;
+        self.wanted = mask.union(self.wanted);
         self.size = asked_size_after(&self.shape, self.active, self.size, Some(active));
         self.active = Some(active);
         Ok(number)
@@ -319,14 +342,20 @@ impl<Q: Tail> Roster<Q> {
         let at = position_of(&self.members, number)?;
         let Membership {
             number: _,
-            mask: _,
+            mask,
             joined: _,
             tail,
         } = self.members.remove(at);
         let _ = self.places.remove(at);
-        let active = active_for(&self.shape, &self.members);
-        keep_wanted(&mut self.groups, &self.members);
+        // Another member of that mask wants all that this one did.
+        if is_wanted(&self.members, mask) {
+            return Some(tail);
+        }
+        let wanted = union_mask(&self.members);
+        let active = active_for(&self.shape, &self.members, wanted);
+        drop_group(&mut self.groups, mask);
         remake_for(&mut self.groups, &self.shape, self.active, active);
+        self.wanted = wanted;
         self.size = asked_size_after(&self.shape, self.active, self.size, active);
         self.active = active;
         Some(tail)
@@ -388,8 +417,10 @@ impl<Q: Tail> Roster<Q> {
             Err(fault) => return Err(RemaskRefused { fault, tail }),
             Ok(made) => made,
         };
+        let gone = self.members[at].mask;
         let before = begin_anew_at(&mut self.members, at, mask, self.captures, tail);
-        keep_wanted(&mut self.groups, &self.members);
+        keep_wanted(&mut self.groups, &self.members, gone);
+        self.wanted = union_mask(&self.members);
         remake_for(&mut self.groups, &self.shape, self.active, Some(active));
         add_group(&mut self.groups, group);
         self.size = asked_size_after(&self.shape, self.active, self.size, Some(active));

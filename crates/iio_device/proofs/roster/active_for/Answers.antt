@@ -1,7 +1,9 @@
-use Rattle.std.proofs.Common.{rules}
+use Rattle.std.proofs.Common.{◌<◌, ◌^◌}
 use Rattle.iio_layout.specs.Shape.{count_of}
 use Rattle.iio_device.proofs.MaskLemmas.{union_below}
 use Rattle.iio_device.proofs.roster.active_for.Goals as goal
 
 pub returns-clause-below : goal.returns-clause-below
-returns-clause-below g c = let low = union_below (count_of c.args.shape.now) c.args.members.now c.requires in search rules
+returns-clause-below g c =
+    let low : c.args.wanted.bits < 2 ^ count_of c.args.shape.now = rw c.requires.wanted (union_below (count_of c.args.shape.now) c.args.members.now c.requires.each) in
+    c.active.ensures.below low

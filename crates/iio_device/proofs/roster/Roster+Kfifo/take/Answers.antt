@@ -5,6 +5,7 @@ use Rattle.iio_device.specs.declared.membership.Membership.{Membership}
 use Rattle.iio_device.specs.Members.{member_of}
 use Rattle.iio_device.proofs.ApartLemmas.{eq_same}
 use Rattle.iio_device.proofs.TakeLemmas.{changes_one, keeps_drained, sound_takes}
+use Rattle.iio_device.proofs.WantedLemmas.{set_union}
 use Rattle.iio_device.proofs.roster.Roster+Kfifo.take.Goals as goal
 
 pub invariant_of-self : goal.invariant_of-self
@@ -20,6 +21,8 @@ invariant_of-self c =
           roster.sound within (ap (λ d. slice_index_or members at d) c.index.ensures) (keeps_drained _ _ _ old new (c.take_at.ensures.moved c.index.result.now)) (c.take_at.ensures.others c.index.result.now);
       sized = roster.sized;
       roomy = roster.roomy;
+      united = roster.united ∙ set_union members c.take_at.new.members.items at old new within (ap (λ d. slice_index_or members at d) c.index.ensures) (c.take_at.ensures.others c.index.result.now)
+          (ap (λ (m : Membership Queue). m.mask.bits) (c.take_at.ensures.moved c.index.result.now).same);
       placed = roster.placed ∙ sym (ap length (c.take_at.ensures.others c.index.result.now) ∙ search rules);
     }
 

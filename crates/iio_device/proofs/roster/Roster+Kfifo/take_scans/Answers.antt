@@ -6,6 +6,7 @@ use Rattle.iio_device.specs.declared.membership.Membership.{Membership}
 use Rattle.iio_device.specs.Members.{member_of}
 use Rattle.iio_device.proofs.ApartLemmas.{none_passes, passes_at}
 use Rattle.iio_device.proofs.TakeLemmas.{changes_one, keeps_drained_scans, sound_takes}
+use Rattle.iio_device.proofs.WantedLemmas.{set_union}
 use Rattle.iio_device.proofs.roster.Roster+Kfifo.take_scans.Goals as goal
 
 pub returns-in_err-at-clause-takes : goal.returns-in_err-at-clause-takes
@@ -38,6 +39,8 @@ invariant_of-self c =
           roster.sound within (ap (λ d. slice_index_or members at d) c.index.ensures) (keeps_drained_scans _ _ _ _ old new (c.take_scans_at.ensures.moved c.index.result.now)) (c.take_scans_at.ensures.others c.index.result.now);
       sized = roster.sized;
       roomy = roster.roomy;
+      united = roster.united ∙ set_union members c.take_scans_at.new.members.items at old new within (ap (λ d. slice_index_or members at d) c.index.ensures) (c.take_scans_at.ensures.others c.index.result.now)
+          (ap (λ (m : Membership Queue). m.mask.bits) (c.take_scans_at.ensures.moved c.index.result.now).same);
       placed = roster.placed ∙ sym (ap length (c.take_scans_at.ensures.others c.index.result.now) ∙ search rules);
     }
 

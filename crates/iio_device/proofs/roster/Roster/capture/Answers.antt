@@ -9,6 +9,7 @@ use Rattle.iio_device.specs.Members.{WasOffered}
 use Rattle.iio_device.specs.Sound.{bits_of}
 use Rattle.iio_device.proofs.ApartLemmas.{distinct_map}
 use Rattle.iio_device.proofs.OfferLemmas.{all_sized, laid_mask, member_within, scan_found-is, sound_captures, zip_more}
+use Rattle.iio_device.proofs.WantedLemmas.{zip_union}
 use Rattle.iio_device.proofs.roster.Roster.capture.Goals as goal
 
 pub offer_all-requires-clause-sized : goal.offer_all-requires-clause-sized
@@ -34,6 +35,8 @@ invariant_of-self g c =
     record {
       sized = roster.sized;
       roomy = roster.roomy;
+      united = roster.united ∙ zip_union (λ a b. WasOffered tail.taken tail.lost tail.size tail.capacity tail.offer_gives (scan_for c.asked-active.result.bits union c.deref-2.result.now a.mask.bits) a b)
+          roster.members.items c.offer_all.new.members.items (λ a b r. ap (λ (m : Membership g.row.Q.Denot). m.mask.bits) r.same) c.offer_all.ensures.offered;
       placed = c.offer_all.ensures.placed ∙ roster.placed ∙ length_all_zip _ _ _ c.offer_all.ensures.offered;
       sound = rw (c.lay_out_all.ensures, c.asked-active.ensures.value)
           (sound_captures tail.taken tail.lost tail.size tail.capacity tail.offer_gives (λ mask. scan_for c.asked-active.result.bits union c.deref-2.result.now mask) roster.shape roster.active roster.captures

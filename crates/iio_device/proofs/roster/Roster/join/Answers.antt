@@ -1,4 +1,4 @@
-use Rattle.std.proofs.Common.{rules, ◌≡◌, ◌+◌, ◌<◌, ◌^◌, ◌-◌, ◌∷◌, [], length, Some, refl, arith}
+use Rattle.std.proofs.Common.{rules, ◌≡◌, ◌+◌, ◌<◌, ◌^◌, ◌-◌, ◌∷◌, [], length, Some, refl, ap, ◌∙◌, arith}
 use Rattle.std.proofs.lemmas.List.{length-append}
 use Rattle.iio_mask.specs.Mask.{union_of, union_of_all}
 use Rattle.iio_layout.specs.Active.{active_of}
@@ -6,6 +6,7 @@ use Rattle.iio_device.specs.declared.membership.Membership.{Membership}
 use Rattle.iio_device.specs.Members.{masks_of}
 use Rattle.iio_device.specs.Sound.{IsMember, bits_of}
 use Rattle.iio_device.proofs.SoundLemmas.{groups_within, sound_joins}
+use Rattle.iio_device.proofs.WantedLemmas.{push_union}
 use Rattle.iio_device.proofs.roster.Roster.join.Goals as goal
 
 pub remake_for-requires-clause-within : goal.remake_for-requires-clause-within
@@ -32,4 +33,5 @@ invariant_of-self g c =
       sized = c.asked_size_after-self.ensures;
       roomy = roster.roomy;
       placed = search rules;
+      united = rw c.push_reserved.ensures.items (c.union-self.ensures.value ∙ ap (union_of c.args.mask.bits) roster.united ∙ push_union roster.members.items m);
     }

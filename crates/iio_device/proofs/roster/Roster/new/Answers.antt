@@ -10,4 +10,5 @@ invariant_of-result g c =
       sized = c.asked_size-size.ensures;
       roomy = search rules;
       placed = search rules;
+      united = search rules;
     }

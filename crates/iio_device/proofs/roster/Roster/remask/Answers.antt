@@ -5,12 +5,23 @@ use Rattle.iio_layout.specs.Active.{active_of}
 use Rattle.iio_device.specs.declared.membership.Membership.{Membership}
 use Rattle.iio_device.specs.Groups.{GroupRecord, IsGroup}
 use Rattle.iio_device.specs.Members.{is_wanted, masks_of, member_of, without}
-use Rattle.iio_device.specs.Remasking.{active_under, remasked}
+use Rattle.iio_device.specs.Remasking.{active_under, begun_anew, remasked}
 use Rattle.iio_device.specs.Roster.{Standing}
 use Rattle.iio_device.specs.Sound.{bits_of}
 use Rattle.iio_device.specs.Standing.{standing_of}
 use Rattle.iio_device.proofs.RemaskLemmas.{anew_members, anew_sound, anew_within}
+use Rattle.iio_device.proofs.WantedLemmas.{wanted_set}
 use Rattle.iio_device.proofs.roster.Roster.remask.Goals as goal
+
+pub keep_wanted-requires : goal.keep_wanted-requires
+keep_wanted-requires g c =
+    let roster = c.prepare_remask.new.self in
+    let was = c.index.result.now in
+    let same : c.deref.result.now ≡ roster.members.items = c.deref.ensures.value ∙ sym (ap (λ (s : Standing g.row.Q.Denot). s.members) c.prepare_remask.ensures.same) in
+    let inside : c.in-Some.at < length roster.members.items = rw (sym same) c.in-Some.ensures.within in
+    rw c.deref-2.ensures.value
+    (wanted_set roster.members.items c.begin_anew_at-before.new.members.items c.in-Some.at was (begun_anew c.args.mask roster.captures c.args.tail (slice_index_or roster.members.items c.in-Some.at was)) roster.groups.items
+    inside c.index.ensures (c.begin_anew_at-before.ensures.members was) roster.sound.grouped.used)
 
 pub remake_for-requires-clause-within : goal.remake_for-requires-clause-within
 remake_for-requires-clause-within g c =
@@ -48,6 +59,7 @@ invariant_of-self-2 g c =
           (search rules) (search rules) (search rules) (search rules) c.requires.fresh c.in-Ok.ensures.group c.in-Ok.ensures.none);
       sized = c.asked_size_after-self.ensures;
       roomy = roster.roomy;
+      united = c.union_mask-self.ensures ∙ ap (λ ms. union_of_all (masks_of ms)) c.deref-3.ensures.value;
       placed = roster.placed ∙ sym (ap length (c.begin_anew_at-before.ensures.members d) ∙ search rules);
     }
 
