@@ -17,7 +17,7 @@ use Rattle.iio_output.proofs.Scans.{length-scans_of}
 use Rattle.iio_output.proofs.WriterLemmas.{none_applies, or_false}
 
 -- the scans that wait, and the count of underruns
-record Queue : Type 0 where
+pub record Queue : Type 0 where
   pub scans : List (List ℕ)
   pub lost : ℕ
 
@@ -48,16 +48,16 @@ turned i xs = drop i xs ++ take i xs
 abbrev most : ℕ
 most = 2 ^ 64 - 1
 
-abbrev queue_by : Bool → Outgoing → Queue
+abbrev pub queue_by : Bool → Outgoing → Queue
 queue_by cyclic w = record { scans = scans_to_give cyclic w; lost = min w.underruns most }
 
-abbrev Goes : Bool → Queue → Outgoing → Type 0
+abbrev pub Goes : Bool → Queue → Outgoing → Type 0
 Goes cyclic q w = (q ≡ queue_by cyclic w) × IsWritten cyclic w
 
-abbrev wrote : Bool → ℕ → List (List ℕ) → Queue → Queue
+abbrev pub wrote : Bool → ℕ → List (List ℕ) → Queue → Queue
 wrote cyclic capacity scans q = record q { scans = q.scans ++ taken_of cyclic capacity q.scans scans }
 
-wrote_goes : (cyclic : Bool) (capacity : ℕ) (scans : List (List ℕ)) (w : Outgoing) → (cyclic ≡ true → length scans ≤ capacity) → IsWritten cyclic w
+pub wrote_goes : (cyclic : Bool) (capacity : ℕ) (scans : List (List ℕ)) (w : Outgoing) → (cyclic ≡ true → length scans ≤ capacity) → IsWritten cyclic w
     → Goes cyclic (wrote cyclic capacity scans (queue_by cyclic w)) (record w { written = w.written ++ taken_at cyclic capacity w scans })
 wrote_goes false capacity scans w whole fine =
     let n : length (drop w.given w.written) ≡ length w.written - w.given = length-drop w.given w.written in
@@ -104,7 +104,7 @@ wrote_goes true capacity scans w whole fine = by_scans w.written w.given fine
 
 -- ---- one is given
 
-abbrev gave : Bool → List (List ℕ) → ℕ → Queue
+abbrev pub gave : Bool → List (List ℕ) → ℕ → Queue
 gave cyclic xs n = record { scans = after_given cyclic xs; lost = underruns_after xs n }
 
 counted : (n top : ℕ) → min (min n top + 1) top ≡ min (n + 1) top
@@ -183,7 +183,7 @@ gave_true (y ∷ ys) g u none = by_first (drop (g % suc (length ys)) (y ∷ ys))
           λ e. absurd (some_not e),
         )
 
-gave_goes : (cyclic : Bool) (w : Outgoing) → IsWritten cyclic w → Goes cyclic (gave cyclic (scans_to_give cyclic w) (min w.underruns most)) (after_entry (given_at cyclic w) w)
+pub gave_goes : (cyclic : Bool) (w : Outgoing) → IsWritten cyclic w → Goes cyclic (gave cyclic (scans_to_give cyclic w) (min w.underruns most)) (after_entry (given_at cyclic w) w)
 gave_goes true w fine = gave_true w.written w.given w.underruns fine
 gave_goes false w fine = gave_false w (drop w.given w.written) refl fine
 
