@@ -1,5 +1,4 @@
 pub mod ListLemmas
-pub mod HexLemmas
 pub mod PlaceLemmas
 pub mod ToldLemmas
 pub mod AnyLemmas

@@ -11,7 +11,7 @@ use crate::out_device::Gave;
 use iio_attr::Name;
 use iio_base::Mem;
 use iio_device::{Handled, Sensed};
-use iio_text::escape_to;
+use iio_text::{escape_to, push_hex};
 use iio_trigger::Polled;
 use itoa::Buffer;
 use std::simd::prelude::*;
@@ -167,18 +167,6 @@ pub(crate) fn push_handle(
     out.resize(start + ROOM, 0)?;
     let end = put_handle(out, start, trigger, device, handled);
     out.truncate(end);
-    Ok(())
-}
-
-// Bytes as two lower-case digits each.
-fn push_hex(out: &mut Vec<u8>, bytes: &[u8]) -> Result<(), Mem>
-    ensures { OnOk result (out.new.items ≡ out.old.items ++ encode_lower bytes.now) }
-{
-    for byte in bytes {
-        let mut pair = [0; 2];
-        hex::encode_to_slice([*byte], &mut pair).unwrap();
-        out.extend_from_slice(&pair)?;
-    }
     Ok(())
 }
 

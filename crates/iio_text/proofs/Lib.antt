@@ -2,6 +2,7 @@ mod LineLemmas
 pub mod CountLemmas
 pub mod EscapeLemmas
 pub mod FixedLemmas
+pub mod HexLemmas
 pub mod NumberLemmas
 pub mod PrintedLemmas
 pub mod RunLemmas

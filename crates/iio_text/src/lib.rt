@@ -2,6 +2,7 @@
 //! refusals, numbers, and escaped bytes.
 #![tactic(auto)]
 
+mod appending;
 mod decimals;
 mod errors;
 mod escapes;
@@ -13,6 +14,7 @@ mod runs;
 mod values;
 mod words;
 
+pub use crate::appending::{append_reserved, push_hex};
 pub use crate::decimals::{print_fixed, read_fixed};
 pub use crate::errors::Errno;
 pub use crate::escapes::{between_quotes, escape, escape_to, unescape, unescape_into};

@@ -60,23 +60,6 @@ elements_more f bytes k some before out comma after e g h =
     h ∙ ap (λ xs. xs ++ last) g ∙ append_assoc out (44 ∷ []) last ∙ ap (λ xs. xs ++ 44 ∷ last) e ∙ append_assoc before text (44 ∷ last)
     ∙ ap (λ xs. before ++ xs) (sym (elements_next f bytes k some)) ∙ ap (λ n. before ++ elements_text f bytes n) next
 
--- ---- hexadecimal
-
-encode_append : (t xs ys : List ℕ) → encode_with t (xs ++ ys) ≡ encode_with t xs ++ encode_with t ys
-unfolding encode_with
-encode_append t [] ys = refl
-encode_append t (x ∷ xs) ys = ap (λ zs. slice_index t (x / 16) ∷ slice_index t (x % 16) ∷ zs) (encode_append t xs ys)
-
-pub hex_none : (out : List ℕ) → out ≡ out ++ encode_lower []
-unfolding encode_with
-hex_none out = sym (append-nil out)
-
-pub hex_more : (bytes : List ℕ) (i : ℕ) (before out after pair : List ℕ) → i < length bytes → out ≡ before ++ encode_lower (take i bytes) → pair ≡ encode_lower (get_or bytes i 0 ∷ []) → after ≡ out ++ pair
-    → after ≡ before ++ encode_lower (take (i + 1) bytes)
-hex_more bytes i before out after pair within e p h =
-    h ∙ ap (λ xs. out ++ xs) p ∙ ap (λ xs. xs ++ encode_lower (get_or bytes i 0 ∷ [])) e ∙ append_assoc before (encode_lower (take i bytes)) (encode_lower (get_or bytes i 0 ∷ []))
-    ∙ ap (λ xs. before ++ xs) (sym (ap (λ xs. encode_lower xs) (take_more bytes i 0 within) ∙ encode_append lower_digits (take i bytes) (get_or bytes i 0 ∷ [])))
-
 -- ---- fields
 
 parts : (before a b c name text : List ℕ) → a ≡ before ++ 32 ∷ [] → b ≡ a ++ name → c ≡ b ++ 61 ∷ [] → c ++ text ≡ before ++ 32 ∷ (name ++ 61 ∷ text)

@@ -15,6 +15,7 @@ use iio_base::Mem;
 use iio_layout::{Shape, place, write_id};
 use iio_mask::Mask;
 use iio_scan_type::ScanType;
+use iio_text::push_hex;
 use itoa::Buffer;
 
 /// The digits of a number.
@@ -35,18 +36,6 @@ fn push_element(out: &mut Vec<u8>, ty: &ScanType, bytes: &[u8], k: u32) -> Resul
     let mut buffer = Buffer::new();
     let value = ty.get(bytes, k);
     out.extend_from_slice(buffer.format(value).as_bytes())?;
-    Ok(())
-}
-
-// Bytes as two lower-case digits each.
-fn push_hex(out: &mut Vec<u8>, bytes: &[u8]) -> Result<(), Mem>
-    ensures { OnOk result (out.new.items ≡ out.old.items ++ encode_lower bytes.now) }
-{
-    for byte in bytes {
-        let mut pair = [0; 2];
-        hex::encode_to_slice([*byte], &mut pair).unwrap();
-        out.extend_from_slice(&pair)?;
-    }
     Ok(())
 }
 

@@ -12,6 +12,7 @@ ghost use Rattle.iiod_reply.specs.Reply.{Number, Value, line, text_of, block_tex
 
 pub use iio_base::Mem;
 use iio_mask::Mask;
+use iio_text::append_reserved;
 use itoa::Buffer;
 
 // The most bytes of a block's head: the number of its bytes, the mask, and an LF after each.
@@ -30,8 +31,8 @@ pub fn number(n: i64, out: &mut Vec<u8>) -> Result<(), Mem>
     let mut buffer = Buffer::new();
     let digits = buffer.format(n).as_bytes();
     out.reserve(digits.len() + 1)?;
-    append(digits, out);
-    append(b"\n", out);
+    append_reserved(digits, out);
+    append_reserved(b"\n", out);
     Ok(())
 }
 
@@ -45,10 +46,10 @@ pub fn value(bytes: &[u8], out: &mut Vec<u8>) -> Result<(), Mem>
     let mut buffer = Buffer::new();
     let count = buffer.format(bytes.len()).as_bytes();
     out.reserve(count.len() + 1 + bytes.len() + 1)?;
-    append(count, out);
-    append(b"\n", out);
-    append(bytes, out);
-    append(b"\n", out);
+    append_reserved(count, out);
+    append_reserved(b"\n", out);
+    append_reserved(bytes, out);
+    append_reserved(b"\n", out);
     Ok(())
 }
 
@@ -73,9 +74,9 @@ pub fn block(
     let head = head_length(channels, came);
     let closing = closing(came, asked);
     out.reserve(head + came + closing.len())?;
-    append(&HEAD_ROOM[..head], out);
-    append(scans, out);
-    append(closing, out);
+    append_reserved(&HEAD_ROOM[..head], out);
+    append_reserved(scans, out);
+    append_reserved(closing, out);
     block_head(mask, channels, came, came, start, out);
     Ok(())
 }
@@ -126,7 +127,7 @@ pub fn block_closing(came: usize, asked: u32, out: &mut Vec<u8>) -> Result<(), M
 {
     let closing = closing(came, asked);
     out.reserve(closing.len())?;
-    append(closing, out);
+    append_reserved(closing, out);
     Ok(())
 }
 
@@ -209,33 +210,4 @@ fn remove(out: &mut Vec<u8>, at: usize, count: usize)
 {
     out[at..].rotate_left(count);
     out.truncate(out.len() - count);
-}
-
-// The most bytes that are few: a call that copies them would cost more than they do.
-const FEW: usize = 4;
-
-// Appends bytes in the room that is there for them.
-#[inline(always)]
-fn append(bytes: &[u8], out: &mut Vec<u8>)
-    requires { length out.old.items + length bytes.now ≤ vec_capacity out.old }
-    ensures items { out.new.items ≡ out.old.items ++ bytes.now }
-    ensures room { vec_capacity out.old ≤ vec_capacity out.new }
-{
-    if bytes.len() <= FEW {
-        append_each(bytes, out);
-    } else {
-        let _ = out.extend_from_slice(bytes);
-    }
-}
-
-// Appends bytes one by one in the room that is there for them.
-#[inline(always)]
-fn append_each(bytes: &[u8], out: &mut Vec<u8>)
-    requires { length out.old.items + length bytes.now ≤ vec_capacity out.old }
-    ensures items { out.new.items ≡ out.old.items ++ bytes.now }
-    ensures room { vec_capacity out.old ≤ vec_capacity out.new }
-{
-    for byte in bytes {
-        out.push_reserved(*byte);
-    }
 }

@@ -13,7 +13,7 @@ use crate::manner::{Manner, Performed};
 use iio_attr::Name;
 use iio_base::Mem;
 use iio_event::EventData;
-use iio_text::Errno;
+use iio_text::{Errno, append_reserved};
 use iiod_reply::{number, value};
 use itoa::Buffer;
 
@@ -71,7 +71,7 @@ fn push(out: &mut Vec<u8>, bytes: &[u8]) -> Result<(), Mem>
     ensures capacity { vec_capacity out.old ≤ vec_capacity out.new }
 {
     out.reserve(bytes.len())?;
-    append(bytes, out);
+    append_reserved(bytes, out);
     Ok(())
 }
 
@@ -131,35 +131,6 @@ pub(crate) fn finish(manner: Manner, no: No, out: &mut Vec<u8>) -> Result<Perfor
     Ok(Performed::Done)
 }
 
-// The most bytes that are few: a call that copies them would cost more than they do.
-const FEW: usize = 4;
-
-// Appends bytes in the room that is there for them.
-#[inline(always)]
-fn append(bytes: &[u8], out: &mut Vec<u8>)
-    requires { length out.old.items + length bytes.now ≤ vec_capacity out.old }
-    ensures items { out.new.items ≡ out.old.items ++ bytes.now }
-    ensures room { vec_capacity out.old ≤ vec_capacity out.new }
-{
-    if bytes.len() <= FEW {
-        append_each(bytes, out);
-    } else {
-        let _ = out.extend_from_slice(bytes);
-    }
-}
-
-// Appends bytes one by one in the room that is there for them.
-#[inline(always)]
-fn append_each(bytes: &[u8], out: &mut Vec<u8>)
-    requires { length out.old.items + length bytes.now ≤ vec_capacity out.old }
-    ensures items { out.new.items ≡ out.old.items ++ bytes.now }
-    ensures room { vec_capacity out.old ≤ vec_capacity out.new }
-{
-    for byte in bytes {
-        out.push_reserved(*byte);
-    }
-}
-
 // A text that is a line of its own. After `Mem`, `out` is unchanged.
 fn push_line(out: &mut Vec<u8>, text: &[u8]) -> Result<(), Mem>
     ensures text { Appends (text_of (Line text.now)) out.old.items result out.new.items }
@@ -167,8 +138,8 @@ fn push_line(out: &mut Vec<u8>, text: &[u8]) -> Result<(), Mem>
     ensures capacity { vec_capacity out.old ≤ vec_capacity out.new }
 {
     out.reserve(text.len() + 1)?;
-    append(text, out);
-    append(b"\n", out);
+    append_reserved(text, out);
+    append_reserved(b"\n", out);
     Ok(())
 }
 
@@ -182,9 +153,9 @@ fn push_raw(out: &mut Vec<u8>, bytes: &[u8]) -> Result<(), Mem>
     let mut buffer = Buffer::new();
     let count = buffer.format(bytes.len()).as_bytes();
     out.reserve(count.len() + 1 + bytes.len())?;
-    append(count, out);
-    append(b"\n", out);
-    append(bytes, out);
+    append_reserved(count, out);
+    append_reserved(b"\n", out);
+    append_reserved(bytes, out);
     Ok(())
 }
 
