@@ -9,20 +9,14 @@ use Rattle.iio_mask.specs.Mask.{has}
 use Rattle.iio_layout.specs.Shape.{ShapeRecord, count_of, formats_of}
 use Rattle.iio_layout.specs.Layout.{end_below, largest_below, place_of, scan_size, size_at}
 use Rattle.iio_layout.specs.Laws.{end_grows}
+use Rattle.iio_layout.proofs.SelectedLemmas.{range_next}
 use Rattle.iio_demux.specs.Table.{AreInOrder, IsCopyTable, channel_entries, channel_entry, channels_below, table_of}
 use Rattle.iio_demux.proofs.MergeLemmas.{merged_apart, merged_in_order}
 
 -- one channel more, selected or not
-range_more : (a n : ℕ) → range_with_len a (suc n) ≡ range_with_len a n ++ (a + n) ∷ []
-range_more a zero = ap (λ (k : ℕ). k ∷ []) (omega arith)
-range_more a (suc n) =
-    let next : a + 1 + n ≡ a + suc n = omega arith in
-    ap (λ (xs : List ℕ). a ∷ xs) (range_more (a + 1) n ∙ ap (λ (k : ℕ). range_with_len (a + 1) n ++ k ∷ []) next)
-
 channels_more : (mask n : ℕ) → channels_below mask (n + 1) ≡ channels_below mask n ++ cond (has mask n) (n ∷ []) []
 channels_more mask n =
-    let last : range_with_len 0 (n + 1) ≡ range_with_len 0 n ++ n ∷ [] = rw add-one (range_more 0 n ∙ ap (λ (k : ℕ). range_with_len 0 n ++ k ∷ []) (omega arith)) in
-    ap (filter (λ c. has mask c)) last ∙ filter-append (λ c. has mask c) (range_with_len 0 n) (n ∷ [])
+    ap (filter (λ c. has mask c)) (range_next n) ∙ filter-append (λ c. has mask c) (range_with_len 0 n) (n ∷ [])
 
 -- a channel of the buffer's mask has one entry more
 entries_more : (shape : ShapeRecord) (active buffer n : ℕ) → has buffer n ≡ true

@@ -11,6 +11,7 @@ use Rattle.iio_mask.specs.Mask.{channels_below, channels_of, has}
 use Rattle.iio_scan_type.specs.Format.{Format}
 use Rattle.iio_layout.specs.Layout.{end_below, size_at}
 use Rattle.iio_layout.specs.Scan.{field_at, front_below, padded}
+use Rattle.iio_layout.proofs.SelectedLemmas.{range_more}
 use Rattle.std.specs.Prelude.{ℤ}
 
 -- the remainder by a power of two
@@ -28,12 +29,6 @@ has-below mask n c small there =
           let one = eqb-true (bit_at mask c) 1 there in
           absurd (omega arith)
     ]
-
-range_more : (a n : ℕ) → range_with_len a (suc n) ≡ range_with_len a n ++ (a + n) ∷ []
-range_more a zero = ap (λ (k : ℕ). k ∷ []) (omega arith)
-range_more a (suc n) =
-    let next : a + 1 + n ≡ a + suc n = omega arith in
-    ap (λ (xs : List ℕ). a ∷ xs) (range_more (a + 1) n ∙ ap (λ (k : ℕ). range_with_len (a + 1) n ++ k ∷ []) next)
 
 channels_more : (mask n : ℕ) → channels_below mask (suc n) ≡ channels_below mask n ++ cond (has mask n) (n ∷ []) []
 channels_more mask n =

@@ -13,38 +13,6 @@ use Rattle.iio_layout.specs.Shape.{ShapeRecord, formats_of}
 use Rattle.iio_scan_type.specs.Bytes.{value_at}
 use Rattle.iiod_client.specs.Printed.{channel_name, elements_text, field_text, lines_below, scan_line}
 
-range_more : (a n : ℕ) → range_with_len a (suc n) ≡ range_with_len a n ++ (a + n) ∷ []
-range_more a zero = ap (λ k. k ∷ []) (omega arith)
-range_more a (suc n) =
-    let next : (a + 1) + n ≡ a + suc n = omega arith in
-    ap (λ ks. a ∷ ks) (range_more (a + 1) n ∙ ap (λ k. range_with_len (a + 1) n ++ k ∷ []) next)
-
-with_step : {A : Type 0} (t : Bool) (f : ℕ → List A) (n : ℕ) → flat_map f (cond t (n ∷ []) []) ≡ cond t (f n) []
-with_step true f n = append-nil (f n)
-with_step false f n = refl
-
--- what is said of the selected ones, with that of one more where it is selected
-pub flat_map-selected_more : {A : Type 0} (f : ℕ → List A) (has : ℕ → Bool) (n : ℕ)
-    → flat_map f (filter has (range_with_len 0 (n + 1))) ≡ flat_map f (filter has (range_with_len 0 n)) ++ cond (has n) (f n) []
-flat_map-selected_more f has n =
-    let more : range_with_len 0 (n + 1) ≡ range_with_len 0 n ++ n ∷ [] = rw add-one (range_more 0 n ∙ ap (λ k. range_with_len 0 n ++ k ∷ []) (omega arith)) in
-    ap (λ ks. flat_map f (filter has ks)) more ∙ ap (flat_map f) (filter-append has (range_with_len 0 n) (n ∷ []))
-    ∙ flat_map-append f (filter has (range_with_len 0 n)) (filter has (n ∷ []))
-    ∙ ap (λ said. flat_map f (filter has (range_with_len 0 n)) ++ said) (with_step (has n) f n)
-
-pub said_selected : (f : ℕ → List ℕ) (has : ℕ → Bool) (n : ℕ) (before out after : List ℕ) → has n ≡ true
-    → out ≡ before ++ flat_map f (filter has (range_with_len 0 n)) → after ≡ out ++ f n → after ≡ before ++ flat_map f (filter has (range_with_len 0 (n + 1)))
-said_selected f has n before out after is so_far one =
-    one ∙ ap (λ bytes. bytes ++ f n) so_far ∙ append_assoc before (flat_map f (filter has (range_with_len 0 n))) (f n)
-    ∙ ap (λ said. before ++ said) (sym (flat_map-selected_more f has n ∙ ap (λ t. flat_map f (filter has (range_with_len 0 n)) ++ cond t (f n) []) is))
-
-pub said_other : (f : ℕ → List ℕ) (has : ℕ → Bool) (n : ℕ) (before out : List ℕ) → has n ≡ false
-    → out ≡ before ++ flat_map f (filter has (range_with_len 0 n)) → out ≡ before ++ flat_map f (filter has (range_with_len 0 (n + 1)))
-said_other f has n before out other so_far =
-    so_far
-    ∙ ap (λ said. before ++ said) (sym (flat_map-selected_more f has n ∙ ap (λ t. flat_map f (filter has (range_with_len 0 n)) ++ cond t (f n) []) other
-    ∙ append-nil (flat_map f (filter has (range_with_len 0 n)))))
-
 -- ---- elements
 
 elements_next : (f : Format) (bytes : List ℕ) (k : ℕ) → 1 ≤ k → elements_text f bytes (suc k) ≡ elements_text f bytes k ++ 44 ∷ signed_decimal (value_at f bytes k)

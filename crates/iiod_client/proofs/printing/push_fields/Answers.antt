@@ -1,7 +1,7 @@
 use Rattle.std.proofs.Common.{sym, ◌∙◌}
 use Rattle.iio_mask.specs.Mask.{has}
 use Rattle.iiod_client.specs.Printed.{field_text}
-use Rattle.iiod_client.proofs.PrintedLaws.{said_selected, said_other}
+use Rattle.iio_layout.proofs.SelectedLemmas.{said_selected, said_other}
 use Rattle.iiod_client.proofs.printing.push_fields.Goals as goal
 use Rattle.iiod_client.proofs.printing.push_fields.Goals.{then-contains+in_ok-push_field, else-contains}
 

@@ -1,7 +1,7 @@
 use Rattle.std.proofs.Common.{sym, ◌∙◌}
 use Rattle.iio_mask.specs.Mask.{has}
 use Rattle.iiod_program.specs.Placing.{channel_line}
-use Rattle.iiod_program.proofs.PlacingLaws.{said_selected, said_other}
+use Rattle.iio_layout.proofs.SelectedLemmas.{said_selected, said_other}
 use Rattle.iiod_program.proofs.placing.push_channels.Goals as goal
 use Rattle.iiod_program.proofs.placing.push_channels.Goals.{then-contains+in_ok-push_channel, else-contains}
 
