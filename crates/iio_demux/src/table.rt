@@ -48,8 +48,22 @@ impl Entry {
         let from = self.from as usize;
         let to = self.to as usize;
         let length = self.length as usize;
-        out[to..to + length].copy_from_slice(&scan[from..from + length]);
+        copy_bytes(&scan[from..from + length], &mut out[to..to + length]);
         to + length
+    }
+}
+
+// Copies bytes to as many. Few of them are copied by their known number, since a call would cost more than they do.
+#[inline(always)]
+fn copy_bytes(from: &[u8], to: &mut [u8])
+    requires { length from.now ≡ length to.old }
+    ensures { to.new ≡ from.now }
+{
+    match from.len() {
+        2 => to[..2].copy_from_slice(&from[..2]),
+        4 => to[..4].copy_from_slice(&from[..4]),
+        8 => to[..8].copy_from_slice(&from[..8]),
+        _ => to.copy_from_slice(from),
     }
 }
 
