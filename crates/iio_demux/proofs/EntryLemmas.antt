@@ -95,7 +95,8 @@ lie_from shape active buffer a (suc n) active_size buffer_size within active_end
     ]
 
 -- the table of two masks, one within the other, is one
-pub table_sound : (shape : ShapeRecord) (active buffer : ℕ) → ((c : ℕ) → IsTrue (has buffer c) → IsTrue (has active c)) → IsCopyTable (table_of shape active buffer)
+pub table_sound : (shape : ShapeRecord) (active buffer : ℕ) → ((c : ℕ) → IsTrue (has buffer c) → IsTrue (has active c))
+    → IsCopyTable (table_of shape active buffer)
 table_sound shape active buffer within =
     let entries = channel_entries shape active buffer (count_of shape) in
     let all : 0 + count_of shape ≡ count_of shape = omega arith in

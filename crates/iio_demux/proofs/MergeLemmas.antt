@@ -40,9 +40,11 @@ one_before_last entry one last =
           elim (cases_Bool (continues one last)) [
             | inl more ↦
                 let all : merged_before entry (joined one last ∷ []) ≡ joined entry (joined one last) ∷ [] = rw goes_on refl in
-                let both : with_last (joined entry one ∷ []) last ≡ joined (joined entry one) last ∷ [] = rw (continues_joined entry one last goes_on ∙ more) refl in
+                let both : with_last (joined entry one ∷ []) last ≡ joined (joined entry one) last ∷ [] =
+                rw (continues_joined entry one last goes_on ∙ more) refl in
                 let second : with_last (one ∷ []) last ≡ joined one last ∷ [] = rw more refl in
-                ap (merged_before entry) second ∙ all ∙ ap (λ j. j ∷ []) (sym (joined_joined entry one last)) ∙ sym both ∙ ap (λ es. with_last es last) (sym first)
+                ap (merged_before entry) second ∙ all ∙ ap (λ j. j ∷ []) (sym (joined_joined entry one last)) ∙ sym both
+                ∙ ap (λ es. with_last es last) (sym first)
             | inr none ↦
                 let all : merged_before entry (one ∷ last ∷ []) ≡ joined entry one ∷ last ∷ [] = rw goes_on refl in
                 let both : with_last (joined entry one ∷ []) last ≡ joined entry one ∷ last ∷ [] = rw (continues_joined entry one last goes_on ∙ none) refl in

@@ -14,7 +14,8 @@ use Rattle.iio_demux.proofs.MergeLemmas.{copied-merged}
 
 -- the byte that entries of channels from a on have, by what it is in each of them, and by what it is in none
 byte_is : (shape : ShapeRecord) (active buffer a n : ℕ) (scan : List ℕ) (j byte : ℕ)
-    → ((c : ℕ) → a ≤ c → c < a + n → has buffer c ≡ true → covers (channel_entry shape active buffer c) j ≡ true → byte ≡ source_of (channel_entry shape active buffer c) scan j)
+    → ((c : ℕ) → a ≤ c → c < a + n → has buffer c ≡ true → covers (channel_entry shape active buffer c) j ≡ true
+    → byte ≡ source_of (channel_entry shape active buffer c) scan j)
     → (((c : ℕ) → a ≤ c → c < a + n → has buffer c ≡ true → covers (channel_entry shape active buffer c) j ≡ false) → byte ≡ 0)
     → byte ≡ byte_at (map (channel_entry shape active buffer) (filter (λ c. has buffer c) (range_with_len a n))) scan j
 byte_is shape active buffer a zero scan j byte inside outside = outside (λ c above below. absurd (omega arith))
@@ -52,11 +53,13 @@ same_byte shape active buffer c j values t wide below selected own covered =
 
 -- of a capture's scan under the one mask the entries of its channels make its scan under the other
 copied-scan_of : (shape : ShapeRecord) (active buffer : ℕ) (values : List ℤ) (t : ℤ) → ((c : ℕ) → IsTrue (has buffer c) → IsTrue (has active c))
-    → length values ≡ width_of shape → copied (channel_entries shape active buffer (count_of shape)) (scan_of shape active values t) (scan_size shape buffer) ≡ scan_of shape buffer values t
+    → length values ≡ width_of shape
+    → copied (channel_entries shape active buffer (count_of shape)) (scan_of shape active values t) (scan_size shape buffer) ≡ scan_of shape buffer values t
 copied-scan_of shape active buffer values t within wide =
     let scan = scan_of shape active values t in
     let own = scan_of shape buffer values t in
-    sym (fill_by_all (byte_at (channel_entries shape active buffer (count_of shape)) scan) own (scan_size shape buffer) 0 (length-scan_of shape buffer values t wide)
+    sym (fill_by_all (byte_at (channel_entries shape active buffer (count_of shape)) scan) own (scan_size shape buffer) 0
+    (length-scan_of shape buffer values t wide)
     (λ j below. byte_is shape active buffer 0 (count_of shape) scan j (get_or own j 0)
     (λ c above inside selected covered. same_byte shape active buffer c j values t wide (omega arith) (within c selected) selected covered)
     (λ none. scan_of-outside shape buffer values t j wide (λ c lies.

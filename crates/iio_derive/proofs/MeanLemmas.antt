@@ -58,13 +58,15 @@ adds_means scan None old new cs some adds is =
     let none : Option ℕ = None in
     let window : new.window ≡ window_with old.window (values_in old.shape scan) = ap (λ (a : AverageRecord). a.window) adds.1 in (
       subst (λ (w : Window). IsWindowOf old.size w (values_in old.shape scan ∷ cs)) (sym window) it.1,
-      subst (λ (o : Option (List ℤ)). MatchOption o (none ≡ None) (λ mean. IsSome none × AllOffered old.shape mean (moment_in old.shape scan) old.seats new.seats)) (sym it.0) refl,
+      subst (λ (o : Option (List ℤ)). MatchOption o (none ≡ None)
+          (λ mean. IsSome none × AllOffered old.shape mean (moment_in old.shape scan) old.seats new.seats)) (sym it.0) refl,
     )
 adds_means scan (Some count) old new cs some adds is =
     let it = filled old.size old.window (values_in old.shape scan) cs some is adds.0 in
     let window : new.window ≡ no_window = ap (λ (a : AverageRecord). a.window) adds.3 in (
       subst (λ (w : Window). IsWindowOf old.size w (values_in old.shape scan ∷ cs)) (sym window) it.1,
-      subst (λ (o : Option (List ℤ)). MatchOption o (Some count ≡ None) (λ mean. IsSome (Some count) × AllOffered old.shape mean (moment_in old.shape scan) old.seats new.seats)) (sym it.0) (refl, adds.2),
+      subst (λ (o : Option (List ℤ)). MatchOption o (Some count ≡ None)
+          (λ mean. IsSome (Some count) × AllOffered old.shape mean (moment_in old.shape scan) old.seats new.seats)) (sym it.0) (refl, adds.2),
     )
 
 -- ---- the window that is kept

@@ -77,5 +77,6 @@ offered_none shape values t i old seats before is =
     subst (λ (xs : List (Option Membership)). Offering shape values t (i + 1) old xs) (sym kept) (passed shape values t i old seats before is)
 
 -- what stands at a place, as a read of it says
-pub member_read : (seats : List (Option Membership)) (i : ℕ) (seat o : Option Membership) → i < length seats → seat ≡ slice_index_or seats i seat → seat ≡ o → member_at i seats ≡ o
+pub member_read : (seats : List (Option Membership)) (i : ℕ) (seat o : Option Membership) → i < length seats → seat ≡ slice_index_or seats i seat → seat ≡ o
+    → member_at i seats ≡ o
 member_read seats i seat o less read is = get_or_default seats i None seat less ∙ sym read ∙ is

@@ -92,7 +92,8 @@ data_type shape c d less =
     get_or_append_left types (stamp_formats shape.stamp) (stamp_format Little) c (omega (arith, less, length-map shape.channels (λ channel. channel.ty)))
     ∙ get_or-map (λ channel. channel.ty) shape.channels c d (stamp_format Little) less
 
-data_profile : (shape : ShapeRecord) (c : ℕ) → c < length shape.channels → All (λ channel. IsInProfile channel.ty) shape.channels → IsInProfile (format_at (formats_of shape) c)
+data_profile : (shape : ShapeRecord) (c : ℕ) → c < length shape.channels → All (λ channel. IsInProfile channel.ty) shape.channels
+    → IsInProfile (format_at (formats_of shape) c)
 data_profile shape c less types = by shape.channels refl
   where
     by : (channels : List Channel) → shape.channels ≡ channels → IsInProfile (format_at (formats_of shape) c)
@@ -106,7 +107,8 @@ data_ends : (shape : ShapeRecord) (c : ℕ) → c < length shape.channels
 data_ends shape c less =
     let formats = formats_of shape in
     let there = data_channel shape c less in
-    let count : length shape.channels ≤ length formats = omega (arith, length-append (map (λ channel. channel.ty) shape.channels) (stamp_formats shape.stamp), length-map shape.channels (λ channel. channel.ty)) in
+    let count : length shape.channels ≤ length formats =
+    omega (arith, length-append (map (λ channel. channel.ty) shape.channels) (stamp_formats shape.stamp), length-map shape.channels (λ channel. channel.ty)) in
     let more = first_value_more formats c there in
     let grows = first_grows formats (c + 1) (length shape.channels) (omega (arith, less)) count in
     omega (arith, more, grows, first_value_all shape)
@@ -166,7 +168,8 @@ module _ (shape : ShapeRecord) (values : List ℤ) (t : ℤ) (capture : IsCaptur
       (elements_are (value_in shape scan c) (drop f values) r (omega (arith, length-drop f values, data_ends shape c less, capture.width))
       (λ k inside. value_back c k less inside ∙ sym (get_or-drop f values k (pos 0))))
       ∙ sym (take-add f r values)
-      ∙ ap (λ (n : ℕ). take n values) (sym (first_value_more (formats_of shape) c (data_channel shape c less)) ∙ ap (λ (n : ℕ). first_value (formats_of shape) n) (add-one c))
+      ∙ ap (λ (n : ℕ). take n values)
+      (sym (first_value_more (formats_of shape) c (data_channel shape c less)) ∙ ap (λ (n : ℕ). first_value (formats_of shape) n) (add-one c))
 
   all_back : values_in shape scan ≡ values
   all_back =
@@ -180,7 +183,8 @@ module _ (shape : ShapeRecord) (values : List ℤ) (t : ℤ) (capture : IsCaptur
       let types = map (λ channel. channel.ty) shape.channels in
       let long : length types ≡ length shape.channels = length-map shape.channels (λ channel. channel.ty) in
       get_or-append_right types (stamp_formats shape.stamp) (length shape.channels) (length shape.channels) (stamp_format Little) long (omega arith)
-      ∙ ap (λ (n : ℕ). get_or (stamp_formats shape.stamp) n (stamp_format Little)) (let none : length shape.channels - length shape.channels ≡ 0 = omega arith in none)
+      ∙ ap (λ (n : ℕ). get_or (stamp_formats shape.stamp) n (stamp_format Little))
+      (let none : length shape.channels - length shape.channels ≡ 0 = omega arith in none)
       ∙ ap (λ (o : Option Endian). get_or (stamp_formats o) 0 (stamp_format Little)) is
 
   stamp_values : (endian : Endian) → shape.stamp ≡ Some endian → values_at (formats_of shape) all (length shape.channels) ≡ t ∷ []
@@ -189,13 +193,15 @@ module _ (shape : ShapeRecord) (values : List ℤ) (t : ℤ) (capture : IsCaptur
       ∙ ap (λ (n : ℕ). take 1 (drop n all)) (first_value_all shape ∙ sym capture.width)
       ∙ ap (λ (xs : List ℤ). take 1 xs) (drop-append_seam values (t ∷ []))
 
-  moment_back : (endian : Endian) → shape.stamp ≡ Some endian → IsInRange (stamp_format endian) t → moment_by shape.stamp (value_in shape scan (length shape.channels) 0) ≡ t
+  moment_back : (endian : Endian) → shape.stamp ≡ Some endian → IsInRange (stamp_format endian) t
+      → moment_by shape.stamp (value_in shape scan (length shape.channels) 0) ≡ t
   moment_back endian is range =
       let c = length shape.channels in
       let count : length (values_at (formats_of shape) all c) ≡ (format_at (formats_of shape) c).repeat =
       ap (λ (xs : List ℤ). length xs) (stamp_values endian is) ∙ sym (ap (λ (ty : Format). ty.repeat) (stamp_type endian is)) in
       ap (λ (o : Option Endian). moment_by o (value_in shape scan c 0)) is
-      ∙ ap (λ (bytes : List ℕ). value_at (format_at (formats_of shape) c) bytes 0) (field_stands shape values t c capture.width (stamp_there shape endian is) count)
+      ∙ ap (λ (bytes : List ℕ). value_at (format_at (formats_of shape) c) bytes 0)
+      (field_stands shape values t c capture.width (stamp_there shape endian is) count)
       ∙ ap (λ (ty : Format). value_at ty (channel_bytes ty (values_at (formats_of shape) all c)) 0) (stamp_type endian is)
       ∙ ap (λ (xs : List ℤ). value_at (stamp_format endian) (channel_bytes (stamp_format endian) xs) 0) (stamp_values endian is)
       ∙ value_at-channel_bytes (stamp_format endian) (t ∷ []) 0 (pos 0) (profile endian) (omega arith) range

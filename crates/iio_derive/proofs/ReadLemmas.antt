@@ -33,7 +33,13 @@ places_more shape c place places less own below k within = by (cases_eq k c)
 pub stamp_there : (shape : ShapeRecord) (endian : Endian) → shape.stamp ≡ Some endian → length shape.channels < count_of shape
 stamp_there shape endian is =
     let one : length (stamp_formats shape.stamp) ≡ 1 = ap (λ (o : Option Endian). length (stamp_formats o)) is in
-    omega (arith, one, length-append (map (λ channel. channel.ty) shape.channels) (stamp_formats shape.stamp), length-map shape.channels (λ channel. channel.ty))
+    omega (
+      arith,
+      one,
+      length-append (map (λ channel. channel.ty) shape.channels) (stamp_formats shape.stamp),
+      length-map shape.channels
+          (λ channel. channel.ty),
+    )
 
 -- element k of a channel, in the bytes that stand at its place
 pub field_value : (shape : ShapeRecord) (scan : List ℕ) (c start size : ℕ) (ty : Format) → ty ≡ format_at (formats_of shape) c → size ≡ size_of ty
@@ -53,14 +59,17 @@ same_elements f g same zero = refl
 same_elements f g same (suc n) = ap (λ (xs : List ℤ). xs ++ f n ∷ []) (same_elements f g same n) ∙ ap (λ (v : ℤ). elements_below g n ++ v ∷ []) (same n)
 
 -- the values of one channel more
-pub values_more : (shape : ShapeRecord) (scan : List ℕ) (c start size : ℕ) (ty : Format) (before after : List ℤ) → ty ≡ format_at (formats_of shape) c → size ≡ size_of ty
+pub values_more : (shape : ShapeRecord) (scan : List ℕ) (c start size : ℕ) (ty : Format) (before after : List ℤ) → ty ≡ format_at (formats_of shape) c
+    → size ≡ size_of ty
     → start ≡ place_of shape (full_mask shape) c → before ≡ values_below (formats_of shape) (value_in shape scan) c
     → after ≡ before ++ elements_below (value_at ty (take (start + size - start) (drop start scan))) ty.repeat
     → after ≡ values_below (formats_of shape) (value_in shape scan) (c + 1)
 values_more shape scan c start size ty before after type_is size_is start_is read more =
     more
     ∙ ap (λ (xs : List ℤ). xs ++ elements_below (value_at ty (take (start + size - start) (drop start scan))) ty.repeat) read
-    ∙ ap (λ (xs : List ℤ). done ++ xs) (same_elements (value_at ty (take (start + size - start) (drop start scan))) (value_in shape scan c) (field_value shape scan c start size ty type_is size_is start_is) ty.repeat)
+    ∙ ap (λ (xs : List ℤ). done ++ xs)
+    (same_elements (value_at ty (take (start + size - start) (drop start scan))) (value_in shape scan c)
+    (field_value shape scan c start size ty type_is size_is start_is) ty.repeat)
     ∙ ap (λ (t : Format). done ++ elements_below (value_in shape scan c) t.repeat) type_is
     ∙ rw add-one refl
   where
@@ -79,7 +88,8 @@ length-elements f zero = refl
 length-elements f (suc n) = length-append (elements_below f n) (f n ∷ []) ∙ (let before = length-elements f n in omega (arith, before))
 
 -- those of the data channels before channel c
-length-below : (xs ys : List Format) (f : ℕ → ℕ → ℤ) (c : ℕ) → c ≤ length xs → length (values_below (xs ++ ys) f c) ≡ sum_by (λ (t : Format). t.repeat) (take c xs)
+length-below : (xs ys : List Format) (f : ℕ → ℕ → ℤ) (c : ℕ) → c ≤ length xs
+    → length (values_below (xs ++ ys) f c) ≡ sum_by (λ (t : Format). t.repeat) (take c xs)
 length-below xs ys f zero few = refl
 length-below xs ys f (suc c) few =
     let d : Format = stamp_format Little in

@@ -25,7 +25,8 @@ other_channel : (a c : Channel) → same_id (id_at a) (id_at c) ≡ false → sa
 other_channel a c h = rw h refl
 
 -- channels stay distinct with one more that has an ID of its own
-pub distinct_push : (channels : List Channel) (id : Kind × Suffix) (direction : Direction) (ty : Format) → AllPairs (λ (a b : Channel). same_channel a b ≡ false) channels
+pub distinct_push : (channels : List Channel) (id : Kind × Suffix) (direction : Direction) (ty : Format)
+    → AllPairs (λ (a b : Channel). same_channel a b ≡ false) channels
     → list_any (λ c. same_id (id_at c) id) channels ≡ false
     → AllPairs (λ (a b : Channel). same_channel a b ≡ false) (channels ++ (record { kind = id.0; suffix = id.1; direction = direction; ty = ty }) ∷ [])
 distinct_push channels id direction ty distinct own =
@@ -34,8 +35,10 @@ distinct_push channels id direction ty distinct own =
     (λ k d lt. other_channel (get_or channels k d) new (none_at (λ c. same_id (id_at c) id) channels own k d lt))
 
 -- the values of a row with a channel more
-pub width_push : (channels : List Channel) (c : Channel) → sum_by (λ (x : Channel). x.ty.repeat) (channels ++ c ∷ []) ≡ sum_by (λ (x : Channel). x.ty.repeat) channels + c.ty.repeat
-width_push channels c = sum_by-append (λ (x : Channel). x.ty.repeat) channels (c ∷ []) ∙ ap (λ n. sum_by (λ (x : Channel). x.ty.repeat) channels + n) (zero-add c.ty.repeat)
+pub width_push : (channels : List Channel) (c : Channel)
+    → sum_by (λ (x : Channel). x.ty.repeat) (channels ++ c ∷ []) ≡ sum_by (λ (x : Channel). x.ty.repeat) channels + c.ty.repeat
+width_push channels c =
+    sum_by-append (λ (x : Channel). x.ty.repeat) channels (c ∷ []) ∙ ap (λ n. sum_by (λ (x : Channel). x.ty.repeat) channels + n) (zero-add c.ty.repeat)
 
 -- what a device has not, whose only lines are channels
 pub record OnlyChannels (s : PartialDevice) : Type 0 where
@@ -65,6 +68,7 @@ only_channels s h =
     record { stamp = no_stamp s.stamp stamp.0; listed = no_item s.listed moments.0; moments = no_item s.moments moments.1; attrs = no_item s.attrs attrs.1 }
 
 -- a line that names another channel
-pub channel_line_is : (s : PartialDevice) (words : List (List ℕ)) (name format : List ℕ) (id : Kind × Suffix) (ty : Format) → has_only_channels s ≡ true → two_of words ≡ Some (name, format)
+pub channel_line_is : (s : PartialDevice) (words : List (List ℕ)) (name format : List ℕ) (id : Kind × Suffix) (ty : Format) → has_only_channels s ≡ true
+    → two_of words ≡ Some (name, format)
     → id_of name ≡ Some id → has_id s id ≡ false → type_of format ≡ Some ty → channel_line s words ≡ channel_added s id ty
 channel_line_is s words name format id ty only two named free typed = rw (only, two, named, free, typed) refl

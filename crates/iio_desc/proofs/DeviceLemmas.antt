@@ -37,8 +37,10 @@ not_shared drivers devices (Some k) h i v within =
     none_at (drives k) devices (is_false (list_any (drives k) devices) (both (nat_lt k drivers) (not (list_any (drives k) devices)) h).1) i v within
 
 -- the devices stay well formed with it
-sound_device : (triggers drivers earlier : ℕ) (devices : List DeviceRecord) (s : PartialDevice) (d : DeviceRecord) → All (IsWellFormedDevice triggers drivers) devices
-    → FitsCurrent triggers drivers earlier devices s → d ≡ device_of s → 0 < length s.channels → IsRecording d.rows → All (IsWrite (length d.shape.channels)) d.attrs
+sound_device : (triggers drivers earlier : ℕ) (devices : List DeviceRecord) (s : PartialDevice) (d : DeviceRecord)
+    → All (IsWellFormedDevice triggers drivers) devices
+    → FitsCurrent triggers drivers earlier devices s → d ≡ device_of s → 0 < length s.channels → IsRecording d.rows
+    → All (IsWrite (length d.shape.channels)) d.attrs
     → All (IsWellFormedDevice triggers drivers) (devices ++ d ∷ [])
 sound_device triggers drivers earlier devices s d sound fits is some recording writes =
     let own : IsWellFormedDevice triggers drivers (device_of s) = record {
@@ -52,11 +54,13 @@ sound_device triggers drivers earlier devices s d sound fits is some recording w
     All-push (IsWellFormedDevice triggers drivers) devices d sound (subst (λ (v : DeviceRecord). IsWellFormedDevice triggers drivers v) (sym is) own)
 
 -- and no two have one driver
-apart_device : (triggers drivers earlier : ℕ) (devices : List DeviceRecord) (s : PartialDevice) (d : DeviceRecord) → AllPairs (λ a b. share_driver a b ≡ false) devices
+apart_device : (triggers drivers earlier : ℕ) (devices : List DeviceRecord) (s : PartialDevice) (d : DeviceRecord)
+    → AllPairs (λ a b. share_driver a b ≡ false) devices
     → FitsCurrent triggers drivers earlier devices s → d ≡ device_of s → AllPairs (λ a b. share_driver a b ≡ false) (devices ++ d ∷ [])
 apart_device triggers drivers earlier devices s d apart fits is =
     all_pairs_push (λ a b. share_driver a b ≡ false) devices d apart
-    (λ i v within. subst (λ (n : DeviceRecord). share_driver (get_or devices i v) n ≡ false) (sym is) (not_shared drivers devices s.driver fits.driven i v within))
+    (λ i v within. subst (λ (n : DeviceRecord). share_driver (get_or devices i v) n ≡ false) (sym is)
+    (not_shared drivers devices s.driver fits.driven i v within))
 
 -- ---- a device of either kind
 
@@ -67,22 +71,29 @@ one_of_kind s Output = refl
 
 module _ (triggers drivers earlier : ℕ) (devices : List DeviceRecord) (s : PartialDevice) where
   pub sound_push : (by : Direction) → All (IsWellFormedDevice triggers drivers) devices → FitsCurrent triggers drivers earlier devices s → 0 < length s.channels
-      → All (λ (d : DeviceRecord). IsRecording d.rows) (device_by by s) → All (λ (d : DeviceRecord). All (IsWrite (length d.shape.channels)) d.attrs) (device_by by s)
+      → All (λ (d : DeviceRecord). IsRecording d.rows) (device_by by s)
+      → All (λ (d : DeviceRecord). All (IsWrite (length d.shape.channels)) d.attrs) (device_by by s)
       → All (IsWellFormedDevice triggers drivers) (devices ++ device_by by s)
   sound_push Input sound fits some recording writes =
-      sound_device triggers drivers earlier devices s (device_of s) sound fits refl some (All-head (λ (d : DeviceRecord). IsRecording d.rows) (device_of s) [] recording)
+      sound_device triggers drivers earlier devices s (device_of s) sound fits refl some
+      (All-head (λ (d : DeviceRecord). IsRecording d.rows) (device_of s) [] recording)
       (All-head (λ (d : DeviceRecord). All (IsWrite (length d.shape.channels)) d.attrs) (device_of s) [] writes)
   sound_push Output sound fits some recording writes = rw (append-nil devices) sound
 
-  pub apart_push : (by : Direction) → AllPairs (λ a b. share_driver a b ≡ false) devices → FitsCurrent triggers drivers earlier devices s → AllPairs (λ a b. share_driver a b ≡ false) (devices ++ device_by by s)
+  pub apart_push : (by : Direction) → AllPairs (λ a b. share_driver a b ≡ false) devices → FitsCurrent triggers drivers earlier devices s
+      → AllPairs (λ a b. share_driver a b ≡ false) (devices ++ device_by by s)
   apart_push Input apart fits = apart_device triggers drivers earlier devices s (device_of s) apart fits refl
   apart_push Output apart fits = rw (append-nil devices) apart
 
   pub rows_push : (by : Direction) → earlier ≡ sum_by (λ (d : DeviceRecord). length d.rows.moments) devices
-      → earlier + sum_by (λ (d : DeviceRecord). length d.rows.moments) (device_by by s) ≡ sum_by (λ (d : DeviceRecord). length d.rows.moments) (devices ++ device_by by s)
-  rows_push by counted = ap (λ n. n + sum_by (λ (d : DeviceRecord). length d.rows.moments) (device_by by s)) counted ∙ sym (sum_by-append (λ (d : DeviceRecord). length d.rows.moments) devices (device_by by s))
+      → earlier + sum_by (λ (d : DeviceRecord). length d.rows.moments) (device_by by s)
+      ≡ sum_by (λ (d : DeviceRecord). length d.rows.moments) (devices ++ device_by by s)
+  rows_push by counted =
+      ap (λ n. n + sum_by (λ (d : DeviceRecord). length d.rows.moments) (device_by by s)) counted
+      ∙ sym (sum_by-append (λ (d : DeviceRecord). length d.rows.moments) devices (device_by by s))
 
-  pub outputs_push : (by : Direction) (outputs : List OutputRecord) → All (IsWellFormedOutput triggers) outputs → FitsCurrent triggers drivers earlier devices s → 0 < length s.channels
+  pub outputs_push : (by : Direction) (outputs : List OutputRecord) → All (IsWellFormedOutput triggers) outputs → FitsCurrent triggers drivers earlier devices s
+      → 0 < length s.channels
       → All (IsWellFormedOutput triggers) (outputs ++ output_by by s)
   outputs_push Input outputs sound fits some = rw (append-nil outputs) sound
   outputs_push Output outputs sound fits some =

@@ -16,7 +16,8 @@ both false b h = cc
 IsListable-listable : (channels bits m : ℕ) → listable channels bits ≡ Some m → IsListable channels m
 IsListable-listable channels bits m h = by_test (nat_lt 0 bits) (nat_lt bits (2 ^ channels)) refl refl h
   where
-    by_test : (some below : Bool) → nat_lt 0 bits ≡ some → nat_lt bits (2 ^ channels) ≡ below → cond (some && below) (Some bits) None ≡ Some m → IsListable channels m
+    by_test : (some below : Bool) → nat_lt 0 bits ≡ some → nat_lt bits (2 ^ channels) ≡ below → cond (some && below) (Some bits) None ≡ Some m
+        → IsListable channels m
     by_test true true some below e = let same : bits ≡ m = cc in subst (λ (n : ℕ). IsListable channels n) same (ltb-true _ _ some, ltb-true _ _ below)
     by_test true false some below e = cc
     by_test false below some b e = cc

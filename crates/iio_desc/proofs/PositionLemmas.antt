@@ -27,7 +27,8 @@ module _ {A : Type 0} (p : A → Bool) where
   found_first i k [] ys is = cc
   found_first i k (x ∷ xs) ys is = first_by i k xs ys (p x) (found_first (i + 1) k xs ys) is
 
-  then_by : (i : ℕ) (x : A) (xs ys : List A) (b : Bool) → (position_from p (i + 1) xs ≡ None → position_from p (i + 1) (xs ++ ys) ≡ position_from p (i + 1 + length xs) ys)
+  then_by : (i : ℕ) (x : A) (xs ys : List A) (b : Bool)
+      → (position_from p (i + 1) xs ≡ None → position_from p (i + 1) (xs ++ ys) ≡ position_from p (i + 1 + length xs) ys)
       → cond b (Some i) (position_from p (i + 1) xs) ≡ None → cond b (Some i) (position_from p (i + 1) (xs ++ ys)) ≡ position_from p (i + length (x ∷ xs)) ys
   then_by i x xs ys true next is = cc
   then_by i x xs ys false next is = next is ∙ ap (λ n. position_from p n ys) (omega arith)
@@ -60,12 +61,14 @@ module _ {A B C H : Type 0} (f : A → H) (g : B → H) (h : C → H) (p : H →
   pub of_first : (k : ℕ) → Some k ≡ position (λ x. p (f x)) xs → Some k ≡ position p (map f xs ++ (map g ys ++ map h zs))
   of_first k is = sym (position_first p k (map f xs) (map g ys ++ map h zs) (position_map f p xs ∙ sym is))
 
-  after_first : None ≡ position (λ x. p (f x)) xs → position p (map f xs ++ (map g ys ++ map h zs)) ≡ option_map (λ k. length xs + k) (position p (map g ys ++ map h zs))
+  after_first : None ≡ position (λ x. p (f x)) xs
+      → position p (map f xs ++ (map g ys ++ map h zs)) ≡ option_map (λ k. length xs + k) (position p (map g ys ++ map h zs))
   after_first none =
       position_then p (map f xs) (map g ys ++ map h zs) (position_map f p xs ∙ sym none)
       ∙ ap (λ n. option_map (λ k. n + k) (position p (map g ys ++ map h zs))) (length_map_is f xs)
 
-  pub of_second : (k : ℕ) → None ≡ position (λ x. p (f x)) xs → Some k ≡ position (λ x. p (g x)) ys → Some (length xs + k) ≡ position p (map f xs ++ (map g ys ++ map h zs))
+  pub of_second : (k : ℕ) → None ≡ position (λ x. p (f x)) xs → Some k ≡ position (λ x. p (g x)) ys
+      → Some (length xs + k) ≡ position p (map f xs ++ (map g ys ++ map h zs))
   of_second k none is =
       sym (after_first none ∙ ap (option_map (λ n. length xs + n)) (position_first p k (map g ys) (map h zs) (position_map g p ys ∙ sym is)))
 

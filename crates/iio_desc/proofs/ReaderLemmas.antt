@@ -12,7 +12,8 @@ use Rattle.iio_desc.specs.PartialDesc.{PartialDesc}
 use Rattle.iio_desc.proofs.WordLemmas.{from_second_word_is}
 
 -- a line by its first word
-pub after_line-first : (d : PartialDesc) (text word rest : List ℕ) (k : Keyword) → words_of_line text ≡ Ok (word ∷ words_of is_space rest) → IsFirstWord is_space text word rest
+pub after_line-first : (d : PartialDesc) (text word rest : List ℕ) (k : Keyword) → words_of_line text ≡ Ok (word ∷ words_of is_space rest)
+    → IsFirstWord is_space text word rest
     → line.keyword_of word ≡ Some k → line.after_line d text ≡ line.keyword_line d k (words_of is_space rest) (from_word rest)
 after_line-first d text word rest k words first known = rw (words, known, from_second_word_is text word rest first) refl
 
@@ -21,6 +22,7 @@ pub read_lines-fault : (fault : DescFault) (lines : List (List ℕ)) → read_li
 read_lines-fault fault [] = refl
 read_lines-fault fault (text ∷ lines) = read_lines-fault fault lines
 
-pub located : (fault : DescFault) (reader : Reader) (text : List ℕ) (lines : List (List ℕ)) → Locates fault (after_line reader text) → Locates fault (read_lines reader (text ∷ lines))
+pub located : (fault : DescFault) (reader : Reader) (text : List ℕ) (lines : List (List ℕ)) → Locates fault (after_line reader text)
+    → Locates fault (read_lines reader (text ∷ lines))
 located (Line n why) reader text lines h = ap (λ (r : Reader). read_lines r lines) h ∙ read_lines-fault (Line n why) lines
 located Mem reader text lines h = tt

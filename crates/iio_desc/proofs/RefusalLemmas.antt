@@ -15,5 +15,6 @@ is_false true h = cc
 is_false false h = refl
 
 -- a word other than `-` is looked up
-pub looked_up : (find : List ℕ → Option ℕ) (word : List ℕ) (o : Option ℕ) → bytes_eq word (codes "-") ≡ false → o ≡ find word → option_map (λ n. Some n) o ≡ unless_dash find word
+pub looked_up : (find : List ℕ → Option ℕ) (word : List ℕ) (o : Option ℕ) → bytes_eq word (codes "-") ≡ false → o ≡ find word
+    → option_map (λ n. Some n) o ≡ unless_dash find word
 looked_up find word o other found = rw other (ap (option_map (λ n. Some n)) found)

@@ -49,7 +49,8 @@ rises_push moments m risen above i j d order within =
 pub whole_push : (values vs : List ℤ) (moments : List ℤ) (m : ℤ) (width : ℕ) → length values ≡ length moments * width → length vs ≡ width
     → length (values ++ vs) ≡ length (moments ++ m ∷ []) * width
 whole_push values vs moments m width whole row =
-    length-append values vs ∙ sym (ap (λ n. n * width) (length-append moments (m ∷ []) ∙ add-one (length moments)) ∙ suc-mul (length moments) width ∙ omega (arith, whole, row))
+    length-append values vs ∙ sym
+    (ap (λ n. n * width) (length-append moments (m ∷ []) ∙ add-one (length moments)) ∙ suc-mul (length moments) width ∙ omega (arith, whole, row))
 
 -- as many integers as words
 more_ints : (v : Option ℤ) (rest : Option (List ℤ)) (vs : List ℤ) → before v rest ≡ Some vs
@@ -133,7 +134,8 @@ reads_row moments [] m vs h = cc
 reads_row moments (t ∷ ts) m vs h = by_moment moments t ts m vs (int_of t) h
 
 -- a row with as many values as it should have, or with another number
-pub counted_row-right : (width : ℕ) (moments : List ℤ) (words : List (List ℕ)) → length words ≡ width + 1 → counted_row width moments words ≡ row_of moments words
+pub counted_row-right : (width : ℕ) (moments : List ℤ) (words : List (List ℕ)) → length words ≡ width + 1
+    → counted_row width moments words ≡ row_of moments words
 counted_row-right width moments words h = rw (eq-eqb _ _ h) refl
 
 pub counted_row-wrong : (width : ℕ) (moments : List ℤ) (words : List (List ℕ)) → ¬ (length words ≡ width + 1) → counted_row width moments words ≡ Err Count
@@ -151,5 +153,6 @@ by_count width moments words m vs true is e =
     record { risen = row.risen; size = omega (arith, row.size, eqb-true _ _ is) }
 by_count width moments words m vs false is e = let wrong : Err Count ≡ Ok (m, vs) = rw is at e in cc
 
-pub reads_counted : (width : ℕ) (moments : List ℤ) (words : List (List ℕ)) (m : ℤ) (vs : List ℤ) → counted_row width moments words ≡ Ok (m, vs) → ReadsCounted width moments m vs
+pub reads_counted : (width : ℕ) (moments : List ℤ) (words : List (List ℕ)) (m : ℤ) (vs : List ℤ) → counted_row width moments words ≡ Ok (m, vs)
+    → ReadsCounted width moments m vs
 reads_counted width moments words m vs e = by_count width moments words m vs (length words == width + 1) refl e

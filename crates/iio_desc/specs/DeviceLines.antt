@@ -40,7 +40,8 @@ has_id device id = list_any (λ channel. same_id (id_at channel) id) device.chan
 
 -- one channel more, of the device's direction
 abbrev pub with_channel : PartialDevice → Kind × Suffix → Format → PartialDevice
-with_channel device id format = record device { channels = device.channels ++ (record { kind = id.0; suffix = id.1; direction = device.direction; ty = format }) ∷ [] }
+with_channel device id format =
+    record device { channels = device.channels ++ (record { kind = id.0; suffix = id.1; direction = device.direction; ty = format }) ∷ [] }
 
 -- ... where there may be one more
 abbrev pub channel_added : PartialDevice → Kind × Suffix → Format → Result PartialDevice Why

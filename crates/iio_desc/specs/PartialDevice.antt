@@ -23,7 +23,20 @@ pub record PartialDevice : Type 0 where
 
 -- a device whose own line was read alone
 abbrev pub new_device : Direction → List ℕ → Option ℕ → PartialDevice
-new_device direction name trigger = record { direction = direction; name = name; trigger = trigger; channels = []; stamp = None; listed = []; moments = []; values = []; driver = None; attrs = [] }
+new_device direction name trigger =
+    record {
+      direction = direction;
+      name = name;
+      trigger = trigger;
+      channels = [];
+      stamp = None;
+      listed = [];
+      moments = [];
+      values = [];
+      driver = None;
+      attrs =
+          [];
+    }
 
 -- the shape that it has so far
 abbrev pub shape_of : PartialDevice → ShapeRecord

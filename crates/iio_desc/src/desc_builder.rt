@@ -271,7 +271,8 @@ impl DescBuilder {
         requires whole { is_current_whole self.old.current ≡ true }
         requires attached { IfSome trigger (λ number. number < length self.old.triggers) }
         requires few { device_count self.old < MAX_DEVICES }
-        ensures ok { OnOk result (self.new ≡ record self.old { devices = all_devices self.old; outputs = all_outputs self.old; current = Some (new_device direction name trigger) }) }
+        ensures ok { OnOk result
+            (self.new ≡ record self.old { devices = all_devices self.old; outputs = all_outputs self.old; current = Some (new_device direction name trigger) }) }
         ensures kept { OnErr result (self.new ≡ self.old) }
     {
         self.devices.reserve(1)?;
@@ -347,7 +348,8 @@ impl DescBuilder {
 
     // `driver K`, of that device
     fn driver_line(&mut self, words: &[u8]) -> Result<(), LineFault>
-        ensures line { Becomes result self.old self.new (part_line self.old (λ device. driver_line self.old.drivers self.old.devices device (words_of is_space words.now))) }
+        ensures line { Becomes result self.old self.new
+            (part_line self.old (λ device. driver_line self.old.drivers self.old.devices device (words_of is_space words.now))) }
         ensures drivers { self.new.drivers ≡ self.old.drivers }
     {
         match &mut self.current {

@@ -87,7 +87,8 @@ module _ {A : Type 0} (key : A → ℕ) where
   apart_push [] y apart new = (refl, tt)
   apart_push (x ∷ xs) y apart new = by (key x == key y) refl new (λ n. apart_push xs y apart.1 n)
     where
-      by : (b : Bool) → (key x == key y) ≡ b → (b || has_key xs (key y)) ≡ false → (has_key xs (key y) ≡ false → AreApart (xs ++ y ∷ [])) → AreApart (x ∷ xs ++ y ∷ [])
+      by : (b : Bool) → (key x == key y) ≡ b → (b || has_key xs (key y)) ≡ false → (has_key xs (key y) ≡ false → AreApart (xs ++ y ∷ []))
+          → AreApart (x ∷ xs ++ y ∷ [])
       by true e n later = absurd (cc)
       by false e n later =
           let other : (key y == key x) ≡ false = eq_flips (key y) (key x) ∙ e in
@@ -140,7 +141,8 @@ module _ {A : Type 0} (key : A → ℕ) where
   absent_at (z ∷ zs) zero q x none within at = subst (λ y. (key y == q) ≡ false) (sym at) (or_left (key z == q) (has_key zs q) none)
   absent_at (z ∷ zs) (suc k) q x none within at = absent_at zs k q x (or_right (key z == q) (has_key zs q) none) (omega arith) at
 
-  removed_apart : (xs : List A) (k : ℕ) (x : A) → AreApart xs → k < length xs → x ≡ get_or xs k x → take k xs ++ drop (k + 1) xs ≡ filter (λ y. not (key y == key x)) xs
+  removed_apart : (xs : List A) (k : ℕ) (x : A) → AreApart xs → k < length xs → x ≡ get_or xs k x
+      → take k xs ++ drop (k + 1) xs ≡ filter (λ y. not (key y == key x)) xs
   removed_apart [] k x apart within at = absurd (omega arith)
   removed_apart (z ∷ zs) zero x apart within at =
       let same : (key z == key x) ≡ true = eq_same (key z) (key x) (ap key (sym at)) in
@@ -153,7 +155,8 @@ module _ {A : Type 0} (key : A → ℕ) where
       subst (λ n. z ∷ take k zs ++ drop n (z ∷ zs) ≡ filter (λ y. not (key y == key x)) (z ∷ zs)) (sym more) (rw (other) (ap (λ ys. z ∷ ys) rest))
 
   -- what stays are those of other keys
-  pub removed_is : (xs : List A) (k : ℕ) (x : A) → AreDistinct xs → k < length xs → x ≡ get_or xs k x → take k xs ++ drop (k + 1) xs ≡ filter (λ y. not (key y == key x)) xs
+  pub removed_is : (xs : List A) (k : ℕ) (x : A) → AreDistinct xs → k < length xs → x ≡ get_or xs k x
+      → take k xs ++ drop (k + 1) xs ≡ filter (λ y. not (key y == key x)) xs
   removed_is xs k x distinct within at = removed_apart xs k x (to_apart xs distinct) within at
 
   -- ---- one element changed
@@ -166,7 +169,8 @@ module _ {A : Type 0} (key : A → ℕ) where
       let rest = none_changed f xs k (or_right (key x == k) (has_key xs k) none) in
       rw (first, rest) refl
 
-  changed_apart : (f : A → A) (xs : List A) (k : ℕ) (x : A) → AreApart xs → k < length xs → x ≡ get_or xs k x → slice_set xs k (f x) ≡ map (λ y. if key y == key x then f y else y) xs
+  changed_apart : (f : A → A) (xs : List A) (k : ℕ) (x : A) → AreApart xs → k < length xs → x ≡ get_or xs k x
+      → slice_set xs k (f x) ≡ map (λ y. if key y == key x then f y else y) xs
   changed_apart f [] k x apart within at = absurd (omega arith)
   changed_apart f (z ∷ zs) zero x apart within at =
       let same : (key z == key x) ≡ true = eq_same (key z) (key x) (ap key (sym at)) in
@@ -177,7 +181,8 @@ module _ {A : Type 0} (key : A → ℕ) where
       rw other (ap (λ ys. z ∷ ys) (changed_apart f zs k x apart.1 (omega arith) at))
 
   -- the one of that key is, and the others stay
-  pub changed_is : (f : A → A) (xs : List A) (k : ℕ) (x : A) → AreDistinct xs → k < length xs → x ≡ get_or xs k x → slice_set xs k (f x) ≡ map (λ y. if key y == key x then f y else y) xs
+  pub changed_is : (f : A → A) (xs : List A) (k : ℕ) (x : A) → AreDistinct xs → k < length xs → x ≡ get_or xs k x
+      → slice_set xs k (f x) ≡ map (λ y. if key y == key x then f y else y) xs
   changed_is f xs k x distinct within at = changed_apart f xs k x (to_apart xs distinct) within at
 
   -- a key that is in none of the elements is in none of fewer
@@ -224,7 +229,8 @@ module _ {A : Type 0} (key : A → ℕ) where
       let rest = none_passes test xs k (or_right (key x == k) (has_key xs k) none) in
       rw (first, rest) refl
 
-  passes_apart : (test : A → Bool) (xs : List A) (k : ℕ) (d : A) → AreApart xs → k < length xs → list_any (λ x. key x == key (get_or xs k d) && test x) xs ≡ test (get_or xs k d)
+  passes_apart : (test : A → Bool) (xs : List A) (k : ℕ) (d : A) → AreApart xs → k < length xs
+      → list_any (λ x. key x == key (get_or xs k d) && test x) xs ≡ test (get_or xs k d)
   passes_apart test [] k d apart within = absurd (omega arith)
   passes_apart test (x ∷ xs) zero d apart within =
       let same = eq_same (key x) (key x) refl in
@@ -235,5 +241,6 @@ module _ {A : Type 0} (key : A → ℕ) where
       rw other (passes_apart test xs k d apart.1 (omega arith))
 
   -- it alone is asked
-  pub passes_at : (test : A → Bool) (xs : List A) (k : ℕ) (d : A) → AreDistinct xs → k < length xs → list_any (λ x. key x == key (get_or xs k d) && test x) xs ≡ test (get_or xs k d)
+  pub passes_at : (test : A → Bool) (xs : List A) (k : ℕ) (d : A) → AreDistinct xs → k < length xs
+      → list_any (λ x. key x == key (get_or xs k d) && test x) xs ≡ test (get_or xs k d)
   passes_at test xs k d distinct within = passes_apart test xs k d (to_apart xs distinct) within

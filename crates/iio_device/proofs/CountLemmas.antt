@@ -27,9 +27,11 @@ module _ {Q : Type 0} where
   mask_member [] q = refl
   mask_member (m ∷ ms) q = rw (eq_flips q m.mask.bits, mask_member ms q) refl
 
-  has_wanted : (groups : List GroupRecord) (members : List (Membership Q)) (q : ℕ) → All (λ (g : GroupRecord). is_wanted members g.mask ≡ true) groups → has_group groups q ≡ true → is_wanted members q ≡ true
+  has_wanted : (groups : List GroupRecord) (members : List (Membership Q)) (q : ℕ) → All (λ (g : GroupRecord). is_wanted members g.mask ≡ true) groups
+      → has_group groups q ≡ true → is_wanted members q ≡ true
   has_wanted [] members q used there = absurd (cc)
-  has_wanted (g ∷ gs) members q used there = by (λ h. has_wanted gs members q (All-tail (λ (x : GroupRecord). is_wanted members x.mask ≡ true) g gs used) h) (g.mask == q) refl there
+  has_wanted (g ∷ gs) members q used there =
+      by (λ h. has_wanted gs members q (All-tail (λ (x : GroupRecord). is_wanted members x.mask ≡ true) g gs used) h) (g.mask == q) refl there
     where
       by : (has_group gs q ≡ true → is_wanted members q ≡ true) → (b : Bool) → (g.mask == q) ≡ b → (b || has_group gs q) ≡ true → is_wanted members q ≡ true
       by later true e h =
@@ -37,9 +39,11 @@ module _ {Q : Type 0} where
           subst (λ k. is_wanted members k ≡ true) same (All-head (λ (x : GroupRecord). is_wanted members x.mask ≡ true) g gs used)
       by later false e h = later h
 
-  wanted_has : (groups : List GroupRecord) (members : List (Membership Q)) (q : ℕ) → All (λ (m : Membership Q). has_group groups m.mask.bits ≡ true) members → is_wanted members q ≡ true → has_group groups q ≡ true
+  wanted_has : (groups : List GroupRecord) (members : List (Membership Q)) (q : ℕ) → All (λ (m : Membership Q). has_group groups m.mask.bits ≡ true) members
+      → is_wanted members q ≡ true → has_group groups q ≡ true
   wanted_has groups [] q there wanted = absurd (cc)
-  wanted_has groups (m ∷ ms) q there wanted = by (λ h. wanted_has groups ms q (All-tail (λ (x : Membership Q). has_group groups x.mask.bits ≡ true) m ms there) h) (m.mask.bits == q) refl wanted
+  wanted_has groups (m ∷ ms) q there wanted =
+      by (λ h. wanted_has groups ms q (All-tail (λ (x : Membership Q). has_group groups x.mask.bits ≡ true) m ms there) h) (m.mask.bits == q) refl wanted
     where
       by : (is_wanted ms q ≡ true → has_group groups q ≡ true) → (b : Bool) → (m.mask.bits == q) ≡ b → (b || is_wanted ms q) ≡ true → has_group groups q ≡ true
       by later true e h =
@@ -48,14 +52,18 @@ module _ {Q : Type 0} where
       by later false e h = later h
 
   -- there are as many groups as masks
-  pub group_count : (taken lost size : Q → ℕ) (shape : ShapeRecord) (active : ℕ) (members : List (Membership Q)) (groups : List GroupRecord) → AreGroups taken lost size shape active members groups
+  pub group_count : (taken lost size : Q → ℕ) (shape : ShapeRecord) (active : ℕ) (members : List (Membership Q)) (groups : List GroupRecord)
+      → AreGroups taken lost size shape active members groups
       → length groups ≡ mask_count members
   group_count taken lost size shape active members groups sound =
       sym (length-map groups (λ (g : GroupRecord). g.mask))
       ∙ length-from_keys nat_eq_equiv (map (λ (g : GroupRecord). g.mask) groups) (masks_of members) sound.apart
-      (λ q. group_member groups q ∙ both_ways (has_group groups q) (is_wanted members q) (has_wanted groups members q sound.used) (wanted_has groups members q sound.there) ∙ sym (mask_member members q))
+      (λ q. group_member groups q
+      ∙ both_ways (has_group groups q) (is_wanted members q) (has_wanted groups members q sound.used) (wanted_has groups members q sound.there)
+      ∙ sym (mask_member members q))
 
-  pub group_few : (taken lost size : Q → ℕ) (shape : ShapeRecord) (active : ℕ) (members : List (Membership Q)) (groups : List GroupRecord) → AreGroups taken lost size shape active members groups
+  pub group_few : (taken lost size : Q → ℕ) (shape : ShapeRecord) (active : ℕ) (members : List (Membership Q)) (groups : List GroupRecord)
+      → AreGroups taken lost size shape active members groups
       → length members < 2 ^ 32 → length groups < 2 ^ 32
   group_few taken lost size shape active members groups sound few =
       let count = group_count taken lost size shape active members groups sound in

@@ -16,7 +16,8 @@ faults gone bad without_trigger without_union full =
     (gone, Gone) ∷ (bad, BadMask) ∷ member_faults without_trigger without_union full
 
 -- where no fault applies, want of memory alone is left, and there is a place
-pub only_memory : (gone bad without_trigger without_union placeless ended : Bool) → first_refusal (faults gone bad without_trigger without_union (placeless || ended)) ≡ None
+pub only_memory : (gone bad without_trigger without_union placeless ended : Bool)
+    → first_refusal (faults gone bad without_trigger without_union (placeless || ended)) ≡ None
     → first_refusal (member_faults false without_union ended) ≡ None
 only_memory true bad t u p e h = cc
 only_memory false true t u p e h = cc
@@ -26,7 +27,8 @@ only_memory false false false false true e h = cc
 only_memory false false false false false true h = cc
 only_memory false false false false false false h = refl
 
-pub has_place : (gone bad without_trigger without_union placeless ended : Bool) → first_refusal (faults gone bad without_trigger without_union (placeless || ended)) ≡ None → placeless ≡ false
+pub has_place : (gone bad without_trigger without_union placeless ended : Bool)
+    → first_refusal (faults gone bad without_trigger without_union (placeless || ended)) ≡ None → placeless ≡ false
 has_place true bad t u p e h = cc
 has_place false true t u p e h = cc
 has_place false false true u p e h = cc

@@ -42,10 +42,12 @@ module _ {Q : Type 0} where
   wanted_within [] mask wanted = absurd (cc)
   wanted_within (m ∷ ms) mask wanted = by (λ w. wanted_within ms mask w) (m.mask.bits == mask) refl wanted
     where
-      by : (is_wanted ms mask ≡ true → is_within mask (union_of_all (masks_of ms)) ≡ true) → (b : Bool) → (m.mask.bits == mask) ≡ b → (b || is_wanted ms mask) ≡ true
+      by : (is_wanted ms mask ≡ true → is_within mask (union_of_all (masks_of ms)) ≡ true) → (b : Bool) → (m.mask.bits == mask) ≡ b
+          → (b || is_wanted ms mask) ≡ true
           → is_within mask (union_of m.mask.bits (union_of_all (masks_of ms))) ≡ true
       by later true e w =
           let same : m.mask.bits ≡ mask = grind (arith, e) in
           subst (λ k. is_within k (union_of m.mask.bits (union_of_all (masks_of ms))) ≡ true) same (within_first m.mask.bits (union_of_all (masks_of ms)))
       by later false e w =
-          within_trans mask (union_of_all (masks_of ms)) (union_of m.mask.bits (union_of_all (masks_of ms))) (later w) (within_second m.mask.bits (union_of_all (masks_of ms)))
+          within_trans mask (union_of_all (masks_of ms)) (union_of m.mask.bits (union_of_all (masks_of ms))) (later w)
+          (within_second m.mask.bits (union_of_all (masks_of ms)))

@@ -42,11 +42,13 @@ pub laid_mask : (active : ℕ) (union : List ℕ) (g : GroupRecord) → (laid_ou
 laid_mask active union g = elim (cases_Bool (g.mask == active)) [ inl own ↦ rw own refl | inr other ↦ rw other refl ]
 
 -- what is made of a table's scan by the group of a mask that isn't the active one
-scan_found : (shape : ShapeRecord) (active mask : ℕ) (union : List ℕ) (groups : List GroupRecord) → (mask == active) ≡ false → All (IsGroup shape active) groups → has_group groups mask ≡ true
+scan_found : (shape : ShapeRecord) (active mask : ℕ) (union : List ℕ) (groups : List GroupRecord) → (mask == active) ≡ false → All (IsGroup shape active) groups
+    → has_group groups mask ≡ true
     → scan_under (map (laid_out active union) groups) mask ≡ copied (table_of shape active mask).entries union (scan_size shape mask)
 scan_found shape active mask union [] other each there = absurd (cc)
 scan_found shape active mask union (g ∷ gs) other each there =
-    rw (laid_mask active union g) (by (λ h. scan_found shape active mask union gs other (All-tail (IsGroup shape active) g gs each) h) (g.mask == mask) refl there)
+    rw (laid_mask active union g)
+    (by (λ h. scan_found shape active mask union gs other (All-tail (IsGroup shape active) g gs each) h) (g.mask == mask) refl there)
   where
     first : IsGroup shape active g
     first = All-head (IsGroup shape active) g gs each
@@ -56,15 +58,18 @@ scan_found shape active mask union (g ∷ gs) other each there =
         let apart : (g.mask == active) ≡ false = rw same other in
         rw apart (ap (λ t. copied t.entries union t.buffer_size) (first.table ∙ ap (table_of shape active) same))
 
-    by : (has_group gs mask ≡ true → scan_under (map (laid_out active union) gs) mask ≡ copied (table_of shape active mask).entries union (scan_size shape mask))
+    by : (has_group gs mask ≡ true
+        → scan_under (map (laid_out active union) gs) mask ≡ copied (table_of shape active mask).entries union (scan_size shape mask))
         → (b : Bool) → (g.mask == mask) ≡ b → (b || has_group gs mask) ≡ true
-        → option_map_or (λ (x : GroupRecord). x.scan) (if b then Some (laid_out active union g) else find (λ (x : GroupRecord). x.mask == mask) (map (laid_out active union) gs)) []
+        → option_map_or (λ (x : GroupRecord). x.scan)
+        (if b then Some (laid_out active union g) else find (λ (x : GroupRecord). x.mask == mask) (map (laid_out active union) gs)) []
         ≡ copied (table_of shape active mask).entries union (scan_size shape mask)
     by later true e h = let same : g.mask ≡ mask = grind (arith, e) in laid same
     by later false e h = later h
 
 -- a scan has the mask's size, and it is that of the capture
-pub scan_found-size : (shape : ShapeRecord) (active mask : ℕ) (union : List ℕ) (groups : List GroupRecord) → All (IsGroup shape active) groups → has_group groups mask ≡ true
+pub scan_found-size : (shape : ShapeRecord) (active mask : ℕ) (union : List ℕ) (groups : List GroupRecord) → All (IsGroup shape active) groups
+    → has_group groups mask ≡ true
     → length union ≡ scan_size shape active → length (scan_for active union (map (laid_out active union) groups) mask) ≡ scan_size shape mask
 scan_found-size shape active mask union groups each there sized =
     elim (cases_Bool (mask == active)) [
@@ -74,7 +79,8 @@ scan_found-size shape active mask union groups each there sized =
           ∙ length-map-range_with_len (λ j. byte_at (table_of shape active mask).entries union j) 0 (scan_size shape mask))
     ]
 
-pub scan_found-is : (shape : ShapeRecord) (active mask : ℕ) (union : List ℕ) (groups : List GroupRecord) (values : List ℤ) (t : ℤ) → All (IsGroup shape active) groups → has_group groups mask ≡ true
+pub scan_found-is : (shape : ShapeRecord) (active mask : ℕ) (union : List ℕ) (groups : List GroupRecord) (values : List ℤ) (t : ℤ)
+    → All (IsGroup shape active) groups → has_group groups mask ≡ true
     → is_within mask active ≡ true → length values ≡ width_of shape → union ≡ scan_of shape active values t
     → scan_for active union (map (laid_out active union) groups) mask ≡ scan_of shape mask values t
 scan_found-is shape active mask union groups values t each there within wide is =
@@ -89,7 +95,8 @@ scan_found-is shape active mask union groups values t each there within wide is 
 -- the scan of a group that stands at a place
 pub scan_at : (groups : List GroupRecord) (place : ℕ) (d : GroupRecord) → AreDistinct (λ (g : GroupRecord). g.mask) groups → place < length groups
     → scan_under groups (slice_index_or groups place d).mask ≡ (slice_index_or groups place d).scan
-scan_at groups place d apart within = ap (λ g. option_map_or (λ (x : GroupRecord). x.scan) g []) (found_at (λ (g : GroupRecord). g.mask) groups place d apart within)
+scan_at groups place d apart within =
+    ap (λ g. option_map_or (λ (x : GroupRecord). x.scan) g []) (found_at (λ (g : GroupRecord). g.mask) groups place d apart within)
 
 -- ---- lists that change together
 
@@ -100,7 +107,8 @@ zip_all R P P' (x ∷ xs) [] keeps zip all = absurd zip
 zip_all R P P' (x ∷ xs) (y ∷ ys) keeps zip all =
     All-cons P' y ys (keeps x y (All-head P x xs all) zip.0) (zip_all R P P' xs ys keeps zip.1 (All-tail P x xs all))
 
-pub zip_more : {A : Type 0} (R R' : A → A → Type 0) (P : A → Type 0) (xs ys : List A) → ((x y : A) → P x → R x y → R' x y) → AllZip R xs ys → All P xs → AllZip R' xs ys
+pub zip_more : {A : Type 0} (R R' : A → A → Type 0) (P : A → Type 0) (xs ys : List A) → ((x y : A) → P x → R x y → R' x y) → AllZip R xs ys → All P xs
+    → AllZip R' xs ys
 zip_more R R' P [] [] keeps zip all = tt
 zip_more R R' P [] (y ∷ ys) keeps zip all = absurd zip
 zip_more R R' P (x ∷ xs) [] keeps zip all = absurd zip
@@ -132,7 +140,8 @@ module _ {Q : Type 0} (R : Membership Q → Membership Q → Type 0) (same_mask 
   kept_nil (x ∷ xs) (y ∷ ys) zip = refl
 
   -- they are sound over the same groups, where each is sound by itself
-  pub sound_moves : (taken lost size : Q → ℕ) (shape : ShapeRecord) (active : Option Mask) (captures captures' next : ℕ) (old new : List (Membership Q)) (groups : List GroupRecord)
+  pub sound_moves : (taken lost size : Q → ℕ) (shape : ShapeRecord) (active : Option Mask) (captures captures' next : ℕ) (old new : List (Membership Q))
+      (groups : List GroupRecord)
       → ((a b : Membership Q) → IsMember taken lost size shape captures next a → R a b → IsMember taken lost size shape captures' next b)
       → IsSound taken lost size shape active captures next old groups → AllZip R old new → IsSound taken lost size shape active captures' next new groups
   sound_moves taken lost size shape active captures captures' next old new groups moves sound zip = record {
@@ -146,7 +155,9 @@ module _ {Q : Type 0} (R : Membership Q → Membership Q → Type 0) (same_mask 
       each = sound.grouped.each;
       there = zip_all R (λ (m : Membership Q). has_group groups m.mask.bits ≡ true) (λ (m : Membership Q). has_group groups m.mask.bits ≡ true) old new
           (λ a b there r. ap (has_group groups) (same_mask a b r) ∙ there) zip sound.grouped.there;
-      used = All-weaker (λ (g : GroupRecord). is_wanted old g.mask ≡ true) (λ (g : GroupRecord). is_wanted new g.mask ≡ true) (λ g used. kept_wanted old new g.mask zip ∙ used) groups sound.grouped.used;
+      used =
+          All-weaker (λ (g : GroupRecord). is_wanted old g.mask ≡ true) (λ (g : GroupRecord). is_wanted new g.mask ≡ true)
+          (λ g used. kept_wanted old new g.mask zip ∙ used) groups sound.grouped.used;
       apart = sound.grouped.apart;
     };
   }
@@ -164,7 +175,8 @@ laid_group shape active union g is =
           })
     ]
 
-sound_laid : {Q : Type 0} (taken lost size : Q → ℕ) (shape : ShapeRecord) (active : Option Mask) (captures next : ℕ) (members : List (Membership Q)) (groups : List GroupRecord) (union : List ℕ)
+sound_laid : {Q : Type 0} (taken lost size : Q → ℕ) (shape : ShapeRecord) (active : Option Mask) (captures next : ℕ) (members : List (Membership Q))
+    (groups : List GroupRecord) (union : List ℕ)
     → IsSound taken lost size shape active captures next members groups
     → IsSound taken lost size shape active captures next members (map (laid_out (unwrap_or (bits_of active) 0) union) groups)
 sound_laid {Q = Q} taken lost size shape active captures next members groups union sound =
@@ -179,8 +191,11 @@ sound_laid {Q = Q} taken lost size shape active captures next members groups uni
       grouped = record {
         each = All-map (IsGroup shape mask) (laid_out mask union) groups
             (All-weaker (IsGroup shape mask) (λ g. IsGroup shape mask (laid_out mask union g)) (laid_group shape mask union) groups sound.grouped.each);
-        there = All-weaker (λ (m : Membership Q). has_group groups m.mask.bits ≡ true) (λ (m : Membership Q). has_group (map (laid_out mask union) groups) m.mask.bits ≡ true)
-            (λ m there. kept_key (λ (g : GroupRecord). g.mask) (laid_out mask union) (laid_mask mask union) groups m.mask.bits ∙ there) members sound.grouped.there;
+        there =
+            All-weaker (λ (m : Membership Q). has_group groups m.mask.bits ≡ true)
+            (λ (m : Membership Q). has_group (map (laid_out mask union) groups) m.mask.bits ≡ true)
+            (λ m there. kept_key (λ (g : GroupRecord). g.mask) (laid_out mask union) (laid_mask mask union) groups m.mask.bits ∙ there) members
+            sound.grouped.there;
         used = All-map (λ (g : GroupRecord). is_wanted members g.mask ≡ true) (laid_out mask union) groups
             (All-weaker (λ (g : GroupRecord). is_wanted members g.mask ≡ true) (λ (g : GroupRecord). is_wanted members (laid_out mask union g).mask ≡ true)
             (λ g wanted. ap (is_wanted members) (laid_mask mask union g) ∙ wanted) groups sound.grouped.used);
@@ -198,7 +213,8 @@ module _ {Q : Type 0} (taken lost size capacity : Q → ℕ) (offer_gives : Q �
     offered_mask : (a b : Membership Q) → Moves a b → b.mask.bits ≡ a.mask.bits
     offered_mask a b r = ap (λ (m : Membership Q). m.mask.bits) r.same
 
-    offered_member : (shape : ShapeRecord) (captures next : ℕ) (a b : Membership Q) → IsMember taken lost size shape captures next a → Moves a b → IsMember taken lost size shape (captures + 1) next b
+    offered_member : (shape : ShapeRecord) (captures next : ℕ) (a b : Membership Q) → IsMember taken lost size shape captures next a → Moves a b
+        → IsMember taken lost size shape (captures + 1) next b
     offered_member shape captures next a b is r =
         let number = ap (λ (m : Membership Q). m.number) r.same in
         let mask = offered_mask a b r in
@@ -214,23 +230,29 @@ module _ {Q : Type 0} (taken lost size capacity : Q → ℕ) (offer_gives : Q �
           sized = r.sized ∙ is.sized ∙ ap (scan_size shape) (sym mask);
         }
 
-    pub sound_captures : (shape : ShapeRecord) (active : Option Mask) (captures next : ℕ) (old new : List (Membership Q)) (groups : List GroupRecord) (union : List ℕ)
+    pub sound_captures : (shape : ShapeRecord) (active : Option Mask) (captures next : ℕ) (old new : List (Membership Q)) (groups : List GroupRecord)
+        (union : List ℕ)
         → IsSound taken lost size shape active captures next old groups → AllZip Moves old new
         → IsSound taken lost size shape active (captures + 1) next new (map (laid_out (unwrap_or (bits_of active) 0) union) groups)
     sound_captures shape active captures next old new groups union sound zip =
         sound_laid taken lost size shape active (captures + 1) next new groups union
-        (sound_moves Moves offered_mask (λ a b r. ap (λ (m : Membership Q). m.number) r.same) taken lost size shape active captures (captures + 1) next old new groups (offered_member shape captures next) sound zip)
+        (sound_moves Moves offered_mask (λ a b r. ap (λ (m : Membership Q). m.number) r.same) taken lost size shape active captures (captures + 1) next old new
+        groups (offered_member shape captures next) sound zip)
 
   -- each scan that is offered has its queue's size, and no count comes to its end
   pub all_sized : (shape : ShapeRecord) (active : Option Mask) (captures next : ℕ) (members : List (Membership Q)) (groups : List GroupRecord) (union : List ℕ)
       → IsSound taken lost size shape active captures next members groups → length union ≡ scan_size shape (unwrap_or (bits_of active) 0)
-      → All (λ (m : Membership Q). length (scan_for (unwrap_or (bits_of active) 0) union (map (laid_out (unwrap_or (bits_of active) 0) union) groups) m.mask.bits) ≡ size m.tail) members
+      → All (λ (m : Membership Q). length
+      (scan_for (unwrap_or (bits_of active) 0) union (map (laid_out (unwrap_or (bits_of active) 0) union) groups) m.mask.bits) ≡ size m.tail) members
   all_sized shape active captures next members groups union sound sized = λ k d within.
       let m = slice_index_or members k d in
-      scan_found-size shape (unwrap_or (bits_of active) 0) m.mask.bits union groups sound.grouped.each (sound.grouped.there k d within) sized ∙ sym ((sound.each k d within).sized)
+      scan_found-size shape (unwrap_or (bits_of active) 0) m.mask.bits union groups sound.grouped.each (sound.grouped.there k d within) sized
+      ∙ sym ((sound.each k d within).sized)
 
-  pub all_fewer : (shape : ShapeRecord) (active : Option Mask) (captures next : ℕ) (members : List (Membership Q)) (groups : List GroupRecord) → captures < 18446744073709551615
-      → IsSound taken lost size shape active captures next members groups → All (λ (m : Membership Q). taken m.tail + lost m.tail < 18446744073709551615) members
+  pub all_fewer : (shape : ShapeRecord) (active : Option Mask) (captures next : ℕ) (members : List (Membership Q)) (groups : List GroupRecord)
+      → captures < 18446744073709551615
+      → IsSound taken lost size shape active captures next members groups
+      → All (λ (m : Membership Q). taken m.tail + lost m.tail < 18446744073709551615) members
   all_fewer shape active captures next members groups few sound = λ k d within. let counted = (sound.each k d within).counted in omega (arith, few, counted)
 
   -- each member's mask lies within the active one

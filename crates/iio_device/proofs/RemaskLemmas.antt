@@ -44,7 +44,8 @@ module _ {Q : Type 0} where
       ap (without number) (take_more members k m within ∙ ap (λ x. take k members ++ x ∷ []) (sym at))
       ∙ filter-append (λ (x : Membership Q). not (x.number == number)) (take k members) (m ∷ [])
 
-  pub others_more : (members : List (Membership Q)) (number k : ℕ) (m : Membership Q) → k < length members → m ≡ get_or members k m → (m.number == number) ≡ false
+  pub others_more : (members : List (Membership Q)) (number k : ℕ) (m : Membership Q) → k < length members → m ≡ get_or members k m
+      → (m.number == number) ≡ false
       → union_of_all (masks_of (without number (take (k + 1) members))) ≡ union_of m.mask.bits (union_of_all (masks_of (without number (take k members))))
   others_more members number k m within at other =
       let alone : without number (m ∷ []) ≡ m ∷ [] = rw other refl in
@@ -52,7 +53,8 @@ module _ {Q : Type 0} where
       ∙ ap union_of_all (map-append mask_of (without number (take k members)) (m ∷ []))
       ∙ union_push (masks_of (without number (take k members))) m.mask.bits
 
-  pub others_same : (members : List (Membership Q)) (number k : ℕ) (m : Membership Q) → k < length members → m ≡ get_or members k m → (m.number == number) ≡ true
+  pub others_same : (members : List (Membership Q)) (number k : ℕ) (m : Membership Q) → k < length members → m ≡ get_or members k m
+      → (m.number == number) ≡ true
       → union_of_all (masks_of (without number (take (k + 1) members))) ≡ union_of_all (masks_of (without number (take k members)))
   others_same members number k m within at own =
       let none : without number (m ∷ []) ≡ [] = rw own refl in
@@ -65,17 +67,20 @@ module _ {Q : Type 0} where
       append_none (x ∷ xs) = ap (λ ys. x ∷ ys) (append_none xs)
 
   -- one member is another one
-  pub union_instead : (before after : List (Membership Q)) (y : Membership Q) → union_of_all (masks_of (before ++ y ∷ after)) ≡ union_of y.mask.bits (union_of_all (masks_of (before ++ after)))
+  pub union_instead : (before after : List (Membership Q)) (y : Membership Q)
+      → union_of_all (masks_of (before ++ y ∷ after)) ≡ union_of y.mask.bits (union_of_all (masks_of (before ++ after)))
   union_instead before after y =
       ap union_of_all (map-append mask_of before (y ∷ after))
       ∙ union_of_all-more (masks_of before) (masks_of after) y.mask.bits
       ∙ ap (λ ms. union_of y.mask.bits (union_of_all ms)) (sym (map-append mask_of before after))
 
-  others_at : (members : List (Membership Q)) (k : ℕ) (x : Membership Q) → IsDistinct (λ a b. a == b) (map (λ (m : Membership Q). m.number) members) → k < length members → x ≡ get_or members k x
+  others_at : (members : List (Membership Q)) (k : ℕ) (x : Membership Q) → IsDistinct (λ a b. a == b) (map (λ (m : Membership Q). m.number) members)
+      → k < length members → x ≡ get_or members k x
       → take k members ++ drop (k + 1) members ≡ without x.number members
   others_at members k x apart within at = removed_is (λ (m : Membership Q). m.number) members k x apart within at
 
-  pub union_at : (members new : List (Membership Q)) (k : ℕ) (x y : Membership Q) → IsDistinct (λ a b. a == b) (map (λ (m : Membership Q). m.number) members) → k < length members → x ≡ get_or members k x → new ≡ slice_set members k y
+  pub union_at : (members new : List (Membership Q)) (k : ℕ) (x y : Membership Q) → IsDistinct (λ a b. a == b) (map (λ (m : Membership Q). m.number) members)
+      → k < length members → x ≡ get_or members k x → new ≡ slice_set members k y
       → union_of_all (masks_of new) ≡ union_of y.mask.bits (union_of_all (masks_of (without x.number members)))
   union_at members new k x y apart within at is =
       ap (λ ms. union_of_all (masks_of ms)) (is ∙ set_split members k y within)
@@ -112,7 +117,8 @@ module _ {Q : Type 0} (taken lost size : Q → ℕ) where
       made_each : All (IsGroup shape active) made
       made_each =
           All-map (IsGroup shape active) (remade shape active) kept
-          (All-weaker (IsGroup shape old) (λ g. IsGroup shape active (remade shape active g)) (remade_group shape old active) kept (All-filter test (IsGroup shape old) groups sound.each))
+          (All-weaker (IsGroup shape old) (λ g. IsGroup shape active (remade shape active g)) (remade_group shape old active) kept
+          (All-filter test (IsGroup shape old) groups sound.each))
 
       made_used : All (λ (g : GroupRecord). is_wanted new g.mask ≡ true) made
       made_used = All-map (λ (g : GroupRecord). is_wanted new g.mask ≡ true) (remade shape active) kept (filter_passes test groups)
@@ -133,7 +139,8 @@ module _ {Q : Type 0} (taken lost size : Q → ℕ) where
           ∙ none_fewer (λ (g : GroupRecord). g.mask) test groups own none
 
       -- a member's group, where one is added
-      added_has : (g : GroupRecord) (q : ℕ) → g.mask ≡ own → is_wanted new q ≡ true → (has_group groups q || q == own) ≡ true → has_group (made ++ g ∷ []) q ≡ true
+      added_has : (g : GroupRecord) (q : ℕ) → g.mask ≡ own → is_wanted new q ≡ true → (has_group groups q || q == own) ≡ true
+          → has_group (made ++ g ∷ []) q ≡ true
       added_has g q is wanted either = list_any-append (λ (x : GroupRecord). x.mask == q) made (g ∷ []) ∙ by (has_group groups q) refl either
         where
           by : (b : Bool) → has_group groups q ≡ b → (b || q == own) ≡ true → (has_group made q || has_group (g ∷ []) q) ≡ true
@@ -143,7 +150,8 @@ module _ {Q : Type 0} (taken lost size : Q → ℕ) where
               let here : (g.mask == q) ≡ true = eq_same g.mask q (is ∙ sym same) in
               rw here (or_true (has_group made q))
 
-      pub grouped_remasks : (g : Option GroupRecord) → All (λ (m : Membership Q). (has_group groups m.mask.bits || m.mask.bits == own) ≡ true) new → is_wanted new own ≡ true
+      pub grouped_remasks : (g : Option GroupRecord) → All (λ (m : Membership Q). (has_group groups m.mask.bits || m.mask.bits == own) ≡ true) new
+          → is_wanted new own ≡ true
           → IfSome g (λ x. IsGroup shape active x × (x.mask ≡ own) × (has_group groups own ≡ false)) → IfNone g (has_group groups own ≡ true)
           → AreGroups taken lost size shape active new (with_group g made)
       grouped_remasks None either wanted some none = record {
@@ -165,17 +173,21 @@ module _ {Q : Type 0} (taken lost size : Q → ℕ) where
 
   -- ---- members
 
-  sound_remasks : (shape : ShapeRecord) (old : Option Mask) (active : Mask) (captures next : ℕ) (before : List (Membership Q)) (x y : Membership Q) (after : List (Membership Q)) (groups : List GroupRecord) (g : Option GroupRecord)
+  sound_remasks : (shape : ShapeRecord) (old : Option Mask) (active : Mask) (captures next : ℕ) (before : List (Membership Q)) (x y : Membership Q)
+      (after : List (Membership Q)) (groups : List GroupRecord) (g : Option GroupRecord)
       → IsSound taken lost size shape old captures next (before ++ x ∷ after) groups
       → bits_of (Some active) ≡ active_of shape (union_of y.mask.bits (union_of_all (masks_of (before ++ after))))
       → active.bits < 2 ^ count_of shape → y.number ≡ x.number → IsMember taken lost size shape captures next y
-      → IfSome g (λ z. IsGroup shape active.bits z × (z.mask ≡ y.mask.bits) × (has_group groups y.mask.bits ≡ false)) → IfNone g (has_group groups y.mask.bits ≡ true)
-      → IsSound taken lost size shape (Some active) captures next (before ++ y ∷ after) (with_group g (map (remade shape active.bits) (filter (λ z. is_wanted (before ++ y ∷ after) z.mask) groups)))
+      → IfSome g (λ z. IsGroup shape active.bits z × (z.mask ≡ y.mask.bits) × (has_group groups y.mask.bits ≡ false))
+      → IfNone g (has_group groups y.mask.bits ≡ true)
+      → IsSound taken lost size shape (Some active) captures next (before ++ y ∷ after)
+      (with_group g (map (remade shape active.bits) (filter (λ z. is_wanted (before ++ y ∷ after) z.mask) groups)))
   sound_remasks shape old active captures next before x y after groups g sound found low number is some none = record {
     ruled =
         found
         ∙ ap (active_of shape) (sym (union_instead before after y))
-        ∙ sym (asked_of taken lost size shape (masks_of (before ++ y ∷ after)) (nil_map taken lost size (before ++ y ∷ after) ∙ nil_other taken lost size before after y));
+        ∙ sym (asked_of taken lost size shape (masks_of (before ++ y ∷ after))
+        (nil_map taken lost size (before ++ y ∷ after) ∙ nil_other taken lost size before after y));
     below = low;
     asked = sym (nil_other taken lost size before after y);
     few =
@@ -185,7 +197,9 @@ module _ {Q : Type 0} (taken lost size : Q → ℕ) where
         omega (arith, few, was, now));
     numbers = subst (IsDistinct (λ a b. a == b)) numbers_same sound.numbers;
     each = all_instead (IsMember taken lost size shape captures next) before after x y sound.each is;
-    grouped = grouped_remasks shape _ active.bits (before ++ x ∷ after) (before ++ y ∷ after) groups y.mask.bits sound.grouped g either (wanted_in before after y) some none;
+    grouped =
+        grouped_remasks shape _ active.bits (before ++ x ∷ after) (before ++ y ∷ after) groups y.mask.bits sound.grouped g either (wanted_in before after y)
+        some none;
   }
     where
       numbers_same : map (λ (m : Membership Q). m.number) (before ++ x ∷ after) ≡ map (λ (m : Membership Q). m.number) (before ++ y ∷ after)
@@ -197,21 +211,29 @@ module _ {Q : Type 0} (taken lost size : Q → ℕ) where
       either : All (λ (m : Membership Q). (has_group groups m.mask.bits || m.mask.bits == y.mask.bits) ≡ true) (before ++ y ∷ after)
       either =
           all_instead (λ (m : Membership Q). (has_group groups m.mask.bits || m.mask.bits == y.mask.bits) ≡ true) before after x y
-          (All-weaker (λ (m : Membership Q). has_group groups m.mask.bits ≡ true) (λ (m : Membership Q). (has_group groups m.mask.bits || m.mask.bits == y.mask.bits) ≡ true) (λ m there. rw there refl) (before ++ x ∷ after) sound.grouped.there)
+          (All-weaker (λ (m : Membership Q). has_group groups m.mask.bits ≡ true)
+          (λ (m : Membership Q). (has_group groups m.mask.bits || m.mask.bits == y.mask.bits) ≡ true) (λ m there. rw there refl) (before ++ x ∷ after)
+          sound.grouped.there)
           (let own = eq_same y.mask.bits y.mask.bits refl in rw own (or_true (has_group groups y.mask.bits)))
 
   -- the member at a place is another one of its number
-  pub sound_remasks_at : (shape : ShapeRecord) (old : Option Mask) (active : Mask) (captures next : ℕ) (members new : List (Membership Q)) (k : ℕ) (x y : Membership Q) (groups : List GroupRecord) (g : Option GroupRecord)
+  pub sound_remasks_at : (shape : ShapeRecord) (old : Option Mask) (active : Mask) (captures next : ℕ) (members new : List (Membership Q)) (k : ℕ)
+      (x y : Membership Q) (groups : List GroupRecord) (g : Option GroupRecord)
       → IsSound taken lost size shape old captures next members groups → k < length members → x ≡ get_or members k x → new ≡ slice_set members k y
       → bits_of (Some active) ≡ active_of shape (union_of y.mask.bits (union_of_all (masks_of (without x.number members))))
       → active.bits < 2 ^ count_of shape → y.number ≡ x.number → IsMember taken lost size shape captures next y
-      → IfSome g (λ z. IsGroup shape active.bits z × (z.mask ≡ y.mask.bits) × (has_group groups y.mask.bits ≡ false)) → IfNone g (has_group groups y.mask.bits ≡ true)
-      → IsSound taken lost size shape (Some active) captures next new (with_group g (map (remade shape active.bits) (filter (λ z. is_wanted new z.mask) groups)))
+      → IfSome g (λ z. IsGroup shape active.bits z × (z.mask ≡ y.mask.bits) × (has_group groups y.mask.bits ≡ false))
+      → IfNone g (has_group groups y.mask.bits ≡ true)
+      → IsSound taken lost size shape (Some active) captures next new
+      (with_group g (map (remade shape active.bits) (filter (λ z. is_wanted new z.mask) groups)))
   sound_remasks_at shape old active captures next members new k x y groups g sound within at is found low number fits some none =
       let was = subst (λ ms. IsSound taken lost size shape old captures next ms groups) (split_at members k x within at) sound in
-      let beside = subst (λ ms. bits_of (Some active) ≡ active_of shape (union_of y.mask.bits (union_of_all (masks_of ms)))) (sym (others_at members k x sound.numbers within at)) found in
+      let beside =
+      subst (λ ms. bits_of (Some active) ≡ active_of shape (union_of y.mask.bits (union_of_all (masks_of ms))))
+      (sym (others_at members k x sound.numbers within at)) found in
       let now : new ≡ take k members ++ y ∷ drop (k + 1) members = is ∙ set_split members k y within in
-      subst (λ ms. IsSound taken lost size shape (Some active) captures next ms (with_group g (map (remade shape active.bits) (filter (λ z. is_wanted ms z.mask) groups)))) (sym now)
+      subst (λ ms. IsSound taken lost size shape (Some active) captures next ms
+      (with_group g (map (remade shape active.bits) (filter (λ z. is_wanted ms z.mask) groups)))) (sym now)
       (sound_remasks shape old active captures next (take k members) x y (drop (k + 1) members) groups g was beside low number fits some none)
 
 -- what stands at a place
@@ -221,7 +243,8 @@ at_itself (x ∷ xs) zero d within = refl
 at_itself (x ∷ xs) (suc k) d within = at_itself xs k d (omega arith)
 
 -- the member of a number, at its place, begins anew
-module _ {Q : Type 0} (taken lost size : Q → ℕ) (shape : ShapeRecord) (old : Option Mask) (captures next : ℕ) (members new : List (Membership Q)) (k number : ℕ) (mask : Mask) (tail : Q) (groups : List GroupRecord) (d : Membership Q)
+module _ {Q : Type 0} (taken lost size : Q → ℕ) (shape : ShapeRecord) (old : Option Mask) (captures next : ℕ) (members new : List (Membership Q)) (k number : ℕ)
+    (mask : Mask) (tail : Q) (groups : List GroupRecord) (d : Membership Q)
     (sound : IsSound taken lost size shape old captures next members groups) (within : k < length members) (at : (slice_index_or members k d).number ≡ number)
     (is : new ≡ slice_set members k (begun_anew mask captures tail (slice_index_or members k d))) where
   abbrev was : Membership Q
@@ -240,10 +263,13 @@ module _ {Q : Type 0} (taken lost size : Q → ℕ) (shape : ShapeRecord) (old :
       → All (λ (g : GroupRecord). is_within g.mask active ≡ true) (filter (λ (g : GroupRecord). is_wanted new g.mask) groups)
   anew_within active h = kept_within taken lost size new groups active (subst (λ u. is_within u active ≡ true) (sym union_is) h)
 
-  pub anew_sound : (active : Mask) (g : Option GroupRecord) → bits_of (Some active) ≡ active_of shape (union_of mask.bits (union_of_all (masks_of (without number members))))
-      → active.bits < 2 ^ count_of shape → mask.bits < 2 ^ count_of shape → has_data shape mask.bits ≡ true → size tail ≡ scan_size shape mask.bits → taken tail + lost tail ≡ 0
+  pub anew_sound : (active : Mask) (g : Option GroupRecord)
+      → bits_of (Some active) ≡ active_of shape (union_of mask.bits (union_of_all (masks_of (without number members))))
+      → active.bits < 2 ^ count_of shape → mask.bits < 2 ^ count_of shape → has_data shape mask.bits ≡ true → size tail ≡ scan_size shape mask.bits
+      → taken tail + lost tail ≡ 0
       → IfSome g (λ z. IsGroup shape active.bits z × (z.mask ≡ mask.bits) × (has_group groups mask.bits ≡ false)) → IfNone g (has_group groups mask.bits ≡ true)
-      → IsSound taken lost size shape (Some active) captures next new (with_group g (map (remade shape active.bits) (filter (λ (z : GroupRecord). is_wanted new z.mask) groups)))
+      → IsSound taken lost size shape (Some active) captures next new
+      (with_group g (map (remade shape active.bits) (filter (λ (z : GroupRecord). is_wanted new z.mask) groups)))
   anew_sound active g found low own channel sized fresh some none =
       sound_remasks_at taken lost size shape old active captures next members new k was anew groups g sound within (at_itself members k d within) is
       (found ∙ ap (λ n. active_of shape (union_of mask.bits (union_of_all (masks_of (without n members))))) (sym at)) low refl
@@ -260,7 +286,8 @@ abbrev pub faults : (gone dead bad without_union : Bool) → List (Bool × Remas
 faults gone dead bad without_union = (gone, Gone) ∷ (dead, NotLive) ∷ (bad, BadMask) ∷ (without_union, NoUnion) ∷ []
 
 -- where no fault applies, want of memory alone is left
-pub only_memory : (gone dead bad without_union : Bool) → first_refusal (faults gone dead bad without_union) ≡ None → first_refusal ((dead, NotLive) ∷ (without_union, NoUnion) ∷ []) ≡ None
+pub only_memory : (gone dead bad without_union : Bool) → first_refusal (faults gone dead bad without_union) ≡ None
+    → first_refusal ((dead, NotLive) ∷ (without_union, NoUnion) ∷ []) ≡ None
 only_memory true d b u h = cc
 only_memory false true b u h = cc
 only_memory false false true u h = cc

@@ -65,7 +65,8 @@ module _ {Who : Type 0} where
   channel_counted : (shape : ShapeRecord) (t : ℤ) (c : ℕ) (d : Driver) (m : MonitorRecord Who) (k : ℕ)
       → channel_sensed shape t c (look_at d m k) ≡ counted k (channel_sensed shape t c (look_at d m 0))
   channel_counted shape t c d m k =
-      more (is_watched (channel_at c m)) (ask_fails d) d (after_ask d) m (after_value c (value_of d shape t c 0) t m) k (length (fired_events (value_of d shape t c 0) t (channel_at c m)))
+      more (is_watched (channel_at c m)) (ask_fails d) d (after_ask d) m (after_value c (value_of d shape t c 0) t m) k
+      (length (fired_events (value_of d shape t c 0) t (channel_at c m)))
 
   -- ---- once an ask has failed, no channel is asked
 

@@ -38,7 +38,8 @@ same_tables shape active (g ∷ gs) all =
     ap (λ (table : CopyTable). record g { table = table } ∷ map (remade shape active) gs) (sym (All-head (IsGroup shape active) g gs all).table)
     ∙ ap (λ (rest : List GroupRecord). g ∷ rest) (same_tables shape active gs (All-tail (IsGroup shape active) g gs all))
 
-pub same_tables_for : (shape : ShapeRecord) (active : Option Mask) (groups : List GroupRecord) → All (IsGroup shape (unwrap_or (bits_of active) 0)) groups → groups ≡ remade_for shape active groups
+pub same_tables_for : (shape : ShapeRecord) (active : Option Mask) (groups : List GroupRecord) → All (IsGroup shape (unwrap_or (bits_of active) 0)) groups
+    → groups ≡ remade_for shape active groups
 same_tables_for shape None groups all = refl
 same_tables_for shape (Some active) groups all = sym (same_tables shape active.bits groups all)
 
@@ -52,7 +53,8 @@ nil_push : {A : Type 0} (xs : List A) (x : A) → is_nil (xs ++ x ∷ []) ≡ fa
 nil_push [] x = refl
 nil_push (y ∷ ys) x = refl
 
-active_for-push : (shape : ShapeRecord) (masks : List ℕ) (mask : ℕ) → active_for shape (masks ++ mask ∷ []) ≡ active_of shape (union_of mask (union_of_all masks))
+active_for-push : (shape : ShapeRecord) (masks : List ℕ) (mask : ℕ)
+    → active_for shape (masks ++ mask ∷ []) ≡ active_of shape (union_of mask (union_of_all masks))
 active_for-push shape masks mask = by masks ∙ ap (active_of shape) (union_push masks mask)
   where
     by : (masks : List ℕ) → active_for shape (masks ++ mask ∷ []) ≡ active_of shape (union_of_all (masks ++ mask ∷ []))
@@ -90,7 +92,8 @@ module _ {Q : Type 0} (taken lost size : Q → ℕ) where
   }
 
   -- each group's mask lies within what contains the union
-  pub groups_within : (shape : ShapeRecord) (old active : ℕ) (members : List (Membership Q)) (groups : List GroupRecord) → AreGroups taken lost size shape old members groups
+  pub groups_within : (shape : ShapeRecord) (old active : ℕ) (members : List (Membership Q)) (groups : List GroupRecord)
+      → AreGroups taken lost size shape old members groups
       → is_within (union_of_all (masks_of members)) active ≡ true → All (λ (g : GroupRecord). is_within g.mask active ≡ true) groups
   groups_within shape old active members groups sound within =
       All-weaker (λ (g : GroupRecord). is_wanted members g.mask ≡ true) (λ (g : GroupRecord). is_within g.mask active ≡ true)
@@ -104,16 +107,20 @@ module _ {Q : Type 0} (taken lost size : Q → ℕ) where
       let own = eq_same m.mask.bits m.mask.bits refl in
       list_any-append (λ (x : Membership Q). x.mask.bits == m.mask.bits) members (m ∷ []) ∙ rw own (or_true (is_wanted members m.mask.bits))
 
-  pub wanted_at : (members : List (Membership Q)) (k : ℕ) (d : Membership Q) → k < length members → is_wanted members (slice_index_or members k d).mask.bits ≡ true
+  pub wanted_at : (members : List (Membership Q)) (k : ℕ) (d : Membership Q) → k < length members
+      → is_wanted members (slice_index_or members k d).mask.bits ≡ true
   wanted_at [] k d within = absurd (omega arith)
   wanted_at (m ∷ ms) zero d within = let own = eq_same m.mask.bits m.mask.bits refl in rw own refl
   wanted_at (m ∷ ms) (suc k) d within = let later = wanted_at ms k d (omega arith) in rw later (or_true (m.mask.bits == (slice_index_or ms k d).mask.bits))
 
-  later_member : (shape : ShapeRecord) (captures next : ℕ) (m : Membership Q) → IsMember taken lost size shape captures next m → IsMember taken lost size shape captures (next + 1) m
-  later_member shape captures next m is = let low = is.numbered in record { numbered = omega (arith, low); below = is.below; channel = is.channel; counted = is.counted; sized = is.sized }
+  later_member : (shape : ShapeRecord) (captures next : ℕ) (m : Membership Q) → IsMember taken lost size shape captures next m
+      → IsMember taken lost size shape captures (next + 1) m
+  later_member shape captures next m is =
+      let low = is.numbered in record { numbered = omega (arith, low); below = is.below; channel = is.channel; counted = is.counted; sized = is.sized }
 
   -- the next number is no member's
-  next_free : (shape : ShapeRecord) (captures next : ℕ) (members : List (Membership Q)) → All (IsMember taken lost size shape captures next) members → is_live next members ≡ false
+  next_free : (shape : ShapeRecord) (captures next : ℕ) (members : List (Membership Q)) → All (IsMember taken lost size shape captures next) members
+      → is_live next members ≡ false
   next_free shape captures next [] all = refl
   next_free shape captures next (m ∷ ms) all =
       let low = (All-head (IsMember taken lost size shape captures next) m ms all).numbered in
@@ -122,52 +129,68 @@ module _ {Q : Type 0} (taken lost size : Q → ℕ) where
       rw (first, rest) refl
 
   grouped_joins : (shape : ShapeRecord) (old active : ℕ) (members : List (Membership Q)) (groups : List GroupRecord) (m : Membership Q) (g : Option GroupRecord)
-      → AreGroups taken lost size shape old members groups → IfSome g (λ x. IsGroup shape active x × (x.mask ≡ m.mask.bits) × (has_group groups m.mask.bits ≡ false)) → IfNone g (has_group groups m.mask.bits ≡ true)
+      → AreGroups taken lost size shape old members groups
+      → IfSome g (λ x. IsGroup shape active x × (x.mask ≡ m.mask.bits) × (has_group groups m.mask.bits ≡ false))
+      → IfNone g (has_group groups m.mask.bits ≡ true)
       → AreGroups taken lost size shape active (members ++ m ∷ []) (with_group g (map (remade shape active) groups))
   grouped_joins shape old active members groups m None sound some none = record {
-    each = All-map (IsGroup shape active) (remade shape active) groups (All-weaker (IsGroup shape old) (λ g. IsGroup shape active (remade shape active g)) (remade_group shape old active) groups sound.each);
+    each =
+        All-map (IsGroup shape active) (remade shape active) groups
+        (All-weaker (IsGroup shape old) (λ g. IsGroup shape active (remade shape active g)) (remade_group shape old active) groups sound.each);
     there = All-push (λ (x : Membership Q). has_group (map (remade shape active) groups) x.mask.bits ≡ true) members m
-        (All-weaker (λ (x : Membership Q). has_group groups x.mask.bits ≡ true) (λ (x : Membership Q). has_group (map (remade shape active) groups) x.mask.bits ≡ true)
+        (All-weaker (λ (x : Membership Q). has_group groups x.mask.bits ≡ true)
+        (λ (x : Membership Q). has_group (map (remade shape active) groups) x.mask.bits ≡ true)
         (λ x h. kept_key (λ (g : GroupRecord). g.mask) (remade shape active) (λ g. refl) groups x.mask.bits ∙ h) members sound.there)
         (kept_key (λ (g : GroupRecord). g.mask) (remade shape active) (λ g. refl) groups m.mask.bits ∙ none);
     used = All-map (λ (x : GroupRecord). is_wanted (members ++ m ∷ []) x.mask ≡ true) (remade shape active) groups
-        (All-weaker (λ (x : GroupRecord). is_wanted members x.mask ≡ true) (λ (x : GroupRecord). is_wanted (members ++ m ∷ []) x.mask ≡ true) (λ x h. wanted_push members m x.mask h) groups sound.used);
+        (All-weaker (λ (x : GroupRecord). is_wanted members x.mask ≡ true) (λ (x : GroupRecord). is_wanted (members ++ m ∷ []) x.mask ≡ true)
+        (λ x h. wanted_push members m x.mask h) groups sound.used);
     apart = distinct_map (λ (g : GroupRecord). g.mask) (remade shape active) (λ g. refl) groups sound.apart;
   }
   grouped_joins shape old active members groups m (Some g) sound some none =
       let new = map (remade shape active) groups in
       let own : has_group (new ++ g ∷ []) m.mask.bits ≡ true =
-      (let same = eq_same g.mask m.mask.bits some.1 in list_any-append (λ x. x.mask == m.mask.bits) new (g ∷ []) ∙ rw same (or_true (has_group new m.mask.bits))) in
+      (let same = eq_same g.mask m.mask.bits some.1 in list_any-append (λ x. x.mask == m.mask.bits) new (g ∷ [])
+      ∙ rw same (or_true (has_group new m.mask.bits))) in
       record {
         each = All-push (IsGroup shape active) new g
-            (All-map (IsGroup shape active) (remade shape active) groups (All-weaker (IsGroup shape old) (λ g. IsGroup shape active (remade shape active g)) (remade_group shape old active) groups sound.each))
+            (All-map (IsGroup shape active) (remade shape active) groups
+            (All-weaker (IsGroup shape old) (λ g. IsGroup shape active (remade shape active g)) (remade_group shape old active) groups sound.each))
             some.0;
         there = All-push (λ (x : Membership Q). has_group (new ++ g ∷ []) x.mask.bits ≡ true) members m
             (All-weaker (λ (x : Membership Q). has_group groups x.mask.bits ≡ true) (λ (x : Membership Q). has_group (new ++ g ∷ []) x.mask.bits ≡ true)
-            (λ x h. with_group-has (Some g) new x.mask.bits (kept_key (λ (g : GroupRecord). g.mask) (remade shape active) (λ g. refl) groups x.mask.bits ∙ h)) members sound.there)
+            (λ x h. with_group-has (Some g) new x.mask.bits (kept_key (λ (g : GroupRecord). g.mask) (remade shape active) (λ g. refl) groups x.mask.bits ∙ h))
+            members sound.there)
             own;
         used = All-push (λ (x : GroupRecord). is_wanted (members ++ m ∷ []) x.mask ≡ true) new g
             (All-map (λ (x : GroupRecord). is_wanted (members ++ m ∷ []) x.mask ≡ true) (remade shape active) groups
-            (All-weaker (λ (x : GroupRecord). is_wanted members x.mask ≡ true) (λ (x : GroupRecord). is_wanted (members ++ m ∷ []) x.mask ≡ true) (λ x h. wanted_push members m x.mask h) groups sound.used))
+            (All-weaker (λ (x : GroupRecord). is_wanted members x.mask ≡ true) (λ (x : GroupRecord). is_wanted (members ++ m ∷ []) x.mask ≡ true)
+            (λ x h. wanted_push members m x.mask h) groups sound.used))
             (subst (λ k. is_wanted (members ++ m ∷ []) k ≡ true) (sym some.1) (wanted_last members m));
-        apart = distinct_push (λ (g : GroupRecord). g.mask) new g (distinct_map (λ (g : GroupRecord). g.mask) (remade shape active) (λ g. refl) groups sound.apart)
+        apart =
+            distinct_push (λ (g : GroupRecord). g.mask) new g (distinct_map (λ (g : GroupRecord). g.mask) (remade shape active) (λ g. refl) groups sound.apart)
             (kept_key (λ (g : GroupRecord). g.mask) (remade shape active) (λ g. refl) groups g.mask ∙ ap (has_group groups) some.1 ∙ some.2);
       }
 
-  pub sound_joins : (shape : ShapeRecord) (old : Option Mask) (active : Mask) (captures next : ℕ) (members : List (Membership Q)) (groups : List GroupRecord) (m : Membership Q) (g : Option GroupRecord)
+  pub sound_joins : (shape : ShapeRecord) (old : Option Mask) (active : Mask) (captures next : ℕ) (members : List (Membership Q)) (groups : List GroupRecord)
+      (m : Membership Q) (g : Option GroupRecord)
       → IsSound taken lost size shape old captures next members groups
       → bits_of (Some active) ≡ active_of shape (union_of m.mask.bits (union_of_all (masks_of members)))
       → active.bits < 2 ^ count_of shape → length (members ++ m ∷ []) < 2 ^ 32 → m.number ≡ next → IsMember taken lost size shape captures (next + 1) m
-      → IfSome g (λ x. IsGroup shape active.bits x × (x.mask ≡ m.mask.bits) × (has_group groups m.mask.bits ≡ false)) → IfNone g (has_group groups m.mask.bits ≡ true)
+      → IfSome g (λ x. IsGroup shape active.bits x × (x.mask ≡ m.mask.bits) × (has_group groups m.mask.bits ≡ false))
+      → IfNone g (has_group groups m.mask.bits ≡ true)
       → IsSound taken lost size shape (Some active) captures (next + 1) (members ++ m ∷ []) (with_group g (map (remade shape active.bits) groups))
   sound_joins shape old active captures next members groups m g sound found low few number is some none = record {
     below = low;
     few = few;
-    numbers = distinct_push (λ (x : Membership Q). x.number) members m sound.numbers (ap (λ n. is_live n members) number ∙ next_free shape captures next members sound.each);
+    numbers =
+        distinct_push (λ (x : Membership Q). x.number) members m sound.numbers
+        (ap (λ n. is_live n members) number ∙ next_free shape captures next members sound.each);
     ruled = found ∙ sym (active_for-push shape (masks_of members) m.mask.bits) ∙ ap (active_for shape) (sym (map-append mask_of members (m ∷ [])));
     asked = sym (nil_push members m);
     each = All-push (IsMember taken lost size shape captures (next + 1)) members m
-        (All-weaker (IsMember taken lost size shape captures next) (IsMember taken lost size shape captures (next + 1)) (later_member shape captures next) members sound.each) is;
+        (All-weaker (IsMember taken lost size shape captures next) (IsMember taken lost size shape captures (next + 1)) (later_member shape captures next)
+        members sound.each) is;
     grouped = grouped_joins shape _ active.bits members groups m g sound.grouped some none;
   }
 
@@ -179,21 +202,25 @@ module _ {Q : Type 0} (taken lost size : Q → ℕ) where
 
   pub all_without : {A : Type 0} (P : A → Type 0) (before after : List A) (x : A) → All P (before ++ x ∷ after) → All P (before ++ after)
   all_without P [] after x all = All-tail P x after all
-  all_without P (y ∷ ys) after x all = All-cons P y (ys ++ after) (All-head P y (ys ++ x ∷ after) all) (all_without P ys after x (All-tail P y (ys ++ x ∷ after) all))
+  all_without P (y ∷ ys) after x all =
+      All-cons P y (ys ++ after) (All-head P y (ys ++ x ∷ after) all) (all_without P ys after x (All-tail P y (ys ++ x ∷ after) all))
 
   -- a group that is wanted stays
-  pub kept_wanted : (test : ℕ → Bool) (groups : List GroupRecord) (mask : ℕ) → test mask ≡ true → has_group groups mask ≡ true → has_group (filter (λ g. test g.mask) groups) mask ≡ true
+  pub kept_wanted : (test : ℕ → Bool) (groups : List GroupRecord) (mask : ℕ) → test mask ≡ true → has_group groups mask ≡ true
+      → has_group (filter (λ g. test g.mask) groups) mask ≡ true
   kept_wanted test [] mask is there = there
   kept_wanted test (g ∷ gs) mask is there = by (λ h. kept_wanted test gs mask is h) (test g.mask) refl (g.mask == mask) refl there
     where
-      by : (has_group gs mask ≡ true → has_group (filter (λ x. test x.mask) gs) mask ≡ true) → (b : Bool) → test g.mask ≡ b → (e : Bool) → (g.mask == mask) ≡ e → (e || has_group gs mask) ≡ true
+      by : (has_group gs mask ≡ true → has_group (filter (λ x. test x.mask) gs) mask ≡ true) → (b : Bool) → test g.mask ≡ b → (e : Bool) → (g.mask == mask) ≡ e
+          → (e || has_group gs mask) ≡ true
           → has_group (if b then g ∷ filter (λ x. test x.mask) gs else filter (λ x. test x.mask) gs) mask ≡ true
       by later true tb true te h = rw te refl
       by later true tb false te h = rw te (later h)
       by later false tb true te h = let same : g.mask ≡ mask = grind (arith, te) in absurd (false≢true (sym tb ∙ ap test same ∙ is))
       by later false tb false te h = later h
 
-  grouped_leaves : (shape : ShapeRecord) (old : ℕ) (active : Option Mask) (members : List (Membership Q)) (rest : List (Membership Q)) (groups : List GroupRecord)
+  grouped_leaves : (shape : ShapeRecord) (old : ℕ) (active : Option Mask) (members : List (Membership Q)) (rest : List (Membership Q))
+      (groups : List GroupRecord)
       → AreGroups taken lost size shape old members groups → All (λ (m : Membership Q). has_group groups m.mask.bits ≡ true) rest → is_none active ≡ is_nil rest
       → AreGroups taken lost size shape (unwrap_or (bits_of active) 0) rest (remade_for shape active (filter (λ g. is_wanted rest g.mask) groups))
   grouped_leaves shape old None members [] groups sound there asked = record {
@@ -211,18 +238,23 @@ module _ {Q : Type 0} (taken lost size : Q → ℕ) where
       let test : GroupRecord → Bool = λ g. is_wanted rest g.mask in
       record {
         each = All-map (IsGroup shape active.bits) (remade shape active.bits) (filter test groups)
-            (All-weaker (IsGroup shape old) (λ g. IsGroup shape active.bits (remade shape active.bits g)) (remade_group shape old active.bits) (filter test groups) (All-filter test (IsGroup shape old) groups sound.each));
+            (All-weaker (IsGroup shape old) (λ g. IsGroup shape active.bits (remade shape active.bits g)) (remade_group shape old active.bits)
+            (filter test groups) (All-filter test (IsGroup shape old) groups sound.each));
         there = λ k d within.
             kept_key (λ (g : GroupRecord). g.mask) (remade shape active.bits) (λ g. refl) (filter test groups) (slice_index_or rest k d).mask.bits
             ∙ kept_wanted (λ mask. is_wanted rest mask) groups (slice_index_or rest k d).mask.bits (wanted_at rest k d within) (there k d within);
         used = All-map (λ (g : GroupRecord). is_wanted rest g.mask ≡ true) (remade shape active.bits) (filter test groups) (filter_passes test groups);
-        apart = distinct_map (λ (g : GroupRecord). g.mask) (remade shape active.bits) (λ g. refl) (filter test groups) (distinct_filter (λ (g : GroupRecord). g.mask) test groups sound.apart);
+        apart =
+            distinct_map (λ (g : GroupRecord). g.mask) (remade shape active.bits) (λ g. refl) (filter test groups)
+            (distinct_filter (λ (g : GroupRecord). g.mask) test groups sound.apart);
       }
 
-  pub sound_leaves : (shape : ShapeRecord) (old active : Option Mask) (captures next : ℕ) (before : List (Membership Q)) (m : Membership Q) (after : List (Membership Q)) (groups : List GroupRecord)
+  pub sound_leaves : (shape : ShapeRecord) (old active : Option Mask) (captures next : ℕ) (before : List (Membership Q)) (m : Membership Q)
+      (after : List (Membership Q)) (groups : List GroupRecord)
       → IsSound taken lost size shape old captures next (before ++ m ∷ after) groups
       → bits_of active ≡ active_for shape (masks_of (before ++ after))
-      → IfSome active (λ mask. mask.bits < 2 ^ count_of shape) → is_none active ≡ is_nil (before ++ after) → AreDistinct (λ (x : Membership Q). x.number) (before ++ after)
+      → IfSome active (λ mask. mask.bits < 2 ^ count_of shape) → is_none active ≡ is_nil (before ++ after)
+      → AreDistinct (λ (x : Membership Q). x.number) (before ++ after)
       → IsSound taken lost size shape active captures next (before ++ after) (remade_for shape active (filter (λ g. is_wanted (before ++ after) g.mask) groups))
   sound_leaves shape old active captures next before m after groups sound ruled low asked numbers = record {
     numbers = numbers;
@@ -243,7 +275,8 @@ module _ {Q : Type 0} (taken lost size : Q → ℕ) where
           omega (arith, few, was, is)
 
   -- where there was an active mask, there is one for the members that stay
-  fewer_asked : (shape : ShapeRecord) (less wanted : ℕ) → is_within less wanted ≡ true → (o : Option ℕ) → matching_mask shape.listed (data_part shape wanted) ≡ o
+  fewer_asked : (shape : ShapeRecord) (less wanted : ℕ) → is_within less wanted ≡ true → (o : Option ℕ)
+      → matching_mask shape.listed (data_part shape wanted) ≡ o
       → IsSome (option_map (with_stamp shape wanted) o) → IsSome (active_of shape less)
   fewer_asked shape less wanted within None e some = absurd (cc)
   fewer_asked shape less wanted within (Some m) e some = active_fewer shape less wanted m within e
@@ -268,7 +301,8 @@ module _ {Q : Type 0} (taken lost size : Q → ℕ) where
   nil_map [] = refl
   nil_map (m ∷ ms) = refl
 
-  pub still_asked : (shape : ShapeRecord) (old active : Option Mask) (captures next : ℕ) (before : List (Membership Q)) (m : Membership Q) (after : List (Membership Q)) (groups : List GroupRecord)
+  pub still_asked : (shape : ShapeRecord) (old active : Option Mask) (captures next : ℕ) (before : List (Membership Q)) (m : Membership Q)
+      (after : List (Membership Q)) (groups : List GroupRecord)
       → IsSound taken lost size shape old captures next (before ++ m ∷ after) groups
       → bits_of active ≡ active_for shape (masks_of (before ++ after)) → is_none active ≡ is_nil (before ++ after)
   still_asked shape old active captures next before m after groups sound ruled = by (before ++ after) refl ruled
@@ -299,8 +333,10 @@ module _ {Q : Type 0} (taken lost size : Q → ℕ) where
       (λ g used. within_trans g.mask (union_of_all (masks_of members)) active (wanted_within members g.mask used) within)
       (filter (λ (g : GroupRecord). is_wanted members g.mask) groups) (filter_passes (λ (g : GroupRecord). is_wanted members g.mask) groups)
 
-  pub sound_leaves_at : (shape : ShapeRecord) (old active : Option Mask) (captures next : ℕ) (members rest : List (Membership Q)) (k : ℕ) (m : Membership Q) (groups : List GroupRecord)
-      → IsSound taken lost size shape old captures next members groups → k < length members → m ≡ get_or members k m → rest ≡ take k members ++ drop (k + 1) members
+  pub sound_leaves_at : (shape : ShapeRecord) (old active : Option Mask) (captures next : ℕ) (members rest : List (Membership Q)) (k : ℕ) (m : Membership Q)
+      (groups : List GroupRecord)
+      → IsSound taken lost size shape old captures next members groups → k < length members → m ≡ get_or members k m
+      → rest ≡ take k members ++ drop (k + 1) members
       → bits_of active ≡ active_for shape (masks_of rest) → IfSome active (λ mask. mask.bits < 2 ^ count_of shape)
       → IsSound taken lost size shape active captures next rest (remade_for shape active (filter (λ g. is_wanted rest g.mask) groups))
   sound_leaves_at shape old active captures next members rest k m groups sound within at is ruled low =
@@ -309,4 +345,5 @@ module _ {Q : Type 0} (taken lost size : Q → ℕ) where
       subst (λ ms. IsSound taken lost size shape active captures next ms (remade_for shape active (filter (λ g. is_wanted ms g.mask) groups))) (sym is)
       (sound_leaves shape old active captures next (take k members) m (drop (k + 1) members) groups was now low
       (still_asked shape old active captures next (take k members) m (drop (k + 1) members) groups was now)
-      (subst (AreDistinct (λ (x : Membership Q). x.number)) (sym (removed_is (λ (x : Membership Q). x.number) members k m sound.numbers within at)) (distinct_filter (λ (x : Membership Q). x.number) (λ x. not (x.number == m.number)) members sound.numbers)))
+      (subst (AreDistinct (λ (x : Membership Q). x.number)) (sym (removed_is (λ (x : Membership Q). x.number) members k m sound.numbers within at))
+      (distinct_filter (λ (x : Membership Q). x.number) (λ x. not (x.number == m.number)) members sound.numbers)))

@@ -20,7 +20,8 @@ module _ {A : Type 0} where
   same_zip R same (x ∷ xs) = (same x, same_zip R same xs)
 
   -- one element changes, by a relation in which each stands to itself
-  pub set_zip : (R : A → A → Type 0) → ((x : A) → R x x) → (xs : List A) (k : ℕ) (x y : A) → k < length xs → x ≡ get_or xs k x → R x y → AllZip R xs (slice_set xs k y)
+  pub set_zip : (R : A → A → Type 0) → ((x : A) → R x x) → (xs : List A) (k : ℕ) (x y : A) → k < length xs → x ≡ get_or xs k x → R x y
+      → AllZip R xs (slice_set xs k y)
   set_zip R same [] k x y within at r = absurd (omega arith)
   set_zip R same (z ∷ zs) zero x y within at r = (subst (λ a. R a y) at r, same_zip R same zs)
   set_zip R same (z ∷ zs) (suc k) x y within at r = (same z, set_zip R same zs k x y (omega arith) at r)
@@ -65,7 +66,8 @@ keeps_drained false out out' old new d =
     let is = d.moved.1 in
     record { same = d.same; taken = ap (λ (q : Queue). q.taken) is; lost = ap (λ (q : Queue). q.lost) is; size = ap (λ (q : Queue). q.size) is }
 
-pub keeps_drained_scans : (most count : ℕ) (before after : List ℕ) (old new : Membership Queue) → DrainsScans most count before after old new → KeepsCounts old new
+pub keeps_drained_scans : (most count : ℕ) (before after : List ℕ) (old new : Membership Queue) → DrainsScans most count before after old new
+    → KeepsCounts old new
 keeps_drained_scans most count before after old new d =
     let is = d.moved.same in
     record { same = d.same; taken = ap (λ (q : Queue). q.taken) is; lost = ap (λ (q : Queue). q.lost) is; size = ap (λ (q : Queue). q.size) is }
@@ -73,7 +75,8 @@ keeps_drained_scans most count before after old new d =
 keeps_mask : (a b : Membership Queue) → KeepsCounts a b → b.mask.bits ≡ a.mask.bits
 keeps_mask a b r = ap (λ (m : Membership Queue). m.mask.bits) r.same
 
-keeps_member : (shape : ShapeRecord) (captures next : ℕ) (a b : Membership Queue) → IsMember (λ (q : Queue). q.taken) (λ q. q.lost) (λ q. q.size) shape captures next a → KeepsCounts a b
+keeps_member : (shape : ShapeRecord) (captures next : ℕ) (a b : Membership Queue)
+    → IsMember (λ (q : Queue). q.taken) (λ q. q.lost) (λ q. q.size) shape captures next a → KeepsCounts a b
     → IsMember (λ (q : Queue). q.taken) (λ q. q.lost) (λ q. q.size) shape captures next b
 keeps_member shape captures next a b is r =
     let number = ap (λ (m : Membership Queue). m.number) r.same in
@@ -90,9 +93,12 @@ keeps_member shape captures next a b is r =
       sized = r.size ∙ is.sized ∙ ap (scan_size shape) (sym mask);
     }
 
-pub sound_takes : (shape : ShapeRecord) (active : Option Mask) (captures next : ℕ) (members new : List (Membership Queue)) (groups : List GroupRecord) (k : ℕ) (x y : Membership Queue)
-    → IsSound (λ (q : Queue). q.taken) (λ q. q.lost) (λ q. q.size) shape active captures next members groups → k < length members → x ≡ get_or members k x → KeepsCounts x y → new ≡ slice_set members k y
+pub sound_takes : (shape : ShapeRecord) (active : Option Mask) (captures next : ℕ) (members new : List (Membership Queue)) (groups : List GroupRecord) (k : ℕ)
+    (x y : Membership Queue)
+    → IsSound (λ (q : Queue). q.taken) (λ q. q.lost) (λ q. q.size) shape active captures next members groups → k < length members → x ≡ get_or members k x
+    → KeepsCounts x y → new ≡ slice_set members k y
     → IsSound (λ (q : Queue). q.taken) (λ q. q.lost) (λ q. q.size) shape active captures next new groups
 sound_takes shape active captures next members new groups k x y sound within at keeps is =
-    sound_moves KeepsCounts keeps_mask (λ a b r. ap (λ (m : Membership Queue). m.number) r.same) (λ (q : Queue). q.taken) (λ q. q.lost) (λ q. q.size) shape active captures captures next members new groups (keeps_member shape captures next) sound
+    sound_moves KeepsCounts keeps_mask (λ a b r. ap (λ (m : Membership Queue). m.number) r.same) (λ (q : Queue). q.taken) (λ q. q.lost) (λ q. q.size) shape
+    active captures captures next members new groups (keeps_member shape captures next) sound
     (subst (λ ms. AllZip KeepsCounts members ms) (sym is) (set_zip KeepsCounts keeps_itself members k x y within at keeps))

@@ -35,15 +35,18 @@ union_within a b within = same_from_has (union_of a b) b (λ c. has-or a b c ∙
 
 module _ {Q : Type 0} where
   -- a member more
-  pub push_union : (members : List (Membership Q)) (m : Membership Q) → union_of m.mask.bits (union_of_all (masks_of members)) ≡ union_of_all (masks_of (members ++ m ∷ []))
+  pub push_union : (members : List (Membership Q)) (m : Membership Q)
+      → union_of m.mask.bits (union_of_all (masks_of members)) ≡ union_of_all (masks_of (members ++ m ∷ []))
   push_union members m = sym (ap union_of_all (map-append mask_of members (m ∷ [])) ∙ union_push (masks_of members) m.mask.bits)
 
   -- members that keep their masks keep the union
-  pub zip_union : (R : Membership Q → Membership Q → Type 0) (old new : List (Membership Q)) → ((a b : Membership Q) → R a b → b.mask.bits ≡ a.mask.bits) → AllZip R old new
+  pub zip_union : (R : Membership Q → Membership Q → Type 0) (old new : List (Membership Q)) → ((a b : Membership Q) → R a b → b.mask.bits ≡ a.mask.bits)
+      → AllZip R old new
       → union_of_all (masks_of old) ≡ union_of_all (masks_of new)
   zip_union R old new keeps zip = ap union_of_all (sym (zip_map R mask_of old new keeps zip))
 
-  pub set_union : (members new : List (Membership Q)) (k : ℕ) (x y : Membership Q) → k < length members → x ≡ get_or members k x → new ≡ slice_set members k y → y.mask.bits ≡ x.mask.bits
+  pub set_union : (members new : List (Membership Q)) (k : ℕ) (x y : Membership Q) → k < length members → x ≡ get_or members k x → new ≡ slice_set members k y
+      → y.mask.bits ≡ x.mask.bits
       → union_of_all (masks_of members) ≡ union_of_all (masks_of new)
   set_union members new k x y within at is same =
       ap (λ ms. union_of_all (masks_of ms)) (split_at members k x within at)
@@ -68,7 +71,8 @@ kept_all test (g ∷ gs) all =
     rw first (ap (λ (rest : List GroupRecord). g ∷ rest) (kept_all test gs (All-tail (λ x. test x ≡ true) g gs all)))
 
 -- where each other group than that of one mask is wanted: without that group stay those that are wanted, where it isn't
-pub dropped_is : (wanted : ℕ → Bool) (gone : ℕ) (groups : List GroupRecord) → All (λ (g : GroupRecord). (wanted g.mask || g.mask == gone) ≡ true) groups → wanted gone ≡ false
+pub dropped_is : (wanted : ℕ → Bool) (gone : ℕ) (groups : List GroupRecord) → All (λ (g : GroupRecord). (wanted g.mask || g.mask == gone) ≡ true) groups
+    → wanted gone ≡ false
     → filter (λ (g : GroupRecord). not (g.mask == gone)) groups ≡ filter (λ (g : GroupRecord). wanted g.mask) groups
 dropped_is wanted gone groups others none =
     kept_same (λ (g : GroupRecord). not (g.mask == gone)) (λ (g : GroupRecord). wanted g.mask) groups
@@ -81,7 +85,8 @@ dropped_is wanted gone groups others none =
     by q false te false tw h = absurd (cc)
 
 -- and all are wanted, where it is
-pub shared_is : (wanted : ℕ → Bool) (gone : ℕ) (groups : List GroupRecord) → All (λ (g : GroupRecord). (wanted g.mask || g.mask == gone) ≡ true) groups → wanted gone ≡ true
+pub shared_is : (wanted : ℕ → Bool) (gone : ℕ) (groups : List GroupRecord) → All (λ (g : GroupRecord). (wanted g.mask || g.mask == gone) ≡ true) groups
+    → wanted gone ≡ true
     → filter (λ (g : GroupRecord). wanted g.mask) groups ≡ groups
 shared_is wanted gone groups others there =
     kept_all (λ (g : GroupRecord). wanted g.mask) groups
@@ -124,35 +129,45 @@ module _ {Q : Type 0} where
       (λ e. let same : m.mask.bits ≡ q = grind (arith, e) in eq_same q m.mask.bits (sym same))
       (sym (list_any-append (λ (x : Membership Q). x.mask.bits == q) before (m ∷ after)) ∙ wanted)
 
-  pub all_left : (P : Membership Q → Type 0) (members rest : List (Membership Q)) (k : ℕ) (m : Membership Q) → k < length members → m ≡ get_or members k m → rest ≡ take k members ++ drop (k + 1) members
+  pub all_left : (P : Membership Q → Type 0) (members rest : List (Membership Q)) (k : ℕ) (m : Membership Q) → k < length members → m ≡ get_or members k m
+      → rest ≡ take k members ++ drop (k + 1) members
       → All P members → All P rest
   all_left P members rest k m within at is all =
-      subst (All P) (sym is) (all_without (λ (q : Q). 0) (λ q. 0) (λ q. 0) P (take k members) (drop (k + 1) members) m (subst (All P) (split_at members k m within at) all))
+      subst (All P) (sym is) (all_without (λ (q : Q). 0) (λ q. 0) (λ q. 0) P (take k members) (drop (k + 1) members) m
+      (subst (All P) (split_at members k m within at) all))
 
   -- what is wanted is wanted by those that stay, or is the mask of the one that leaves
-  pub wanted_left : (members rest : List (Membership Q)) (k : ℕ) (m : Membership Q) (groups : List GroupRecord) → k < length members → m ≡ get_or members k m → rest ≡ take k members ++ drop (k + 1) members
-      → All (λ (g : GroupRecord). is_wanted members g.mask ≡ true) groups → All (λ (g : GroupRecord). (is_wanted rest g.mask || g.mask == m.mask.bits) ≡ true) groups
+  pub wanted_left : (members rest : List (Membership Q)) (k : ℕ) (m : Membership Q) (groups : List GroupRecord) → k < length members → m ≡ get_or members k m
+      → rest ≡ take k members ++ drop (k + 1) members
+      → All (λ (g : GroupRecord). is_wanted members g.mask ≡ true) groups
+      → All (λ (g : GroupRecord). (is_wanted rest g.mask || g.mask == m.mask.bits) ≡ true) groups
   wanted_left members rest k m groups within at is used =
       All-weaker (λ (g : GroupRecord). is_wanted members g.mask ≡ true) (λ (g : GroupRecord). (is_wanted rest g.mask || g.mask == m.mask.bits) ≡ true)
       (λ g wanted.
       subst (λ ms. (is_wanted ms g.mask || g.mask == m.mask.bits) ≡ true) (sym is)
-      (left_wanted (take k members) m (drop (k + 1) members) g.mask (subst (λ ms. is_wanted ms g.mask ≡ true) (split_at members k m within at) wanted))) groups used
+      (left_wanted (take k members) m (drop (k + 1) members) g.mask (subst (λ ms. is_wanted ms g.mask ≡ true) (split_at members k m within at) wanted))) groups
+      used
 
   -- or by the one that stands in its place
-  pub wanted_set : (members new : List (Membership Q)) (k : ℕ) (x y : Membership Q) (groups : List GroupRecord) → k < length members → x ≡ get_or members k x → new ≡ slice_set members k y
-      → All (λ (g : GroupRecord). is_wanted members g.mask ≡ true) groups → All (λ (g : GroupRecord). (is_wanted new g.mask || g.mask == x.mask.bits) ≡ true) groups
+  pub wanted_set : (members new : List (Membership Q)) (k : ℕ) (x y : Membership Q) (groups : List GroupRecord) → k < length members → x ≡ get_or members k x
+      → new ≡ slice_set members k y
+      → All (λ (g : GroupRecord). is_wanted members g.mask ≡ true) groups
+      → All (λ (g : GroupRecord). (is_wanted new g.mask || g.mask == x.mask.bits) ≡ true) groups
   wanted_set members new k x y groups within at is used =
       let now : new ≡ take k members ++ y ∷ drop (k + 1) members = is ∙ set_split members k y within in
-      All-weaker (λ (g : GroupRecord). (is_wanted (take k members ++ drop (k + 1) members) g.mask || g.mask == x.mask.bits) ≡ true) (λ (g : GroupRecord). (is_wanted new g.mask || g.mask == x.mask.bits) ≡ true)
+      All-weaker (λ (g : GroupRecord). (is_wanted (take k members ++ drop (k + 1) members) g.mask || g.mask == x.mask.bits) ≡ true)
+      (λ (g : GroupRecord). (is_wanted new g.mask || g.mask == x.mask.bits) ≡ true)
       (λ g either.
       subst (λ ms. (is_wanted ms g.mask || g.mask == x.mask.bits) ≡ true) (sym now)
       (ap (λ b. b || g.mask == x.mask.bits) (list_any-append (λ (z : Membership Q). z.mask.bits == g.mask) (take k members) (y ∷ drop (k + 1) members))
       ∙ either_more (is_wanted (take k members) g.mask) (y.mask.bits == g.mask) (is_wanted (drop (k + 1) members) g.mask) (g.mask == x.mask.bits)
-      (ap (λ b. b || g.mask == x.mask.bits) (sym (list_any-append (λ (z : Membership Q). z.mask.bits == g.mask) (take k members) (drop (k + 1) members))) ∙ either))) groups
+      (ap (λ b. b || g.mask == x.mask.bits) (sym (list_any-append (λ (z : Membership Q). z.mask.bits == g.mask) (take k members) (drop (k + 1) members)))
+      ∙ either))) groups
       (wanted_left members (take k members ++ drop (k + 1) members) k x groups within at refl used)
 
   -- where another member has the mask of the one that leaves, the union stays
-  pub shared_union : (members rest : List (Membership Q)) (k : ℕ) (m : Membership Q) → k < length members → m ≡ get_or members k m → rest ≡ take k members ++ drop (k + 1) members
+  pub shared_union : (members rest : List (Membership Q)) (k : ℕ) (m : Membership Q) → k < length members → m ≡ get_or members k m
+      → rest ≡ take k members ++ drop (k + 1) members
       → is_wanted rest m.mask.bits ≡ true → union_of_all (masks_of members) ≡ union_of_all (masks_of rest)
   shared_union members rest k m within at is shared =
       ap (λ ms. union_of_all (masks_of ms)) (split_at members k m within at)
@@ -162,22 +177,30 @@ module _ {Q : Type 0} where
 
 module _ {Q : Type 0} (taken lost size : Q → ℕ) where
   -- an active mask is that of the union
-  pub active_is : (shape : ShapeRecord) (active : Option Mask) (captures next : ℕ) (members : List (Membership Q)) (groups : List GroupRecord) → IsSound taken lost size shape active captures next members groups
+  pub active_is : (shape : ShapeRecord) (active : Option Mask) (captures next : ℕ) (members : List (Membership Q)) (groups : List GroupRecord)
+      → IsSound taken lost size shape active captures next members groups
       → is_nil members ≡ false → bits_of active ≡ active_of shape (union_of_all (masks_of members))
   active_is shape active captures next members groups sound some =
       sound.ruled ∙ asked_of taken lost size shape (masks_of members) (nil_map taken lost size members ∙ some)
 
   -- what serves the union serves a mask within it
-  pub active_within : (shape : ShapeRecord) (active : Option Mask) (captures next mask : ℕ) (members : List (Membership Q)) (groups : List GroupRecord) → IsSound taken lost size shape active captures next members groups
+  pub active_within : (shape : ShapeRecord) (active : Option Mask) (captures next mask : ℕ) (members : List (Membership Q)) (groups : List GroupRecord)
+      → IsSound taken lost size shape active captures next members groups
       → union_of mask (union_of_all (masks_of members)) ≡ union_of_all (masks_of members)
       → IfSome active (λ m. (is_within mask m.bits ≡ true) × (is_within (union_of_all (masks_of members)) m.bits ≡ true))
   active_within shape None captures next mask members groups sound same = tt
   active_within shape (Some a) captures next mask members groups sound same =
-      let contains = rule_contains shape (union_of_all (masks_of members)) a.bits (sym (active_is shape (Some a) captures next members groups sound (sym sound.asked))) in
-      (within_trans mask (union_of_all (masks_of members)) a.bits (subst (λ u. is_within mask u ≡ true) same (within_first mask (union_of_all (masks_of members)))) contains, contains)
+      let contains =
+      rule_contains shape (union_of_all (masks_of members)) a.bits (sym (active_is shape (Some a) captures next members groups sound (sym sound.asked))) in (
+        within_trans mask (union_of_all (masks_of members)) a.bits
+            (subst (λ u. is_within mask u ≡ true) same (within_first mask (union_of_all (masks_of members)))) contains,
+        contains,
+      )
 
-  shared_ruled : (shape : ShapeRecord) (active : Option Mask) (captures next : ℕ) (members rest : List (Membership Q)) (k : ℕ) (m : Membership Q) (groups : List GroupRecord)
-      → IsSound taken lost size shape active captures next members groups → k < length members → m ≡ get_or members k m → rest ≡ take k members ++ drop (k + 1) members
+  shared_ruled : (shape : ShapeRecord) (active : Option Mask) (captures next : ℕ) (members rest : List (Membership Q)) (k : ℕ) (m : Membership Q)
+      (groups : List GroupRecord)
+      → IsSound taken lost size shape active captures next members groups → k < length members → m ≡ get_or members k m
+      → rest ≡ take k members ++ drop (k + 1) members
       → is_wanted rest m.mask.bits ≡ true → bits_of active ≡ active_for shape (masks_of rest)
   shared_ruled shape active captures next members rest k m groups sound within at is shared =
       active_is shape active captures next members groups sound (nil_within members k within)
@@ -185,14 +208,17 @@ module _ {Q : Type 0} (taken lost size : Q → ℕ) where
       ∙ sym (asked_of taken lost size shape (masks_of rest) (nil_map taken lost size rest ∙ nil_wanted rest m.mask.bits shared))
 
   -- and then nothing else changes
-  pub sound_leaves_shared : (shape : ShapeRecord) (active : Option Mask) (captures next : ℕ) (members rest : List (Membership Q)) (k : ℕ) (m : Membership Q) (groups : List GroupRecord)
-      → IsSound taken lost size shape active captures next members groups → k < length members → m ≡ get_or members k m → rest ≡ take k members ++ drop (k + 1) members
+  pub sound_leaves_shared : (shape : ShapeRecord) (active : Option Mask) (captures next : ℕ) (members rest : List (Membership Q)) (k : ℕ) (m : Membership Q)
+      (groups : List GroupRecord)
+      → IsSound taken lost size shape active captures next members groups → k < length members → m ≡ get_or members k m
+      → rest ≡ take k members ++ drop (k + 1) members
       → is_wanted rest m.mask.bits ≡ true → (bits_of active ≡ active_for shape (masks_of rest)) × IsSound taken lost size shape active captures next rest groups
   sound_leaves_shared shape active captures next members rest k m groups sound within at is shared =
       let ruled = shared_ruled shape active captures next members rest k m groups sound within at is shared in
       let kept : filter (λ (g : GroupRecord). is_wanted rest g.mask) groups ≡ groups =
       shared_is (λ mask. is_wanted rest mask) m.mask.bits groups (wanted_left members rest k m groups within at is sound.grouped.used) shared in (
         ruled,
-        subst (λ gs. IsSound taken lost size shape active captures next rest gs) (ap (remade_for shape active) kept ∙ sym (same_tables_for shape active groups sound.grouped.each))
+        subst (λ gs. IsSound taken lost size shape active captures next rest gs)
+            (ap (remade_for shape active) kept ∙ sym (same_tables_for shape active groups sound.grouped.each))
             (sound_leaves_at taken lost size shape active active captures next members rest k m groups sound within at is ruled sound.below),
       )

@@ -74,7 +74,15 @@ has_no_place number trigger = not (holds_place number trigger.attached) && not (
 module _ {Q : Type 0} where
   -- a new device is plugged, and has no member
   abbrev pub new_view : DeviceRecord → ℕ → Driver → DeviceView Q
-  new_view desc number driver = record { name = desc.name; number = number; standing = nobody desc.shape; totals = no_totals; site = first_site desc.shape desc.trigger driver desc.attrs }
+  new_view desc number driver =
+      record {
+        name = desc.name;
+        number = number;
+        standing = nobody desc.shape;
+        totals = no_totals;
+        site =
+            first_site desc.shape desc.trigger driver desc.attrs;
+      }
 
   abbrev pub at_site : Site ℕ → DeviceView Q → DeviceView Q
   at_site site d = record d { site = site }

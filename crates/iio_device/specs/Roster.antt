@@ -90,7 +90,8 @@ module _ {Q : Type 0} where
     Captures values moment (Ok count) old new =
         (count ≡ length old.members)
         × (new ≡ with_capture new.members old)
-        × AllZip (λ (a b : Membership Q). WasOffered taken lost size capacity offer_gives (scan_of old.shape a.mask.bits values moment) a b) old.members new.members
+        × AllZip (λ (a b : Membership Q). WasOffered taken lost size capacity offer_gives (scan_of old.shape a.mask.bits values moment) a b) old.members
+        new.members
 
 -- whether the member of that number has scans of that size
 abbrev pub is_size_of : ℕ → ℕ → Standing Queue → Bool

@@ -28,7 +28,13 @@ module _ {Who : Type 0} where
       else if ask_fails x.driver then record x { driver = after_ask x.driver; fault = true }
       else (
       let v = value_of x.driver shape t c 0 in
-      record { driver = after_ask x.driver; monitor = after_value c v t x.monitor; count = x.count + length (fired_events v t (channel_at c x.monitor)); fault = false })
+      record {
+        driver = after_ask x.driver;
+        monitor = after_value c v t x.monitor;
+        count = x.count + length (fired_events v t (channel_at c x.monitor));
+        fault =
+            false;
+      })
 
   abbrev pub channels_sensed : ShapeRecord → ℤ → ℕ → Sensed Who → Sensed Who
   channels_sensed shape t zero x = x

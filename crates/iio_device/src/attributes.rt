@@ -41,7 +41,8 @@ impl<Q: Tail> Fitted<IioDev<Q>> {
     ) -> Result<(), Errno>
         requires { IfSome channel (λ c. c < length self.old.core.roster.shape.channels) }
         ensures answer { result ≡ write_answer (view_of ⟦<Plug as Sensor>⟧.driver self.old.core self.old.plug) }
-        ensures state { view_of ⟦<Plug as Sensor>⟧.driver self.new.core self.new.plug ≡ after_write channel attr value (view_of ⟦<Plug as Sensor>⟧.driver self.old.core self.old.plug) }
+        ensures state { view_of ⟦<Plug as Sensor>⟧.driver self.new.core self.new.plug
+            ≡ after_write channel attr value (view_of ⟦<Plug as Sensor>⟧.driver self.old.core self.old.plug) }
     {
         let Some(plug) = &mut self.plug else {
             return Err(Errno::ENODEV);
@@ -55,7 +56,8 @@ impl<Q: Tail> Fitted<IioDev<Q>> {
     pub fn set_trigger(&mut self, trigger: Option<u32>) -> Result<(), Errno>
         requires { IfSome trigger (λ t. t < MAX_TRIGGERS) }
         ensures answer { result ≡ trigger_answer (view_of ⟦<Plug as Sensor>⟧.driver self.old.core self.old.plug) }
-        ensures state { view_of ⟦<Plug as Sensor>⟧.driver self.new.core self.new.plug ≡ after_trigger trigger (view_of ⟦<Plug as Sensor>⟧.driver self.old.core self.old.plug) }
+        ensures state { view_of ⟦<Plug as Sensor>⟧.driver self.new.core self.new.plug
+            ≡ after_trigger trigger (view_of ⟦<Plug as Sensor>⟧.driver self.old.core self.old.plug) }
     {
         if self.plug.is_none() {
             return Err(Errno::ENODEV);
@@ -71,7 +73,9 @@ impl<Q: Tail> Fitted<IioDev<Q>> {
     pub fn ev_open(&mut self, who: u32) -> Result<(), Held>
         requires { ⊤ }
         ensures answer { result ≡ open_answer self.old.core.stored.monitor }
-        ensures state { view_of ⟦<Plug as Sensor>⟧.driver self.new.core self.new.plug ≡ at_site (with_monitor (after_open who) (site_of ⟦<Plug as Sensor>⟧.driver self.old.core self.old.plug)) (view_of ⟦<Plug as Sensor>⟧.driver self.old.core self.old.plug) }
+        ensures state { view_of ⟦<Plug as Sensor>⟧.driver self.new.core self.new.plug
+            ≡ at_site (with_monitor (after_open who) (site_of ⟦<Plug as Sensor>⟧.driver self.old.core self.old.plug))
+            (view_of ⟦<Plug as Sensor>⟧.driver self.old.core self.old.plug) }
     {
         self.core.stored.monitor.open(who)
     }
@@ -80,7 +84,9 @@ impl<Q: Tail> Fitted<IioDev<Q>> {
     pub fn ev_read(&mut self, who: u32) -> Result<Option<EventData>, NotHolder>
         requires { ⊤ }
         ensures answer { result ≡ read_answer nat_eq who self.old.core.stored.monitor }
-        ensures state { view_of ⟦<Plug as Sensor>⟧.driver self.new.core self.new.plug ≡ at_site (with_monitor (after_read nat_eq who) (site_of ⟦<Plug as Sensor>⟧.driver self.old.core self.old.plug)) (view_of ⟦<Plug as Sensor>⟧.driver self.old.core self.old.plug) }
+        ensures state { view_of ⟦<Plug as Sensor>⟧.driver self.new.core self.new.plug
+            ≡ at_site (with_monitor (after_read nat_eq who) (site_of ⟦<Plug as Sensor>⟧.driver self.old.core self.old.plug))
+            (view_of ⟦<Plug as Sensor>⟧.driver self.old.core self.old.plug) }
     {
         self.core.stored.monitor.read(who)
     }
@@ -89,7 +95,9 @@ impl<Q: Tail> Fitted<IioDev<Q>> {
     pub fn ev_close(&mut self, who: u32) -> Result<(), NotHolder>
         requires { ⊤ }
         ensures answer { result ≡ close_answer nat_eq who self.old.core.stored.monitor }
-        ensures state { view_of ⟦<Plug as Sensor>⟧.driver self.new.core self.new.plug ≡ at_site (with_monitor (after_close nat_eq who) (site_of ⟦<Plug as Sensor>⟧.driver self.old.core self.old.plug)) (view_of ⟦<Plug as Sensor>⟧.driver self.old.core self.old.plug) }
+        ensures state { view_of ⟦<Plug as Sensor>⟧.driver self.new.core self.new.plug
+            ≡ at_site (with_monitor (after_close nat_eq who) (site_of ⟦<Plug as Sensor>⟧.driver self.old.core self.old.plug))
+            (view_of ⟦<Plug as Sensor>⟧.driver self.old.core self.old.plug) }
     {
         self.core.stored.monitor.close(who)
     }
@@ -98,7 +106,8 @@ impl<Q: Tail> Fitted<IioDev<Q>> {
     pub fn unplug(&mut self) -> bool
         requires { ⊤ }
         ensures answer { result ≡ is_some self.old.plug }
-        ensures state { view_of ⟦<Plug as Sensor>⟧.driver self.new.core self.new.plug ≡ at_site (unplugged (site_of ⟦<Plug as Sensor>⟧.driver self.old.core self.old.plug)) (view_of ⟦<Plug as Sensor>⟧.driver self.old.core self.old.plug) }
+        ensures state { view_of ⟦<Plug as Sensor>⟧.driver self.new.core self.new.plug
+            ≡ at_site (unplugged (site_of ⟦<Plug as Sensor>⟧.driver self.old.core self.old.plug)) (view_of ⟦<Plug as Sensor>⟧.driver self.old.core self.old.plug) }
     {
         self.plug.take().is_some()
     }

@@ -162,8 +162,11 @@ impl Fitted<IioDev<Kfifo>> {
     /// exactly where the member isn't live or `out` hasn't the size of its scans, and then nothing changes.
     pub fn take(&mut self, member: &Member, out: &mut [u8]) -> Option<bool>
         requires { ⊤ }
-        ensures taken { Takes member.now.number result out.old out.new (view_of ⟦<Plug as Sensor>⟧.driver self.old.core self.old.plug).standing (view_of ⟦<Plug as Sensor>⟧.driver self.new.core self.new.plug).standing }
-        ensures rest { view_of ⟦<Plug as Sensor>⟧.driver self.new.core self.new.plug ≡ record (view_of ⟦<Plug as Sensor>⟧.driver self.old.core self.old.plug) { standing = (view_of ⟦<Plug as Sensor>⟧.driver self.new.core self.new.plug).standing; totals = with_taken result out.new self.old.core.totals } }
+        ensures taken { Takes member.now.number result out.old out.new (view_of ⟦<Plug as Sensor>⟧.driver self.old.core self.old.plug).standing
+            (view_of ⟦<Plug as Sensor>⟧.driver self.new.core self.new.plug).standing }
+        ensures rest { view_of ⟦<Plug as Sensor>⟧.driver self.new.core self.new.plug
+            ≡ record (view_of ⟦<Plug as Sensor>⟧.driver self.old.core self.old.plug)
+            { standing = (view_of ⟦<Plug as Sensor>⟧.driver self.new.core self.new.plug).standing; totals = with_taken result out.new self.old.core.totals } }
     {
         let taken = self.core.roster.take(member.number, out);
         self.core.totals.count(taken, out);
@@ -181,8 +184,14 @@ impl Fitted<IioDev<Kfifo>> {
         out: &mut Vec<u8>,
     ) -> Option<u32>
         requires { length out.old.items + most * scan_size self.old.core.roster.shape mask.bits ≤ vec_capacity out.old }
-        ensures taken { TakesScans member.now.number mask.bits most result out.old.items out.new.items (view_of ⟦<Plug as Sensor>⟧.driver self.old.core self.old.plug).standing (view_of ⟦<Plug as Sensor>⟧.driver self.new.core self.new.plug).standing }
-        ensures rest { view_of ⟦<Plug as Sensor>⟧.driver self.new.core self.new.plug ≡ record (view_of ⟦<Plug as Sensor>⟧.driver self.old.core self.old.plug) { standing = (view_of ⟦<Plug as Sensor>⟧.driver self.new.core self.new.plug).standing; totals = with_bytes (unwrap_or result 0) (drop (length out.old.items) out.new.items) self.old.core.totals } }
+        ensures taken { TakesScans member.now.number mask.bits most result out.old.items out.new.items
+            (view_of ⟦<Plug as Sensor>⟧.driver self.old.core self.old.plug).standing (view_of ⟦<Plug as Sensor>⟧.driver self.new.core self.new.plug).standing }
+        ensures rest { view_of ⟦<Plug as Sensor>⟧.driver self.new.core self.new.plug
+            ≡ record (view_of ⟦<Plug as Sensor>⟧.driver self.old.core self.old.plug) {
+              standing = (view_of ⟦<Plug as Sensor>⟧.driver self.new.core self.new.plug).standing;
+              totals =
+                  with_bytes (unwrap_or result 0) (drop (length out.old.items) out.new.items) self.old.core.totals;
+            } }
         ensures sized { length out.new.items ≡ length out.old.items + unwrap_or result 0 * scan_size self.old.core.roster.shape mask.bits }
         ensures room { vec_capacity out.old ≤ vec_capacity out.new }
     {

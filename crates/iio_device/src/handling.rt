@@ -51,7 +51,8 @@ impl<Q: Tail> IioDev<Q> {
 
     // Whether the entry is this device's and current, and captures don't end.
     fn is_due(&self, due: &Due) -> bool
-        ensures value { result ≡ (due.now.dev == self.now.number && is_current due.now.attachment self.now.attachment self.now.roster.members.items true && not (self.now.roster.captures == 2 ^ 64 - 1)) }
+        ensures value { result ≡ (due.now.dev == self.now.number && is_current due.now.attachment self.now.attachment self.now.roster.members.items true
+            && not (self.now.roster.captures == 2 ^ 64 - 1)) }
         ensures fewer { result ≡ true → self.now.roster.captures < 2 ^ 64 - 1 }
     {
         due.dev() == self.number
@@ -62,11 +63,15 @@ impl<Q: Tail> IioDev<Q> {
 
     // Looks at the thresholds by asking a driver.
     fn sense_by<P: Sensor>(&mut self, plug: &mut P, t: i64) -> Result<u32, Fault>
-        ensures driver { P.driver plug.new ≡ (channels_sensed self.old.roster.shape t (length self.old.roster.shape.channels) (begun (P.driver plug.old) self.old.stored.monitor)).driver }
-        ensures monitor { self.new.stored.monitor ≡ (channels_sensed self.old.roster.shape t (length self.old.roster.shape.channels) (begun (P.driver plug.old) self.old.stored.monitor)).monitor }
-        ensures answer { result ≡ sense_result (channels_sensed self.old.roster.shape t (length self.old.roster.shape.channels) (begun (P.driver plug.old) self.old.stored.monitor)) }
+        ensures driver { P.driver plug.new
+            ≡ (channels_sensed self.old.roster.shape t (length self.old.roster.shape.channels) (begun (P.driver plug.old) self.old.stored.monitor)).driver }
+        ensures monitor { self.new.stored.monitor
+            ≡ (channels_sensed self.old.roster.shape t (length self.old.roster.shape.channels) (begun (P.driver plug.old) self.old.stored.monitor)).monitor }
+        ensures answer { result ≡ sense_result
+            (channels_sensed self.old.roster.shape t (length self.old.roster.shape.channels) (begun (P.driver plug.old) self.old.stored.monitor)) }
         ensures stored { (self.new.stored.sampling_frequency ≡ self.old.stored.sampling_frequency) × (self.new.stored.values ≡ self.old.stored.values) }
-        ensures rest { (standing_of self.new.roster ≡ standing_of self.old.roster) × (self.new.name ≡ self.old.name) × (self.new.number ≡ self.old.number) × (self.new.trigger ≡ self.old.trigger) × (self.new.attachment ≡ self.old.attachment) × (self.new.totals ≡ self.old.totals) }
+        ensures rest { (standing_of self.new.roster ≡ standing_of self.old.roster) × (self.new.name ≡ self.old.name) × (self.new.number ≡ self.old.number)
+            × (self.new.trigger ≡ self.old.trigger) × (self.new.attachment ≡ self.old.attachment) × (self.new.totals ≡ self.old.totals) }
     {
         let stored = &mut self.stored;
         sense_all(plug, &mut stored.monitor, &self.roster.shape, t)
@@ -79,7 +84,8 @@ impl<Q: Tail> Fitted<IioDev<Q>> {
     /// device is unplugged, or it had 2^64 - 1 captures. `Fault`: the ask failed, and the sensor alone has changed.
     pub fn handle(&mut self, due: &Due) -> Handled
         requires { ⊤ }
-        ensures { Handles Q.taken Q.lost Q.size Q.capacity Q.offer_gives due.now result (view_of ⟦<Plug as Sensor>⟧.driver self.old.core self.old.plug) (view_of ⟦<Plug as Sensor>⟧.driver self.new.core self.new.plug) }
+        ensures { Handles Q.taken Q.lost Q.size Q.capacity Q.offer_gives due.now result (view_of ⟦<Plug as Sensor>⟧.driver self.old.core self.old.plug)
+            (view_of ⟦<Plug as Sensor>⟧.driver self.new.core self.new.plug) }
     {
         let Some(plug) = &mut self.plug else {
             return Handled::Idle;
@@ -98,7 +104,8 @@ impl<Q: Tail> Fitted<IioDev<Q>> {
     pub fn raw(&mut self, c: u32, t: i64) -> Result<i64, RawFault>
         requires { c < length self.old.core.roster.shape.channels }
         ensures answer { result ≡ raw_answer c t (view_of ⟦<Plug as Sensor>⟧.driver self.old.core self.old.plug) }
-        ensures state { view_of ⟦<Plug as Sensor>⟧.driver self.new.core self.new.plug ≡ after_raw (view_of ⟦<Plug as Sensor>⟧.driver self.old.core self.old.plug) }
+        ensures state { view_of ⟦<Plug as Sensor>⟧.driver self.new.core self.new.plug
+            ≡ after_raw (view_of ⟦<Plug as Sensor>⟧.driver self.old.core self.old.plug) }
     {
         let Some(plug) = &mut self.plug else {
             return Err(RawFault::Gone);
@@ -115,7 +122,8 @@ impl<Q: Tail> Fitted<IioDev<Q>> {
     pub fn sense(&mut self, t: i64) -> Sensed
         requires { ⊤ }
         ensures answer { result ≡ sense_answer t (view_of ⟦<Plug as Sensor>⟧.driver self.old.core self.old.plug) }
-        ensures state { view_of ⟦<Plug as Sensor>⟧.driver self.new.core self.new.plug ≡ after_sense t (view_of ⟦<Plug as Sensor>⟧.driver self.old.core self.old.plug) }
+        ensures state { view_of ⟦<Plug as Sensor>⟧.driver self.new.core self.new.plug
+            ≡ after_sense t (view_of ⟦<Plug as Sensor>⟧.driver self.old.core self.old.plug) }
     {
         let Some(plug) = &mut self.plug else {
             return Sensed::Gone;

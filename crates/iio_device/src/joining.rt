@@ -49,7 +49,8 @@ impl<Q: Tail> IioDev<Q> {
         requires place { has_no_place self.old.number trigger.old ≡ false }
         ensures trigger { trigger.new ≡ record trigger.old { attached = with_place self.old.number (self.old.attachment + 1) trigger.old.attached } }
         ensures attachment { self.new.attachment ≡ self.old.attachment + 1 }
-        ensures same { (self.new.roster ≡ self.old.roster) × (self.new.name ≡ self.old.name) × (self.new.number ≡ self.old.number) × (self.new.trigger ≡ self.old.trigger) × (self.new.stored ≡ self.old.stored) × (self.new.totals ≡ self.old.totals) }
+        ensures same { (self.new.roster ≡ self.old.roster) × (self.new.name ≡ self.old.name) × (self.new.number ≡ self.old.number)
+            × (self.new.trigger ≡ self.old.trigger) × (self.new.stored ≡ self.old.stored) × (self.new.totals ≡ self.old.totals) }
     {
         self.attachment += 1;
         let _place = trigger.attach(self.number, self.attachment);
@@ -63,7 +64,8 @@ impl<Q: Tail> Fitted<IioDev<Q>> {
     /// has no place, or 2^64 - 1 members have joined.
     pub fn may_join(&self, mask: Mask, trigger: Option<&Trigger>) -> Result<(), JoinFault>
         requires { is_some trigger ≡ is_some self.now.core.trigger }
-        ensures { result ≡ unless_refused tt (first_refusal (join_faults (view_of ⟦<Plug as Sensor>⟧.driver self.now.core self.now.plug) mask.bits (option_copied trigger.entry))) }
+        ensures { result ≡ unless_refused tt
+            (first_refusal (join_faults (view_of ⟦<Plug as Sensor>⟧.driver self.now.core self.now.plug) mask.bits (option_copied trigger.entry))) }
     {
         if self.plug.is_none() {
             return Err(JoinFault::Gone);
@@ -103,7 +105,8 @@ impl<Q: Tail> Fitted<IioDev<Q>> {
         requires trigger { is_some self.old.core.trigger ≡ true }
         requires size { Q.size tail ≡ scan_size self.old.core.roster.shape mask.bits }
         requires fresh { Q.taken tail + Q.lost tail ≡ 0 }
-        ensures { JoinsDevice mask tail result (view_of ⟦<Plug as Sensor>⟧.driver self.old.core self.old.plug) (view_of ⟦<Plug as Sensor>⟧.driver self.new.core self.new.plug) trigger.old trigger.new }
+        ensures { JoinsDevice mask tail result (view_of ⟦<Plug as Sensor>⟧.driver self.old.core self.old.plug)
+            (view_of ⟦<Plug as Sensor>⟧.driver self.new.core self.new.plug) trigger.old trigger.new }
     {
         if let Err(fault) = self.may_join(mask, Some(trigger)) {
             return Err(JoinRefused { fault, tail });
@@ -121,7 +124,8 @@ impl<Q: Tail> Fitted<IioDev<Q>> {
     /// live, and then nothing changes. The device's place at the trigger is freed with the last member.
     pub fn leave(&mut self, member: Member, trigger: &mut Trigger) -> Option<Q>
         requires { ⊤ }
-        ensures { LeavesDevice Q.lost member.number result (view_of ⟦<Plug as Sensor>⟧.driver self.old.core self.old.plug) (view_of ⟦<Plug as Sensor>⟧.driver self.new.core self.new.plug) trigger.old trigger.new }
+        ensures { LeavesDevice Q.lost member.number result (view_of ⟦<Plug as Sensor>⟧.driver self.old.core self.old.plug)
+            (view_of ⟦<Plug as Sensor>⟧.driver self.new.core self.new.plug) trigger.old trigger.new }
     {
         let Some(tail) = self.core.roster.leave(member.number) else {
             return None;

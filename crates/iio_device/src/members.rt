@@ -106,7 +106,8 @@ pub(crate) fn begin_anew_at<Q: Tail>(
 ) -> Q
     requires within { at < length members.old.items }
     ensures before { (d : Membership Q) → result ≡ (slice_index_or members.old.items at d).tail }
-    ensures members { (d : Membership Q) → members.new.items ≡ slice_set members.old.items at (begun_anew mask captures tail (slice_index_or members.old.items at d)) }
+    ensures members { (d : Membership Q)
+        → members.new.items ≡ slice_set members.old.items at (begun_anew mask captures tail (slice_index_or members.old.items at d)) }
 {
     let member = &mut members[at];
     member.mask = mask;
@@ -145,7 +146,9 @@ pub(crate) fn offer_all<Q: Tail>(
     requires placed { length places.old.items ≡ length members.old.items }
     requires sized { All (λ (m : Membership Q). length (scan_for active.bits union.now groups.now m.mask.bits) ≡ Q.size m.tail) members.old.items }
     requires fewer { All (λ (m : Membership Q). Q.taken m.tail + Q.lost m.tail < 2 ^ 64 - 1) members.old.items }
-    ensures offered { AllZip (λ (a b : Membership Q). WasOffered Q.taken Q.lost Q.size Q.capacity Q.offer_gives (scan_for active.bits union.now groups.now a.mask.bits) a b) members.old.items members.new.items }
+    ensures offered { AllZip
+        (λ (a b : Membership Q). WasOffered Q.taken Q.lost Q.size Q.capacity Q.offer_gives (scan_for active.bits union.now groups.now a.mask.bits) a b)
+        members.old.items members.new.items }
     ensures placed { length places.new.items ≡ length places.old.items }
 {
     for i in 0..members.len() {
@@ -172,7 +175,8 @@ pub(crate) fn take_scans_at(
 ) -> u32
     requires within { at < length members.old.items }
     requires room { (d : Membership Queue) → length out.old.items + most * (slice_index_or members.old.items at d).tail.size ≤ vec_capacity out.old }
-    ensures moved { (d : Membership Queue) → DrainsScans most result out.old.items out.new.items (slice_index_or members.old.items at d) (slice_index_or members.new.items at d) }
+    ensures moved { (d : Membership Queue)
+        → DrainsScans most result out.old.items out.new.items (slice_index_or members.old.items at d) (slice_index_or members.new.items at d) }
     ensures sized { (d : Membership Queue) → length out.new.items ≡ length out.old.items + result * (slice_index_or members.old.items at d).tail.size }
     ensures others { (d : Membership Queue) → members.new.items ≡ slice_set members.old.items at (slice_index_or members.new.items at d) }
     ensures room { vec_capacity out.old ≤ vec_capacity out.new }

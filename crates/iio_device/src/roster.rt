@@ -251,7 +251,8 @@ impl<Q: Tail> Roster<Q> {
         ensures members { self.new.members ≡ self.old.members }
         ensures places { self.new.places ≡ self.old.places }
         ensures room { IfOk result (λ _. vec_len self.new.groups < vec_capacity self.new.groups) }
-        ensures group { IfOk result (λ group. IfSome group (λ g. IsGroup self.new.shape active.bits g × (g.mask ≡ mask.bits) × (has_group self.new.groups.items mask.bits ≡ false))) }
+        ensures group { IfOk result
+            (λ group. IfSome group (λ g. IsGroup self.new.shape active.bits g × (g.mask ≡ mask.bits) × (has_group self.new.groups.items mask.bits ≡ false))) }
         ensures none { IfOk result (λ group. IfNone group (has_group self.new.groups.items mask.bits ≡ true)) }
     {
         self.groups.reserve(1)?;
@@ -268,8 +269,11 @@ impl<Q: Tail> Roster<Q> {
         requires within { is_within mask.bits active.bits ≡ true }
         ensures same { standing_of self.new ≡ standing_of self.old }
         ensures few { IfOk result (λ _. length self.new.members.items < 2 ^ 32 - 1) }
-        ensures room { IfOk result (λ _. (vec_len self.new.members < vec_capacity self.new.members) × (vec_len self.new.groups < vec_capacity self.new.groups) × (vec_len self.new.places < vec_capacity self.new.places)) }
-        ensures group { IfOk result (λ group. IfSome group (λ g. IsGroup self.new.shape active.bits g × (g.mask ≡ mask.bits) × (has_group self.new.groups.items mask.bits ≡ false))) }
+        ensures room { IfOk result
+            (λ _. (vec_len self.new.members < vec_capacity self.new.members) × (vec_len self.new.groups < vec_capacity self.new.groups)
+            × (vec_len self.new.places < vec_capacity self.new.places)) }
+        ensures group { IfOk result
+            (λ group. IfSome group (λ g. IsGroup self.new.shape active.bits g × (g.mask ≡ mask.bits) × (has_group self.new.groups.items mask.bits ≡ false))) }
         ensures none { IfOk result (λ group. IfNone group (has_group self.new.groups.items mask.bits ≡ true)) }
     {
         if self.members.len() >= u32::MAX as usize {
@@ -291,8 +295,11 @@ impl<Q: Tail> Roster<Q> {
         ensures within { IfOk result (λ made. is_within (union_of_all (masks_of self.old.members.items)) made.0.bits ≡ true) }
         ensures few { IfOk result (λ _. length self.new.members.items < 2 ^ 32 - 1) }
         ensures next { IfOk result (λ _. self.old.next < 2 ^ 64 - 1) }
-        ensures room { IfOk result (λ _. (vec_len self.new.members < vec_capacity self.new.members) × (vec_len self.new.groups < vec_capacity self.new.groups) × (vec_len self.new.places < vec_capacity self.new.places)) }
-        ensures group { IfOk result (λ made. IfSome made.1 (λ g. IsGroup self.new.shape made.0.bits g × (g.mask ≡ mask.bits) × (has_group self.new.groups.items mask.bits ≡ false))) }
+        ensures room { IfOk result
+            (λ _. (vec_len self.new.members < vec_capacity self.new.members) × (vec_len self.new.groups < vec_capacity self.new.groups)
+            × (vec_len self.new.places < vec_capacity self.new.places)) }
+        ensures group { IfOk result
+            (λ made. IfSome made.1 (λ g. IsGroup self.new.shape made.0.bits g × (g.mask ≡ mask.bits) × (has_group self.new.groups.items mask.bits ≡ false))) }
         ensures none { IfOk result (λ made. IfNone made.1 (has_group self.new.groups.items mask.bits ≡ true)) }
     {
         let active = self.active_with(mask).ok_or(JoinFault::NoUnion)?;
@@ -388,9 +395,11 @@ impl<Q: Tail> Roster<Q> {
         ensures accepted { IfOk result (λ made. remask_fault number mask.bits (standing_of self.old) ≡ None) }
         ensures active { IfOk result (λ made. Some made.0.bits ≡ active_under number mask.bits (standing_of self.old)) }
         ensures below { IfOk result (λ made. made.0.bits < 2 ^ count_of self.old.shape) }
-        ensures within { IfOk result (λ made. is_within (union_of mask.bits (union_of_all (masks_of (without number self.old.members.items)))) made.0.bits ≡ true) }
+        ensures within { IfOk result
+            (λ made. is_within (union_of mask.bits (union_of_all (masks_of (without number self.old.members.items)))) made.0.bits ≡ true) }
         ensures room { IfOk result (λ _. vec_len self.new.groups < vec_capacity self.new.groups) }
-        ensures group { IfOk result (λ made. IfSome made.1 (λ g. IsGroup self.new.shape made.0.bits g × (g.mask ≡ mask.bits) × (has_group self.new.groups.items mask.bits ≡ false))) }
+        ensures group { IfOk result
+            (λ made. IfSome made.1 (λ g. IsGroup self.new.shape made.0.bits g × (g.mask ≡ mask.bits) × (has_group self.new.groups.items mask.bits ≡ false))) }
         ensures none { IfOk result (λ made. IfNone made.1 (has_group self.new.groups.items mask.bits ≡ true)) }
     {
         let active = self.active_under(number, mask).ok_or(RemaskFault::NoUnion)?;
@@ -442,8 +451,10 @@ impl<Q: Tail> Roster<Q> {
         requires size { size ≡ scan_size self.old.shape (unwrap_or (bits_of self.old.active) 0) }
         requires room { size ≤ length self.old.room.items }
         requires fewer { self.old.captures < 2 ^ 64 - 1 }
-        ensures offered { (values : List ℤ) (t : ℤ) → length values ≡ width_of self.old.shape → take size self.old.room.items ≡ scan_of self.old.shape (unwrap_or (bits_of self.old.active) 0) values t
-            → AllZip (λ (a b : Membership Q). WasOffered Q.taken Q.lost Q.size Q.capacity Q.offer_gives (scan_of self.old.shape a.mask.bits values t) a b) self.old.members.items self.new.members.items }
+        ensures offered { (values : List ℤ) (t : ℤ) → length values ≡ width_of self.old.shape
+            → take size self.old.room.items ≡ scan_of self.old.shape (unwrap_or (bits_of self.old.active) 0) values t
+            → AllZip (λ (a b : Membership Q). WasOffered Q.taken Q.lost Q.size Q.capacity Q.offer_gives (scan_of self.old.shape a.mask.bits values t) a b)
+            self.old.members.items self.new.members.items }
         ensures rest { standing_of self.new ≡ with_capture self.new.members.items (standing_of self.old) }
     {
         let active = self.asked();
@@ -466,7 +477,8 @@ impl<Q: Tail> Roster<Q> {
         ensures asked { P.driver plug.new ≡ after_capture (P.driver plug.old) t (unwrap_or (bits_of self.old.active) 0) }
         ensures fault { is_err result ≡ ask_fails (P.driver plug.old) }
         ensures few { IfOk result (λ count. count < 2 ^ 32) }
-        ensures captures { Captures Q.taken Q.lost Q.size Q.capacity Q.offer_gives (values_of (P.driver plug.old) self.old.shape t) t result (standing_of self.old) (standing_of self.new) }
+        ensures captures { Captures Q.taken Q.lost Q.size Q.capacity Q.offer_gives (values_of (P.driver plug.old) self.old.shape t) t result
+            (standing_of self.old) (standing_of self.new) }
     {
         let active = self.asked();
         let size = self.size as usize;

@@ -37,7 +37,8 @@ impl Stored {
 
     /// What a device of that shape keeps before any attribute was written. All memory that it ever takes is taken here.
     pub fn new(alloc: Global, shape: &Shape) -> Result<Stored, Mem>
-        ensures site { IfOk result (λ stored. (trigger : Option ℕ) (driver : Driver) → site_with true trigger 0 driver stored ≡ new_site shape.now trigger driver) }
+        ensures site { IfOk result
+            (λ stored. (trigger : Option ℕ) (driver : Driver) → site_with true trigger 0 driver stored ≡ new_site shape.now trigger driver) }
         ensures inputs { IfOk result (λ stored. length stored.values.items ≡ length shape.now.channels) }
     {
         Ok(Stored {

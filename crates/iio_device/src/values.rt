@@ -42,7 +42,8 @@ pub(crate) fn first_values() -> ChannelValues
 
 // Sets an attribute of the device.
 fn write_device(stored: &mut Stored, attr: Attr, value: Fixed)
-    ensures site { (plugged : Bool) (trigger : Option ℕ) (attachment : ℕ) (driver : Driver) → site_with plugged trigger attachment driver stored.new ≡ site_written None attr value (site_with plugged trigger attachment driver stored.old) }
+    ensures site { (plugged : Bool) (trigger : Option ℕ) (attachment : ℕ) (driver : Driver)
+        → site_with plugged trigger attachment driver stored.new ≡ site_written None attr value (site_with plugged trigger attachment driver stored.old) }
     ensures inputs { length stored.new.values.items ≡ length stored.old.values.items }
 {
     match attr {
@@ -54,7 +55,9 @@ fn write_device(stored: &mut Stored, attr: Attr, value: Fixed)
 // Sets an attribute of channel `c`.
 fn write_channel<P: Sensor>(stored: &mut Stored, plug: &mut P, c: u32, attr: Attr, value: Fixed)
     requires { c < length stored.old.values.items }
-    ensures site { (plugged : Bool) (trigger : Option ℕ) (attachment : ℕ) → site_with plugged trigger attachment (P.driver plug.new) stored.new ≡ site_written (Some c) attr value (site_with plugged trigger attachment (P.driver plug.old) stored.old) }
+    ensures site { (plugged : Bool) (trigger : Option ℕ) (attachment : ℕ)
+        → site_with plugged trigger attachment (P.driver plug.new) stored.new
+        ≡ site_written (Some c) attr value (site_with plugged trigger attachment (P.driver plug.old) stored.old) }
     ensures inputs { length stored.new.values.items ≡ length stored.old.values.items }
 {
     match attr {
@@ -87,7 +90,9 @@ pub(crate) fn write<P: Sensor>(
     value: Fixed,
 )
     requires { IfSome channel (λ c. c < length stored.old.values.items) }
-    ensures site { (plugged : Bool) (trigger : Option ℕ) (attachment : ℕ) → site_with plugged trigger attachment (P.driver plug.new) stored.new ≡ site_written channel attr value (site_with plugged trigger attachment (P.driver plug.old) stored.old) }
+    ensures site { (plugged : Bool) (trigger : Option ℕ) (attachment : ℕ)
+        → site_with plugged trigger attachment (P.driver plug.new) stored.new
+        ≡ site_written channel attr value (site_with plugged trigger attachment (P.driver plug.old) stored.old) }
     ensures inputs { length stored.new.values.items ≡ length stored.old.values.items }
 {
     match channel {
@@ -109,7 +114,9 @@ fn number_in(value: &Value) -> Fixed
 /// Makes the writes of a description, in their order.
 pub(crate) fn write_all<P: Sensor>(stored: &mut Stored, plug: &mut P, attrs: &[AttrDesc])
     requires { All (IsWrite (length stored.old.values.items)) attrs.now }
-    ensures site { (plugged : Bool) (trigger : Option ℕ) (attachment : ℕ) → site_with plugged trigger attachment (P.driver plug.new) stored.new ≡ fold with_attr (site_with plugged trigger attachment (P.driver plug.old) stored.old) attrs.now }
+    ensures site { (plugged : Bool) (trigger : Option ℕ) (attachment : ℕ)
+        → site_with plugged trigger attachment (P.driver plug.new) stored.new
+        ≡ fold with_attr (site_with plugged trigger attachment (P.driver plug.old) stored.old) attrs.now }
     ensures inputs { length stored.new.values.items ≡ length stored.old.values.items }
 {
     for a in attrs {
@@ -126,7 +133,8 @@ fn switch_value(on: bool) -> Value
 
 // The value of an attribute of the device.
 fn read_device(stored: &Stored, name: &Name, attr: Attr) -> Value
-    ensures { (plugged : Bool) (trigger : Option ℕ) (attachment : ℕ) (driver : Driver) → result ≡ attr_value name.now None attr (site_with plugged trigger attachment driver stored.now) }
+    ensures { (plugged : Bool) (trigger : Option ℕ) (attachment : ℕ) (driver : Driver)
+        → result ≡ attr_value name.now None attr (site_with plugged trigger attachment driver stored.now) }
 {
     match attr {
         Attr::SamplingFrequency => Value::Number(stored.sampling_frequency),
@@ -137,7 +145,8 @@ fn read_device(stored: &Stored, name: &Name, attr: Attr) -> Value
 // The value of an attribute of channel `c`: of one that is kept.
 fn read_channel<P: Sensor>(stored: &Stored, plug: &P, c: u32, attr: Attr) -> Value
     requires { c < length stored.now.values.items }
-    ensures { (plugged : Bool) (trigger : Option ℕ) (attachment : ℕ) → result ≡ channel_value attr c (site_with plugged trigger attachment (P.driver plug.now) stored.now) }
+    ensures { (plugged : Bool) (trigger : Option ℕ) (attachment : ℕ)
+        → result ≡ channel_value attr c (site_with plugged trigger attachment (P.driver plug.now) stored.now) }
 {
     let values = &stored.values[c as usize];
     let monitor = &stored.monitor;
@@ -172,7 +181,8 @@ pub(crate) fn read<P: Sensor>(
     attr: Attr,
 ) -> Value
     requires { IfSome channel (λ c. c < length stored.now.values.items) }
-    ensures { (plugged : Bool) (trigger : Option ℕ) (attachment : ℕ) → result ≡ attr_value name.now channel attr (site_with plugged trigger attachment (P.driver plug.now) stored.now) }
+    ensures { (plugged : Bool) (trigger : Option ℕ) (attachment : ℕ)
+        → result ≡ attr_value name.now channel attr (site_with plugged trigger attachment (P.driver plug.now) stored.now) }
 {
     match channel {
         None => read_device(stored, name, attr),
@@ -188,7 +198,8 @@ pub(crate) fn first_stored<P: Sensor>(
     plug: &mut P,
 ) -> Result<Stored, Mem>
     requires { All (IsWrite (length shape.now.channels)) attrs.now }
-    ensures site { IfOk result (λ stored. (trigger : Option ℕ) → site_with true trigger 0 (P.driver plug.new) stored ≡ first_site shape.now trigger (P.driver plug.old) attrs.now) }
+    ensures site { IfOk result
+        (λ stored. (trigger : Option ℕ) → site_with true trigger 0 (P.driver plug.new) stored ≡ first_site shape.now trigger (P.driver plug.old) attrs.now) }
     ensures inputs { IfOk result (λ stored. length stored.values.items ≡ length shape.now.channels) }
 {
     let mut stored = Stored::new(alloc, shape)?;

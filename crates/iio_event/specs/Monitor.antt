@@ -100,7 +100,8 @@ queue_after held events event = if held && nat_lt (length events) MAX_EVENTS the
 -- a value of channel c at a moment
 abbrev pub after_value : {Who : Type 0} → ℕ → ℤ → ℤ → MonitorRecord Who → MonitorRecord Who
 after_value c value t m =
-    record (with_channel c (sensed_channel value (channel_at c m)) m) { events = fold (queue_after (is_some m.holder)) m.events (fired_events value t (channel_at c m)) }
+    record (with_channel c (sensed_channel value (channel_at c m)) m)
+    { events = fold (queue_after (is_some m.holder)) m.events (fired_events value t (channel_at c m)) }
 
 -- ---- the holder. `same` compares two
 

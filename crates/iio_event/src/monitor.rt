@@ -183,7 +183,8 @@ impl Monitor {
     // Keeps the event of an edge, where there is a holder and room.
     #[tactic(auto, using(crate::proofs::QueueLemmas::keeps_all))]
     fn fire(&mut self, kind: Kind, suffix: Suffix, edge: Edge, t: i64)
-        ensures { self.new ≡ record self.old { events = queue_after (is_some self.old.holder) self.old.events (record { code = code_of kind suffix edge; t = t }) } }
+        ensures { self.new ≡ record self.old
+            { events = queue_after (is_some self.old.holder) self.old.events (record { code = code_of kind suffix edge; t = t }) } }
     {
         if self.holder.is_some() && self.events.len() < MAX_EVENTS {
             let code = code(kind, suffix, edge);

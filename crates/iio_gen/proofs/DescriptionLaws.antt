@@ -51,7 +51,8 @@ reads_none drivers = record { lines = 0; number = 1; reads = λ more. refl }
 
 -- one line that is read, and doesn't end the description
 turn : (lines number : ℕ) (desc desc' : PartialDesc) (line : List ℕ) (rest : List (List ℕ)) → is_end line ≡ false → after_line desc line ≡ Ok desc'
-    → head_from false (Ok (record { lines = lines; desc = desc })) number (line ∷ rest) ≡ head_from false (Ok (record { lines = lines + 1; desc = desc' })) (number + 1) rest
+    → head_from false (Ok (record { lines = lines; desc = desc })) number (line ∷ rest)
+    ≡ head_from false (Ok (record { lines = lines + 1; desc = desc' })) (number + 1) rest
 turn lines number desc desc' line rest ends says = rw (ends, says) refl
 
 reads_more : (drivers : ℕ) (text line : List ℕ) (desc desc' : PartialDesc) → Reads drivers text desc → list_all is_printable line ≡ true
@@ -96,7 +97,8 @@ so_far drivers d = record { drivers = drivers; context = None; triggers = t0 ∷
 reads_device : (drivers : ℕ) → Reads drivers (codes "trigger t0 2\ndevice dev0 t0\n") (so_far drivers (device [] None [] []))
 reads_device drivers =
     reads_more drivers (codes "trigger t0 2\n") (codes "device dev0 t0") _ _
-    (reads_more drivers [] (codes "trigger t0 2") (new_desc drivers) (record { drivers = drivers; context = None; triggers = t0 ∷ []; devices = []; outputs = []; current = None })
+    (reads_more drivers [] (codes "trigger t0 2") (new_desc drivers)
+    (record { drivers = drivers; context = None; triggers = t0 ∷ []; devices = []; outputs = []; current = None })
     (reads_none drivers) refl refl refl)
     refl refl refl
 
@@ -115,8 +117,10 @@ type_says zero h = record { format = _; read = refl; single = refl; word = recor
 type_says (suc zero) h = record { format = _; read = refl; single = refl; word = record { some = omega arith; bytes = refl }; short = omega arith }
 type_says (suc (suc zero)) h = record { format = _; read = refl; single = refl; word = record { some = omega arith; bytes = refl }; short = omega arith }
 type_says (suc (suc (suc zero))) h = record { format = _; read = refl; single = refl; word = record { some = omega arith; bytes = refl }; short = omega arith }
-type_says (suc (suc (suc (suc zero)))) h = record { format = _; read = refl; single = refl; word = record { some = omega arith; bytes = refl }; short = omega arith }
-type_says (suc (suc (suc (suc (suc zero))))) h = record { format = _; read = refl; single = refl; word = record { some = omega arith; bytes = refl }; short = omega arith }
+type_says (suc (suc (suc (suc zero)))) h =
+    record { format = _; read = refl; single = refl; word = record { some = omega arith; bytes = refl }; short = omega arith }
+type_says (suc (suc (suc (suc (suc zero))))) h =
+    record { format = _; read = refl; single = refl; word = record { some = omega arith; bytes = refl }; short = omega arith }
 type_says (suc (suc (suc (suc (suc (suc k)))))) h = absurd (omega arith)
 
 id_says : (i : ℕ) → i < 8 → id_of (codes "voltage" ++ (48 + i) ∷ []) ≡ Some (Voltage, Number i)
@@ -131,25 +135,29 @@ id_says (suc (suc (suc (suc (suc (suc (suc zero))))))) h = refl
 id_says (suc (suc (suc (suc (suc (suc (suc (suc k)))))))) h = absurd (omega arith)
 
 -- none of the channels has a number after theirs
-no_id : (from i : ℕ) (formats : List Format) → from + length formats ≤ i → list_any (λ (c : Channel). same_id (id_at c) (Voltage, Number i)) (channels_from from formats) ≡ false
+no_id : (from i : ℕ) (formats : List Format) → from + length formats ≤ i
+    → list_any (λ (c : Channel). same_id (id_at c) (Voltage, Number i)) (channels_from from formats) ≡ false
 no_id from i [] h = refl
 no_id from i (f ∷ fs) h =
     let other : (from + 4 == i + 4) ≡ false = grind (arith, nat_tests) in
     rw other (no_id (suc from) i fs (omega arith))
 
 channels_more : (from : ℕ) (formats : List Format) (f : Format)
-    → channels_from from formats ++ (record { kind = Voltage; suffix = Number (from + length formats); direction = Input; ty = f }) ∷ [] ≡ channels_from from (formats ++ f ∷ [])
+    → channels_from from formats ++ (record { kind = Voltage; suffix = Number (from + length formats); direction = Input; ty = f }) ∷ []
+    ≡ channels_from from (formats ++ f ∷ [])
 channels_more from [] f = rw add-zero refl
 channels_more from (g ∷ gs) f =
     let e : from + length (g ∷ gs) ≡ suc from + length gs = omega arith in
-    ap (λ (n : ℕ). record { kind = Voltage; suffix = Number from; direction = Input; ty = g } ∷ (channels_from (suc from) gs ++ (record { kind = Voltage; suffix = Number n; direction = Input; ty = f }) ∷ [])) e
+    ap (λ (n : ℕ). record { kind = Voltage; suffix = Number from; direction = Input; ty = g }
+    ∷ (channels_from (suc from) gs ++ (record { kind = Voltage; suffix = Number n; direction = Input; ty = f }) ∷ [])) e
     ∙ ap (λ (cs : List Channel). record { kind = Voltage; suffix = Number from; direction = Input; ty = g } ∷ cs) (channels_more (suc from) gs f)
 
 length-channels : (from : ℕ) (formats : List Format) → length (channels_from from formats) ≡ length formats
 length-channels from [] = refl
 length-channels from (f ∷ fs) = ap suc (length-channels (suc from) fs)
 
-width-channels : (from : ℕ) (formats : List Format) → sum_by (λ (c : Channel). c.ty.repeat) (channels_from from formats) ≡ sum_by (λ (f : Format). f.repeat) formats
+width-channels : (from : ℕ) (formats : List Format)
+    → sum_by (λ (c : Channel). c.ty.repeat) (channels_from from formats) ≡ sum_by (λ (f : Format). f.repeat) formats
 width-channels from [] = refl
 width-channels from (f ∷ fs) =
     sum_by_from (λ (c : Channel). c.ty.repeat) (0 + f.repeat) (channels_from (suc from) fs) ∙ ap (λ n. 0 + f.repeat + n) (width-channels (suc from) fs)
@@ -157,7 +165,8 @@ width-channels from (f ∷ fs) =
 
 -- a channel's line
 channel_said : (drivers i : ℕ) (formats : List Format) (line id type : List ℕ) (f : Format)
-    → words_of_line line ≡ Ok (codes "channel" ∷ id ∷ type ∷ []) → id_of id ≡ Some (Voltage, Number i) → has_id (device formats None [] []) (Voltage, Number i) ≡ false
+    → words_of_line line ≡ Ok (codes "channel" ∷ id ∷ type ∷ []) → id_of id ≡ Some (Voltage, Number i)
+    → has_id (device formats None [] []) (Voltage, Number i) ≡ false
     → type_of type ≡ Some f → nat_lt (length (channels_from 0 formats)) 64 ≡ true
     → channels_from 0 formats ++ (record { kind = Voltage; suffix = Number i; direction = Input; ty = f }) ∷ [] ≡ channels_from 0 (formats ++ f ∷ [])
     → after_line (so_far drivers (device formats None [] [])) line ≡ Ok (so_far drivers (device (formats ++ f ∷ []) None [] []))
@@ -173,7 +182,8 @@ channel_is_line i type h word short =
       short = omega (arith, length-append (decimal i) (32 ∷ type), length-decimal-le 1 i (omega arith) (omega arith) (omega arith));
       said =
           word_then (codes "channel") ((codes "voltage" ++ decimal i) ++ 32 ∷ type) (record { some = omega arith; bytes = refl })
-          ∙ ap (λ ws. codes "channel" ∷ ws) (word_then (codes "voltage" ++ decimal i) type id ∙ ap (λ ws. (codes "voltage" ++ decimal i) ∷ ws) (word_last type word));
+          ∙ ap (λ ws. codes "channel" ∷ ws)
+          (word_then (codes "voltage" ++ decimal i) type id ∙ ap (λ ws. (codes "voltage" ++ decimal i) ∷ ws) (word_last type word));
     }
 
 -- that many channels were read
@@ -194,11 +204,13 @@ channel_read drivers i text type h says has =
     let formats = has.formats in
     let text_of = codes "channel voltage" ++ (decimal i ++ 32 ∷ type) in
     let line = channel_is_line i type h says.word says.short in
-    let id : id_of (codes "voltage" ++ decimal i) ≡ Some (Voltage, Number i) = ap (λ d. id_of (codes "voltage" ++ d)) (decimal_digit i (omega arith)) ∙ id_says i h in
+    let id : id_of (codes "voltage" ++ decimal i) ≡ Some (Voltage, Number i) =
+    ap (λ d. id_of (codes "voltage" ++ d)) (decimal_digit i (omega arith)) ∙ id_says i h in
     let few : nat_lt (length (channels_from 0 formats)) 64 ≡ true = lt-ltb _ _ (let e = length-channels 0 formats in let n = has.count in omega arith) in
     let place : 0 + length formats ≡ i = let n = has.count in omega arith in
     let more : channels_from 0 formats ++ (record { kind = Voltage; suffix = Number i; direction = Input; ty = f }) ∷ [] ≡ channels_from 0 (formats ++ f ∷ []) =
-    subst (λ (n : ℕ). channels_from 0 formats ++ (record { kind = Voltage; suffix = Number n; direction = Input; ty = f }) ∷ [] ≡ channels_from 0 (formats ++ f ∷ [])) place (channels_more 0 formats f) in record {
+    subst (λ (n : ℕ). channels_from 0 formats ++ (record { kind = Voltage; suffix = Number n; direction = Input; ty = f }) ∷ []
+    ≡ channels_from 0 (formats ++ f ∷ [])) place (channels_more 0 formats f) in record {
       formats = formats ++ f ∷ [];
       count = let n = has.count in omega (arith, length-append formats (f ∷ []));
       width = let n = has.width in let one = says.single in sum_by_push (λ (g : Format). g.repeat) formats f ∙ omega arith;
@@ -239,7 +251,16 @@ pub record HasValues (n : ℕ) (text : List ℕ) : Type 0 where
   pub short : length text ≤ 5 * n
 
 values_none : HasValues 0 []
-values_none = record { values = []; count = refl; small = refl; words = λ word rest is ends. words_by word rest is.some is.bytes ends; printable = refl; short = omega arith }
+values_none =
+    record {
+      values = [];
+      count = refl;
+      small = refl;
+      words = λ word rest is ends. words_by word rest is.some is.bytes ends;
+      printable = refl;
+      short =
+          omega arith;
+    }
 
 value_read : (n v : ℕ) (text : List ℕ) → v < 4096 → HasValues n text → HasValues (suc n) (text ++ 32 ∷ decimal v)
 value_read n v text h has =
@@ -255,7 +276,8 @@ value_read n v text h has =
           ∙ has.words word (32 ∷ (decimal v ++ rest)) is refl
           ∙ ap (λ ws. word ∷ (map decimal values ++ ws)) (words_by (decimal v) rest digits.some digits.bytes ends)
           ∙ ap (λ ws. word ∷ ws)
-          (sym (ap (λ m. m ++ words_of is_space rest) (map-append decimal values (v ∷ [])) ∙ append_assoc (map decimal values) (decimal v ∷ []) (words_of is_space rest)));
+          (sym (ap (λ m. m ++ words_of is_space rest) (map-append decimal values (v ∷ []))
+          ∙ append_assoc (map decimal values) (decimal v ∷ []) (words_of is_space rest)));
       printable = both_parts is_printable text (32 ∷ decimal v) has.printable (word_printable (decimal v) digits);
       short =
           let old = has.short in
@@ -278,7 +300,8 @@ row_said : (drivers : ℕ) (formats : List Format) (moments values : List ℤ) (
     → words_of_line line ≡ Ok (codes "row" ∷ t ∷ vs) → nat_lt 0 (length (channels_from 0 formats)) ≡ true
     → (length (t ∷ vs) == row_width (device formats (Some Little) moments values) + 1) ≡ true
     → int_of t ≡ Some m → rises moments m ≡ true → ints_of vs ≡ Some xs → nat_lt (0 + length moments) 1000000 ≡ true
-    → after_line (so_far drivers (device formats (Some Little) moments values)) line ≡ Ok (so_far drivers (device formats (Some Little) (moments ++ m ∷ []) (values ++ xs)))
+    → after_line (so_far drivers (device formats (Some Little) moments values)) line
+    ≡ Ok (so_far drivers (device formats (Some Little) (moments ++ m ∷ []) (values ++ xs)))
 row_said drivers formats moments values line t vs m xs words some width is risen ints few = rw (words, some, width, is, risen, ints, few) refl
 
 -- that many rows were read, each 1,000 moments after the one before
@@ -310,7 +333,8 @@ row_is_line : (t : ℕ) (text : List ℕ) (has : HasValues 8 text) → t < 10000
 row_is_line t text has h =
     let digits = decimal_word t (omega arith) in
     let values : words_of is_space (decimal t ++ text) ≡ decimal t ∷ map decimal has.values =
-    ap (λ s. words_of is_space (decimal t ++ s)) (sym (append-nil text)) ∙ has.words (decimal t) [] digits refl ∙ ap (λ ws. decimal t ∷ ws) (append-nil (map decimal has.values)) in record {
+    ap (λ s. words_of is_space (decimal t ++ s)) (sym (append-nil text)) ∙ has.words (decimal t) [] digits refl
+    ∙ ap (λ ws. decimal t ∷ ws) (append-nil (map decimal has.values)) in record {
       printable = both_parts is_printable (decimal t) text (word_printable (decimal t) digits) has.printable;
       short =
           let size = has.short in
@@ -351,8 +375,10 @@ row_read drivers i formats text part eight h values has =
           let size = line.short in
           omega (arith, length-append text (row ++ 10 ∷ []), length-append row (10 ∷ []));
       reads =
-          reads_more drivers text row (so_far drivers (device formats (Some Little) has.moments has.values)) _ has.reads line.printable (ap begins_end line.said)
-          (row_said drivers formats has.moments has.values row (decimal t) (map decimal values.values) (pos t) (map pos values.values) (line_words row _ line refl) eight.some width
+          reads_more drivers text row (so_far drivers (device formats (Some Little) has.moments has.values)) _ has.reads line.printable
+          (ap begins_end line.said)
+          (row_said drivers formats has.moments has.values row (decimal t) (map decimal values.values) (pos t) (map pos values.values)
+          (line_words row _ line refl) eight.some width
           (int_decimal t (omega arith)) (has.past t (omega arith)) (ints_read values.values values.small) few);
     }
 
@@ -361,7 +387,8 @@ row_more : (drivers i : ℕ) (formats : List Format) (text : List ℕ) (x : ℕ)
 row_more drivers i formats text x eight h has =
     row_read drivers i formats text (several value_word 8 x).0 eight h (by_each value_word HasValues 8 [] values_none value_more 8 x (omega arith)) has
 
-rows_none : (drivers : ℕ) (formats : List Format) (text : List ℕ) → HasEight formats → length text ≤ 540 → Reads drivers text (so_far drivers (device formats None [] []))
+rows_none : (drivers : ℕ) (formats : List Format) (text : List ℕ) → HasEight formats → length text ≤ 540
+    → Reads drivers text (so_far drivers (device formats None [] []))
     → HasRows drivers 0 formats (text ++ codes "timestamp\n")
 rows_none drivers formats text eight short reads = record {
   moments = [];
@@ -413,5 +440,6 @@ opens drivers x =
     by_each row_line (λ i text. HasRows drivers i channels.formats text) 64 ((start ++ cs.0) ++ codes "timestamp\n")
     (rows_none drivers channels.formats (start ++ cs.0) eight (let size = channels.short in omega arith) channels.reads)
     (λ i text y h has. row_more drivers i channels.formats text y eight h has) 64 cs.1 (omega arith) in
-    let whole : (((start ++ cs.0) ++ codes "timestamp\n") ++ rs.0) ++ codes "%%\n" ≡ start ++ (cs.0 ++ (codes "timestamp\n" ++ (rs.0 ++ codes "%%\n"))) = simp append_assoc in
+    let whole : (((start ++ cs.0) ++ codes "timestamp\n") ++ rs.0) ++ codes "%%\n" ≡ start ++ (cs.0 ++ (codes "timestamp\n" ++ (rs.0 ++ codes "%%\n"))) =
+    simp append_assoc in
     subst (Opens drivers) whole (described drivers channels.formats (((start ++ cs.0) ++ codes "timestamp\n") ++ rs.0) eight rows)

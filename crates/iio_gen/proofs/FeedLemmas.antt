@@ -72,7 +72,8 @@ feed_parts c command plain =
     ap (λ t. (codes "c" ++ (decimal c ++ (32 ∷ 34 ∷ (t ++ 34 ∷ [])))) ++ 10 ∷ []) (escaped_line command plain) ∙ simp append_assoc
 
 -- a step was appended in these parts
-pub feed_appended : (c : ℕ) (command out named fed whole : List ℕ) → IsPlain command → named ≡ out ++ (codes "c" ++ (decimal c ++ codes " \"")) → fed ≡ named ++ command
+pub feed_appended : (c : ℕ) (command out named fed whole : List ℕ) → IsPlain command → named ≡ out ++ (codes "c" ++ (decimal c ++ codes " \""))
+    → fed ≡ named ++ command
     → whole ≡ fed ++ codes "\\n\"\n" → whole ≡ out ++ feed_line c command
 feed_appended c command out named fed whole plain a b d =
     d ∙ ap (λ t. t ++ codes "\\n\"\n") (b ∙ ap (λ t. t ++ command) a)
@@ -88,8 +89,10 @@ read_appended c bytes out named headed fed whole small a b d e =
     feed_appended c (codes "READBUF dev0 " ++ decimal bytes) out named fed whole (read_plain bytes small) a
     (d ∙ ap (λ t. t ++ decimal bytes) b ∙ append_assoc named (codes "READBUF dev0 ") (decimal bytes)) e
 
-pub open_appended : (c samples bits : ℕ) (out named headed sized parted fed whole : List ℕ) → samples < 2 ^ 64 → named ≡ out ++ (codes "c" ++ (decimal c ++ codes " \""))
-    → headed ≡ named ++ codes "OPEN dev0 " → sized ≡ headed ++ decimal samples → parted ≡ sized ++ codes " " → fed ≡ parted ++ mask_text 9 bits → whole ≡ fed ++ codes "\\n\"\n"
+pub open_appended : (c samples bits : ℕ) (out named headed sized parted fed whole : List ℕ) → samples < 2 ^ 64
+    → named ≡ out ++ (codes "c" ++ (decimal c ++ codes " \""))
+    → headed ≡ named ++ codes "OPEN dev0 " → sized ≡ headed ++ decimal samples → parted ≡ sized ++ codes " " → fed ≡ parted ++ mask_text 9 bits
+    → whole ≡ fed ++ codes "\\n\"\n"
     → whole ≡ out ++ feed_line c (codes "OPEN dev0 " ++ (decimal samples ++ (codes " " ++ mask_text 9 bits)))
 open_appended c samples bits out named headed sized parted fed whole small a b d e f g =
     let parts : (((named ++ codes "OPEN dev0 ") ++ decimal samples) ++ codes " ") ++ mask_text 9 bits

@@ -21,7 +21,8 @@ not_overlong input h = le-ltb input_limit (length input) h
 head_whole : (drivers : ℕ) (input : List ℕ) → length input ≤ input_limit → head_of drivers input ≡ head_from false (new_reader drivers) 1 (lines_of input)
 head_whole drivers input h = rw (not_overlong input h) refl
 
-playable_by : (drivers count : ℕ) (front steps : List ℕ) (o : Opens drivers front) → Plays o.desc o.first count steps → count ≤ 20000 → IsPlayable drivers count (front ++ steps)
+playable_by : (drivers count : ℕ) (front steps : List ℕ) (o : Opens drivers front) → Plays o.desc o.first count steps → count ≤ 20000
+    → IsPlayable drivers count (front ++ steps)
 playable_by drivers count front steps o p few =
     let short : length (front ++ steps) ≤ input_limit = let a = o.short in let b = p.short in omega (arith, length-append front steps) in
     let script : script_from o.desc Finished [] o.first (lines_of steps) ≡ behind p.steps (record { steps = []; ending = Finished }) =

@@ -102,15 +102,18 @@ pub record Plays (desc : Description) (first count : ℕ) (text : List ℕ) : Ty
   pub steps : List Step
   pub counted : length steps ≡ count
   pub number : ℕ
-  pub plays : (more : List ℕ) → script_from desc Finished [] first (lines_of (text ++ more)) ≡ behind steps (script_from desc Finished names number (lines_of more))
+  pub plays : (more : List ℕ)
+      → script_from desc Finished [] first (lines_of (text ++ more)) ≡ behind steps (script_from desc Finished names number (lines_of more))
   pub short : length text ≤ 64 * count
 
 pub plays_none : (desc : Description) (first : ℕ) → Plays desc first 0 []
-plays_none desc first = record { names = []; few = record { room = omega arith }; steps = []; counted = refl; number = first; plays = λ more. refl; short = omega arith }
+plays_none desc first =
+    record { names = []; few = record { room = omega arith }; steps = []; counted = refl; number = first; plays = λ more. refl; short = omega arith }
 
 turn : (desc : Description) (names : List (List ℕ)) (number : ℕ) (line : List ℕ) (rest : List (List ℕ)) (step : Step) → step_of desc line ≡ Ok (Some step)
     → keeps_names names (Some step) ≡ true
-    → script_from desc Finished names number (line ∷ rest) ≡ first_step (Some step) (script_from desc Finished (names_after names (Some step)) (number + 1) rest)
+    → script_from desc Finished names number (line ∷ rest)
+    ≡ first_step (Some step) (script_from desc Finished (names_after names (Some step)) (number + 1) rest)
 turn desc names number line rest step says keeps = rw (says, keeps, script_from) refl
 
 -- what a line says
@@ -121,7 +124,8 @@ pub record SaysStep (desc : Description) (line : List ℕ) : Type 0 where
   pub says : step_of desc line ≡ Ok (Some step)
   pub keeps : Keeps step
 
-plays_more : (desc : Description) (first count : ℕ) (text line : List ℕ) → Plays desc first count text → SaysStep desc line → Plays desc first (suc count) (text ++ (line ++ 10 ∷ []))
+plays_more : (desc : Description) (first count : ℕ) (text line : List ℕ) → Plays desc first count text → SaysStep desc line
+    → Plays desc first (suc count) (text ++ (line ++ 10 ∷ []))
 plays_more desc first count text line r l =
     let kept = l.keeps r.names r.few in record {
       names = names_after r.names (Some l.step);
@@ -144,7 +148,8 @@ plays_more desc first count text line r l =
 
 -- ---- polls
 
-fire_said : (desc : Description) (line t : List ℕ) (m : ℤ) → words_of_line line ≡ Ok (codes "fire" ∷ codes "t0" ∷ t ∷ []) → desc.triggers ≡ t0 ∷ [] → int_of t ≡ Some m
+fire_said : (desc : Description) (line t : List ℕ) (m : ℤ) → words_of_line line ≡ Ok (codes "fire" ∷ codes "t0" ∷ t ∷ []) → desc.triggers ≡ t0 ∷ []
+    → int_of t ≡ Some m
     → step_of desc line ≡ Ok (Some (Fire 0 m))
 fire_said desc line t m words triggers is = rw (words, triggers, is) refl
 
@@ -191,14 +196,20 @@ pub record IsNamed (d : ℕ) : Type 0 where
   pub keeps : (bytes : List ℕ) → Keeps (Feed (99 ∷ d ∷ []) bytes)
 
 named : (c : ℕ) → c < 4 → IsNamed (48 + c)
-named zero h = record { word = record { some = omega arith; bytes = refl }; name = refl; no_step = refl; no_quote = refl; keeps = λ bytes. feed_keeps 0 bytes h }
-named (suc zero) h = record { word = record { some = omega arith; bytes = refl }; name = refl; no_step = refl; no_quote = refl; keeps = λ bytes. feed_keeps 1 bytes h }
-named (suc (suc zero)) h = record { word = record { some = omega arith; bytes = refl }; name = refl; no_step = refl; no_quote = refl; keeps = λ bytes. feed_keeps 2 bytes h }
-named (suc (suc (suc zero))) h = record { word = record { some = omega arith; bytes = refl }; name = refl; no_step = refl; no_quote = refl; keeps = λ bytes. feed_keeps 3 bytes h }
+named zero h =
+    record { word = record { some = omega arith; bytes = refl }; name = refl; no_step = refl; no_quote = refl; keeps = λ bytes. feed_keeps 0 bytes h }
+named (suc zero) h =
+    record { word = record { some = omega arith; bytes = refl }; name = refl; no_step = refl; no_quote = refl; keeps = λ bytes. feed_keeps 1 bytes h }
+named (suc (suc zero)) h =
+    record { word = record { some = omega arith; bytes = refl }; name = refl; no_step = refl; no_quote = refl; keeps = λ bytes. feed_keeps 2 bytes h }
+named (suc (suc (suc zero))) h =
+    record { word = record { some = omega arith; bytes = refl }; name = refl; no_step = refl; no_quote = refl; keeps = λ bytes. feed_keeps 3 bytes h }
 named (suc (suc (suc (suc c)))) h = absurd (omega arith)
 
-feed_said : (desc : Description) (line name text bytes : List ℕ) (words : List (List ℕ)) → words_of_line line ≡ Ok (name ∷ words) → entry_of step_words name ≡ None
-    → is_name name ≡ true → has_quote_first words ≡ true → from_quote line ≡ text → quoted_of text ≡ Some bytes → step_of desc line ≡ Ok (Some (Feed name bytes))
+feed_said : (desc : Description) (line name text bytes : List ℕ) (words : List (List ℕ)) → words_of_line line ≡ Ok (name ∷ words)
+    → entry_of step_words name ≡ None
+    → is_name name ≡ true → has_quote_first words ≡ true → from_quote line ≡ text → quoted_of text ≡ Some bytes
+    → step_of desc line ≡ Ok (Some (Feed name bytes))
 feed_said desc line name text bytes words said no_step is_one first from is = rw (said, no_step, is_one, first, from, is) refl
 
 feed_says : (desc : Description) (d : ℕ) (text : List ℕ) → IsNamed d → IsPlain text → length text ≤ 50 → SaysStep desc (99 ∷ d ∷ 32 ∷ quoted (text ++ 10 ∷ []))
@@ -219,7 +230,8 @@ feed_says desc d text named plain short =
       printable = line.printable;
       short = line.short;
       says =
-          feed_said desc (name ++ 32 ∷ quoted bytes) name (quoted bytes) bytes (words_of is_space (quoted bytes)) (line_words _ _ line refl) named.no_step named.name
+          feed_said desc (name ++ 32 ∷ quoted bytes) name (quoted bytes) bytes (words_of is_space (quoted bytes)) (line_words _ _ line refl) named.no_step
+          named.name
           (quote_first (escaped bytes ++ 34 ∷ [])) from (quoted_of-quoted bytes (bytes_fit text plain));
       keeps = named.keeps bytes;
     }
@@ -243,13 +255,20 @@ kind_by P i y false false false o l f r = r
 plays_open : (desc : Description) (first i c s m : ℕ) (text : List ℕ) → Plays desc first i text → c < 4 → s < 8
     → Plays desc first (suc i) (text ++ feed_line c (codes "OPEN dev0 " ++ (decimal (1 + s) ++ (codes " " ++ mask_text 9 (1 + m)))))
 plays_open desc first i c s m text r h k =
-    plays_feed desc first i c text (codes "OPEN dev0 " ++ (decimal (1 + s) ++ (codes " " ++ mask_text 9 (1 + m)))) r h (open_plain (1 + s) (1 + m) (omega arith))
-    (omega (arith, length-append (decimal (1 + s)) (codes " " ++ mask_text 9 (1 + m)), length-decimal-le 1 (1 + s) (omega arith) (omega arith) (omega arith), mask_size (1 + m)))
+    plays_feed desc first i c text (codes "OPEN dev0 " ++ (decimal (1 + s) ++ (codes " " ++ mask_text 9 (1 + m)))) r h
+    (open_plain (1 + s) (1 + m) (omega arith))
+    (omega (
+      arith,
+      length-append (decimal (1 + s)) (codes " " ++ mask_text 9 (1 + m)),
+      length-decimal-le 1 (1 + s) (omega arith) (omega arith) (omega arith),
+      mask_size (1 + m),
+    ))
 
 plays_read : (desc : Description) (first i c b : ℕ) (text : List ℕ) → Plays desc first i text → c < 4 → b < 400
     → Plays desc first (suc i) (text ++ feed_line c (codes "READBUF dev0 " ++ decimal b))
 plays_read desc first i c b text r h k =
-    plays_feed desc first i c text (codes "READBUF dev0 " ++ decimal b) r h (read_plain b (omega arith)) (omega (arith, length-decimal-le 3 b (omega arith) (omega arith) (omega arith)))
+    plays_feed desc first i c text (codes "READBUF dev0 " ++ decimal b) r h (read_plain b (omega arith))
+    (omega (arith, length-decimal-le 3 b (omega arith) (omega arith) (omega arith)))
 
 pub step_more : (desc : Description) (first : ℕ) → desc.triggers ≡ t0 ∷ [] → (i : ℕ) (text : List ℕ) (x : ℕ) → i < 20000 → Plays desc first i text
     → Plays desc first (suc i) (text ++ (step_line i x).0)
@@ -258,7 +277,8 @@ step_more desc first triggers i text x h r =
     let y = next_state x in
     let c = next_state y / 2 ^ 33 % 4 in
     kind_by (λ line. Plays desc first (suc i) (text ++ line)) i y (d == 0) (d == 1) (nat_le d 5)
-    (plays_open desc first i c (next_state (next_state y) / 2 ^ 33 % 8) (next_state (next_state (next_state y)) / 2 ^ 33 % 511) text r (omega arith) (omega arith))
+    (plays_open desc first i c (next_state (next_state y) / 2 ^ 33 % 8) (next_state (next_state (next_state y)) / 2 ^ 33 % 511) text r (omega arith)
+    (omega arith))
     (plays_feed desc first i c text (codes "CLOSE dev0") r (omega arith) refl (omega arith))
     (plays_more desc first i text (codes "fire t0 " ++ decimal (5 * i)) r (fire_says desc (5 * i) triggers (omega arith)))
     (plays_read desc first i c (next_state (next_state y) / 2 ^ 33 % 400) text r (omega arith) (omega arith))

@@ -16,6 +16,7 @@ writes_part printed text (Some xs) after is part = record {
   written = part.appended;
 }
 
-pub writes_none : (printed : List ℕ) (before : Option (List ℕ)) → IfSome before (λ xs. Writes (record { printed = printed; ending = Finished }) xs Memory before)
+pub writes_none : (printed : List ℕ) (before : Option (List ℕ))
+    → IfSome before (λ xs. Writes (record { printed = printed; ending = Finished }) xs Memory before)
 writes_none printed None = tt
 writes_none printed (Some xs) = record { front = []; rest = printed; parts = refl; written = ap Some (sym (append-nil xs)) }

@@ -21,7 +21,8 @@ use Rattle.iio_history.proofs.BenchKept.{bench_kept, room_after, room_now}
 use Rattle.iio_history.proofs.BenchItems.{items_are_acts}
 use Rattle.iio_history.proofs.BenchOthers.{desks_are_kept}
 
-pub feeds_are_acts : (s : Setup) (m : Told) (name : List ℕ) (desk : DeskRecord) (items : List Item) → IsBench s m → is_in (names_of m) name ≡ true → IsDeskOf m name desk
+pub feeds_are_acts : (s : Setup) (m : Told) (name : List ℕ) (desk : DeskRecord) (items : List Item) → IsBench s m → is_in (names_of m) name ≡ true
+    → IsDeskOf m name desk
     → Every (CanJoinMore (length items)) m.stations → IsFed s m name desk items
 feeds_are_acts s m name desk [] bench there d room = record { printed = refl; state = refl; desk_then = d; bench = bench }
 feeds_are_acts s m name desk (item ∷ items) bench there d room =
@@ -29,32 +30,40 @@ feeds_are_acts s m name desk (item ∷ items) bench there d room =
     let one = items_are_acts s m name desk item bench there d (room_now (length items) m.stations room) in
     let m' = step s m (Heard name item) in
     let names : names_of m' ≡ names_of m = names_kept s m (Heard name item) refl in
-    let rest = feeds_are_acts s m' name o.desk items (bench_kept s m (Heard name item) there bench) (ap (λ (ns : List (List ℕ)). is_in ns name) names ∙ there) one.desk (room_after s m (Heard name item) (length items) room) in
+    let rest =
+    feeds_are_acts s m' name o.desk items (bench_kept s m (Heard name item) there bench) (ap (λ (ns : List (List ℕ)). is_in ns name) names ∙ there) one.desk
+    (room_after s m (Heard name item) (length items) room) in
     record {
       printed =
           ap (λ (n : Machine). text_of o.reply ++ texts_of (front_of s) n o.desk items) one.state
           ∙ ap (λ (r : Reply). text_of r ++ texts_of (front_of s) (machine_of m') o.desk items) one.answer
           ∙ ap (λ (t : List ℕ). text_of (reply s m name item) ++ t) rest.printed;
       state = ap (λ (n : Machine). machine_after (front_of s) n o.desk items) one.state ∙ rest.state;
-      desk_then = subst (λ (n : Machine). IsDeskOf (steps s m' (heard name items)) name (desk_after (front_of s) n o.desk items)) (sym one.state) rest.desk_then;
+      desk_then =
+          subst (λ (n : Machine). IsDeskOf (steps s m' (heard name items)) name (desk_after (front_of s) n o.desk items)) (sym one.state) rest.desk_then;
       bench = rest.bench;
     }
 
-pub script_feeds_tell : (s : Setup) (m : Told) (name : List ℕ) (items : List Item) (a b : State) (before after : List ℕ) → IsBench s m → is_in (names_of m) name ≡ true → IsDeskOf m name a.desk
+pub script_feeds_tell : (s : Setup) (m : Told) (name : List ℕ) (items : List Item) (a b : State) (before after : List ℕ) → IsBench s m
+    → is_in (names_of m) name ≡ true → IsDeskOf m name a.desk
     → Every (CanJoinMore (length items)) m.stations → a.told ≡ Some (machine_of m) → FeedTells Script (front_of s) a items before after b
-    → (after ≡ before ++ texts s m (heard name items)) × (b.told ≡ Some (machine_of (steps s m (heard name items)))) × IsDeskOf (steps s m (heard name items)) name b.desk × IsBench s (steps s m (heard name items))
+    → (after ≡ before ++ texts s m (heard name items)) × (b.told ≡ Some (machine_of (steps s m (heard name items))))
+    × IsDeskOf (steps s m (heard name items)) name b.desk × IsBench s (steps s m (heard name items))
 script_feeds_tell s m name items a b before after bench there d room told tells =
     let fed = feeds_are_acts s m name a.desk items bench there d room in
-    let said = subst (λ (o : Option Machine). IfSome o (λ n. (text : List ℕ) × (after ≡ before ++ text) × Tells (front_of s) n a.desk items text b)) told tells in (
+    let said =
+    subst (λ (o : Option Machine). IfSome o (λ n. (text : List ℕ) × (after ≡ before ++ text) × Tells (front_of s) n a.desk items text b)) told tells in (
       said.1 ∙ ap (λ (t : List ℕ). before ++ t) (said.2.said ∙ fed.printed),
       said.2.machine ∙ ap (λ (n : Machine). Some n) fed.state,
       subst (λ (k : DeskRecord). IsDeskOf (steps s m (heard name items)) name k) (sym said.2.after) fed.desk_then,
       fed.bench,
     )
 
-pub feeds_keep_desks : (s : Setup) (m : Told) (name : List ℕ) (items : List Item) (other : List ℕ) (desk : DeskRecord) → bytes_eq name other ≡ false → is_in (names_of m) other ≡ true → IsDeskOf m other desk
+pub feeds_keep_desks : (s : Setup) (m : Told) (name : List ℕ) (items : List Item) (other : List ℕ) (desk : DeskRecord) → bytes_eq name other ≡ false
+    → is_in (names_of m) other ≡ true → IsDeskOf m other desk
     → IsDeskOf (steps s m (heard name items)) other desk
 feeds_keep_desks s m name [] other desk apart there d = d
 feeds_keep_desks s m name (item ∷ items) other desk apart there d =
-    feeds_keep_desks s (step s m (Heard name item)) name items other desk apart (ap (λ (ns : List (List ℕ)). is_in ns other) (names_kept s m (Heard name item) refl) ∙ there)
+    feeds_keep_desks s (step s m (Heard name item)) name items other desk apart
+    (ap (λ (ns : List (List ℕ)). is_in ns other) (names_kept s m (Heard name item) refl) ∙ there)
     (desks_are_kept s m (Heard name item) other desk apart there d)

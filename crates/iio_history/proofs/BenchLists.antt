@@ -49,31 +49,36 @@ placed_behind : {A : Type 0} (g : A → A) (k i : ℕ) (xs : List A) → k < i �
 placed_behind g k i [] after = refl
 placed_behind g k i (x ∷ xs) after =
     let other : (k == i) ≡ false = grind (arith, nat_tests) in
-    ap (λ (b : Bool). cond b (g x) x ∷ map_from (λ n y. cond (k == n) (g y) y) (suc i) xs) other ∙ ap (λ (ys : List _). x ∷ ys) (placed_behind g k (suc i) xs (omega arith))
+    ap (λ (b : Bool). cond b (g x) x ∷ map_from (λ n y. cond (k == n) (g y) y) (suc i) xs) other
+    ∙ ap (λ (ys : List _). x ∷ ys) (placed_behind g k (suc i) xs (omega arith))
 
 -- a change at one place is one of all places
 pub placed_from : {A : Type 0} (g : A → A) (k j i : ℕ) (xs : List A) → k ≡ j + i → at_place j g xs ≡ map_from (λ n x. cond (k == n) (g x) x) i xs
 placed_from g k j i [] place = refl
 placed_from g k zero i (x ∷ xs) place =
     let here : (k == i) ≡ true = grind (arith, nat_tests) in
-    ap (λ (ys : List _). g x ∷ ys) (sym (placed_behind g k (suc i) xs (omega (arith, place)))) ∙ ap (λ (b : Bool). cond b (g x) x ∷ map_from (λ n y. cond (k == n) (g y) y) (suc i) xs) (sym here)
+    ap (λ (ys : List _). g x ∷ ys) (sym (placed_behind g k (suc i) xs (omega (arith, place))))
+    ∙ ap (λ (b : Bool). cond b (g x) x ∷ map_from (λ n y. cond (k == n) (g y) y) (suc i) xs) (sym here)
 placed_from g k (suc j) i (x ∷ xs) place =
     let other : (k == i) ≡ false = grind (arith, nat_tests) in
-    ap (λ (ys : List _). x ∷ ys) (placed_from g k j (suc i) xs (omega (arith, place))) ∙ ap (λ (b : Bool). cond b (g x) x ∷ map_from (λ n y. cond (k == n) (g y) y) (suc i) xs) (sym other)
+    ap (λ (ys : List _). x ∷ ys) (placed_from g k j (suc i) xs (omega (arith, place)))
+    ∙ ap (λ (b : Bool). cond b (g x) x ∷ map_from (λ n y. cond (k == n) (g y) y) (suc i) xs) (sym other)
 
 pub twice_from : {A B C : Type 0} (f : ℕ → B → C) (g : ℕ → A → B) (i : ℕ) (xs : List A) → map_from f i (map_from g i xs) ≡ map_from (λ n x. f n (g n x)) i xs
 twice_from f g i [] = refl
 twice_from f g i (x ∷ xs) = ap (λ (ys : List _). f i (g i x) ∷ ys) (twice_from f g (suc i) xs)
 
 -- each place is changed in both views
-pub each_from : {A B : Type 0} (v : A → B) (f : ℕ → A → A) (g : ℕ → B → B) (i : ℕ) (xs : List A) → ((j : ℕ) (x : A) → slice_get xs j ≡ Some x → v (f (j + i) x) ≡ g (j + i) (v x))
+pub each_from : {A B : Type 0} (v : A → B) (f : ℕ → A → A) (g : ℕ → B → B) (i : ℕ) (xs : List A)
+    → ((j : ℕ) (x : A) → slice_get xs j ≡ Some x → v (f (j + i) x) ≡ g (j + i) (v x))
     → map v (map_from f i xs) ≡ map_from g i (map v xs)
 each_from v f g i [] each = refl
 each_from v f g i (x ∷ xs) each =
     let here : 0 + i ≡ i = omega arith in
     ap (λ y. y ∷ map v (map_from f (suc i) xs)) (ap (λ (n : ℕ). v (f n x)) (sym here) ∙ each 0 x refl ∙ ap (λ (n : ℕ). g n (v x)) here)
     ∙ ap (λ ys. g i (v x) ∷ ys)
-    (each_from v f g (suc i) xs (λ j y at. let place : suc j + i ≡ j + suc i = omega arith in ap (λ (n : ℕ). v (f n y)) (sym place) ∙ each (suc j) y at ∙ ap (λ (n : ℕ). g n (v y)) place))
+    (each_from v f g (suc i) xs
+    (λ j y at. let place : suc j + i ≡ j + suc i = omega arith in ap (λ (n : ℕ). v (f n y)) (sym place) ∙ each (suc j) y at ∙ ap (λ (n : ℕ). g n (v y)) place))
 
 -- what stands at a place afterwards
 pub get_from : {A B : Type 0} (f : ℕ → A → B) (i : ℕ) (xs : List A) (k : ℕ) → slice_get (map_from f i xs) k ≡ option_map (f (k + i)) (slice_get xs k)
@@ -93,7 +98,8 @@ every_at P [] k x all is = cc
 every_at P (y ∷ ys) zero x all is = let one : y ≡ x = cc in subst P one all.0
 every_at P (y ∷ ys) (suc k) x all is = every_at P ys k x all.1 is
 
-pub every_from : {A B : Type 0} (P : A → Type 0) (Q : B → Type 0) (f : ℕ → A → B) (i : ℕ) (xs : List A) → ((j : ℕ) (x : A) → P x → Q (f j x)) → Every P xs → Every Q (map_from f i xs)
+pub every_from : {A B : Type 0} (P : A → Type 0) (Q : B → Type 0) (f : ℕ → A → B) (i : ℕ) (xs : List A) → ((j : ℕ) (x : A) → P x → Q (f j x)) → Every P xs
+    → Every Q (map_from f i xs)
 every_from P Q f i [] each all = tt
 every_from P Q f i (x ∷ xs) each all = (each i x all.0, every_from P Q f (suc i) xs each all.1)
 
@@ -159,7 +165,8 @@ pub place_stays : (ns more : List (List ℕ)) (a : List ℕ) → is_in ns a ≡ 
 place_stays [] more a there = cc
 place_stays (n ∷ ns) more a there = by (bytes_eq n a) there (place_stays ns more a)
   where
-    by : (x : Bool) → (x || is_in ns a) ≡ true → (is_in ns a ≡ true → place_in (ns ++ more) a ≡ place_in ns a) → cond x 0 (suc (place_in (ns ++ more) a)) ≡ cond x 0 (suc (place_in ns a))
+    by : (x : Bool) → (x || is_in ns a) ≡ true → (is_in ns a ≡ true → place_in (ns ++ more) a ≡ place_in ns a)
+        → cond x 0 (suc (place_in (ns ++ more) a)) ≡ cond x 0 (suc (place_in ns a))
     by true there rest = refl
     by false there rest = ap (λ (n : ℕ). suc n) (rest there)
 

@@ -59,30 +59,37 @@ seat_name : (who : Who) (xs : List Seat) (y : Seat) → seat_of who xs ≡ Some 
 seat_name who [] y is = cc
 seat_name who (x ∷ xs) y is = by (same who x.member.who) refl is (seat_name who xs y)
   where
-    by : (b : Bool) → same who x.member.who ≡ b → cond b (Some x) (seat_of who xs) ≡ Some y → (seat_of who xs ≡ Some y → same who y.member.who ≡ true) → same who y.member.who ≡ true
+    by : (b : Bool) → same who x.member.who ≡ b → cond b (Some x) (seat_of who xs) ≡ Some y → (seat_of who xs ≡ Some y → same who y.member.who ≡ true)
+        → same who y.member.who ≡ true
     by true own h rest = let one : x ≡ y = cc in ap (λ (z : Seat). same who z.member.who) (sym one) ∙ own
     by false other h rest = rest h
 
 -- a seat under another mask
 abbrev anew : ℕ → Seat → Seat
-anew mask x = record { member = record x.member { mask = mask }; number = x.number; queue = new_queue; discarded = more_discarded x.discarded (length x.queue.scans) }
+anew mask x =
+    record { member = record x.member { mask = mask }; number = x.number; queue = new_queue; discarded = more_discarded x.discarded (length x.queue.scans) }
 
-seat_remasked : (who : Who) (mask : ℕ) (xs : List Seat) (y : Seat) → seat_of who xs ≡ Some y → seat_of who (map (remasked_seat who mask) xs) ≡ Some (anew mask y)
+seat_remasked : (who : Who) (mask : ℕ) (xs : List Seat) (y : Seat) → seat_of who xs ≡ Some y
+    → seat_of who (map (remasked_seat who mask) xs) ≡ Some (anew mask y)
 seat_remasked who mask [] y is = cc
 seat_remasked who mask (x ∷ xs) y is = by (same who x.member.who) refl is (seat_remasked who mask xs y)
   where
-    by : (b : Bool) → same who x.member.who ≡ b → cond b (Some x) (seat_of who xs) ≡ Some y → (seat_of who xs ≡ Some y → seat_of who (map (remasked_seat who mask) xs) ≡ Some (anew mask y))
-        → cond (same who (cond b (anew mask x) x).member.who) (Some (cond b (anew mask x) x)) (seat_of who (map (remasked_seat who mask) xs)) ≡ Some (anew mask y)
+    by : (b : Bool) → same who x.member.who ≡ b → cond b (Some x) (seat_of who xs) ≡ Some y
+        → (seat_of who xs ≡ Some y → seat_of who (map (remasked_seat who mask) xs) ≡ Some (anew mask y))
+        → cond (same who (cond b (anew mask x) x).member.who) (Some (cond b (anew mask x) x)) (seat_of who (map (remasked_seat who mask) xs))
+        ≡ Some (anew mask y)
     by true own h rest =
         let one : x ≡ y = cc in
         ap (λ (b : Bool). cond b (Some (anew mask x)) (seat_of who (map (remasked_seat who mask) xs))) own ∙ ap (λ (z : Seat). Some (anew mask z)) one
     by false other h rest = ap (λ (b : Bool). cond b (Some x) (seat_of who (map (remasked_seat who mask) xs))) other ∙ rest h
 
 -- the members of a session's machine
-members_remasked : (who : Who) (mask : ℕ) (y : Seat) (xs : List Seat) → TellSame who y xs → map numbered (map (remasked_seat who mask) xs) ≡ map (with_mask y.number mask y.member.capacity) (map numbered xs)
+members_remasked : (who : Who) (mask : ℕ) (y : Seat) (xs : List Seat) → TellSame who y xs
+    → map numbered (map (remasked_seat who mask) xs) ≡ map (with_mask y.number mask y.member.capacity) (map numbered xs)
 members_remasked who mask y [] tell = refl
 members_remasked who mask y (x ∷ xs) tell =
-    ap (λ (m : MachineMember). m ∷ map numbered (map (remasked_seat who mask) xs)) (by (same who x.member.who) tell.1 ∙ ap (λ (b : Bool). cond b (anew_member y.member.capacity) (numbered x)) tell.0)
+    ap (λ (m : MachineMember). m ∷ map numbered (map (remasked_seat who mask) xs))
+    (by (same who x.member.who) tell.1 ∙ ap (λ (b : Bool). cond b (anew_member y.member.capacity) (numbered x)) tell.0)
     ∙ ap (λ (ms : List MachineMember). with_mask y.number mask y.member.capacity (numbered x) ∷ ms) (members_remasked who mask y xs tell.2)
   where
     anew_member : ℕ → MachineMember
@@ -121,8 +128,10 @@ module _ (s : Setup) (m : Told) (name : List ℕ) (desk : DeskRecord) (device te
     uncounted = λ none u. refl;
   }
 
-  module _ (k : ℕ) (st : Station) (bench : IsBench s m) (d : IsDeskOf m name desk) (found : find_device s.desc device ≡ Some k) (at : slice_get m.stations k ≡ Some st) where
-    acts : (r : Result Remasked Errno) → remask_answer (device_of st) (Conn name) text ≡ r → Acts s m name (Said (Ok (Remask device text))) device k st (remasking r)
+  module _ (k : ℕ) (st : Station) (bench : IsBench s m) (d : IsDeskOf m name desk) (found : find_device s.desc device ≡ Some k)
+      (at : slice_get m.stations k ≡ Some st) where
+    acts : (r : Result Remasked Errno) → remask_answer (device_of st) (Conn name) text ≡ r
+        → Acts s m name (Said (Ok (Remask device text))) device k st (remasking r)
     acts r is = record {
       names = names;
       found = found;
@@ -130,28 +139,36 @@ module _ (s : Setup) (m : Told) (name : List ℕ) (desk : DeskRecord) (device te
       is = ap (λ (b : Bool). only_act b (remasking (remask_answer (device_of st) (Conn name) text))) (named_by s device k k found ∙ itself k) ∙ ap remasking is;
     }
 
-    reply_is : (r : Result Remasked Errno) → remask_answer (device_of st) (Conn name) text ≡ r → replied (r >>= (λ remask. Ok zero_reply)) ≡ reply s m name (Said (Ok (Remask device text)))
+    reply_is : (r : Result Remasked Errno) → remask_answer (device_of st) (Conn name) text ≡ r
+        → replied (r >>= (λ remask. Ok zero_reply)) ≡ reply s m name (Said (Ok (Remask device text)))
     reply_is r is =
         sym (ap (λ (x : Result Known Errno). replied (x >>= answered name text)) (known_is s m device k st found at)
         ∙ ap (λ (x : Result Remasked Errno). replied (x >>= (λ remask. Ok zero_reply))) is)
 
     -- one that is refused
-    is_refused : (e : Errno) → remask_answer (device_of st) (Conn name) text ≡ Err e → IsAct s m name (Said (Ok (Remask device text))) (refused e (machine_of m) desk)
+    is_refused : (e : Errno) → remask_answer (device_of st) (Conn name) text ≡ Err e
+        → IsAct s m name (Said (Ok (Remask device text))) (refused e (machine_of m) desk)
     is_refused e is =
-        unchanged s m name (Said (Ok (Remask device text))) device k st Nothing (acts (Err e) is) desk (Refusal e) d (reply_is (Err e) is) refl (keeps_spared (Conn name) k Nothing st tt) (λ u. refl)
+        unchanged s m name (Said (Ok (Remask device text))) device k st Nothing (acts (Err e) is) desk (Refusal e) d (reply_is (Err e) is) refl
+        (keeps_spared (Conn name) k Nothing st tt) (λ u. refl)
 
-    plugged_answer : is_input st.kind ≡ true → st.site.plugged ≡ true → (o : Option Seat) → seat_of (Conn name) st.seats ≡ o → remask_answer (device_of st) (Conn name) text ≡ answer_by (device_of st) text (option_map member_of_seat o)
+    plugged_answer : is_input st.kind ≡ true → st.site.plugged ≡ true → (o : Option Seat) → seat_of (Conn name) st.seats ≡ o
+        → remask_answer (device_of st) (Conn name) text ≡ answer_by (device_of st) text (option_map member_of_seat o)
     plugged_answer input plugged o is =
-        ap (λ (b : Bool). ensure b ENODEV >>= (λ plugged. ensure (is_input st.kind) ENOSYS >>= (λ input. answer_by (device_of st) text (member_of (Conn name) (device_of st).members)))) plugged
+        ap (λ (b : Bool). ensure b ENODEV >>=
+        (λ plugged. ensure (is_input st.kind) ENOSYS >>= (λ input. answer_by (device_of st) text (member_of (Conn name) (device_of st).members)))) plugged
         ∙ ap (λ (b : Bool). ensure b ENOSYS >>= (λ input. answer_by (device_of st) text (member_of (Conn name) (device_of st).members))) input
         ∙ ap (answer_by (device_of st) text) (member_found (Conn name) st.seats ∙ ap (option_map member_of_seat) is)
 
     gone_answer : st.site.plugged ≡ false → remask_answer (device_of st) (Conn name) text ≡ Err ENODEV
-    gone_answer gone = ap (λ (b : Bool). ensure b ENODEV >>= (λ plugged. ensure (is_input st.kind) ENOSYS >>= (λ input. answer_by (device_of st) text (member_of (Conn name) (device_of st).members)))) gone
+    gone_answer gone =
+        ap (λ (b : Bool). ensure b ENODEV >>=
+        (λ plugged. ensure (is_input st.kind) ENOSYS >>= (λ input. answer_by (device_of st) text (member_of (Conn name) (device_of st).members)))) gone
 
     barred_answer : is_input st.kind ≡ false → st.site.plugged ≡ true → remask_answer (device_of st) (Conn name) text ≡ Err ENOSYS
     barred_answer other plugged =
-        ap (λ (b : Bool). ensure b ENODEV >>= (λ plugged. ensure (is_input st.kind) ENOSYS >>= (λ input. answer_by (device_of st) text (member_of (Conn name) (device_of st).members)))) plugged
+        ap (λ (b : Bool). ensure b ENODEV >>=
+        (λ plugged. ensure (is_input st.kind) ENOSYS >>= (λ input. answer_by (device_of st) text (member_of (Conn name) (device_of st).members)))) plugged
         ∙ ap (λ (b : Bool). ensure b ENOSYS >>= (λ input. answer_by (device_of st) text (member_of (Conn name) (device_of st).members))) other
 
     -- ---- at a seat
@@ -173,10 +190,13 @@ module _ (s : Setup) (m : Told) (name : List ℕ) (desk : DeskRecord) (device te
       others_same : masks_of (without y.number (map numbered st.seats)) ≡ others
       others_same =
           ap masks_of (sym (left_same (Conn name) y st.seats tell)) ∙ masks_same (without_seats (Conn name ∷ []) st.seats)
-          ∙ ap (map mask_of_member) (left_members (Conn name ∷ []) st.seats) ∙ ap (λ (w : Who). map mask_of_member (without_members (w ∷ []) (map member_of_seat st.seats))) own
+          ∙ ap (map mask_of_member) (left_members (Conn name ∷ []) st.seats)
+          ∙ ap (λ (w : Who). map mask_of_member (without_members (w ∷ []) (map member_of_seat st.seats))) own
 
       abbrev own_list : List (Bool × Errno)
-      own_list = mask_refusals (is_none (mask_of text (count_of st.shape))) (not (has_data st.shape mask)) (nat_lt MAX_BYTES (y.member.capacity * scan_size st.shape mask))
+      own_list =
+          mask_refusals (is_none (mask_of text (count_of st.shape))) (not (has_data st.shape mask))
+          (nat_lt MAX_BYTES (y.member.capacity * scan_size st.shape mask))
 
       abbrev union_list : List (Bool × Errno)
       union_list = (is_without_union st.shape others mask, EINVAL) ∷ []
@@ -184,11 +204,15 @@ module _ (s : Setup) (m : Told) (name : List ℕ) (desk : DeskRecord) (device te
       abbrev made : Remasked
       made = record { member = y.member; mask = mask }
 
-      answer_is : (a b : Option Errno) → first_refusal own_list ≡ a → first_refusal union_list ≡ b → remask_answer (device_of st) (Conn name) text ≡ unless_refused made (first_of_two a b)
+      answer_is : (a b : Option Errno) → first_refusal own_list ≡ a → first_refusal union_list ≡ b
+          → remask_answer (device_of st) (Conn name) text ≡ unless_refused made (first_of_two a b)
       answer_is a b first second =
           plugged_answer input plugged (Some y) is
-          ∙ ap (λ (x : Bool). unless_refused made (first_refusal (mask_refusals x (not (has_data st.shape mask)) (nat_lt MAX_BYTES (y.member.capacity * scan_size st.shape mask)) ++ union_list))) (no_mask (mask_of text (count_of st.shape)))
-          ∙ ap (unless_refused made) (first_appended own_list union_list ∙ ap (λ (o : Option Errno). first_of_two o (first_refusal union_list)) first ∙ ap (first_of_two a) second)
+          ∙ ap (λ (x : Bool). unless_refused made
+          (first_refusal (mask_refusals x (not (has_data st.shape mask)) (nat_lt MAX_BYTES (y.member.capacity * scan_size st.shape mask)) ++ union_list)))
+          (no_mask (mask_of text (count_of st.shape)))
+          ∙ ap (unless_refused made)
+          (first_appended own_list union_list ∙ ap (λ (o : Option Errno). first_of_two o (first_refusal union_list)) first ∙ ap (first_of_two a) second)
 
       wanted_is : mask_wanted (shape_at (front_of s) k) y.member.capacity text ≡ unless_refused mask (first_refusal own_list)
       unfolding mask_wanted
@@ -203,27 +227,38 @@ module _ (s : Setup) (m : Told) (name : List ℕ) (desk : DeskRecord) (device te
       refusals_are =
           ap (λ (b : MachineStation). first_refusal (bench_refusals (shape_at (front_of s) k) b (id_of_seat y) mask)) (bench_at m k st at)
           ∙ ap (λ (shape : ShapeRecord). first_refusal (bench_refusals shape (bench_by (names_of m) st) (id_of_seat y) mask)) (shape_same s m k st bench at)
-          ∙ ap (λ (b : Bool). first_refusal ((not b, ENODEV) ∷ (is_none (member_in (id_of_seat y) (map numbered st.seats)), EBADF) ∷ (is_without_union st.shape (masks_of (without y.number (map numbered st.seats))) mask, EINVAL) ∷ [])) plugged
-          ∙ ap (λ (o : Option MachineMember). first_refusal ((is_none o, EBADF) ∷ (is_without_union st.shape (masks_of (without y.number (map numbered st.seats))) mask, EINVAL) ∷ [])) (member_same (Conn name) y st.seats tell is)
+          ∙ ap (λ (b : Bool). first_refusal
+          ((not b, ENODEV) ∷ (is_none (member_in (id_of_seat y) (map numbered st.seats)), EBADF)
+          ∷ (is_without_union st.shape (masks_of (without y.number (map numbered st.seats))) mask, EINVAL) ∷ [])) plugged
+          ∙ ap (λ (o : Option MachineMember). first_refusal
+          ((is_none o, EBADF) ∷ (is_without_union st.shape (masks_of (without y.number (map numbered st.seats))) mask, EINVAL) ∷ []))
+          (member_same (Conn name) y st.seats tell is)
           ∙ ap (λ (ns : List ℕ). first_refusal ((is_without_union st.shape ns mask, EINVAL) ∷ [])) others_same
 
       abbrev bench_with : Totals → List MachineMember → MachineStation
       bench_with totals members = record (bench_by (names_of m) st) { totals = totals; members = members }
 
       module _ (accepted_is : remask_answer (device_of st) (Conn name) text ≡ Ok made) where
-        state_is : with_station (bench_remasked y.number mask y.member.capacity) k (machine_of m) ≡ machine_of (step s m (Heard name (Said (Ok (Remask device text)))))
+        state_is : with_station (bench_remasked y.number mask y.member.capacity) k (machine_of m)
+            ≡ machine_of (step s m (Heard name (Said (Ok (Remask device text)))))
         state_is =
-            state_changed s m name (Said (Ok (Remask device text))) device k st (Remasking y.member mask) (acts (Ok made) accepted_is) (bench_remasked y.number mask y.member.capacity)
-            (ap (λ (w : Who). bench_with (Rattle.iio_history.specs.Told.with_gone (w ∷ []) st.seats st.totals) (map numbered (map (remasked_seat w mask) st.seats))) (sym own)
-            ∙ ap (λ (t : Totals). bench_with t (map numbered (map (remasked_seat (Conn name) mask) st.seats))) (lost_same (Conn name) y st.seats st.totals (station_is s m k st bench at).apart tell is)
-            ∙ ap (bench_with (Rattle.iio_device.specs.Totals.with_left (Rattle.iiod_session.specs.Machine.lost_by y.number (map numbered st.seats)) st.totals)) (members_remasked (Conn name) mask y st.seats tell))
+            state_changed s m name (Said (Ok (Remask device text))) device k st (Remasking y.member mask) (acts (Ok made) accepted_is)
+            (bench_remasked y.number mask y.member.capacity)
+            (ap (λ (w : Who). bench_with (Rattle.iio_history.specs.Told.with_gone (w ∷ []) st.seats st.totals)
+            (map numbered (map (remasked_seat w mask) st.seats))) (sym own)
+            ∙ ap (λ (t : Totals). bench_with t (map numbered (map (remasked_seat (Conn name) mask) st.seats)))
+            (lost_same (Conn name) y st.seats st.totals (station_is s m k st bench at).apart tell is)
+            ∙ ap (bench_with (Rattle.iio_device.specs.Totals.with_left (Rattle.iiod_session.specs.Machine.lost_by y.number (map numbered st.seats)) st.totals))
+            (members_remasked (Conn name) mask y st.seats tell))
 
         abbrev new_bare : ℕ → Bare
         new_bare n = bare_remasked mask n (bare_by k y)
 
         remasked_here : seat_in k (Conn name) (slice_get (step s m (Heard name item)).stations k) ≡ Some (new_bare (length y.queue.scans))
         remasked_here =
-            ap (seat_in k (Conn name)) (get_first (station_after s (registry_of m) (Heard name item)) m.stations k ∙ ap (option_map (station_after s (registry_of m) (Heard name item) k)) at)
+            ap (seat_in k (Conn name))
+            (get_first (station_after s (registry_of m) (Heard name item)) m.stations k
+            ∙ ap (option_map (station_after s (registry_of m) (Heard name item) k)) at)
             ∙ ap (λ (a : Act). seat_in k (Conn name) (Some (station_by a st))) (acts (Ok made) accepted_is).is
             ∙ ap (λ (w : Who). option_map (bare_by k) (seat_of (Conn name) (map (remasked_seat w mask) st.seats))) (sym own)
             ∙ ap (option_map (bare_by k)) (seat_remasked (Conn name) mask st.seats y is)
@@ -234,30 +269,43 @@ module _ (s : Setup) (m : Told) (name : List ℕ) (desk : DeskRecord) (device te
         holder j x true (Ok n) h = h
 
         desk_is : (i : ℕ) → slice_get desk.seats i ≡ Some (bare_by k y)
-            → IsDeskOf (step s m (Heard name (Said (Ok (Remask device text))))) name (with_seats (slice_set desk.seats i (new_bare (length y.queue.scans))) desk)
+            → IsDeskOf (step s m (Heard name (Said (Ok (Remask device text))))) name
+            (with_seats (slice_set desk.seats i (new_bare (length y.queue.scans))) desk)
         desk_is i here = record {
           who = d.who ∙ sym (ap (λ (ns : List (List ℕ)). place_in ns name) (names_kept s m (Heard name item) refl));
           seats = λ j. put_at desk.seats i (bare_by k y) (new_bare (length y.queue.scans)) d.apart here refl j ∙ by j (k == j) refl;
           apart = put_apart desk.seats i (bare_by k y) (new_bare (length y.queue.scans)) d.apart here refl;
-          buffers = λ j. d.buffers j ∙ sym (counts_kept s m (Heard name item) name (users_after s (registry_of m) (Heard name item) name m.lines [] refl) (λ u is. refl) j);
-          holdings = λ j held. d.holdings j (holds_kept s m (Heard name item) (Conn name) j (λ x at. holder j x (is_named s device j) (remask_answer (device_of x) (Conn name) text)) held);
+          buffers =
+              λ j. d.buffers j ∙ sym (counts_kept s m (Heard name item) name (users_after s (registry_of m) (Heard name item) name m.lines [] refl)
+              (λ u is. refl) j);
+          holdings =
+              λ j held. d.holdings j (holds_kept s m (Heard name item) (Conn name) j
+              (λ x at. holder j x (is_named s device j) (remask_answer (device_of x) (Conn name) text)) held);
         }
           where
-            by : (j : ℕ) (b : Bool) → (k == j) ≡ b → cond b (Some (new_bare (length y.queue.scans))) (seat_at j desk.seats) ≡ seat_in j (Conn name) (slice_get (step s m (Heard name item)).stations j)
-            by j true here = sym (ap (λ (i : ℕ). seat_in i (Conn name) (slice_get (step s m (Heard name item)).stations i)) (sym (same_number k j here)) ∙ remasked_here)
+            by : (j : ℕ) (b : Bool) → (k == j) ≡ b
+                → cond b (Some (new_bare (length y.queue.scans))) (seat_at j desk.seats)
+                ≡ seat_in j (Conn name) (slice_get (step s m (Heard name item)).stations j)
+            by j true here =
+                sym (ap (λ (i : ℕ). seat_in i (Conn name) (slice_get (step s m (Heard name item)).stations i)) (sym (same_number k j here)) ∙ remasked_here)
             by j false other =
-                d.seats j ∙ sym (seat_kept s m (Heard name item) (Conn name) j (λ x is_. (keeps_else s m name (Said (Ok (Remask device text))) device k st (Remasking y.member mask) (acts (Ok made) accepted_is) j other x is_).seat))
+                d.seats j ∙ sym (seat_kept s m (Heard name item) (Conn name) j
+                (λ x is_. (keeps_else s m name (Said (Ok (Remask device text))) device k st (Remasking y.member mask) (acts (Ok made) accepted_is) j other x
+                is_).seat))
 
       -- the answer of the device, as the session takes it
       abbrev taken : ℕ → Result ℕ Errno → Acted
-      taken i r = let o = unless (bench_remasked y.number mask y.member.capacity) k (machine_of m) r in session_remasked desk i (bare_by k y) mask o.machine o.answer
+      taken i r =
+          let o = unless (bench_remasked y.number mask y.member.capacity) k (machine_of m) r in session_remasked desk i (bare_by k y) mask o.machine o.answer
 
       by_union : (i : ℕ) → slice_get desk.seats i ≡ Some (bare_by k y) → first_refusal own_list ≡ None → (b : Option Errno) → first_refusal union_list ≡ b
           → IsAct s m name (Said (Ok (Remask device text))) (remask_wanted (front_of s) (machine_of m) desk i (bare_by k y) (Ok mask))
       unfolding remask_of
       by_union i here first b second =
-          subst (λ (o : Option Errno). IsAct s m name (Said (Ok (Remask device text))) (taken i (unless_refused (length (queue_of (machine_of m) k (id_of_seat y))) o))) (sym (refusals_are ∙ second))
-          (subst (λ (q : List (List ℕ)). IsAct s m name (Said (Ok (Remask device text))) (taken i (unless_refused (length q) b))) (sym waiting) (by b (answer_is None b first second)))
+          subst (λ (o : Option Errno). IsAct s m name (Said (Ok (Remask device text)))
+          (taken i (unless_refused (length (queue_of (machine_of m) k (id_of_seat y))) o))) (sym (refusals_are ∙ second))
+          (subst (λ (q : List (List ℕ)). IsAct s m name (Said (Ok (Remask device text))) (taken i (unless_refused (length q) b))) (sym waiting)
+          (by b (answer_is None b first second)))
         where
           by : (b : Option Errno) → remask_answer (device_of st) (Conn name) text ≡ unless_refused made (first_of_two None b)
               → IsAct s m name (Said (Ok (Remask device text))) (taken i (unless_refused (length y.queue.scans) b))
@@ -269,27 +317,37 @@ module _ (s : Setup) (m : Told) (name : List ℕ) (desk : DeskRecord) (device te
       by_own i here (Some e) first = is_refused e (answer_is (Some e) (first_refusal union_list) first refl)
       by_own i here None first = by_union i here first (first_refusal union_list) refl
 
-      at_seat : (i : ℕ) → slice_get desk.seats i ≡ Some (bare_by k y) → IsAct s m name (Said (Ok (Remask device text))) (remask_seat (front_of s) (machine_of m) desk text i (Some (bare_by k y)))
-      at_seat i here = subst (λ (r : Result ℕ Errno). IsAct s m name (Said (Ok (Remask device text))) (remask_wanted (front_of s) (machine_of m) desk i (bare_by k y) r)) (sym wanted_is) (by_own i here (first_refusal own_list) refl)
+      at_seat : (i : ℕ) → slice_get desk.seats i ≡ Some (bare_by k y)
+          → IsAct s m name (Said (Ok (Remask device text))) (remask_seat (front_of s) (machine_of m) desk text i (Some (bare_by k y)))
+      at_seat i here =
+          subst (λ (r : Result ℕ Errno). IsAct s m name (Said (Ok (Remask device text))) (remask_wanted (front_of s) (machine_of m) desk i (bare_by k y) r))
+          (sym wanted_is) (by_own i here (first_refusal own_list) refl)
 
-    by_seat : is_input st.kind ≡ true → st.site.plugged ≡ true → (o : Option Seat) → seat_of (Conn name) st.seats ≡ o → IsAct s m name (Said (Ok (Remask device text))) (remask_place (front_of s) (machine_of m) desk text (place_of k desk.seats))
+    by_seat : is_input st.kind ≡ true → st.site.plugged ≡ true → (o : Option Seat) → seat_of (Conn name) st.seats ≡ o
+        → IsAct s m name (Said (Ok (Remask device text))) (remask_place (front_of s) (machine_of m) desk text (place_of k desk.seats))
     by_seat input plugged None is =
-        subst (λ (p : Option ℕ). IsAct s m name (Said (Ok (Remask device text))) (remask_place (front_of s) (machine_of m) desk text p)) (sym (place_none k desk.seats (own_seat m name desk k st None d at is)))
+        subst (λ (p : Option ℕ). IsAct s m name (Said (Ok (Remask device text))) (remask_place (front_of s) (machine_of m) desk text p))
+        (sym (place_none k desk.seats (own_seat m name desk k st None d at is)))
         (is_refused EBADF (plugged_answer input plugged None is))
     by_seat input plugged (Some y) is =
         let f = is_at k desk.seats (bare_by k y) d.apart (own_seat m name desk k st (Some y) d at is) in
         subst (λ (p : Option ℕ). IsAct s m name (Said (Ok (Remask device text))) (remask_place (front_of s) (machine_of m) desk text p)) (sym f.place)
-        (subst (λ (b : Option Bare). IsAct s m name (Said (Ok (Remask device text))) (remask_seat (front_of s) (machine_of m) desk text f.i b)) (sym f.here) (at_seat input plugged y is f.i f.here))
+        (subst (λ (b : Option Bare). IsAct s m name (Said (Ok (Remask device text))) (remask_seat (front_of s) (machine_of m) desk text f.i b)) (sym f.here)
+        (at_seat input plugged y is f.i f.here))
 
-    remask_here : IsAct s m name (Said (Ok (Remask device text))) (where_known (is_input (kind_at (front_of s) k)) (machine_of m) desk k (remask_at (front_of s) (machine_of m) desk text k))
+    remask_here : IsAct s m name (Said (Ok (Remask device text)))
+        (where_known (is_input (kind_at (front_of s) k)) (machine_of m) desk k (remask_at (front_of s) (machine_of m) desk text k))
     remask_here =
         where_kind s m k st desk is_input _ (IsAct s m name (Said (Ok (Remask device text)))) bench at
-        (λ input. where_plugged m k st desk _ (IsAct s m name (Said (Ok (Remask device text)))) at (λ plugged. by_seat input plugged (seat_of (Conn name) st.seats) refl) (λ gone. is_refused ENODEV (gone_answer gone)))
+        (λ input. where_plugged m k st desk _ (IsAct s m name (Said (Ok (Remask device text)))) at
+        (λ plugged. by_seat input plugged (seat_of (Conn name) st.seats) refl) (λ gone. is_refused ENODEV (gone_answer gone)))
         (λ other plugged. is_refused ENOSYS (barred_answer other plugged)) (λ other gone. is_refused ENODEV (gone_answer gone))
 
 pub remask_is : (s : Setup) (m : Told) (name : List ℕ) (desk : DeskRecord) (device text : List ℕ) → IsBench s m → IsDeskOf m name desk
     → IsAct s m name (Said (Ok (Remask device text))) (act (front_of s) (machine_of m) desk (Said (Ok (Remask device text))))
 unfolding act
 remask_is s m name desk device text bench d =
-    at_named s m name desk (Said (Ok (Remask device text))) device (λ k. where_known (is_input (kind_at (front_of s) k)) (machine_of m) desk k (remask_at (front_of s) (machine_of m) desk text k)) bench d (names s m name desk device text)
+    at_named s m name desk (Said (Ok (Remask device text))) device
+    (λ k. where_known (is_input (kind_at (front_of s) k)) (machine_of m) desk k (remask_at (front_of s) (machine_of m) desk text k)) bench d
+    (names s m name desk device text)
     (λ k st found at. remask_here s m name desk device text k st bench d found at)

@@ -30,7 +30,8 @@ apart_number : (n number : ℕ) → suc n ≤ number → (n == number) ≡ false
 apart_number n number h = grind (arith, nat_tests)
 
 -- after the one of the number there is none of its name and none of its number
-behind : (who : Who) (y : Seat) (low high : ℕ) (xs : List Seat) → y.number < low → is_member who (map member_of_seat xs) ≡ false → NumbersRise low high xs → TellSame who y xs
+behind : (who : Who) (y : Seat) (low high : ℕ) (xs : List Seat) → y.number < low → is_member who (map member_of_seat xs) ≡ false → NumbersRise low high xs
+    → TellSame who y xs
 behind who y low high [] below absent rising = tt
 behind who y low high (x ∷ xs) below absent rising =
     let parts = either (same who x.member.who) (is_member who (map member_of_seat xs)) absent in
@@ -47,7 +48,8 @@ found_above who low high (x ∷ xs) y rising is = by_who (same who x.member.who)
     by_who true h rest = let one : x ≡ y = cc in subst (λ (z : Seat). low ≤ z.number) one rising.0
     by_who false h rest = let more = rest h in omega (arith, more, rising.0)
 
-pub tell_same : (who : Who) (low high : ℕ) (xs : List Seat) (y : Seat) → AreApart (map member_of_seat xs) → NumbersRise low high xs → seat_of who xs ≡ Some y → TellSame who y xs
+pub tell_same : (who : Who) (low high : ℕ) (xs : List Seat) (y : Seat) → AreApart (map member_of_seat xs) → NumbersRise low high xs → seat_of who xs ≡ Some y
+    → TellSame who y xs
 tell_same who low high [] y apart rising is = tt
 tell_same who low high (x ∷ xs) y apart rising is =
     by_who (same who x.member.who) refl is
@@ -93,29 +95,35 @@ pub tell_id : (own : Bool) (x y : Seat) → own ≡ (x.number == y.number) → (
 tell_id true x y tell one = subst (λ (z : Seat). true ≡ is_id_of (id_of_seat z) (numbered x)) (one refl) (own_id x)
 tell_id false x y tell one = ap (λ (b : Bool). b && (x.member.mask == y.member.mask)) tell
 
-scans_by : (a b : Bool) (x y : Seat) (found : Option Seat) (more : List (List ℕ)) → a ≡ b → (a ≡ true → x ≡ y) → cond a (Some x) found ≡ Some y → (found ≡ Some y → more ≡ y.queue.scans)
+scans_by : (a b : Bool) (x y : Seat) (found : Option Seat) (more : List (List ℕ)) → a ≡ b → (a ≡ true → x ≡ y) → cond a (Some x) found ≡ Some y
+    → (found ≡ Some y → more ≡ y.queue.scans)
     → cond b x.queue.scans more ≡ y.queue.scans
 scans_by true true x y found more p one is rest = ap (λ (z : Seat). z.queue.scans) (one refl)
 scans_by true false x y found more p one is rest = cc
 scans_by false true x y found more p one is rest = cc
 scans_by false false x y found more p one is rest = rest is
 
-pub scans_same : (who : Who) (y : Seat) (xs : List Seat) → TellSame who y xs → seat_of who xs ≡ Some y → scans_in (id_of_seat y) (map numbered xs) ≡ y.queue.scans
+pub scans_same : (who : Who) (y : Seat) (xs : List Seat) → TellSame who y xs → seat_of who xs ≡ Some y
+    → scans_in (id_of_seat y) (map numbered xs) ≡ y.queue.scans
 scans_same who y [] tell is = cc
 scans_same who y (x ∷ xs) tell is =
-    scans_by (same who x.member.who) (is_id_of (id_of_seat y) (numbered x)) x y (seat_of who xs) (scans_in (id_of_seat y) (map numbered xs)) (tell_id _ x y tell.0 tell.1) tell.1 is (λ h. scans_same who y xs tell.2 h)
+    scans_by (same who x.member.who) (is_id_of (id_of_seat y) (numbered x)) x y (seat_of who xs) (scans_in (id_of_seat y) (map numbered xs))
+    (tell_id _ x y tell.0 tell.1) tell.1 is (λ h. scans_same who y xs tell.2 h)
 
-member_by : (a b : Bool) (x y : Seat) (found : Option Seat) (more : Option MachineMember) → a ≡ b → (a ≡ true → x ≡ y) → cond a (Some x) found ≡ Some y → (found ≡ Some y → more ≡ Some (numbered y))
+member_by : (a b : Bool) (x y : Seat) (found : Option Seat) (more : Option MachineMember) → a ≡ b → (a ≡ true → x ≡ y) → cond a (Some x) found ≡ Some y
+    → (found ≡ Some y → more ≡ Some (numbered y))
     → cond b (Some (numbered x)) more ≡ Some (numbered y)
 member_by true true x y found more p one is rest = ap (λ (z : Seat). Some (numbered z)) (one refl)
 member_by true false x y found more p one is rest = cc
 member_by false true x y found more p one is rest = cc
 member_by false false x y found more p one is rest = rest is
 
-pub member_same : (who : Who) (y : Seat) (xs : List Seat) → TellSame who y xs → seat_of who xs ≡ Some y → member_in (id_of_seat y) (map numbered xs) ≡ Some (numbered y)
+pub member_same : (who : Who) (y : Seat) (xs : List Seat) → TellSame who y xs → seat_of who xs ≡ Some y
+    → member_in (id_of_seat y) (map numbered xs) ≡ Some (numbered y)
 member_same who y [] tell is = cc
 member_same who y (x ∷ xs) tell is =
-    member_by (same who x.member.who) (is_id_of (id_of_seat y) (numbered x)) x y (seat_of who xs) (member_in (id_of_seat y) (map numbered xs)) (tell_id _ x y tell.0 tell.1) tell.1 is (λ h. member_same who y xs tell.2 h)
+    member_by (same who x.member.who) (is_id_of (id_of_seat y) (numbered x)) x y (seat_of who xs) (member_in (id_of_seat y) (map numbered xs))
+    (tell_id _ x y tell.0 tell.1) tell.1 is (λ h. member_same who y xs tell.2 h)
 
 -- ---- a member leaves
 
@@ -139,7 +147,8 @@ left_same who y (x ∷ xs) tell =
     left_by (is_among x.member.who (who ∷ [])) (x.number == y.number) x (without_seats (who ∷ []) xs) (without y.number (map numbered xs))
     (among_one who x.member.who ∙ tell.0) (left_same who y xs tell.2)
 
-left_none_by : (a b : Bool) (x : Seat) (found : Option Seat) (rest xs : List Seat) → a ≡ b → cond b (Some x) found ≡ None → (found ≡ None → rest ≡ xs) → cond a rest (x ∷ rest) ≡ x ∷ xs
+left_none_by : (a b : Bool) (x : Seat) (found : Option Seat) (rest xs : List Seat) → a ≡ b → cond b (Some x) found ≡ None → (found ≡ None → rest ≡ xs)
+    → cond a rest (x ∷ rest) ≡ x ∷ xs
 left_none_by a true x found rest xs p none is = cc
 left_none_by true false x found rest xs p none is = cc
 left_none_by false false x found rest xs p none is = ap (λ (ys : List Seat). x ∷ ys) (is none)
@@ -147,16 +156,19 @@ left_none_by false false x found rest xs p none is = ap (λ (ys : List Seat). x 
 pub left_none : (who : Who) (xs : List Seat) → seat_of who xs ≡ None → without_seats (who ∷ []) xs ≡ xs
 left_none who [] none = refl
 left_none who (x ∷ xs) none =
-    left_none_by (is_among x.member.who (who ∷ [])) (same who x.member.who) x (seat_of who xs) (without_seats (who ∷ []) xs) xs (among_one who x.member.who) none (left_none who xs)
+    left_none_by (is_among x.member.who (who ∷ [])) (same who x.member.who) x (seat_of who xs) (without_seats (who ∷ []) xs) xs (among_one who x.member.who)
+    none (left_none who xs)
 
-gone_by : (a b : Bool) (x : Seat) (who : Who) (rest : List Seat) → a ≡ b → same who x.member.who ≡ b → seat_of who rest ≡ None → seat_of who (cond a rest (x ∷ rest)) ≡ None
+gone_by : (a b : Bool) (x : Seat) (who : Who) (rest : List Seat) → a ≡ b → same who x.member.who ≡ b → seat_of who rest ≡ None
+    → seat_of who (cond a rest (x ∷ rest)) ≡ None
 gone_by true b x who rest p is none = none
 gone_by false true x who rest p is none = cc
 gone_by false false x who rest p is none = ap (λ (t : Bool). cond t (Some x) (seat_of who rest)) is ∙ none
 
 pub gone : (who : Who) (xs : List Seat) → seat_of who (without_seats (who ∷ []) xs) ≡ None
 gone who [] = refl
-gone who (x ∷ xs) = gone_by (is_among x.member.who (who ∷ [])) (same who x.member.who) x who (without_seats (who ∷ []) xs) (among_one who x.member.who) refl (gone who xs)
+gone who (x ∷ xs) =
+    gone_by (is_among x.member.who (who ∷ [])) (same who x.member.who) x who (without_seats (who ∷ []) xs) (among_one who x.member.who) refl (gone who xs)
 
 -- what is lost with it is counted
 gone_none_by : (a b : Bool) (who : Who) (x : Seat) (found : Option Seat) (xs : List Seat) (t : Totals) → a ≡ b → cond b (Some x) found ≡ None
@@ -171,14 +183,16 @@ gone_none who (x ∷ xs) t none =
     gone_none_by (is_among x.member.who (who ∷ [])) (same who x.member.who) who x (seat_of who xs) xs t (among_one who x.member.who) none (gone_none who xs)
 
 lost_with : (a b : Bool) (who : Who) (x y : Seat) (found : Option Seat) (xs : List Seat) (more : Option ℕ) (t : Totals) → a ≡ b → cond a (Some x) found ≡ Some y
-    → (a ≡ true → with_gone (who ∷ []) xs (with_lost x.queue.lost t) ≡ with_lost x.queue.lost t) → (found ≡ Some y → with_gone (who ∷ []) xs t ≡ with_left more t)
+    → (a ≡ true → with_gone (who ∷ []) xs (with_lost x.queue.lost t) ≡ with_lost x.queue.lost t)
+    → (found ≡ Some y → with_gone (who ∷ []) xs t ≡ with_left more t)
     → with_gone (who ∷ []) xs (cond a (with_lost x.queue.lost t) t) ≡ with_left (cond b (Some x.queue.lost) more) t
 lost_with true true who x y found xs more t p is alone rest = alone refl
 lost_with true false who x y found xs more t p is alone rest = cc
 lost_with false true who x y found xs more t p is alone rest = cc
 lost_with false false who x y found xs more t p is alone rest = rest is
 
-lost_found : (b : Bool) (x : MachineMember) (o : Option MachineMember) → option_map (λ (z : MachineMember). z.lost) (cond b (Some x) o) ≡ cond b (Some x.lost) (option_map (λ (z : MachineMember). z.lost) o)
+lost_found : (b : Bool) (x : MachineMember) (o : Option MachineMember)
+    → option_map (λ (z : MachineMember). z.lost) (cond b (Some x) o) ≡ cond b (Some x.lost) (option_map (λ (z : MachineMember). z.lost) o)
 lost_found true x o = refl
 lost_found false x o = refl
 
@@ -188,25 +202,30 @@ lost_same who y [] t apart tell is = cc
 lost_same who y (x ∷ xs) t apart tell is =
     ap (λ (a : Bool). with_gone (who ∷ []) xs (cond a (with_lost x.queue.lost t) t)) (among_one who x.member.who)
     ∙ lost_with (same who x.member.who) (x.number == y.number) who x y (seat_of who xs) xs (lost_by y.number (map numbered xs)) t tell.0 is
-    (λ own. gone_none who xs (with_lost x.queue.lost t) (absent_seat who xs (subst (λ (w : Who). is_member w (map member_of_seat xs) ≡ false) (sym (same_is who x.member.who own)) apart.0)))
+    (λ own. gone_none who xs (with_lost x.queue.lost t)
+    (absent_seat who xs (subst (λ (w : Who). is_member w (map member_of_seat xs) ≡ false) (sym (same_is who x.member.who own)) apart.0)))
     (lost_same who y xs t apart.1 tell.2)
-    ∙ ap (λ (o : Option ℕ). with_left o t) (sym (lost_found (x.number == y.number) (numbered x) (find (λ (z : MachineMember). z.number == y.number) (map numbered xs))))
+    ∙ ap (λ (o : Option ℕ). with_left o t)
+    (sym (lost_found (x.number == y.number) (numbered x) (find (λ (z : MachineMember). z.number == y.number) (map numbered xs))))
 
 -- ---- a member takes scans
 
-read_none_by : (b : Bool) (x z : Seat) (found : Option Seat) (rest xs : List Seat) → cond b (Some x) found ≡ None → (found ≡ None → rest ≡ xs) → cond b z x ∷ rest ≡ x ∷ xs
+read_none_by : (b : Bool) (x z : Seat) (found : Option Seat) (rest xs : List Seat) → cond b (Some x) found ≡ None → (found ≡ None → rest ≡ xs)
+    → cond b z x ∷ rest ≡ x ∷ xs
 read_none_by true x z found rest xs none is = cc
 read_none_by false x z found rest xs none is = ap (λ (ys : List Seat). x ∷ ys) (is none)
 
 pub read_none : (shape : ShapeRecord) (who : Who) (bytes : ℕ) (xs : List Seat) → seat_of who xs ≡ None → map (read_seat shape who bytes) xs ≡ xs
 read_none shape who bytes [] none = refl
-read_none shape who bytes (x ∷ xs) none = read_none_by (same who x.member.who) x _ (seat_of who xs) (map (read_seat shape who bytes) xs) xs none (read_none shape who bytes xs)
+read_none shape who bytes (x ∷ xs) none =
+    read_none_by (same who x.member.who) x _ (seat_of who xs) (map (read_seat shape who bytes) xs) xs none (read_none shape who bytes xs)
 
 -- one seat that is read, as a member
 abbrev taken_member : ShapeRecord → ℕ → Seat → MachineMember
 taken_member shape bytes x = numbered (record x { queue = taken_from (bytes / scan_size shape x.member.mask) x.queue })
 
-taken_by : (shape : ShapeRecord) (bytes : ℕ) (a b : Bool) (x y : Seat) (xs rest : List Seat) (found : Option Seat) (more : List MachineMember) → a ≡ b → (a ≡ true → x ≡ y)
+taken_by : (shape : ShapeRecord) (bytes : ℕ) (a b : Bool) (x y : Seat) (xs rest : List Seat) (found : Option Seat) (more : List MachineMember) → a ≡ b
+    → (a ≡ true → x ≡ y)
     → (a ≡ true → rest ≡ xs) → (found ≡ Some y → more ≡ map numbered rest) → cond a (Some x) found ≡ Some y
     → cond b (record (numbered x) { scans = drop (bytes / scan_size shape y.member.mask) y.queue.scans } ∷ map numbered xs) (numbered x ∷ more)
     ≡ map numbered (cond a (record x { queue = taken_from (bytes / scan_size shape x.member.mask) x.queue }) x ∷ rest)
@@ -217,12 +236,16 @@ taken_by shape bytes true false x y xs rest found more p one none is h = cc
 taken_by shape bytes false true x y xs rest found more p one none is h = cc
 taken_by shape bytes false false x y xs rest found more p one none is h = ap (λ (ms : List MachineMember). numbered x ∷ ms) (is h)
 
-pub taken_same : (shape : ShapeRecord) (who : Who) (bytes : ℕ) (y : Seat) (xs : List Seat) → AreApart (map member_of_seat xs) → TellSame who y xs → seat_of who xs ≡ Some y
-    → with_scans (id_of_seat y) (drop (bytes / scan_size shape y.member.mask) y.queue.scans) (map numbered xs) ≡ map numbered (map (read_seat shape who bytes) xs)
+pub taken_same : (shape : ShapeRecord) (who : Who) (bytes : ℕ) (y : Seat) (xs : List Seat) → AreApart (map member_of_seat xs) → TellSame who y xs
+    → seat_of who xs ≡ Some y
+    → with_scans (id_of_seat y) (drop (bytes / scan_size shape y.member.mask) y.queue.scans) (map numbered xs)
+    ≡ map numbered (map (read_seat shape who bytes) xs)
 taken_same shape who bytes y [] apart tell is = refl
 taken_same shape who bytes y (x ∷ xs) apart tell is =
-    taken_by shape bytes (same who x.member.who) (is_id_of (id_of_seat y) (numbered x)) x y xs (map (read_seat shape who bytes) xs) (seat_of who xs) _ (tell_id _ x y tell.0 tell.1) tell.1
-    (λ own. read_none shape who bytes xs (absent_seat who xs (subst (λ (w : Who). is_member w (map member_of_seat xs) ≡ false) (sym (same_is who x.member.who own)) apart.0)))
+    taken_by shape bytes (same who x.member.who) (is_id_of (id_of_seat y) (numbered x)) x y xs (map (read_seat shape who bytes) xs) (seat_of who xs) _
+    (tell_id _ x y tell.0 tell.1) tell.1
+    (λ own. read_none shape who bytes xs
+    (absent_seat who xs (subst (λ (w : Who). is_member w (map member_of_seat xs) ≡ false) (sym (same_is who x.member.who own)) apart.0)))
     (λ h. taken_same shape who bytes y xs apart.1 tell.2 h) is
 
 -- the scans that it is given
@@ -235,15 +258,18 @@ given_by false x y found shape bytes rest is more = more is
 pub given_same : (shape : ShapeRecord) (who : Who) (bytes : ℕ) (y : Seat) (xs : List Seat) → seat_of who xs ≡ Some y
     → scans_given shape who bytes xs ≡ take (bytes / scan_size shape y.member.mask) y.queue.scans
 given_same shape who bytes y [] is = cc
-given_same shape who bytes y (x ∷ xs) is = given_by (same who x.member.who) x y (seat_of who xs) shape bytes (scans_given shape who bytes xs) is (given_same shape who bytes y xs)
+given_same shape who bytes y (x ∷ xs) is =
+    given_by (same who x.member.who) x y (seat_of who xs) shape bytes (scans_given shape who bytes xs) is (given_same shape who bytes y xs)
 
-given_none_by : (b : Bool) (x : Seat) (found : Option Seat) (scans rest : List (List ℕ)) → cond b (Some x) found ≡ None → (found ≡ None → rest ≡ []) → cond b scans rest ≡ []
+given_none_by : (b : Bool) (x : Seat) (found : Option Seat) (scans rest : List (List ℕ)) → cond b (Some x) found ≡ None → (found ≡ None → rest ≡ [])
+    → cond b scans rest ≡ []
 given_none_by true x found scans rest none is = cc
 given_none_by false x found scans rest none is = is none
 
 pub given_none : (shape : ShapeRecord) (who : Who) (bytes : ℕ) (xs : List Seat) → seat_of who xs ≡ None → scans_given shape who bytes xs ≡ []
 given_none shape who bytes [] none = refl
-given_none shape who bytes (x ∷ xs) none = given_none_by (same who x.member.who) x (seat_of who xs) _ (scans_given shape who bytes xs) none (given_none shape who bytes xs)
+given_none shape who bytes (x ∷ xs) none =
+    given_none_by (same who x.member.who) x (seat_of who xs) _ (scans_given shape who bytes xs) none (given_none shape who bytes xs)
 
 -- ---- a member more, and the masks of all
 

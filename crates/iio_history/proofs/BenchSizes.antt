@@ -14,17 +14,20 @@ some_data : (mask n : ℕ) → has_below mask n ≡ true → (c : ℕ) × (c < n
 some_data mask zero h = cc
 some_data mask (suc n) h = by (has mask n) refl h (some_data mask n)
   where
-    by : (b : Bool) → has mask n ≡ b → (b || has_below mask n) ≡ true → (has_below mask n ≡ true → (c : ℕ) × (c < n) × (has mask c ≡ true)) → (c : ℕ) × (c < suc n) × (has mask c ≡ true)
+    by : (b : Bool) → has mask n ≡ b → (b || has_below mask n) ≡ true → (has_below mask n ≡ true → (c : ℕ) × (c < n) × (has mask c ≡ true)) → (c : ℕ)
+        × (c < suc n) × (has mask c ≡ true)
     by true e h below = (n, omega arith, e)
     by false e h below = let s = below h in (s.0, omega (arith, s.1), s.2)
 
-size_there : (xs : List Channel) (rest : List Format) (c : ℕ) → All (λ (channel : Channel). 1 ≤ size_of channel.ty) xs → c < length xs → 1 ≤ size_of (get_or (map (λ channel. channel.ty) xs ++ rest) c (stamp_format Little))
+size_there : (xs : List Channel) (rest : List Format) (c : ℕ) → All (λ (channel : Channel). 1 ≤ size_of channel.ty) xs → c < length xs
+    → 1 ≤ size_of (get_or (map (λ channel. channel.ty) xs ++ rest) c (stamp_format Little))
 size_there [] rest c sizes below = absurd (omega arith)
 size_there (x ∷ xs) rest c sizes below =
     let types : List Format = map (λ channel. channel.ty) (x ∷ xs) in
     let many : length types ≡ length (x ∷ xs) = length-map (x ∷ xs) (λ channel. channel.ty) in
     subst (λ (f : Format). 1 ≤ size_of f)
-    (sym (get_or_append_left types rest (stamp_format Little) c (omega (arith, many)) ∙ get_or-map (λ (channel : Channel). channel.ty) (x ∷ xs) c x (stamp_format Little) below)) (sizes c x below)
+    (sym (get_or_append_left types rest (stamp_format Little) c (omega (arith, many))
+    ∙ get_or-map (λ (channel : Channel). channel.ty) (x ∷ xs) c x (stamp_format Little) below)) (sizes c x below)
 
 pub sizes_from : (shape : ShapeRecord) → All (λ (channel : Channel). 1 ≤ size_of channel.ty) shape.channels → HasSizes shape
 sizes_from shape sizes mask h =

@@ -44,7 +44,8 @@ on_false : {A : Type 0} (b : Bool) (x y : A) → b ≡ false → cond b x y ≡ 
 on_false true x y e = absurd (cc)
 on_false false x y e = refl
 
-module _ {Q : Type 0} (taken lost size capacity : Q → ℕ) (offer_gives : Q → List ℕ → Offered → Q → Type 0) (waits : Q → List (List ℕ)) (waited : Q → Q → List (List ℕ)) where
+module _ {Q : Type 0} (taken lost size capacity : Q → ℕ) (offer_gives : Q → List ℕ → Offered → Q → Type 0) (waits : Q → List (List ℕ))
+    (waited : Q → Q → List (List ℕ)) where
   abbrev met : List (Membership Q) → List (Membership Q) → List Member
   met xs ys = members_met lost capacity waits waited xs ys
 
@@ -53,25 +54,41 @@ module _ {Q : Type 0} (taken lost size capacity : Q → ℕ) (offer_gives : Q �
 
   abbrev OffersAreMet : List (Membership Q) → List (Membership Q) → Type 0
   OffersAreMet xs ys =
-      AllZip (λ (a b : Membership Q). (scan : List ℕ) (answer : Offered) → offer_gives a.tail scan answer b.tail → IsMet lost capacity waits waited scan answer a.tail b.tail) xs ys
+      AllZip (λ (a b : Membership Q). (scan : List ℕ) (answer : Offered) → offer_gives a.tail scan answer b.tail
+      → IsMet lost capacity waits waited scan answer a.tail b.tail) xs ys
 
   abbrev WereOffered : ShapeRecord → Capture → List (Membership Q) → List (Membership Q) → Type 0
-  WereOffered shape c xs ys = AllZip (λ (a b : Membership Q). WasOffered taken lost size capacity offer_gives (scan_of shape a.mask.bits c.values c.moment) a b) xs ys
+  WereOffered shape c xs ys =
+      AllZip (λ (a b : Membership Q). WasOffered taken lost size capacity offer_gives (scan_of shape a.mask.bits c.values c.moment) a b) xs ys
 
   offered_by : (shape : ShapeRecord) (c : Capture) (a b : Membership Q) (answer : Offered) → b ≡ record a { tail = b.tail } → capacity b.tail ≡ capacity a.tail
       → IsMet lost capacity waits waited (scan_of shape a.mask.bits c.values c.moment) answer a.tail b.tail
       → offered_to shape c (member_with lost capacity (waited a.tail b.tail) a) ≡ member_with lost capacity (waits b.tail) b
   offered_by shape c a b Taken same bounded is =
       let room : nat_lt (length (waited a.tail b.tail)) (capacity a.tail) ≡ true = let h = is.0 in grind (arith, nat_tests) in
-      rw room (ap (λ (scans : List (List ℕ)). (let x : Member = record { number = a.number; mask = a.mask.bits; capacity = capacity a.tail; scans = scans; lost = lost a.tail; cyclic = false; inner = None } in x)) (sym is.2)
-      ∙ ap (λ (n : ℕ). (let x : Member = record { number = a.number; mask = a.mask.bits; capacity = n; scans = waits b.tail; lost = lost a.tail; cyclic = false; inner = None } in x)) (sym bounded)
-      ∙ ap (λ (n : ℕ). (let x : Member = record { number = a.number; mask = a.mask.bits; capacity = capacity b.tail; scans = waits b.tail; lost = n; cyclic = false; inner = None } in x)) (sym is.1)
+      rw room (ap (λ (scans : List (List ℕ)).
+      (let x : Member =
+      record { number = a.number; mask = a.mask.bits; capacity = capacity a.tail; scans = scans; lost = lost a.tail; cyclic = false; inner = None } in x))
+      (sym is.2)
+      ∙ ap (λ (n : ℕ). (let x : Member =
+      record { number = a.number; mask = a.mask.bits; capacity = n; scans = waits b.tail; lost = lost a.tail; cyclic = false; inner = None } in x))
+      (sym bounded)
+      ∙ ap (λ (n : ℕ). (let x : Member =
+      record { number = a.number; mask = a.mask.bits; capacity = capacity b.tail; scans = waits b.tail; lost = n; cyclic = false; inner = None } in x))
+      (sym is.1)
       ∙ ap (λ (m : Membership Q). member_with lost capacity (waits b.tail) m) (sym same))
   offered_by shape c a b Lost same bounded is =
       let full : nat_lt (length (waited a.tail b.tail)) (capacity a.tail) ≡ false = let h = is.0 in grind (arith, nat_tests) in
-      rw full (ap (λ (scans : List (List ℕ)). (let x : Member = record { number = a.number; mask = a.mask.bits; capacity = capacity a.tail; scans = scans; lost = lost a.tail + 1; cyclic = false; inner = None } in x)) (sym is.2)
-      ∙ ap (λ (n : ℕ). (let x : Member = record { number = a.number; mask = a.mask.bits; capacity = n; scans = waits b.tail; lost = lost a.tail + 1; cyclic = false; inner = None } in x)) (sym bounded)
-      ∙ ap (λ (n : ℕ). (let x : Member = record { number = a.number; mask = a.mask.bits; capacity = capacity b.tail; scans = waits b.tail; lost = n; cyclic = false; inner = None } in x)) (sym is.1)
+      rw full (ap (λ (scans : List (List ℕ)).
+      (let x : Member =
+      record { number = a.number; mask = a.mask.bits; capacity = capacity a.tail; scans = scans; lost = lost a.tail + 1; cyclic = false; inner = None } in x))
+      (sym is.2)
+      ∙ ap (λ (n : ℕ). (let x : Member =
+      record { number = a.number; mask = a.mask.bits; capacity = n; scans = waits b.tail; lost = lost a.tail + 1; cyclic = false; inner = None } in x))
+      (sym bounded)
+      ∙ ap (λ (n : ℕ). (let x : Member =
+      record { number = a.number; mask = a.mask.bits; capacity = capacity b.tail; scans = waits b.tail; lost = n; cyclic = false; inner = None } in x))
+      (sym is.1)
       ∙ ap (λ (m : Membership Q). member_with lost capacity (waits b.tail) m) (sym same))
 
   all_offered : (shape : ShapeRecord) (c : Capture) (xs ys : List (Membership Q)) → WereOffered shape c xs ys → OffersAreMet xs ys
@@ -80,7 +97,8 @@ module _ {Q : Type 0} (taken lost size capacity : Q → ℕ) (offer_gives : Q �
   all_offered shape c [] (y ∷ ys) z h = absurd z
   all_offered shape c (x ∷ xs) [] z h = absurd z
   all_offered shape c (x ∷ xs) (y ∷ ys) z h =
-      ap (λ (m : Member). m ∷ map (offered_to shape c) (met xs ys)) (offered_by shape c x y z.0.answer z.0.same z.0.bounded (h.0 (scan_of shape x.mask.bits c.values c.moment) z.0.answer z.0.offered))
+      ap (λ (m : Member). m ∷ map (offered_to shape c) (met xs ys))
+      (offered_by shape c x y z.0.answer z.0.same z.0.bounded (h.0 (scan_of shape x.mask.bits c.values c.moment) z.0.answer z.0.offered))
       ∙ ap (λ (ms : List Member). member_with lost capacity (waits y.tail) y ∷ ms) (all_offered shape c xs ys z.1 h.1)
 
   met_masks : (shape : ShapeRecord) (c : Capture) (xs ys : List (Membership Q)) → WereOffered shape c xs ys → plain_masks (met xs ys) ≡ masks_of xs
@@ -102,7 +120,8 @@ module _ {Q : Type 0} (taken lost size capacity : Q → ℕ) (offer_gives : Q �
   met_empty shape c (x ∷ xs) (y ∷ ys) z = refl
 
   -- an entry of the device is due where it is current
-  current_is : (e : Handed) (d : DeviceView Q) (members : List Member) → e.dev ≡ d.number → (d.standing.captures == 2 ^ 64 - 1) ≡ false → is_empty members ≡ is_empty d.standing.members
+  current_is : (e : Handed) (d : DeviceView Q) (members : List Member) → e.dev ≡ d.number → (d.standing.captures == 2 ^ 64 - 1) ≡ false
+      → is_empty members ≡ is_empty d.standing.members
       → is_current e.attachment d.site.attachment members d.site.plugged ≡ is_due e d
   current_is e d members own fewer empty =
       let same : (e.dev == d.number) ≡ true = grind (arith, nat_tests) in
@@ -112,13 +131,17 @@ module _ {Q : Type 0} (taken lost size capacity : Q → ℕ) (offer_gives : Q �
       both true = refl
       both false = refl
 
-  asked_is : (t : ℤ) (d : DeviceView Q) (members : List Member) → d.standing.active ≡ active_for d.standing.shape (masks_of d.standing.members) → plain_masks members ≡ masks_of d.standing.members
+  asked_is : (t : ℤ) (d : DeviceView Q) (members : List Member) → d.standing.active ≡ active_for d.standing.shape (masks_of d.standing.members)
+      → plain_masks members ≡ masks_of d.standing.members
       → captured t (active_for d.standing.shape (plain_masks members)) d.site ≡ captured t d.standing.active d.site
-  asked_is t d members ruled masks = ap (λ (active : Option ℕ). captured t active d.site) (ap (λ (ms : List ℕ). active_for d.standing.shape ms) masks ∙ sym ruled)
+  asked_is t d members ruled masks =
+      ap (λ (active : Option ℕ). captured t active d.site) (ap (λ (ms : List ℕ). active_for d.standing.shape ms) masks ∙ sym ruled)
 
-  pub handled_is : (e : Handed) (r : Handled) (d d' : DeviceView Q) → Handles taken lost size capacity offer_gives e r d d' → e.dev ≡ d.number → (d.standing.captures == 2 ^ 64 - 1) ≡ false
+  pub handled_is : (e : Handed) (r : Handled) (d d' : DeviceView Q) → Handles taken lost size capacity offer_gives e r d d' → e.dev ≡ d.number
+      → (d.standing.captures == 2 ^ 64 - 1) ≡ false
       → d.standing.active ≡ active_for d.standing.shape (masks_of d.standing.members) → AreMet lost capacity waits waited offer_gives r d d'
-      → (r ≡ handled_answer e (station_met lost capacity waits waited r d d')) × (entry_made Input d.standing.shape (Some (entry_by e)) (station_met lost capacity waits waited r d d') ≡ after d')
+      → (r ≡ handled_answer e (station_met lost capacity waits waited r d d'))
+      × (entry_made Input d.standing.shape (Some (entry_by e)) (station_met lost capacity waits waited r d d') ≡ after d')
   handled_is e Idle d d' h own fewer ruled met_is =
       let idle : is_current e.attachment d.site.attachment (after d).members d.site.plugged ≡ false
       = current_is e d (after d).members own fewer (empty_map (λ (m : Membership Q). member_with lost capacity (waits m.tail) m) d.standing.members) ∙ h.0 in
@@ -129,7 +152,8 @@ module _ {Q : Type 0} (taken lost size capacity : Q → ℕ) (offer_gives : Q �
       rw due (
         sym (on_true (ask_fails d.site.driver) Fault (Captured (length (after d).members)) h.1),
         on_true (ask_fails d.site.driver) (asked_once d.standing.shape e.t (after d)) _ h.1
-            ∙ ap (λ (site : Site ℕ). (let st : Station = record (after d) { site = site } in st)) (asked_is e.t d (after d).members ruled (masks_are lost capacity waits d.standing.members))
+            ∙ ap (λ (site : Site ℕ). (let st : Station = record (after d) { site = site } in st))
+            (asked_is e.t d (after d).members ruled (masks_are lost capacity waits d.standing.members))
             ∙ ap after (sym h.2),
       )
   handled_is e (Captured n) d d' h own fewer ruled met_is =
@@ -142,11 +166,43 @@ module _ {Q : Type 0} (taken lost size capacity : Q → ℕ) (offer_gives : Q �
       rw due (
         ap (λ (k : ℕ). Captured k) many ∙ sym (on_false (ask_fails d.site.driver) Fault (Captured (length ms)) h.1),
         on_false (ask_fails d.site.driver) (asked_once d.standing.shape e.t (station_with lost capacity ms d)) _ h.1
-            ∙ ap (λ (site : Site ℕ). (let st : Station = record { next = d.standing.next; captures = d.standing.captures + 1; totals = d.totals; members = map (offered_to d.standing.shape c) ms; site = site; last = first_last d.standing.shape; window = no_window } in st))
+            ∙ ap (λ (site : Site ℕ).
+            (let st : Station =
+            record {
+              next = d.standing.next;
+              captures = d.standing.captures + 1;
+              totals = d.totals;
+              members = map (offered_to d.standing.shape c) ms;
+              site =
+                  site;
+              last = first_last d.standing.shape;
+              window = no_window;
+            } in st))
             (asked_is e.t d ms ruled (met_masks d.standing.shape c d.standing.members d'.standing.members zip))
-            ∙ ap (λ (xs : List Member). (let st : Station = record { next = d.standing.next; captures = d.standing.captures + 1; totals = d.totals; members = xs; site = captured e.t d.standing.active d.site; last = first_last d.standing.shape; window = no_window } in st))
+            ∙ ap (λ (xs : List Member).
+            (let st : Station =
+            record {
+              next = d.standing.next;
+              captures = d.standing.captures + 1;
+              totals = d.totals;
+              members = xs;
+              site = captured e.t d.standing.active d.site;
+              last = first_last d.standing.shape;
+              window = no_window;
+            } in st))
             (all_offered d.standing.shape c d.standing.members d'.standing.members zip met_is)
-            ∙ ap (λ (s : Standing Q). (let st : Station = record { next = s.next; captures = s.captures; totals = d.totals; members = (after d').members; site = captured e.t d.standing.active d.site; last = first_last s.shape; window = no_window } in st)) (sym h.2.1)
+            ∙ ap (λ (s : Standing Q).
+            (let st : Station =
+            record {
+              next = s.next;
+              captures = s.captures;
+              totals = d.totals;
+              members = (after d').members;
+              site = captured e.t d.standing.active d.site;
+              last =
+                  first_last s.shape;
+              window = no_window;
+            } in st)) (sym h.2.1)
             ∙ ap after (sym h.3),
       )
 
@@ -157,41 +213,54 @@ module _ {Q : Type 0} (taken lost size capacity : Q → ℕ) (offer_gives : Q �
       → (r ≡ handled_answer e (station_met lost capacity waits waited r d d'))
       × IsAt lost capacity waits (with_station (entry_made Input d.standing.shape (Some (entry_by e))) dev m) dev d'
   handlings_agree m dev e r d d' h own fewer ruled met_is here =
-      let is = handled_is e r d d' h own fewer ruled met_is in
-      (is.0, at_changed m dev (station_met lost capacity waits waited r d d') (entry_made Input d.standing.shape (Some (entry_by e))) here ∙ ap (λ (st : Station). Some st) is.1)
+      let is = handled_is e r d d' h own fewer ruled met_is in (
+        is.0,
+        at_changed m dev (station_met lost capacity waits waited r d d') (entry_made Input d.standing.shape (Some (entry_by e))) here
+            ∙ ap (λ (st : Station). Some st) is.1,
+      )
 
 -- ---- queues in one hand
 
-pub queues_are_met : (old new : Queue) (scan : List ℕ) (answer : Offered) → QueueOffers old scan answer new → IsMet (λ (q : Queue). q.lost) (λ q. q.capacity) queue_waits queue_waited scan answer old new
+pub queues_are_met : (old new : Queue) (scan : List ℕ) (answer : Offered) → QueueOffers old scan answer new
+    → IsMet (λ (q : Queue). q.lost) (λ q. q.capacity) queue_waits queue_waited scan answer old new
 queues_are_met old new scan Taken o = (o.0, ap (λ (q : Queue). q.lost) o.1, ap (λ (q : Queue). q.scans) o.1)
 queues_are_met old new scan Lost o = ((let h = o.0 in omega arith), ap (λ (q : Queue). q.lost) o.1, ap (λ (q : Queue). q.scans) o.1)
 
 module _ (scan_for : Membership Queue → List ℕ) where
   abbrev Were : List (Membership Queue) → List (Membership Queue) → Type 0
-  Were xs ys = AllZip (λ (a b : Membership Queue). WasOffered (λ (q : Queue). q.taken) (λ q. q.lost) (λ q. q.size) (λ q. q.capacity) QueueOffers (scan_for a) a b) xs ys
+  Were xs ys =
+      AllZip (λ (a b : Membership Queue). WasOffered (λ (q : Queue). q.taken) (λ q. q.lost) (λ q. q.size) (λ q. q.capacity) QueueOffers (scan_for a) a b) xs ys
 
   queues_stood : (xs ys : List (Membership Queue)) → Were xs ys
-      → (members_met (λ (q : Queue). q.lost) (λ q. q.capacity) queue_waits queue_waited xs ys ≡ map (λ (m : Membership Queue). member_with (λ (q : Queue). q.lost) (λ q. q.capacity) (queue_waits m.tail) m) xs)
-      × AllZip (λ (a b : Membership Queue). (scan : List ℕ) (answer : Offered) → QueueOffers a.tail scan answer b.tail → IsMet (λ (q : Queue). q.lost) (λ q. q.capacity) queue_waits queue_waited scan answer a.tail b.tail) xs ys
+      → (members_met (λ (q : Queue). q.lost) (λ q. q.capacity) queue_waits queue_waited xs ys
+      ≡ map (λ (m : Membership Queue). member_with (λ (q : Queue). q.lost) (λ q. q.capacity) (queue_waits m.tail) m) xs)
+      × AllZip (λ (a b : Membership Queue). (scan : List ℕ) (answer : Offered) → QueueOffers a.tail scan answer b.tail
+      → IsMet (λ (q : Queue). q.lost) (λ q. q.capacity) queue_waits queue_waited scan answer a.tail b.tail) xs ys
   queues_stood [] [] z = (refl, tt)
   queues_stood [] (y ∷ ys) z = absurd z
   queues_stood (x ∷ xs) [] z = absurd z
   queues_stood (x ∷ xs) (y ∷ ys) z =
-      let rest = queues_stood xs ys z.1 in
-      (ap (λ (ms : List Member). member_with (λ (q : Queue). q.lost) (λ q. q.capacity) x.tail.scans x ∷ ms) rest.0, ((λ scan answer o. queues_are_met x.tail y.tail scan answer o), rest.1))
+      let rest = queues_stood xs ys z.1 in (
+        ap (λ (ms : List Member). member_with (λ (q : Queue). q.lost) (λ q. q.capacity) x.tail.scans x ∷ ms) rest.0,
+        ((λ scan answer o. queues_are_met x.tail y.tail scan answer o), rest.1),
+      )
 
-pub queues_stand : (e : Handed) (r : Handled) (d d' : DeviceView Queue) → Handles (λ (q : Queue). q.taken) (λ q. q.lost) (λ q. q.size) (λ q. q.capacity) QueueOffers e r d d'
-    → (station_met (λ (q : Queue). q.lost) (λ q. q.capacity) queue_waits queue_waited r d d' ≡ station_of (λ (q : Queue). q.lost) (λ q. q.capacity) queue_waits d)
+pub queues_stand : (e : Handed) (r : Handled) (d d' : DeviceView Queue)
+    → Handles (λ (q : Queue). q.taken) (λ q. q.lost) (λ q. q.size) (λ q. q.capacity) QueueOffers e r d d'
+    → (station_met (λ (q : Queue). q.lost) (λ q. q.capacity) queue_waits queue_waited r d d'
+    ≡ station_of (λ (q : Queue). q.lost) (λ q. q.capacity) queue_waits d)
     × AreMet (λ (q : Queue). q.lost) (λ q. q.capacity) queue_waits queue_waited QueueOffers r d d'
 queues_stand e Idle d d' h = (refl, tt)
 queues_stand e Fault d d' h = (refl, tt)
 queues_stand e (Captured n) d d' h =
-    let is = queues_stood (λ m. scan_of d.standing.shape m.mask.bits (values_of d.site.driver d.standing.shape e.t) e.t) d.standing.members d'.standing.members h.2.2 in
+    let is =
+    queues_stood (λ m. scan_of d.standing.shape m.mask.bits (values_of d.site.driver d.standing.shape e.t) e.t) d.standing.members d'.standing.members h.2.2 in
     (ap (λ (ms : List Member). station_with (λ (q : Queue). q.lost) (λ q. q.capacity) ms d) is.0, is.1)
 
 -- ---- rings
 
-accepted_more : (n : ℕ) (offers : List Offer) (scan : List ℕ) → map (λ (s : Sent). s.scan) (accepted_after n (offers ++ Accepted scan ∷ [])) ≡ map (λ (s : Sent). s.scan) (accepted_after n offers) ++ scan ∷ []
+accepted_more : (n : ℕ) (offers : List Offer) (scan : List ℕ)
+    → map (λ (s : Sent). s.scan) (accepted_after n (offers ++ Accepted scan ∷ [])) ≡ map (λ (s : Sent). s.scan) (accepted_after n offers) ++ scan ∷ []
 accepted_more n [] scan = refl
 accepted_more n (Accepted x ∷ offers) scan = ap (λ (xs : List (List ℕ)). x ∷ xs) (accepted_more n offers scan)
 accepted_more n (Refused ∷ offers) scan = accepted_more (n + 1) offers scan
@@ -223,10 +292,12 @@ length_of_map f (x ∷ xs) = ap (λ (n : ℕ). suc n) (length_of_map f xs)
 left_length : (n : ℕ) (w : WriterEnd) → length (left_after n w) ≡ length (accepted w.knows.offers) - n
 left_length n w = length_of_map (λ (s : Sent). s.scan) (drop n (accepted w.knows.offers)) ∙ length-drop n (accepted w.knows.offers)
 
-pub rings_are_met : (old new : WriterEnd) (scan : List ℕ) (answer : Offered) → WriterOffers old scan answer new → new.knows.seen ≤ length (accepted old.knows.offers)
+pub rings_are_met : (old new : WriterEnd) (scan : List ℕ) (answer : Offered) → WriterOffers old scan answer new
+    → new.knows.seen ≤ length (accepted old.knows.offers)
     → IsMet (λ (w : WriterEnd). lost_in w.knows.offers) (λ w. w.capacity) writer_waits writer_waited scan answer old new
 rings_are_met old new scan Taken o few =
-    let few' : new.knows.seen ≤ length (map (λ (s : Sent). s.scan) (accepted old.knows.offers)) = rw (length_of_map (λ (s : Sent). s.scan) (accepted old.knows.offers)) few in
+    let few' : new.knows.seen ≤ length (map (λ (s : Sent). s.scan) (accepted old.knows.offers)) =
+    rw (length_of_map (λ (s : Sent). s.scan) (accepted old.knows.offers)) few in
     let offers : new.knows.offers ≡ old.knows.offers ++ Accepted scan ∷ [] = ap (λ (w : Writing). w.offers) o.1.1 in (
       (let h = o.1.0 in let n = left_length new.knows.seen old in omega arith),
       ap (λ (xs : List Offer). lost_in xs) offers ∙ lost_same old.knows.offers scan,

@@ -50,7 +50,8 @@ get_changed [] k x change e = absurd (cc)
 get_changed {A = A} (y ∷ ys) zero x change e = let same : y ≡ x = cc in ap (λ (z : A). Some (change z)) same
 get_changed (y ∷ ys) (suc k) x change e = get_changed ys k x change e
 
-pub at_changed : (m : Machine) (dev : ℕ) (st : Station) (change : Station → Station) → slice_get m.stations dev ≡ Some st → slice_get (with_station change dev m).stations dev ≡ Some (change st)
+pub at_changed : (m : Machine) (dev : ℕ) (st : Station) (change : Station → Station) → slice_get m.stations dev ≡ Some st
+    → slice_get (with_station change dev m).stations dev ≡ Some (change st)
 unfolding with_station
 at_changed m dev st change e = get_changed m.stations dev st change e
 
@@ -59,7 +60,8 @@ unfolding station_at
 station_here m dev st e = ap (λ (o : Option Station). unwrap_or o no_station) e
 
 -- a machine whose devices each change by its number
-pub at_joined : (front : Front) (m : Machine) (dev : ℕ) (st : Station) (change : Station → Station) → slice_get m.stations dev ≡ Some st → slice_get (all_joined front dev change m).stations dev ≡ Some (change st)
+pub at_joined : (front : Front) (m : Machine) (dev : ℕ) (st : Station) (change : Station → Station) → slice_get m.stations dev ≡ Some st
+    → slice_get (all_joined front dev change m).stations dev ≡ Some (change st)
 at_joined front m dev st change here =
     let own : (dev == dev) ≡ true = grind (arith, nat_tests) in
     get_first (λ k x. cond (dev == k) (change x) (with_inner front dev k x)) m.stations dev
@@ -72,7 +74,8 @@ at_left front m dev input = get_first (λ k x. without_inner front m dev k x) m.
   where
     by : (o : Option Station) → option_map (λ (x : Station). without_inner front m dev dev x) o ≡ o
     by None = refl
-    by (Some x) = ap (λ (kind : Kind). Some (cond (is_over kind dev && is_input (kind_at front dev) && is_empty (station_at m dev).members) (inner_gone dev x) x)) input
+    by (Some x) =
+        ap (λ (kind : Kind). Some (cond (is_over kind dev && is_input (kind_at front dev) && is_empty (station_at m dev).members) (inner_gone dev x) x)) input
 
 no_window_left : (xs ys : List Member) → window_left xs ys no_window ≡ no_window
 no_window_left xs ys = by (not (is_empty xs) && is_empty ys)
@@ -99,49 +102,67 @@ module _ {Q : Type 0} (lost capacity : Q → ℕ) (waits : Q → List (List ℕ)
   unfolding write_attr_of
   writes_agree m dev channel a v d here = rw (station_here m dev (seen d) here) (by d.site.plugged)
     where
-      by : (b : Bool) → Does lost capacity waits (unless (with_site (site_written channel a v)) dev m (ensure b ENODEV)) (ensure b ENODEV) dev (cond b (at_site (site_written channel a v d.site) d) d)
+      by : (b : Bool) → Does lost capacity waits (unless (with_site (site_written channel a v)) dev m (ensure b ENODEV)) (ensure b ENODEV) dev
+          (cond b (at_site (site_written channel a v d.site) d) d)
       by true = record { answered = refl; device = at_changed m dev (seen d) (with_site (site_written channel a v)) here }
       by false = record { answered = refl; device = here }
 
   pub triggers_agree : (m : Machine) (dev : ℕ) (trigger : Option ℕ) (d : DeviceView Q) → IsAt lost capacity waits m dev d
       → Does lost capacity waits (set_trigger_of m dev trigger) (trigger_answer d) dev (after_trigger trigger d)
   unfolding set_trigger_of
-  triggers_agree m dev trigger d here = rw (station_here m dev (seen d) here, empty_map (λ (x : Membership Q). member_with lost capacity (waits x.tail) x) d.standing.members) (by d.site.plugged (is_empty d.standing.members))
+  triggers_agree m dev trigger d here =
+      rw (station_here m dev (seen d) here, empty_map (λ (x : Membership Q). member_with lost capacity (waits x.tail) x) d.standing.members)
+      (by d.site.plugged (is_empty d.standing.members))
     where
-      by : (p e : Bool) → Does lost capacity waits (unless (with_trigger trigger) dev m (ensure p ENODEV >>= (λ plugged. ensure e EBUSY))) (ensure p ENODEV >>= (λ plugged. ensure e EBUSY)) dev (cond (p && e) (at_site (record d.site { trigger = trigger }) d) d)
+      by : (p e : Bool) → Does lost capacity waits (unless (with_trigger trigger) dev m (ensure p ENODEV >>= (λ plugged. ensure e EBUSY)))
+          (ensure p ENODEV >>= (λ plugged. ensure e EBUSY)) dev (cond (p && e) (at_site (record d.site { trigger = trigger }) d) d)
       by true true = record { answered = refl; device = at_changed m dev (seen d) (with_trigger trigger) here }
       by true false = record { answered = refl; device = here }
       by false e = record { answered = refl; device = here }
 
-  pub samples_agree : (front : Front) (m : Machine) (dev c : ℕ) (d : DeviceView Q) → IsAt lost capacity waits m dev d → kind_at front dev ≡ Input → shape_at front dev ≡ d.standing.shape
+  pub samples_agree : (front : Front) (m : Machine) (dev c : ℕ) (d : DeviceView Q) → IsAt lost capacity waits m dev d → kind_at front dev ≡ Input
+      → shape_at front dev ≡ d.standing.shape
       → Does lost capacity waits (read_attr_of front m dev (Some c) attr.Raw) (raw_value (raw_answer c m.clock d)) dev (after_raw d)
   unfolding read_attr_of
   samples_agree front m dev c d here input shaped =
-      rw (station_here m dev (seen d) here, input, shaped, empty_map (λ (x : Membership Q). member_with lost capacity (waits x.tail) x) d.standing.members) (by (value_of d.site.driver d.standing.shape m.clock c 0) d.site.plugged (is_empty d.standing.members) (ask_fails d.site.driver))
+      rw (station_here m dev (seen d) here, input, shaped, empty_map (λ (x : Membership Q). member_with lost capacity (waits x.tail) x) d.standing.members)
+      (by (value_of d.site.driver d.standing.shape m.clock c 0) d.site.plugged (is_empty d.standing.members) (ask_fails d.site.driver))
     where
       by : (sample : ℤ) (p e f : Bool)
           → Does lost capacity waits
-          (let o : Outcome Value = record { answer = ensure p ENODEV >>= (λ plugged. ensure e EBUSY >>= (λ free. ensure (not f) EIO >>= (λ answered. Ok (Int sample)))); machine = cond (p && e && true) (with_station (with_site sampled) dev m) m } in o)
-          (raw_value (ensure p raw.Gone >>= (λ plugged. ensure e raw.Busy >>= (λ free. ensure (not f) raw.Fault >>= (λ answered. Ok sample))))) dev (cond (p && e) (at_site (sampled d.site) d) d)
+          (let o : Outcome Value =
+          record {
+            answer = ensure p ENODEV >>= (λ plugged. ensure e EBUSY >>= (λ free. ensure (not f) EIO >>= (λ answered. Ok (Int sample))));
+            machine =
+                cond (p && e && true) (with_station (with_site sampled) dev m) m;
+          } in o)
+          (raw_value (ensure p raw.Gone >>= (λ plugged. ensure e raw.Busy >>= (λ free. ensure (not f) raw.Fault >>= (λ answered. Ok sample))))) dev
+          (cond (p && e) (at_site (sampled d.site) d) d)
       by sample true true true = record { answered = refl; device = at_changed m dev (seen d) (with_site sampled) here }
       by sample true true false = record { answered = refl; device = at_changed m dev (seen d) (with_site sampled) here }
       by sample true false f = record { answered = refl; device = here }
       by sample false e f = record { answered = refl; device = here }
 
-  answer_kept : (name : List ℕ) (kind : Kind) (shape : ShapeRecord) (clock : ℤ) (channel : Option ℕ) (a : Attr) (st : Station) → is_raw channel a ≡ false → attr_answer name kind shape clock channel a st ≡ Ok (attr_value name channel a st.site)
+  answer_kept : (name : List ℕ) (kind : Kind) (shape : ShapeRecord) (clock : ℤ) (channel : Option ℕ) (a : Attr) (st : Station) → is_raw channel a ≡ false
+      → attr_answer name kind shape clock channel a st ≡ Ok (attr_value name channel a st.site)
   answer_kept name kind shape clock None a st e = refl
   answer_kept name kind shape clock (Some c) attr.Raw st e = absurd (cc)
   answer_kept name kind shape clock (Some c) a st e = refl
 
-  pub reads_agree : (front : Front) (m : Machine) (dev : ℕ) (channel : Option ℕ) (a : Attr) (d : DeviceView Q) → IsAt lost capacity waits m dev d → device_name front dev ≡ d.name
-      → is_raw channel a ≡ false → d.site.plugged ≡ true → Does lost capacity waits (read_attr_of front m dev channel a) (Ok (attr_value d.name channel a d.site)) dev d
+  pub reads_agree : (front : Front) (m : Machine) (dev : ℕ) (channel : Option ℕ) (a : Attr) (d : DeviceView Q) → IsAt lost capacity waits m dev d
+      → device_name front dev ≡ d.name
+      → is_raw channel a ≡ false → d.site.plugged ≡ true
+      → Does lost capacity waits (read_attr_of front m dev channel a) (Ok (attr_value d.name channel a d.site)) dev d
   unfolding read_attr_of
   reads_agree front m dev channel a d here named kept plugged =
       rw (station_here m dev (seen d) here, named)
-      (by d.site.plugged (is_raw channel a) (is_empty (seen d).members) (is_input (kind_at front dev)) _ _ plugged kept (answer_kept d.name (kind_at front dev) (shape_at front dev) m.clock channel a (seen d) kept))
+      (by d.site.plugged (is_raw channel a) (is_empty (seen d).members) (is_input (kind_at front dev)) _ _ plugged kept
+      (answer_kept d.name (kind_at front dev) (shape_at front dev) m.clock channel a (seen d) kept))
     where
       by : (p k e i : Bool) (x y : Result Value Errno) → p ≡ true → k ≡ false → x ≡ y
-          → Does lost capacity waits (let o : Outcome Value = record { answer = ensure p ENODEV >>= (λ there. x); machine = cond (k && p && e && i) (with_station (with_site sampled) dev m) m } in o) y dev d
+          → Does lost capacity waits
+          (let o : Outcome Value =
+          record { answer = ensure p ENODEV >>= (λ there. x); machine = cond (k && p && e && i) (with_station (with_site sampled) dev m) m } in o) y dev d
       by true false e i x y p k same = record { answered = same; device = here }
       by true true e i x y p k same = absurd (cc)
       by false k' e i x y p k same = absurd (cc)
@@ -150,11 +171,13 @@ module _ {Q : Type 0} (lost capacity : Q → ℕ) (waits : Q → List (List ℕ)
       → IsAt lost capacity waits (with_station (look_made d.standing.shape t) dev m) dev (after_sense t d)
   looks_agree m dev t d here = at_changed m dev (seen d) (look_made d.standing.shape t) here ∙ ap (λ (st : Station). Some st) (by d.site.plugged)
     where
-      by : (b : Bool) → cond b (with_site (λ site. with_sensed (sensed d.standing.shape t site) site) (seen d)) (seen d) ≡ seen (cond b (at_site (with_sensed (sensed d.standing.shape t d.site) d.site) d) d)
+      by : (b : Bool) → cond b (with_site (λ site. with_sensed (sensed d.standing.shape t site) site) (seen d)) (seen d)
+          ≡ seen (cond b (at_site (with_sensed (sensed d.standing.shape t d.site) d.site) d) d)
       by true = refl
       by false = refl
 
-  pub unpluggings_agree : (m : Machine) (dev : ℕ) (d : DeviceView Q) → IsAt lost capacity waits m dev d → IsAt lost capacity waits (with_station (with_site unplugged) dev m) dev (at_site (unplugged d.site) d)
+  pub unpluggings_agree : (m : Machine) (dev : ℕ) (d : DeviceView Q) → IsAt lost capacity waits m dev d
+      → IsAt lost capacity waits (with_station (with_site unplugged) dev m) dev (at_site (unplugged d.site) d)
   unpluggings_agree m dev d here = at_changed m dev (seen d) (with_site unplugged) here
 
   -- ---- events
@@ -165,7 +188,8 @@ module _ {Q : Type 0} (lost capacity : Q → ℕ) (waits : Q → List (List ℕ)
   holdings_agree m dev who d here plugged = rw (station_here m dev (seen d) here) (by d.site.plugged d.site.monitor.holder plugged refl)
     where
       by : (p : Bool) (o : Option ℕ) → p ≡ true → d.site.monitor.holder ≡ o
-          → Does lost capacity waits (unless (with_site (with_monitor (after_open who))) dev m (ensure p ENODEV >>= (λ there. ensure (is_none d.site.monitor.holder) EBUSY)))
+          → Does lost capacity waits
+          (unless (with_site (with_monitor (after_open who))) dev m (ensure p ENODEV >>= (λ there. ensure (is_none d.site.monitor.holder) EBUSY)))
           (held_errno (open_answer d.site.monitor)) dev (at_site (with_monitor (after_open who) d.site) d)
       by true None p e = rw e (record { answered = refl; device = at_changed m dev (seen d) (with_site (with_monitor (after_open who))) here ∙ rw e refl })
       by true (Some x) p e =
@@ -179,26 +203,33 @@ module _ {Q : Type 0} (lost capacity : Q → ℕ) (waits : Q → List (List ℕ)
       by false o p e = absurd (cc)
 
   pub events_agree : (m : Machine) (dev who : ℕ) (d : DeviceView Q) → IsAt lost capacity waits m dev d → d.site.plugged ≡ true
-      → Does lost capacity waits (ev_read_of m dev who) (holder_errno (read_answer (λ a b. a == b) who d.site.monitor)) dev (at_site (with_monitor (after_read (λ a b. a == b) who) d.site) d)
+      → Does lost capacity waits (ev_read_of m dev who) (holder_errno (read_answer (λ a b. a == b) who d.site.monitor)) dev
+      (at_site (with_monitor (after_read (λ a b. a == b) who) d.site) d)
   unfolding ev_read_of
   events_agree m dev who d here plugged = rw (station_here m dev (seen d) here) (by d.site.plugged (is_holder (λ a b. a == b) who d.site.monitor) plugged refl)
     where
       by : (p h : Bool) → p ≡ true → is_holder (λ a b. a == b) who d.site.monitor ≡ h
-          → Does lost capacity waits (unless (with_site (with_monitor (after_read (λ a b. a == b) who))) dev m (ensure p ENODEV >>= (λ there. ensure (is_holder (λ a b. a == b) who d.site.monitor) EBADF >>= (λ holds. Ok (slice_get d.site.monitor.events 0)))))
+          → Does lost capacity waits
+          (unless (with_site (with_monitor (after_read (λ a b. a == b) who))) dev m
+          (ensure p ENODEV >>= (λ there. ensure (is_holder (λ a b. a == b) who d.site.monitor) EBADF >>= (λ holds. Ok (slice_get d.site.monitor.events 0)))))
           (holder_errno (read_answer (λ a b. a == b) who d.site.monitor)) dev (at_site (with_monitor (after_read (λ a b. a == b) who) d.site) d)
-      by true true p e = rw e (record { answered = refl; device = at_changed m dev (seen d) (with_site (with_monitor (after_read (λ a b. a == b) who))) here ∙ rw e refl })
+      by true true p e =
+          rw e (record { answered = refl; device = at_changed m dev (seen d) (with_site (with_monitor (after_read (λ a b. a == b) who))) here ∙ rw e refl })
       by true false p e = rw e (record { answered = refl; device = here })
       by false h p e = absurd (cc)
 
   pub releases_agree : (m : Machine) (dev who : ℕ) (d : DeviceView Q) → IsAt lost capacity waits m dev d
-      → Does lost capacity waits (ev_close_of m dev who) (holder_errno (close_answer (λ a b. a == b) who d.site.monitor)) dev (at_site (with_monitor (after_close (λ a b. a == b) who) d.site) d)
+      → Does lost capacity waits (ev_close_of m dev who) (holder_errno (close_answer (λ a b. a == b) who d.site.monitor)) dev
+      (at_site (with_monitor (after_close (λ a b. a == b) who) d.site) d)
   unfolding ev_close_of
   releases_agree m dev who d here = rw (station_here m dev (seen d) here) (by (is_holder (λ a b. a == b) who d.site.monitor) refl)
     where
       by : (h : Bool) → is_holder (λ a b. a == b) who d.site.monitor ≡ h
-          → Does lost capacity waits (unless (with_site (with_monitor (after_close (λ a b. a == b) who))) dev m (ensure (is_holder (λ a b. a == b) who d.site.monitor) EBADF))
+          → Does lost capacity waits
+          (unless (with_site (with_monitor (after_close (λ a b. a == b) who))) dev m (ensure (is_holder (λ a b. a == b) who d.site.monitor) EBADF))
           (holder_errno (close_answer (λ a b. a == b) who d.site.monitor)) dev (at_site (with_monitor (after_close (λ a b. a == b) who) d.site) d)
-      by true e = rw e (record { answered = refl; device = at_changed m dev (seen d) (with_site (with_monitor (after_close (λ a b. a == b) who))) here ∙ rw e refl })
+      by true e =
+          rw e (record { answered = refl; device = at_changed m dev (seen d) (with_site (with_monitor (after_close (λ a b. a == b) who))) here ∙ rw e refl })
       by false e = rw e (record { answered = refl; device = here })
 
 -- ---- leaves
@@ -207,7 +238,8 @@ filter_map_is : {A B : Type 0} (f : A → B) (p : A → Bool) (q : B → Bool) (
 filter_map_is f p q [] same = refl
 filter_map_is f p q (x ∷ xs) same = rw (same x) (by (p x) (filter_map_is f p q xs same))
   where
-    by : (b : Bool) → filter q (map f xs) ≡ map f (filter p xs) → cond b (f x ∷ filter q (map f xs)) (filter q (map f xs)) ≡ map f (cond b (x ∷ filter p xs) (filter p xs))
+    by : (b : Bool) → filter q (map f xs) ≡ map f (filter p xs)
+        → cond b (f x ∷ filter q (map f xs)) (filter q (map f xs)) ≡ map f (cond b (x ∷ filter p xs) (filter p xs))
     by true h = ap (λ ys. f x ∷ ys) h
     by false h = h
 
@@ -240,7 +272,8 @@ module _ {Q : Type 0} (lost capacity : Q → ℕ) (waits : Q → List (List ℕ)
   without_is n ms = filter_map_is member (λ (m : Membership Q). not (m.number == n)) (λ (x : Member). not (x.number == n)) ms (λ m. refl)
 
   -- what was lost of the member of that number
-  pub lost_told : (n : ℕ) (ms : List (Membership Q)) → lost_by n (map member ms) ≡ option_map lost (option_map (λ (m : Membership Q). m.tail) (membership_of n ms))
+  pub lost_told : (n : ℕ) (ms : List (Membership Q))
+      → lost_by n (map member ms) ≡ option_map lost (option_map (λ (m : Membership Q). m.tail) (membership_of n ms))
   lost_told n [] = refl
   lost_told n (m ∷ ms) = by (m.number == n) (lost_told n ms)
     where
@@ -250,23 +283,35 @@ module _ {Q : Type 0} (lost capacity : Q → ℕ) (waits : Q → List (List ℕ)
       by true h = refl
       by false h = h
 
-  lost_here : (n : ℕ) (r : Option Q) (ms : List (Membership Q)) → option_map (λ (m : Membership Q). m.tail) (membership_of n ms) ≡ r → option_map lost r ≡ lost_by n (map member ms)
+  lost_here : (n : ℕ) (r : Option Q) (ms : List (Membership Q)) → option_map (λ (m : Membership Q). m.tail) (membership_of n ms) ≡ r
+      → option_map lost r ≡ lost_by n (map member ms)
   lost_here n r ms e = ap (λ (o : Option Q). option_map lost o) (sym e) ∙ sym (lost_told n ms)
 
-  window_first : (n : ℕ) (d : DeviceView Q) → left n (station d) ≡ (let st : Station = record (station d) { totals = with_left (lost_by n (map member d.standing.members)) d.totals; members = without n (map member d.standing.members) } in st)
+  window_first : (n : ℕ) (d : DeviceView Q)
+      → left n (station d) ≡ (let st : Station =
+      record (station d) { totals = with_left (lost_by n (map member d.standing.members)) d.totals; members = without n (map member d.standing.members) } in st)
   window_first n d =
-      ap (λ (w : Window). (let st : Station = record (station d) { totals = with_left (lost_by n (map member d.standing.members)) d.totals; members = without n (map member d.standing.members); window = w } in st))
+      ap (λ (w : Window). (let st : Station =
+      record (station d) {
+        totals = with_left (lost_by n (map member d.standing.members)) d.totals;
+        members = without n (map member d.standing.members);
+        window = w;
+      } in st))
       (no_window_left (map member d.standing.members) (without n (map member d.standing.members)))
 
-  pub left_is : (n : ℕ) (r : Option Q) (d d' : DeviceView Q) (s s' : State) → LeavesDevice lost n r d d' s s' → (option_map lost r ≡ lost_by n (station d).members) × (left n (station d) ≡ station d')
+  pub left_is : (n : ℕ) (r : Option Q) (d d' : DeviceView Q) (s s' : State) → LeavesDevice lost n r d d' s s'
+      → (option_map lost r ≡ lost_by n (station d).members) × (left n (station d) ≡ station d')
   left_is n None d d' s s' j =
       let told : option_map lost None ≡ lost_by n (map member d.standing.members)
       = lost_here n None d.standing.members (ap (λ (o : Option (Membership Q)). option_map (λ (m : Membership Q). m.tail) o) j.0) in
       let same : without n (map member d.standing.members) ≡ map member d.standing.members
-      = without_is n d.standing.members ∙ ap (λ (ms : List (Membership Q)). map member ms) (filter_none (λ (m : Membership Q). m.number == n) d.standing.members j.0) in (
+      =
+      without_is n d.standing.members
+      ∙ ap (λ (ms : List (Membership Q)). map member ms) (filter_none (λ (m : Membership Q). m.number == n) d.standing.members j.0) in (
         told,
         window_first n d
-            ∙ ap (λ (o : Option ℕ). (let st : Station = record (station d) { totals = with_left o d.totals; members = without n (map member d.standing.members) } in st)) (sym told)
+            ∙ ap (λ (o : Option ℕ). (let st : Station =
+            record (station d) { totals = with_left o d.totals; members = without n (map member d.standing.members) } in st)) (sym told)
             ∙ ap (λ (ms : List Member). (let st : Station = record (station d) { members = ms } in st)) same
             ∙ ap station (sym j.1),
       )
@@ -274,12 +319,15 @@ module _ {Q : Type 0} (lost capacity : Q → ℕ) (waits : Q → List (List ℕ)
       let told : option_map lost (Some tail) ≡ lost_by n (map member d.standing.members) = lost_here n (Some tail) d.standing.members j.0 in (
         told,
         window_first n d
-            ∙ ap (λ (o : Option ℕ). (let st : Station = record (station d) { totals = with_left o d.totals; members = without n (map member d.standing.members) } in st)) (sym told)
-            ∙ ap (λ (ms : List Member). (let st : Station = record (station d) { totals = with_lost (lost tail) d.totals; members = ms } in st)) (without_is n d.standing.members)
+            ∙ ap (λ (o : Option ℕ). (let st : Station =
+            record (station d) { totals = with_left o d.totals; members = without n (map member d.standing.members) } in st)) (sym told)
+            ∙ ap (λ (ms : List Member). (let st : Station = record (station d) { totals = with_lost (lost tail) d.totals; members = ms } in st))
+            (without_is n d.standing.members)
             ∙ ap station (sym j.1),
       )
 
-  pub leaves_agree : (front : Front) (m : Machine) (dev n : ℕ) (r : Option Q) (d d' : DeviceView Q) (s s' : State) → LeavesDevice lost n r d d' s s' → IsAt lost capacity waits m dev d → kind_at front dev ≡ Input
+  pub leaves_agree : (front : Front) (m : Machine) (dev n : ℕ) (r : Option Q) (d d' : DeviceView Q) (s s' : State) → LeavesDevice lost n r d d' s s'
+      → IsAt lost capacity waits m dev d → kind_at front dev ≡ Input
       → (option_map lost r ≡ lost_by n (station d).members) × IsAt lost capacity waits (closed front m dev n) dev d'
   unfolding closed
   leaves_agree front m dev n r d d' s s' j here input =
@@ -301,22 +349,30 @@ module _ {Q : Type 0} (lost capacity : Q → ℕ) (waits : Q → List (List ℕ)
   or_twice false true = refl
   or_twice false false = refl
 
-  refusals_are : (front : Front) (m : Machine) (d : DeviceView Q) (mask : ℕ) (s : State) (r : Option JoinFault) → is_bad_mask d.standing.shape mask ≡ false → SamePlaces front m d s
-      → first_refusal (join_faults d mask (Some s)) ≡ r → first_refusal (open_refusals front m.stations Input (own_host (station d) d.standing.shape mask) (station d)) ≡ option_and_then errno_of r
+  refusals_are : (front : Front) (m : Machine) (d : DeviceView Q) (mask : ℕ) (s : State) (r : Option JoinFault) → is_bad_mask d.standing.shape mask ≡ false
+      → SamePlaces front m d s
+      → first_refusal (join_faults d mask (Some s)) ≡ r
+      → first_refusal (open_refusals front m.stations Input (own_host (station d) d.standing.shape mask) (station d)) ≡ option_and_then errno_of r
   refusals_are front m d mask s r good places e =
       let same : first_refusal ((not d.site.plugged, fault.Gone) ∷ (false, fault.BadMask)
       ∷ member_faults (is_none d.site.trigger) (is_without_union d.standing.shape (masks_of d.standing.members) mask) (is_full_view d (Some s))) ≡ r
       = rw good at e in
       let full : is_full front m.stations (own_host (station d) d.standing.shape mask) (station d) ≡ is_full_view d (Some s)
-      = rw (empty_map member d.standing.members) (or_twice (is_empty d.standing.members && has_no_place front m.stations d.site.trigger) (d.standing.next == 2 ^ 64 - 1)
+      =
+      rw (empty_map member d.standing.members)
+      (or_twice (is_empty d.standing.members && has_no_place front m.stations d.site.trigger) (d.standing.next == 2 ^ 64 - 1)
       ∙ full_by (is_empty d.standing.members) (lacks_place d.number s) (has_no_place front m.stations d.site.trigger) (d.standing.next == 2 ^ 64 - 1) places) in
-      rw (masks_are d.standing.members, full) (agree (not d.site.plugged) (is_none d.site.trigger) (is_without_union d.standing.shape (masks_of d.standing.members) mask) (is_full_view d (Some s)) r same)
+      rw (masks_are d.standing.members, full)
+      (agree (not d.site.plugged) (is_none d.site.trigger) (is_without_union d.standing.shape (masks_of d.standing.members) mask) (is_full_view d (Some s)) r
+      same)
 
   -- the device with a member more
-  pub joined_is : (mask : Mask) (tail : Q) (d : DeviceView Q) → IsNewEnd lost waits tail → joined mask.bits (capacity tail) false None (station d) ≡ station (device_joined mask tail d)
+  pub joined_is : (mask : Mask) (tail : Q) (d : DeviceView Q) → IsNewEnd lost waits tail
+      → joined mask.bits (capacity tail) false None (station d) ≡ station (device_joined mask tail d)
   joined_is mask tail d fresh = rw (map-append member d.standing.members, fresh.none, fresh.unlost, empty_map member d.standing.members) refl
 
-  open_is : (front : Front) (m : Machine) (dev mask cap : ℕ) (d : DeviceView Q) (r : Option Errno) → IsAt lost capacity waits m dev d → kind_at front dev ≡ Input → shape_at front dev ≡ d.standing.shape
+  open_is : (front : Front) (m : Machine) (dev mask cap : ℕ) (d : DeviceView Q) (r : Option Errno) → IsAt lost capacity waits m dev d
+      → kind_at front dev ≡ Input → shape_at front dev ≡ d.standing.shape
       → first_refusal (open_refusals front m.stations Input (own_host (station d) d.standing.shape mask) (station d)) ≡ r
       → open_of front m dev mask cap false ≡ unless_made (all_joined front dev (joined mask cap false None)) m (unless_refused d.standing.next r)
   unfolding open_of
@@ -326,12 +382,14 @@ module _ {Q : Type 0} (lost capacity : Q → ℕ) (waits : Q → List (List ℕ)
   stated f None e = rw e refl
   stated f (Some g) e = rw e refl
 
-  refused_is : (o : Outcome ℕ) (m : Machine) (dev next : ℕ) (change : Machine → Machine) (d d' : DeviceView Q) (r : Option Errno) → IsAt lost capacity waits m dev d → d' ≡ d
+  refused_is : (o : Outcome ℕ) (m : Machine) (dev next : ℕ) (change : Machine → Machine) (d d' : DeviceView Q) (r : Option Errno)
+      → IsAt lost capacity waits m dev d → d' ≡ d
       → o ≡ unless_made change m (unless_refused next r) → IsRefused lost capacity waits o m r dev d'
   refused_is o m dev next change d d' None here same e = rw same (here)
   refused_is o m dev next change d d' (Some x) here same e = rw (e, same) (record { answered = refl; device = here })
 
-  pub joins_agree : (front : Front) (m : Machine) (dev : ℕ) (mask : Mask) (tail : Q) (r : Result MemberNumber (JoinRefused Q)) (d d' : DeviceView Q) (s s' : State)
+  pub joins_agree : (front : Front) (m : Machine) (dev : ℕ) (mask : Mask) (tail : Q) (r : Result MemberNumber (JoinRefused Q)) (d d' : DeviceView Q)
+      (s s' : State)
       → JoinsDevice mask tail r d d' s s' → IsAt lost capacity waits m dev d → kind_at front dev ≡ Input → shape_at front dev ≡ d.standing.shape
       → is_bad_mask d.standing.shape mask.bits ≡ false → SamePlaces front m d s → IsNewEnd lost waits tail
       → IsJoined lost capacity waits (open_of front m dev mask.bits (capacity tail) false) m r dev d'
@@ -339,13 +397,17 @@ module _ {Q : Type 0} (lost capacity : Q → ℕ) (waits : Q → List (List ℕ)
       let o = open_is front m dev mask.bits (capacity tail) d None here input shaped (refusals_are front m d mask.bits s None good places j.0) in
       record {
         answered = ap (λ (y : Outcome ℕ). y.answer) o ∙ ap (λ (n : ℕ). (let r : Result ℕ Errno = Ok n in r)) (sym j.1);
-        device = ap (λ (y : Outcome ℕ). slice_get y.machine.stations dev) o ∙ at_joined front m dev (station d) (joined mask.bits (capacity tail) false None) here
+        device =
+            ap (λ (y : Outcome ℕ). slice_get y.machine.stations dev) o ∙ at_joined front m dev (station d) (joined mask.bits (capacity tail) false None) here
             ∙ ap (λ (st : Station). Some st) (joined_is mask tail d fresh ∙ ap station (sym j.2));
       }
   joins_agree front m dev mask tail (Err x) d d' s s' j here input shaped good places fresh =
       let refusal = first_refusal (join_faults d mask.bits (Some s)) in
-      let o = open_is front m dev mask.bits (capacity tail) d (errno_of x.fault) here input shaped (refusals_are front m d mask.bits s refusal good places refl ∙ stated x.fault refusal j.0) in
-      refused_is (open_of front m dev mask.bits (capacity tail) false) m dev d.standing.next (all_joined front dev (joined mask.bits (capacity tail) false None)) d d' (errno_of x.fault) here j.2 o
+      let o =
+      open_is front m dev mask.bits (capacity tail) d (errno_of x.fault) here input shaped
+      (refusals_are front m d mask.bits s refusal good places refl ∙ stated x.fault refusal j.0) in
+      refused_is (open_of front m dev mask.bits (capacity tail) false) m dev d.standing.next
+      (all_joined front dev (joined mask.bits (capacity tail) false None)) d d' (errno_of x.fault) here j.2 o
 
   -- ---- places
 
@@ -358,7 +420,8 @@ module _ {Q : Type 0} (lost capacity : Q → ℕ) (waits : Q → List (List ℕ)
       or_true false = refl
 
       by : (x y : Bool) → nat_lt p.dev n ≡ x → (p.dev == n) ≡ y → holds_place n (with_place n a ps) ≡ true
-          → holds_place n (cond x (p ∷ with_place n a ps) (cond y (record { dev = n; attachment = a } ∷ ps) (record { dev = n; attachment = a } ∷ p ∷ ps))) ≡ true
+          → holds_place n (cond x (p ∷ with_place n a ps) (cond y (record { dev = n; attachment = a } ∷ ps) (record { dev = n; attachment = a } ∷ p ∷ ps)))
+          ≡ true
       by true y e f h = rw h (or_true (p.dev == n))
       by false true e f h = let own : (n == n) ≡ true = grind (arith, nat_tests) in rw own refl
       by false false e f h = let own : (n == n) ≡ true = grind (arith, nat_tests) in rw own refl
@@ -367,7 +430,8 @@ module _ {Q : Type 0} (lost capacity : Q → ℕ) (waits : Q → List (List ℕ)
   placed_none n [] = refl
   placed_none n (p ∷ ps) = by (p.dev == n) refl (placed_none n ps)
     where
-      by : (b : Bool) → (p.dev == n) ≡ b → holds_place n (without_place n ps) ≡ false → holds_place n (cond (not b) (p ∷ without_place n ps) (without_place n ps)) ≡ false
+      by : (b : Bool) → (p.dev == n) ≡ b → holds_place n (without_place n ps) ≡ false
+          → holds_place n (cond (not b) (p ∷ without_place n ps) (without_place n ps)) ≡ false
       by true e h = h
       by false e h = rw (e, h) refl
 
@@ -383,11 +447,13 @@ module _ {Q : Type 0} (lost capacity : Q → ℕ) (waits : Q → List (List ℕ)
   more_members (x ∷ ms) m = refl
 
   -- where it held a place exactly while it had a member
-  join_placed : (b : Bool) (n a : ℕ) (s : State) → holds_place n s.attached ≡ not b → holds_place n (cond b (record s { attached = with_place n a s.attached }) s).attached ≡ true
+  join_placed : (b : Bool) (n a : ℕ) (s : State) → holds_place n s.attached ≡ not b
+      → holds_place n (cond b (record s { attached = with_place n a s.attached }) s).attached ≡ true
   join_placed true n a s h = placed_more n a s.attached
   join_placed false n a s h = h
 
-  leave_placed : (b c : Bool) (n : ℕ) (s : State) → holds_place n s.attached ≡ not b → (c ≡ false → b ≡ false) → holds_place n (cond c (record s { attached = without_place n s.attached }) s).attached ≡ not c
+  leave_placed : (b c : Bool) (n : ℕ) (s : State) → holds_place n s.attached ≡ not b → (c ≡ false → b ≡ false)
+      → holds_place n (cond c (record s { attached = without_place n s.attached }) s).attached ≡ not c
   leave_placed b true n s h fewer = placed_none n s.attached
   leave_placed b false n s h fewer = h ∙ ap (λ (x : Bool). not x) (fewer refl)
 
@@ -395,14 +461,17 @@ module _ {Q : Type 0} (lost capacity : Q → ℕ) (waits : Q → List (List ℕ)
   fewer_members n [] e = e
   fewer_members n (m ∷ ms) e = refl
 
-  join_places : (t : ℕ) (mask : Mask) (tail : Q) (r : Result MemberNumber (JoinRefused Q)) (d d' : DeviceView Q) (s s' : State) → d.site.trigger ≡ Some t → IsPlaced lost capacity waits t d s
+  join_places : (t : ℕ) (mask : Mask) (tail : Q) (r : Result MemberNumber (JoinRefused Q)) (d d' : DeviceView Q) (s s' : State) → d.site.trigger ≡ Some t
+      → IsPlaced lost capacity waits t d s
       → JoinsDevice mask tail r d d' s s' → IsPlaced lost capacity waits t d' s'
   join_places t mask tail (Ok x) d d' s s' own placed j =
       let trigger : d'.site.trigger ≡ Some t = ap (λ (v : DeviceView Q). v.site.trigger) j.2 ∙ attached_trigger (is_empty d.standing.members) d.site ∙ own in
       let some : is_empty d'.standing.members ≡ false
       = ap (λ (v : DeviceView Q). is_empty v.standing.members) j.2 ∙ more_members d.standing.members _ in
       let held : holds_place d.number s'.attached ≡ true
-      = ap (λ (x : State). holds_place d.number x.attached) j.3 ∙ join_placed (is_empty d.standing.members) d.number (d.site.attachment + 1) s (placed ∙ attached_is t d own) in
+      =
+      ap (λ (x : State). holds_place d.number x.attached) j.3
+      ∙ join_placed (is_empty d.standing.members) d.number (d.site.attachment + 1) s (placed ∙ attached_is t d own) in
       ap (λ (v : DeviceView Q). holds_place v.number s'.attached) j.2 ∙ held ∙ ap (λ (b : Bool). not b) (sym some) ∙ sym (attached_is t d' trigger)
   join_places t mask tail (Err x) d d' s s' own placed j = rw (j.2, j.3) placed
 
@@ -414,10 +483,14 @@ module _ {Q : Type 0} (lost capacity : Q → ℕ) (waits : Q → List (List ℕ)
       let number : d'.number ≡ d.number = ap (λ (v : DeviceView Q). v.number) j.1 in
       let members : d'.standing.members ≡ without_of n d.standing.members = ap (λ (v : DeviceView Q). v.standing.members) j.1 in
       ap (λ (x : State). holds_place d'.number x.attached) j.2
-      ∙ leave_placed (is_empty d.standing.members) (is_empty d'.standing.members) d'.number s (ap (λ (k : ℕ). holds_place k s.attached) number ∙ placed ∙ attached_is t d own)
+      ∙ leave_placed (is_empty d.standing.members) (is_empty d'.standing.members) d'.number s
+      (ap (λ (k : ℕ). holds_place k s.attached) number ∙ placed ∙ attached_is t d own)
       (λ e. fewer_members n d.standing.members (ap (λ (ms : List (Membership Q)). is_empty ms) (sym members) ∙ e))
       ∙ sym (attached_is t d' trigger)
 
-  pub places_agree : (t n : ℕ) (mask : Mask) (tail : Q) (r : Result MemberNumber (JoinRefused Q)) (given : Option Q) (d d' : DeviceView Q) (s s' : State) → d.site.trigger ≡ Some t → IsPlaced lost capacity waits t d s
-      → (JoinsDevice mask tail r d d' s s' → IsPlaced lost capacity waits t d' s') × (LeavesDevice lost n given d d' s s' → IsPlaced lost capacity waits t d' s')
-  places_agree t n mask tail r given d d' s s' own placed = ((λ j. join_places t mask tail r d d' s s' own placed j), (λ j. leave_places t n given d d' s s' own placed j))
+  pub places_agree : (t n : ℕ) (mask : Mask) (tail : Q) (r : Result MemberNumber (JoinRefused Q)) (given : Option Q) (d d' : DeviceView Q) (s s' : State)
+      → d.site.trigger ≡ Some t → IsPlaced lost capacity waits t d s
+      → (JoinsDevice mask tail r d d' s s' → IsPlaced lost capacity waits t d' s')
+      × (LeavesDevice lost n given d d' s s' → IsPlaced lost capacity waits t d' s')
+  places_agree t n mask tail r given d d' s s' own placed =
+      ((λ j. join_places t mask tail r d d' s s' own placed j), (λ j. leave_places t n given d d' s s' own placed j))

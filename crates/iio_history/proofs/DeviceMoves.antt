@@ -26,17 +26,20 @@ use Rattle.iio_history.proofs.DeviceLaws.{looks_agree}
 use Rattle.iio_history.proofs.DeviceHandlings.{handled_is}
 
 module _ {Q : Type 0} (lost capacity : Q → ℕ) where
-  pub ends_agree : (waits : Q → List (List ℕ)) (s : Setup) (m : Told) (k : ℕ) (d : DeviceView Q) → IsBench s m → kind_at (front_of s) k ≡ Input → IsAt lost capacity waits (machine_of m) k d
+  pub ends_agree : (waits : Q → List (List ℕ)) (s : Setup) (m : Told) (k : ℕ) (d : DeviceView Q) → IsBench s m → kind_at (front_of s) k ≡ Input
+      → IsAt lost capacity waits (machine_of m) k d
       → IsAt lost capacity waits (machine_of (step s m (Unplugged k))) k (at_site (unplugged d.site) d)
   ends_agree waits s m k d bench input here =
       let own : (k == k) ≡ true = grind (arith, nat_tests) in
       ap (λ (x : Machine). slice_get x.stations k) (unplugging_is s m k bench)
       ∙ get_first (unplugs (front_of s) k) (machine_of m).stations k
       ∙ ap (λ (o : Option Station). option_map (unplugs (front_of s) k k) o) here
-      ∙ ap (λ (kind : Kind). Some (cond (is_unplugged_by kind k k) (with_site unplugged (station_of lost capacity waits d)) (station_of lost capacity waits d))) input
+      ∙ ap (λ (kind : Kind). Some (cond (is_unplugged_by kind k k) (with_site unplugged (station_of lost capacity waits d)) (station_of lost capacity waits d)))
+      input
       ∙ ap (λ (b : Bool). Some (cond b (with_site unplugged (station_of lost capacity waits d)) (station_of lost capacity waits d))) own
 
-  pub told_looks_agree : (waits : Q → List (List ℕ)) (s : Setup) (m : Told) (k : ℕ) (t : ℤ) (d : DeviceView Q) → IsBench s m → shape_at (front_of s) k ≡ d.standing.shape
+  pub told_looks_agree : (waits : Q → List (List ℕ)) (s : Setup) (m : Told) (k : ℕ) (t : ℤ) (d : DeviceView Q) → IsBench s m
+      → shape_at (front_of s) k ≡ d.standing.shape
       → IsAt lost capacity waits (machine_of m) k d → IsAt lost capacity waits (machine_of (step s m (SensedAt k t))) k (after_sense t d)
   told_looks_agree waits s m k t d bench shaped here =
       ap (λ (x : Machine). slice_get x.stations k) (look_is s m k t bench)
@@ -44,8 +47,10 @@ module _ {Q : Type 0} (lost capacity : Q → ℕ) where
       ∙ looks_agree lost capacity waits (machine_of m) k t d here
 
 module _ {Q : Type 0} (taken lost size capacity : Q → ℕ) (offer_gives : Q → List ℕ → Offered → Q → Type 0) where
-  pub told_handlings_agree : (waits : Q → List (List ℕ)) (waited : Q → Q → List (List ℕ)) (s : Setup) (m : Told) (trigger k : ℕ) (due : Handed) (r : Handled) (d d' : DeviceView Q)
-      → IsBench s m → kind_at (front_of s) k ≡ Input → shape_at (front_of s) k ≡ d.standing.shape → entry_of k (entries_at m.triggers trigger) ≡ Some (entry_by due)
+  pub told_handlings_agree : (waits : Q → List (List ℕ)) (waited : Q → Q → List (List ℕ)) (s : Setup) (m : Told) (trigger k : ℕ) (due : Handed) (r : Handled)
+      (d d' : DeviceView Q)
+      → IsBench s m → kind_at (front_of s) k ≡ Input → shape_at (front_of s) k ≡ d.standing.shape
+      → entry_of k (entries_at m.triggers trigger) ≡ Some (entry_by due)
       → Handles taken lost size capacity offer_gives due r d d' → due.dev ≡ d.number → (d.standing.captures == 2 ^ 64 - 1) ≡ false
       → d.standing.active ≡ active_for d.standing.shape (masks_of d.standing.members) → AreMet lost capacity waits waited offer_gives r d d'
       → slice_get (machine_of m).stations k ≡ Some (station_met lost capacity waits waited r d d')

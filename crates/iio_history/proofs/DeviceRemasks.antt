@@ -82,51 +82,66 @@ module _ {Q : Type 0} (lost capacity : Q → ℕ) (waits : Q → List (List ℕ)
       ap (λ (x : Member). x ∷ map (with_mask n mask.bits (capacity tail)) (map told ms)) (by (m.number == n))
       ∙ ap (λ (xs : List Member). told (cond (m.number == n) (begun_anew mask captures tail m) m) ∷ xs) (members_are n mask captures tail ms fresh)
     where
-      by : (b : Bool) → cond b (let x : Member = record (told m) { mask = mask.bits; capacity = capacity tail; scans = []; lost = 0 } in x) (told m) ≡ told (cond b (begun_anew mask captures tail m) m)
+      by : (b : Bool) → cond b (let x : Member = record (told m) { mask = mask.bits; capacity = capacity tail; scans = []; lost = 0 } in x) (told m)
+          ≡ told (cond b (begun_anew mask captures tail m) m)
       by true = rw (fresh.none, fresh.unlost) refl
       by false = refl
 
   -- the device after it
-  pub remasked_is : (id : MemberId) (mask : Mask) (tail before : Q) (d d' : DeviceView Q) → RemasksDevice lost id.number mask tail (Ok before) d d' → IsNewEnd lost waits tail
+  pub remasked_is : (id : MemberId) (mask : Mask) (tail before : Q) (d d' : DeviceView Q) → RemasksDevice lost id.number mask tail (Ok before) d d'
+      → IsNewEnd lost waits tail
       → remasked id.number mask.bits (capacity tail) (seen d) ≡ seen d'
   remasked_is id mask tail before d d' j fresh =
       let gone : lost_by id.number (map told d.standing.members) ≡ Some (lost before)
       = lost_told lost capacity waits id.number d.standing.members ∙ ap (λ (o : Option Q). option_map lost o) j.1 in
-      ap (λ (o : Option ℕ). (let st : Station = record (seen d) { totals = with_left o d.totals; members = map (with_mask id.number mask.bits (capacity tail)) (map told d.standing.members) } in st)) gone
-      ∙ ap (λ (ms : List Member). (let st : Station = record (seen d) { totals = with_lost (lost before) d.totals; members = ms } in st)) (members_are id.number mask d.standing.captures tail d.standing.members fresh)
+      ap (λ (o : Option ℕ). (let st : Station =
+      record (seen d) { totals = with_left o d.totals; members = map (with_mask id.number mask.bits (capacity tail)) (map told d.standing.members) } in st))
+      gone
+      ∙ ap (λ (ms : List Member). (let st : Station = record (seen d) { totals = with_lost (lost before) d.totals; members = ms } in st))
+      (members_are id.number mask d.standing.captures tail d.standing.members fresh)
       ∙ ap seen (sym j.2)
 
   -- how many scans waited
-  pub waited_is : (id : MemberId) (before : Q) (ms : List (Membership Q)) → Knows id ms → option_map (λ (m : Membership Q). m.tail) (membership_of id.number ms) ≡ Some before
+  pub waited_is : (id : MemberId) (before : Q) (ms : List (Membership Q)) → Knows id ms
+      → option_map (λ (m : Membership Q). m.tail) (membership_of id.number ms) ≡ Some before
       → scans_in id (map told ms) ≡ waits before
   waited_is id before ms knows e =
       scans_are id (map told ms)
       ∙ ap (λ (o : Option Member). option_map_or (λ (x : Member). x.scans) o []) (found_is id ms knows)
       ∙ by (membership_of id.number ms) e
     where
-      by : (o : Option (Membership Q)) → option_map (λ (m : Membership Q). m.tail) o ≡ Some before → option_map_or (λ (x : Member). x.scans) (option_map told o) [] ≡ waits before
+      by : (o : Option (Membership Q)) → option_map (λ (m : Membership Q). m.tail) o ≡ Some before
+          → option_map_or (λ (x : Member). x.scans) (option_map told o) [] ≡ waits before
       by None e = absurd (cc)
       by (Some m) e = let same : m.tail ≡ before = cc in ap waits same
 
-  pub refusals_are : (id : MemberId) (mask : ℕ) (d : DeviceView Q) (r : Option RemaskFault) → is_bad_mask d.standing.shape mask ≡ false → Knows id d.standing.members
+  pub refusals_are : (id : MemberId) (mask : ℕ) (d : DeviceView Q) (r : Option RemaskFault) → is_bad_mask d.standing.shape mask ≡ false
+      → Knows id d.standing.members
       → first_refusal (remask_faults d id.number mask) ≡ r → first_refusal (remask_refusals d.standing.shape (seen d) id mask) ≡ option_and_then remask_errno r
   refusals_are id mask d r good knows e =
       let here : first_refusal ((not d.site.plugged, fault.Gone) ∷ (not (is_live id.number d.standing.members), fault.NotLive) ∷ (false, fault.BadMask)
       ∷ (is_without_union d.standing.shape (masks_of (without_of id.number d.standing.members)) mask, fault.NoUnion) ∷ []) ≡ r
       = rw good at e in
       let dead : is_none (member_in id (map told d.standing.members)) ≡ not (is_live id.number d.standing.members)
-      = ap (λ (o : Option Member). is_none o) (found_is id d.standing.members knows) ∙ none_map (membership_of id.number d.standing.members) ∙ live_found id.number d.standing.members in
+      =
+      ap (λ (o : Option Member). is_none o) (found_is id d.standing.members knows) ∙ none_map (membership_of id.number d.standing.members)
+      ∙ live_found id.number d.standing.members in
       let others : plain_masks (without id.number (map told d.standing.members)) ≡ masks_of (without_of id.number d.standing.members)
-      = ap plain_masks (without_is lost capacity waits id.number d.standing.members) ∙ masks_are lost capacity waits (without_of id.number d.standing.members) in
-      rw (dead, others) (agree (not d.site.plugged) (not (is_live id.number d.standing.members)) (is_without_union d.standing.shape (masks_of (without_of id.number d.standing.members)) mask) r here)
+      =
+      ap plain_masks (without_is lost capacity waits id.number d.standing.members)
+      ∙ masks_are lost capacity waits (without_of id.number d.standing.members) in
+      rw (dead, others) (agree (not d.site.plugged) (not (is_live id.number d.standing.members))
+      (is_without_union d.standing.shape (masks_of (without_of id.number d.standing.members)) mask) r here)
     where
       none_map : (o : Option (Membership Q)) → is_none (option_map told o) ≡ is_none o
       none_map None = refl
       none_map (Some m) = refl
 
-  remask_is : (front : Front) (m : Machine) (dev : ℕ) (id : MemberId) (mask scans : ℕ) (d : DeviceView Q) (r : Option Errno) → IsAt lost capacity waits m dev d → shape_at front dev ≡ d.standing.shape
+  remask_is : (front : Front) (m : Machine) (dev : ℕ) (id : MemberId) (mask scans : ℕ) (d : DeviceView Q) (r : Option Errno) → IsAt lost capacity waits m dev d
+      → shape_at front dev ≡ d.standing.shape
       → first_refusal (remask_refusals d.standing.shape (seen d) id mask) ≡ r
-      → remask_of front m dev id mask scans ≡ unless (remasked id.number mask scans) dev m (unless_refused (length (scans_in id (map told d.standing.members))) r)
+      → remask_of front m dev id mask scans
+      ≡ unless (remasked id.number mask scans) dev m (unless_refused (length (scans_in id (map told d.standing.members))) r)
   unfolding remask_of queue_of
   remask_is front m dev id mask scans d r here shaped e = rw (station_here m dev (seen d) here, shaped, e) refl
 
@@ -134,7 +149,8 @@ module _ {Q : Type 0} (lost capacity : Q → ℕ) (waits : Q → List (List ℕ)
   stated f None e = rw e refl
   stated f (Some g) e = rw e refl
 
-  refused_is : (o : Outcome ℕ) (m : Machine) (dev n : ℕ) (change : Station → Station) (d d' : DeviceView Q) (r : Option Errno) → IsAt lost capacity waits m dev d → d' ≡ d
+  refused_is : (o : Outcome ℕ) (m : Machine) (dev n : ℕ) (change : Station → Station) (d d' : DeviceView Q) (r : Option Errno)
+      → IsAt lost capacity waits m dev d → d' ≡ d
       → o ≡ unless change dev m (unless_refused n r) → IsRefused lost capacity waits o m r dev d'
   refused_is o m dev n change d d' None here same e = rw same (here)
   refused_is o m dev n change d d' (Some x) here same e = rw (e, same) (record { answered = refl; device = here })
@@ -146,22 +162,30 @@ module _ {Q : Type 0} (lost capacity : Q → ℕ) (waits : Q → List (List ℕ)
   remasks_agree front m dev id mask tail (Ok before) d d' j here shaped good knows fresh =
       let o = remask_is front m dev id mask.bits (capacity tail) d None here shaped (refusals_are id mask.bits d None good knows j.0) in
       record {
-        answered = ap (λ (y : Outcome ℕ). y.answer) o ∙ ap (λ (q : List (List ℕ)). (let r : Result ℕ Errno = Ok (length q) in r)) (waited_is id before d.standing.members knows j.1);
+        answered =
+            ap (λ (y : Outcome ℕ). y.answer) o
+            ∙ ap (λ (q : List (List ℕ)). (let r : Result ℕ Errno = Ok (length q) in r)) (waited_is id before d.standing.members knows j.1);
         device = ap (λ (y : Outcome ℕ). slice_get y.machine.stations dev) o ∙ at_changed m dev (seen d) (remasked id.number mask.bits (capacity tail)) here
             ∙ ap (λ (st : Station). Some st) (remasked_is id mask tail before d d' j fresh);
       }
   remasks_agree front m dev id mask tail (Err x) d d' j here shaped good knows fresh =
       let refusal = first_refusal (remask_faults d id.number mask.bits) in
-      let o = remask_is front m dev id mask.bits (capacity tail) d (remask_errno x.fault) here shaped (refusals_are id mask.bits d refusal good knows refl ∙ stated x.fault refusal j.0) in
-      refused_is (remask_of front m dev id mask.bits (capacity tail)) m dev (length (scans_in id (map told d.standing.members))) (remasked id.number mask.bits (capacity tail)) d d' (remask_errno x.fault) here j.2 o
+      let o =
+      remask_is front m dev id mask.bits (capacity tail) d (remask_errno x.fault) here shaped
+      (refusals_are id mask.bits d refusal good knows refl ∙ stated x.fault refusal j.0) in
+      refused_is (remask_of front m dev id mask.bits (capacity tail)) m dev (length (scans_in id (map told d.standing.members)))
+      (remasked id.number mask.bits (capacity tail)) d d' (remask_errno x.fault) here j.2 o
 
   -- ---- places
 
-  pub remasks_stay : (t n : ℕ) (mask : Mask) (tail : Q) (r : Result Q (RemaskRefused Q)) (d d' : DeviceView Q) (s : State) → RemasksDevice lost n mask tail r d d' → IsPlaced lost capacity waits t d s → IsPlaced lost capacity waits t d' s
+  pub remasks_stay : (t n : ℕ) (mask : Mask) (tail : Q) (r : Result Q (RemaskRefused Q)) (d d' : DeviceView Q) (s : State)
+      → RemasksDevice lost n mask tail r d d' → IsPlaced lost capacity waits t d s → IsPlaced lost capacity waits t d' s
   remasks_stay t n mask tail (Ok before) d d' s j placed =
       let ms = d.standing.members in
       let ns = remasked_members n mask d.standing.captures tail ms in
-      let same : is_empty (map told ms) ≡ is_empty (map told ns) = empty_map told ms ∙ sym (empty_map (λ (m : Membership Q). cond (m.number == n) (begun_anew mask d.standing.captures tail m) m) ms) ∙ sym (empty_map told ns) in
+      let same : is_empty (map told ms) ≡ is_empty (map told ns) =
+      empty_map told ms ∙ sym (empty_map (λ (m : Membership Q). cond (m.number == n) (begun_anew mask d.standing.captures tail m) m) ms)
+      ∙ sym (empty_map told ns) in
       subst (λ (v : DeviceView Q). IsPlaced lost capacity waits t v s) (sym j.2)
       (placed ∙ ap (λ (b : Bool). option_map_or (λ (u : ℕ). u == t) d.site.trigger false && not b) same)
   remasks_stay t n mask tail (Err x) d d' s j placed = rw (j.2) placed

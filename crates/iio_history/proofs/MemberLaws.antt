@@ -61,7 +61,13 @@ captured shape c joinings waiting book (m ∷ ms) =
     log = book.log m.who (scan_size shape m.mask)
 
     by_who : (w : Who) → seat_with shape (logged_capture w c log) (book.number m.who) (book.discarded m.who) m
-        ≡ record { member = m; number = book.number m.who; queue = emptied w (offered m.capacity (scan_of shape m.mask c.values c.moment) (private_queue shape m log)); discarded = book.discarded m.who }
+        ≡ record {
+          member = m;
+          number = book.number m.who;
+          queue =
+              emptied w (offered m.capacity (scan_of shape m.mask c.values c.moment) (private_queue shape m log));
+          discarded = book.discarded m.who;
+        }
     by_who (Conn name) = refl
     by_who (Inner j) = refl
 
@@ -73,7 +79,8 @@ left_one shape book false m rest seats is = ap (λ (xs : List Seat). seat_by sha
 left : (shape : ShapeRecord) (book : Book) (gone : List Who) (ms : List Member)
     → map (seat_by shape book) (without_members gone ms) ≡ without_seats gone (map (seat_by shape book) ms)
 left shape book gone [] = refl
-left shape book gone (m ∷ ms) = left_one shape book (is_among m.who gone) m (without_members gone ms) (without_seats gone (map (seat_by shape book) ms)) (left shape book gone ms)
+left shape book gone (m ∷ ms) =
+    left_one shape book (is_among m.who gone) m (without_members gone ms) (without_seats gone (map (seat_by shape book) ms)) (left shape book gone ms)
 
 read_one : (shape : ShapeRecord) (joinings waiting : ℕ) (book : Book) (who : Who) (bytes : ℕ) (m : Member)
     → seat_by shape (book_after (Reading who bytes) joinings waiting book) m ≡ read_seat shape who bytes (seat_by shape book m)
@@ -86,7 +93,8 @@ read_one shape joinings waiting book who bytes m = by_who (same who m.who)
     seat entries = seat_with shape entries (book.number m.who) (book.discarded m.who) m
 
     by_who : (b : Bool) → seat_with shape (cond b (Taken (bytes / scan_size shape m.mask) ∷ log) log) (book.number m.who) (book.discarded m.who) m
-        ≡ cond b (seat_with shape (Taken (bytes / scan_size shape m.mask) ∷ log) (book.number m.who) (book.discarded m.who) m) (seat_with shape log (book.number m.who) (book.discarded m.who) m)
+        ≡ cond b (seat_with shape (Taken (bytes / scan_size shape m.mask) ∷ log) (book.number m.who) (book.discarded m.who) m)
+        (seat_with shape log (book.number m.who) (book.discarded m.who) m)
     by_who true = refl
     by_who false = refl
 
@@ -105,7 +113,8 @@ wrote_one shape joinings waiting book who scans m = by_who (same who m.who)
     log = book.log m.who (scan_size shape m.mask)
 
     by_who : (b : Bool) → seat_with shape (cond b (Offered scans ∷ log) log) (book.number m.who) (book.discarded m.who) m
-        ≡ cond b (seat_with shape (Offered scans ∷ log) (book.number m.who) (book.discarded m.who) m) (seat_with shape log (book.number m.who) (book.discarded m.who) m)
+        ≡ cond b (seat_with shape (Offered scans ∷ log) (book.number m.who) (book.discarded m.who) m)
+        (seat_with shape log (book.number m.who) (book.discarded m.who) m)
     by_who true = refl
     by_who false = refl
 
@@ -128,19 +137,26 @@ remasked_one shape joinings waiting book n mask m it wait = by_who (same n.who m
   where
     by_who : (b : Bool) → same n.who m.who ≡ b → seat_by shape (book_after (Remasking n mask) joinings waiting book) (cond b (record m { mask = mask }) m)
         ≡ cond b
-        (record (seat_by shape book m) { member = record m { mask = mask }; queue = new_queue; discarded = more_discarded (book.discarded m.who) (length (seat_by shape book m).queue.scans) })
+        (record (seat_by shape book m)
+        { member = record m { mask = mask }; queue = new_queue; discarded = more_discarded (book.discarded m.who) (length (seat_by shape book m).queue.scans) })
         (seat_by shape book m)
     by_who true is =
-        ap (λ (b : Bool). seat_with shape (cond b [] (book.log m.who (scan_size shape mask))) (book.number m.who) (cond b (more_discarded (book.discarded m.who) waiting) (book.discarded m.who)) (record m { mask = mask })) is
+        ap (λ (b : Bool). seat_with shape (cond b [] (book.log m.who (scan_size shape mask))) (book.number m.who)
+        (cond b (more_discarded (book.discarded m.who) waiting) (book.discarded m.who)) (record m { mask = mask })) is
         ∙ ap (λ (n : ℕ). seat_with shape [] (book.number m.who) (more_discarded (book.discarded m.who) n) (record m { mask = mask }))
         (wait ∙ ap (λ (x : Member). length (seat_by shape book x).queue.scans) (sym (it is)))
-    by_who false is = ap (λ (b : Bool). seat_with shape (cond b [] (book.log m.who (scan_size shape m.mask))) (book.number m.who) (cond b (more_discarded (book.discarded m.who) waiting) (book.discarded m.who)) m) is
+    by_who false is =
+        ap (λ (b : Bool). seat_with shape (cond b [] (book.log m.who (scan_size shape m.mask))) (book.number m.who)
+        (cond b (more_discarded (book.discarded m.who) waiting) (book.discarded m.who)) m) is
 
-remasked : (shape : ShapeRecord) (joinings waiting : ℕ) (book : Book) (n : Member) (mask : ℕ) (ms : List Member) → AreIt n ms → waiting ≡ length (seat_by shape book n).queue.scans
-    → map (seat_by shape (book_after (Remasking n mask) joinings waiting book)) (map (with_mask n.who mask) ms) ≡ map (remasked_seat n.who mask) (map (seat_by shape book) ms)
+remasked : (shape : ShapeRecord) (joinings waiting : ℕ) (book : Book) (n : Member) (mask : ℕ) (ms : List Member) → AreIt n ms
+    → waiting ≡ length (seat_by shape book n).queue.scans
+    → map (seat_by shape (book_after (Remasking n mask) joinings waiting book)) (map (with_mask n.who mask) ms)
+    ≡ map (remasked_seat n.who mask) (map (seat_by shape book) ms)
 remasked shape joinings waiting book n mask [] it wait = refl
 remasked shape joinings waiting book n mask (m ∷ ms) it wait =
-    ap (λ (x : Seat). x ∷ map (seat_by shape (book_after (Remasking n mask) joinings waiting book)) (map (with_mask n.who mask) ms)) (remasked_one shape joinings waiting book n mask m it.0 wait)
+    ap (λ (x : Seat). x ∷ map (seat_by shape (book_after (Remasking n mask) joinings waiting book)) (map (with_mask n.who mask) ms))
+    (remasked_one shape joinings waiting book n mask m it.0 wait)
     ∙ ap (λ (xs : List Seat). remasked_seat n.who mask (seat_by shape book m) ∷ xs) (remasked shape joinings waiting book n mask ms it.1 wait)
 
 -- the one that joins, and those before it, which keep what is told of them

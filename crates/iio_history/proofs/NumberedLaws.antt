@@ -23,10 +23,14 @@ numbered_by desc names n lines o = elim o [ Err why ↦ [] | Ok step ↦ first_n
 pub numbered_are_steps : (desc : Description) (ending : Ending) (names : List (List ℕ)) (n : ℕ) (lines : List (List ℕ))
     → map step_of_numbered (numbered_from desc names n lines) ≡ (script_from desc ending names n lines).steps
 numbered_are_steps desc ending names n [] = refl
-numbered_are_steps desc ending names n (line ∷ lines) = same (step_after desc names line) (λ step. numbered_are_steps desc ending (names_after names step) (n + 1) lines)
+numbered_are_steps desc ending names n (line ∷ lines) =
+    same (step_after desc names line) (λ step. numbered_are_steps desc ending (names_after names step) (n + 1) lines)
   where
     same : (o : Result (Option Step) Why)
-        → ((step : Option Step) → map step_of_numbered (numbered_from desc (names_after names step) (n + 1) lines) ≡ (script_from desc ending (names_after names step) (n + 1) lines).steps)
+        → ((step : Option Step) → map step_of_numbered (numbered_from desc (names_after names step) (n + 1) lines)
+        ≡ (script_from desc ending (names_after names step) (n + 1) lines).steps)
         → map step_of_numbered (numbered_by desc names n lines o) ≡ (by_line desc ending names n lines o).steps
     same (Err why) rest = refl
-    same (Ok step) rest = first_same n step (numbered_from desc (names_after names step) (n + 1) lines) (script_from desc ending (names_after names step) (n + 1) lines) (rest step)
+    same (Ok step) rest =
+        first_same n step (numbered_from desc (names_after names step) (n + 1) lines) (script_from desc ending (names_after names step) (n + 1) lines)
+        (rest step)

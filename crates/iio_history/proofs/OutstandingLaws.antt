@@ -29,17 +29,20 @@ made_is made [] = refl
 made_is made (e ∷ es) = refl
 
 pub outstanding_is : (s : Setup) (h : List Event) (trigger : ℕ) (t : Trigger) → slice_get (registry_after s h).triggers trigger ≡ Some t
-    → ((moment : ℤ) → outstanding s trigger (Polled trigger moment ∷ h) ≡ cond (is_empty (outstanding s trigger h)) (entries_from 0 trigger moment (outlines_of (registry_after s h))) (outstanding s trigger h))
+    → ((moment : ℤ) → outstanding s trigger (Polled trigger moment ∷ h)
+    ≡ cond (is_empty (outstanding s trigger h)) (entries_from 0 trigger moment (outlines_of (registry_after s h))) (outstanding s trigger h))
     × ((k : ℕ) → outstanding s trigger (Handled trigger k ∷ h) ≡ without_entry k (outstanding s trigger h))
     × ((other : ℕ) (moment : ℤ) → (other ≡ trigger → ⊥) → outstanding s trigger (Polled other moment ∷ h) ≡ outstanding s trigger h)
     × ((other k : ℕ) → (other ≡ trigger → ⊥) → outstanding s trigger (Handled other k ∷ h) ≡ outstanding s trigger h)
 outstanding_is s h trigger t is =
     let r = registry_after s h in
     let here : outstanding s trigger h ≡ t.entries = ap entries_by is in (
-      λ (moment : ℤ). ap entries_by (got_at trigger (polled (outlines_of r) trigger moment) r.triggers ∙ ap (option_map (polled (outlines_of r) trigger moment)) is)
+      λ (moment : ℤ). ap entries_by
+          (got_at trigger (polled (outlines_of r) trigger moment) r.triggers ∙ ap (option_map (polled (outlines_of r) trigger moment)) is)
           ∙ made_is (entries_from 0 trigger moment (outlines_of r)) t.entries
           ∙ ap (λ (es : List Entry). cond (is_empty es) (entries_from 0 trigger moment (outlines_of r)) es) (sym here),
       λ (k : ℕ). ap entries_by (got_at trigger (handled k) r.triggers ∙ ap (option_map (handled k)) is) ∙ ap (without_entry k) (sym here),
-      λ (other : ℕ) (moment : ℤ) (apart : other ≡ trigger → ⊥). ap entries_by (got_elsewhere other trigger (polled (outlines_of r) other moment) r.triggers apart),
+      λ (other : ℕ) (moment : ℤ) (apart : other ≡ trigger → ⊥). ap entries_by
+          (got_elsewhere other trigger (polled (outlines_of r) other moment) r.triggers apart),
       λ (other k : ℕ) (apart : other ≡ trigger → ⊥). ap entries_by (got_elsewhere other trigger (handled k) r.triggers apart),
     )

@@ -11,7 +11,8 @@ fault_stays : (fault : DescFault) (lines : List (List ℕ)) → read_lines (Err 
 fault_stays fault [] = refl
 fault_stays fault (line ∷ lines) = fault_stays fault lines
 
-head_reads : (reader : Reader) (n : ℕ) (lines : List (List ℕ)) → NoneEnds lines → head_from false reader n lines ≡ described (n + length lines) [] (read_lines reader lines)
+head_reads : (reader : Reader) (n : ℕ) (lines : List (List ℕ)) → NoneEnds lines
+    → head_from false reader n lines ≡ described (n + length lines) [] (read_lines reader lines)
 head_reads (Err fault) n lines none = ap (λ r. described (n + length lines) [] r) (sym (fault_stays fault lines))
 head_reads (Ok reading) n [] none = ap (λ k. described k [] (finished (Ok reading))) (omega arith)
 head_reads (Ok reading) n (line ∷ lines) none =

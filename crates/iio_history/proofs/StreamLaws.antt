@@ -29,12 +29,14 @@ items_more s (b ∷ bs) bytes =
 begun_is : (e : Event) (h : List Event) (name : List ℕ) → begun_of (stream_of name (e ∷ h)) ≡ begun_after e name (begun_of (stream_of name h))
 begun_is (Arrived speaker bytes) h name = by_name (bytes_eq speaker name)
   where
-    by_name : (x : Bool) → begun_of (cond x (stream_of name h ++ bytes) (stream_of name h)) ≡ cond x (scanner_after (begun_of (stream_of name h)) bytes) (begun_of (stream_of name h))
+    by_name : (x : Bool) → begun_of (cond x (stream_of name h ++ bytes) (stream_of name h))
+        ≡ cond x (scanner_after (begun_of (stream_of name h)) bytes) (begun_of (stream_of name h))
     by_name true = begun_more (InLine []) (stream_of name h) bytes
     by_name false = refl
 begun_is e h name = refl
 
-lines_kept : (s : Setup) (r : Registry) (e : Event) (h : List Event) (us : List User) → map (line_told (e ∷ h)) (map (user_after s r e) us) ≡ map (line_after s r e) (map (line_told h) us)
+lines_kept : (s : Setup) (r : Registry) (e : Event) (h : List Event) (us : List User)
+    → map (line_told (e ∷ h)) (map (user_after s r e) us) ≡ map (line_after s r e) (map (line_told h) us)
 lines_kept s r e h [] = refl
 lines_kept s r e h (u ∷ us) =
     ap (λ (begun : Scanner). record { user = user_after s r e u; begun = begun } ∷ map (line_told (e ∷ h)) (map (user_after s r e) us)) (begun_is e h u.who)
@@ -64,24 +66,29 @@ has_more name (u ∷ us) more =
 has_kept : (s : Setup) (r : Registry) (e : Event) (name : List ℕ) (us : List User) → has_user name (map (user_after s r e) us) ≡ has_user name us
 has_kept s r e name [] = refl
 has_kept s r e name (u ∷ us) =
-    has_first name (user_after s r e u) (map (user_after s r e) us) ∙ ap (λ (b : Bool). bytes_eq u.who name || b) (has_kept s r e name us) ∙ sym (has_first name u us)
+    has_first name (user_after s r e u) (map (user_after s r e) us) ∙ ap (λ (b : Bool). bytes_eq u.who name || b) (has_kept s r e name us)
+    ∙ sym (has_first name u us)
 
 parts : (a b : Bool) → (a || b) ≡ false → (a ≡ false) × (b ≡ false)
 parts true b h = cc
 parts false b h = (refl, h)
 
-absent_before : (s : Setup) (r : Registry) (e : Event) (name : List ℕ) → has_user name (users_after s r e) ≡ false → (has_user name r.users ≡ false) × (has_user name (newcomers s e r.users) ≡ false)
+absent_before : (s : Setup) (r : Registry) (e : Event) (name : List ℕ) → has_user name (users_after s r e) ≡ false → (has_user name r.users ≡ false)
+    × (has_user name (newcomers s e r.users) ≡ false)
 absent_before s r e name h =
     let kept = map (user_after s r e) r.users in
     let both = parts (has_user name kept) (has_user name (newcomers s e r.users)) (sym (has_more name kept (newcomers s e r.users)) ∙ h) in
     (sym (has_kept s r e name r.users) ∙ both.0, both.1)
 
-stranger : (s : Setup) (speaker name : List ℕ) (us : List User) (x : Bool) → has_user speaker us ≡ x → has_user name us ≡ false → has_user name (cond x [] (new_user s speaker ∷ [])) ≡ false → bytes_eq speaker name ≡ false
+stranger : (s : Setup) (speaker name : List ℕ) (us : List User) (x : Bool) → has_user speaker us ≡ x → has_user name us ≡ false
+    → has_user name (cond x [] (new_user s speaker ∷ [])) ≡ false → bytes_eq speaker name ≡ false
 stranger s speaker name us true is absent h = by_name (bytes_eq speaker name) refl
   where
     by_name : (y : Bool) → bytes_eq speaker name ≡ y → y ≡ false
     by_name false same = refl
-    by_name true same = let one : speaker ≡ name = (bytes_eq-Decides speaker name).0 same in let there : has_user name us ≡ true = ap (λ (w : List ℕ). has_user w us) (sym one) ∙ is in cc
+    by_name true same =
+        let one : speaker ≡ name =
+        (bytes_eq-Decides speaker name).0 same in let there : has_user name us ≡ true = ap (λ (w : List ℕ). has_user w us) (sym one) ∙ is in cc
 stranger s speaker name us false is absent h = (parts (bytes_eq speaker name) false (sym (has_first name (new_user s speaker) []) ∙ h)).0
 
 pub absent_sent : (s : Setup) (h : List Event) (name : List ℕ) → has_user name (registry_after s h).users ≡ false → stream_of name h ≡ []
@@ -93,10 +100,12 @@ absent_sent s (Arrived speaker bytes ∷ h) name absent =
     ∙ absent_sent s h name before.0
 absent_sent s (e ∷ h) name absent = absent_sent s h name (absent_before s (registry_after s h) e name absent).0
 
-newcomers_are : (s : Setup) (e : Event) (h : List Event) → map (line_told (e ∷ h)) (newcomers s e (registry_after s h).users) ≡ map (new_line e) (newcomers s e (registry_after s h).users)
+newcomers_are : (s : Setup) (e : Event) (h : List Event)
+    → map (line_told (e ∷ h)) (newcomers s e (registry_after s h).users) ≡ map (new_line e) (newcomers s e (registry_after s h).users)
 newcomers_are s (Arrived name bytes) h = by_there (has_user name (registry_after s h).users) refl
   where
-    by_there : (x : Bool) → has_user name (registry_after s h).users ≡ x → map (line_told (Arrived name bytes ∷ h)) (cond x [] (new_user s name ∷ [])) ≡ map (new_line (Arrived name bytes)) (cond x [] (new_user s name ∷ []))
+    by_there : (x : Bool) → has_user name (registry_after s h).users ≡ x
+        → map (line_told (Arrived name bytes ∷ h)) (cond x [] (new_user s name ∷ [])) ≡ map (new_line (Arrived name bytes)) (cond x [] (new_user s name ∷ []))
     by_there true is = refl
     by_there false is =
         ap (λ (begun : Scanner). record { user = new_user s name; begun = begun } ∷ [])
@@ -120,7 +129,8 @@ users_are h (u ∷ us) = ap (λ (vs : List User). u ∷ vs) (users_are h us)
 abbrev begun_with : Option Line → Scanner
 begun_with o = elim o [ None ↦ InLine [] | Some l ↦ l.begun ]
 
-begun_in_by : (name : List ℕ) (h : List Event) (us : List User) → (has_user name us ≡ false → stream_of name h ≡ []) → begun_by name (map (line_told h) us) ≡ begun_of (stream_of name h)
+begun_in_by : (name : List ℕ) (h : List Event) (us : List User) → (has_user name us ≡ false → stream_of name h ≡ [])
+    → begun_by name (map (line_told h) us) ≡ begun_of (stream_of name h)
 begun_in_by name h [] absent = ap begun_of (sym (absent refl))
 begun_in_by name h (u ∷ us) absent = by_name (bytes_eq u.who name) refl absent (λ a. begun_in_by name h us a)
   where

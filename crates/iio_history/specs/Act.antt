@@ -159,7 +159,8 @@ capture_by (Capturing c) = Some c
 capture_by act = None
 
 abbrev pub capture_at : Registry → ℕ → ℕ → Option Capture
-capture_at r trigger k = elim (slice_get r.devices k) [ None ↦ None | Some d ↦ capture_by (handled_act (outline_of d) (entry_of k (entries_at r.triggers trigger))) ]
+capture_at r trigger k =
+    elim (slice_get r.devices k) [ None ↦ None | Some d ↦ capture_by (handled_act (outline_of d) (entry_of k (entries_at r.triggers trigger))) ]
 
 -- a capture of the base: with it, the last of so many, a mean is made at once
 abbrev pub gathering : ℕ → Window → Capture → Act
@@ -184,10 +185,12 @@ item_act s r name (Said (Ok (ReadBuf device bytes))) k d = only (is_named s devi
 item_act s r name (Said (Ok (Read device place attribute))) k d = only (is_named s device k) (accepted (asking d) (found d (Conn name) place attribute))
 item_act s r name (Written device (Some target) payload) k d =
     only (is_named s device k) (accepted setting (write_found d (Conn name) target.0 target.1 payload))
-item_act s r name (Streamed device payload) k d = only (is_named s device k) (accepted (λ scans. Writing (Conn name) scans) (write_answer d (Conn name) payload))
+item_act s r name (Streamed device payload) k d =
+    only (is_named s device k) (accepted (λ scans. Writing (Conn name) scans) (write_answer d (Conn name) payload))
 item_act s r name (Said (Ok (SetTrig device trigger))) k d =
     only (is_named s device k) (accepted (λ t. Retriggering t) (trigger_answer s (outline_of d) trigger))
-item_act s r name (Said (Ok (Remask device text))) k d = only (is_named s device k) (accepted (λ x. Remasking x.member x.mask) (remask_answer d (Conn name) text))
+item_act s r name (Said (Ok (Remask device text))) k d =
+    only (is_named s device k) (accepted (λ x. Remasking x.member x.mask) (remask_answer d (Conn name) text))
 item_act s r name (Said (Ok (EvOpen device))) k d = only (is_named s device k && d.site.plugged && is_input d.kind) (Holding (Conn name))
 item_act s r name (Said (Ok (EvRead device))) k d = only (is_named s device k && d.site.plugged && is_input d.kind) (Draining (Conn name))
 item_act s r name (Said (Ok (EvClose device))) k d = only (is_named s device k && d.site.plugged && is_input d.kind) (Releasing (Conn name))

@@ -71,7 +71,16 @@ inner_of (Conn name) = None
 inner_of (Inner device) = Some device
 
 abbrev pub numbered : Seat → MachineMember
-numbered x = record { number = x.number; mask = x.member.mask; capacity = x.member.capacity; scans = x.queue.scans; lost = x.queue.lost; cyclic = x.member.cyclic; inner = inner_of x.member.who }
+numbered x =
+    record {
+      number = x.number;
+      mask = x.member.mask;
+      capacity = x.member.capacity;
+      scans = x.queue.scans;
+      lost = x.queue.lost;
+      cyclic = x.member.cyclic;
+      inner = inner_of x.member.who;
+    }
 
 abbrev pub bench_by : List (List ℕ) → Station → MachineStation
 bench_by names st = record {

@@ -72,7 +72,8 @@ RoomLasts =
 -- the answer to an item, and what stands then, are the same by the session's machine and by the history
 abbrev pub ItemsAreActs : Type 0
 ItemsAreActs =
-    (s : Setup) (m : Told) (name : List ℕ) (desk : DeskRecord) (item : Item) → IsBench s m → is_in (names_of m) name ≡ true → IsDeskOf m name desk → Every CanJoin m.stations
+    (s : Setup) (m : Told) (name : List ℕ) (desk : DeskRecord) (item : Item) → IsBench s m → is_in (names_of m) name ≡ true → IsDeskOf m name desk
+    → Every CanJoin m.stations
     → IsAct s m name item (act (front_of s) (machine_of m) desk item)
 
 -- what a session promises of an item over a told state, by the history: want of memory changes nothing
@@ -97,7 +98,8 @@ IsOthers name e = Unit {0}
 
 abbrev pub DesksAreKept : Type 0
 DesksAreKept =
-    (s : Setup) (m : Told) (e : Event) (name : List ℕ) (desk : DeskRecord) → IsOthers name e → is_in (names_of m) name ≡ true → IsDeskOf m name desk → IsDeskOf (step s m e) name desk
+    (s : Setup) (m : Told) (e : Event) (name : List ℕ) (desk : DeskRecord) → IsOthers name e → is_in (names_of m) name ≡ true → IsDeskOf m name desk
+    → IsDeskOf (step s m e) name desk
 
 -- a connection that comes has nothing
 abbrev pub new_desk : ℕ → DeskRecord
@@ -105,7 +107,8 @@ new_desk who = record { who = who; seats = []; buffers = []; holdings = [] }
 
 abbrev pub NewIsDesk : Type 0
 NewIsDesk =
-    (s : Setup) (m : Told) (name bytes : List ℕ) → IsBench s m → is_in (names_of m) name ≡ false → IsDeskOf (step s m (Arrived name bytes)) name (new_desk (length m.lines))
+    (s : Setup) (m : Told) (name bytes : List ℕ) → IsBench s m → is_in (names_of m) name ≡ false
+    → IsDeskOf (step s m (Arrived name bytes)) name (new_desk (length m.lines))
 
 abbrev pub ArrivalIsNothing : Type 0
 ArrivalIsNothing = (s : Setup) (m : Told) (name bytes : List ℕ) → IsBench s m → machine_of (step s m (Arrived name bytes)) ≡ machine_of m
@@ -143,7 +146,8 @@ FeedsAreActs =
 -- history tells
 abbrev pub ScriptFeedsTell : Type 0
 ScriptFeedsTell =
-    (s : Setup) (m : Told) (name : List ℕ) (items : List Item) (a b : State) (before after : List ℕ) → IsBench s m → is_in (names_of m) name ≡ true → IsDeskOf m name a.desk
+    (s : Setup) (m : Told) (name : List ℕ) (items : List Item) (a b : State) (before after : List ℕ) → IsBench s m → is_in (names_of m) name ≡ true
+    → IsDeskOf m name a.desk
     → Every (CanJoinMore (length items)) m.stations → a.told ≡ Some (machine_of m) → FeedTells Script (front_of s) a items before after b
     → (after ≡ before ++ texts s m (heard name items))
     × (b.told ≡ Some (machine_of (steps s m (heard name items))))
@@ -153,5 +157,6 @@ ScriptFeedsTell =
 -- and the other connections keep theirs
 abbrev pub FeedsKeepDesks : Type 0
 FeedsKeepDesks =
-    (s : Setup) (m : Told) (name : List ℕ) (items : List Item) (other : List ℕ) (desk : DeskRecord) → bytes_eq name other ≡ false → is_in (names_of m) other ≡ true → IsDeskOf m other desk
+    (s : Setup) (m : Told) (name : List ℕ) (items : List Item) (other : List ℕ) (desk : DeskRecord) → bytes_eq name other ≡ false
+    → is_in (names_of m) other ≡ true → IsDeskOf m other desk
     → IsDeskOf (steps s m (heard name items)) other desk

@@ -47,8 +47,10 @@ module _ {Q : Type 0} where
   -- a join is an OPEN's: the same number or the same errno, and the same device
   abbrev pub JoinsAgree : (lost capacity : Q → ℕ) → Type 0
   JoinsAgree lost capacity =
-      (waits : Q → List (List ℕ)) (front : Front) (m : Machine) (dev : ℕ) (mask : Mask) (tail : Q) (r : Result MemberNumber (JoinRefused Q)) (old new : DeviceView Q) (trigger trigger' : State)
-      → JoinsDevice mask tail r old new trigger trigger' → IsAt lost capacity waits m dev old → kind_at front dev ≡ Input → shape_at front dev ≡ old.standing.shape
+      (waits : Q → List (List ℕ)) (front : Front) (m : Machine) (dev : ℕ) (mask : Mask) (tail : Q) (r : Result MemberNumber (JoinRefused Q))
+      (old new : DeviceView Q) (trigger trigger' : State)
+      → JoinsDevice mask tail r old new trigger trigger' → IsAt lost capacity waits m dev old → kind_at front dev ≡ Input
+      → shape_at front dev ≡ old.standing.shape
       → is_bad_mask old.standing.shape mask.bits ≡ false → SamePlaces front m old trigger → IsNewEnd lost waits tail
       → IsJoined lost capacity waits (open_of front m dev mask.bits (capacity tail) false) m r dev new
 
@@ -66,7 +68,8 @@ module _ {Q : Type 0} where
   -- an exchange of a mask is a REMASK's: the scans that waited or the same errno, and the same device
   abbrev pub RemasksAgree : (lost capacity : Q → ℕ) → Type 0
   RemasksAgree lost capacity =
-      (waits : Q → List (List ℕ)) (front : Front) (m : Machine) (dev : ℕ) (id : MemberId) (mask : Mask) (tail : Q) (r : Result Q (RemaskRefused Q)) (old new : DeviceView Q)
+      (waits : Q → List (List ℕ)) (front : Front) (m : Machine) (dev : ℕ) (id : MemberId) (mask : Mask) (tail : Q) (r : Result Q (RemaskRefused Q))
+      (old new : DeviceView Q)
       → RemasksDevice lost id.number mask tail r old new → IsAt lost capacity waits m dev old → shape_at front dev ≡ old.standing.shape
       → is_bad_mask old.standing.shape mask.bits ≡ false → IsSeatAt id old → IsNewEnd lost waits tail
       → IsRemasked lost capacity waits (remask_of front m dev id mask.bits (capacity tail)) m r dev new
@@ -78,7 +81,8 @@ module _ {Q : Type 0} where
   -- and so it stays
   abbrev pub PlacesAgree : (lost capacity : Q → ℕ) → Type 0
   PlacesAgree lost capacity =
-      (waits : Q → List (List ℕ)) (t number : ℕ) (mask : Mask) (tail : Q) (r : Result MemberNumber (JoinRefused Q)) (left : Option Q) (old new : DeviceView Q) (trigger trigger' : State)
+      (waits : Q → List (List ℕ)) (t number : ℕ) (mask : Mask) (tail : Q) (r : Result MemberNumber (JoinRefused Q)) (left : Option Q) (old new : DeviceView Q)
+      (trigger trigger' : State)
       → old.site.trigger ≡ Some t → IsPlaced lost capacity waits t old trigger
       → (JoinsDevice mask tail r old new trigger trigger' → IsPlaced lost capacity waits t new trigger')
       × (LeavesDevice lost number left old new trigger trigger' → IsPlaced lost capacity waits t new trigger')
@@ -116,14 +120,17 @@ module _ {Q : Type 0} where
   -- `raw` is read at the moment that the clock shows
   abbrev pub SamplesAgree : (lost capacity : Q → ℕ) → Type 0
   SamplesAgree lost capacity =
-      (waits : Q → List (List ℕ)) (front : Front) (m : Machine) (dev c : ℕ) (d : DeviceView Q) → IsAt lost capacity waits m dev d → kind_at front dev ≡ Input → shape_at front dev ≡ d.standing.shape
+      (waits : Q → List (List ℕ)) (front : Front) (m : Machine) (dev c : ℕ) (d : DeviceView Q) → IsAt lost capacity waits m dev d → kind_at front dev ≡ Input
+      → shape_at front dev ≡ d.standing.shape
       → Does lost capacity waits (read_attr_of front m dev (Some c) Raw) (raw_value (raw_answer c m.clock d)) dev (after_raw d)
 
   -- any other attribute, of a plugged device
   abbrev pub ReadsAgree : (lost capacity : Q → ℕ) → Type 0
   ReadsAgree lost capacity =
-      (waits : Q → List (List ℕ)) (front : Front) (m : Machine) (dev : ℕ) (channel : Option ℕ) (a : Attr) (d : DeviceView Q) → IsAt lost capacity waits m dev d → device_name front dev ≡ d.name
-      → is_raw channel a ≡ false → d.site.plugged ≡ true → Does lost capacity waits (read_attr_of front m dev channel a) (Ok (attr_value d.name channel a d.site)) dev d
+      (waits : Q → List (List ℕ)) (front : Front) (m : Machine) (dev : ℕ) (channel : Option ℕ) (a : Attr) (d : DeviceView Q) → IsAt lost capacity waits m dev d
+      → device_name front dev ≡ d.name
+      → is_raw channel a ≡ false → d.site.plugged ≡ true
+      → Does lost capacity waits (read_attr_of front m dev channel a) (Ok (attr_value d.name channel a d.site)) dev d
 
   abbrev pub LooksAgree : (lost capacity : Q → ℕ) → Type 0
   LooksAgree lost capacity =
@@ -147,19 +154,22 @@ module _ {Q : Type 0} where
   abbrev pub EventsAgree : (lost capacity : Q → ℕ) → Type 0
   EventsAgree lost capacity =
       (waits : Q → List (List ℕ)) (m : Machine) (dev who : ℕ) (d : DeviceView Q) → IsAt lost capacity waits m dev d → d.site.plugged ≡ true
-      → Does lost capacity waits (ev_read_of m dev who) (holder_errno (read_answer (λ a b. a == b) who d.site.monitor)) dev (at_site (with_monitor (after_read (λ a b. a == b) who) d.site) d)
+      → Does lost capacity waits (ev_read_of m dev who) (holder_errno (read_answer (λ a b. a == b) who d.site.monitor)) dev
+      (at_site (with_monitor (after_read (λ a b. a == b) who) d.site) d)
 
   -- EVCLOSE at any device
   abbrev pub ReleasesAgree : (lost capacity : Q → ℕ) → Type 0
   ReleasesAgree lost capacity =
       (waits : Q → List (List ℕ)) (m : Machine) (dev who : ℕ) (d : DeviceView Q) → IsAt lost capacity waits m dev d
-      → Does lost capacity waits (ev_close_of m dev who) (holder_errno (close_answer (λ a b. a == b) who d.site.monitor)) dev (at_site (with_monitor (after_close (λ a b. a == b) who) d.site) d)
+      → Does lost capacity waits (ev_close_of m dev who) (holder_errno (close_answer (λ a b. a == b) who d.site.monitor)) dev
+      (at_site (with_monitor (after_close (λ a b. a == b) who) d.site) d)
 
   -- ---- the history's device, after what isn't a connection's
 
   abbrev pub EndsAgree : (lost capacity : Q → ℕ) → Type 0
   EndsAgree lost capacity =
-      (waits : Q → List (List ℕ)) (s : Setup) (m : Told) (k : ℕ) (d : DeviceView Q) → IsBench s m → kind_at (front_of s) k ≡ Input → IsAt lost capacity waits (machine_of m) k d
+      (waits : Q → List (List ℕ)) (s : Setup) (m : Told) (k : ℕ) (d : DeviceView Q) → IsBench s m → kind_at (front_of s) k ≡ Input
+      → IsAt lost capacity waits (machine_of m) k d
       → IsAt lost capacity waits (machine_of (step s m (Unplugged k))) k (at_site (unplugged d.site) d)
 
   abbrev pub ToldLooksAgree : (lost capacity : Q → ℕ) → Type 0
@@ -170,7 +180,8 @@ module _ {Q : Type 0} where
   abbrev pub ToldHandlingsAgree : (taken lost size capacity : Q → ℕ) → (Q → List ℕ → Offered → Q → Type 0) → Type 0
   ToldHandlingsAgree taken lost size capacity offer_gives =
       (waits : Q → List (List ℕ)) (waited : Q → Q → List (List ℕ)) (s : Setup) (m : Told) (trigger k : ℕ) (due : Handed) (r : Handled) (old new : DeviceView Q)
-      → IsBench s m → kind_at (front_of s) k ≡ Input → shape_at (front_of s) k ≡ old.standing.shape → entry_of k (entries_at m.triggers trigger) ≡ Some (entry_by due)
+      → IsBench s m → kind_at (front_of s) k ≡ Input → shape_at (front_of s) k ≡ old.standing.shape
+      → entry_of k (entries_at m.triggers trigger) ≡ Some (entry_by due)
       → Handles taken lost size capacity offer_gives due r old new → due.dev ≡ old.number → (old.standing.captures == 2 ^ 64 - 1) ≡ false
       → old.standing.active ≡ active_for old.standing.shape (masks_of old.standing.members) → AreMet lost capacity waits waited offer_gives r old new
       → slice_get (machine_of m).stations k ≡ Some (station_met lost capacity waits waited r old new)
@@ -180,14 +191,17 @@ module _ {Q : Type 0} where
 
 -- a queue of one owner meets each offer as it stood
 abbrev pub QueuesAreMet : Type 0
-QueuesAreMet = (old new : Queue) (scan : List ℕ) (answer : Offered) → QueueOffers old scan answer new → IsMet (λ q. q.lost) (λ q. q.capacity) queue_waits queue_waited scan answer old new
+QueuesAreMet =
+    (old new : Queue) (scan : List ℕ) (answer : Offered) → QueueOffers old scan answer new
+    → IsMet (λ q. q.lost) (λ q. q.capacity) queue_waits queue_waited scan answer old new
 
 -- and so the device that a handling met is the one that stood
 abbrev pub QueuesStand : Type 0
 QueuesStand =
     (due : Handed) (r : Handled) (old new : DeviceView Queue)
     → Handles (λ (q : Queue). q.taken) (λ q. q.lost) (λ q. q.size) (λ q. q.capacity) QueueOffers due r old new
-    → (station_met (λ (q : Queue). q.lost) (λ q. q.capacity) queue_waits queue_waited r old new ≡ station_of (λ (q : Queue). q.lost) (λ q. q.capacity) queue_waits old)
+    → (station_met (λ (q : Queue). q.lost) (λ q. q.capacity) queue_waits queue_waited r old new
+    ≡ station_of (λ (q : Queue). q.lost) (λ q. q.capacity) queue_waits old)
     × AreMet (λ (q : Queue). q.lost) (λ q. q.capacity) queue_waits queue_waited QueueOffers r old new
 
 -- a ring meets it as the offer's own look found it, which shows no more received than was accepted

@@ -38,11 +38,21 @@ use Rattle.iio_history.specs.Registry.{Entry}
 module _ {Q : Type 0} (lost capacity : Q → ℕ) where
   -- a member for which these scans wait
   abbrev pub member_with : List (List ℕ) → Membership Q → Member
-  member_with scans m = record { number = m.number; mask = m.mask.bits; capacity = capacity m.tail; scans = scans; lost = lost m.tail; cyclic = false; inner = None }
+  member_with scans m =
+      record { number = m.number; mask = m.mask.bits; capacity = capacity m.tail; scans = scans; lost = lost m.tail; cyclic = false; inner = None }
 
   -- a device that has these members
   abbrev pub station_with : List Member → DeviceView Q → Station
-  station_with members d = record { next = d.standing.next; captures = d.standing.captures; totals = d.totals; members = members; site = d.site; last = first_last d.standing.shape; window = no_window }
+  station_with members d =
+      record {
+        next = d.standing.next;
+        captures = d.standing.captures;
+        totals = d.totals;
+        members = members;
+        site = d.site;
+        last = first_last d.standing.shape;
+        window = no_window;
+      }
 
   module _ (waits : Q → List (List ℕ)) where
     abbrev pub member_of : Membership Q → Member
@@ -101,7 +111,8 @@ module _ {Q : Type 0} (lost capacity : Q → ℕ) where
       -- each queue keeps to what an offer makes
       abbrev pub AreMet : (Q → List ℕ → Offered → Q → Type 0) → Handled → (old new : DeviceView Q) → Type 0
       AreMet offer_gives (handled.Captured members) old new =
-          AllZip (λ (a b : Membership Q). (scan : List ℕ) (answer : Offered) → offer_gives a.tail scan answer b.tail → IsMet scan answer a.tail b.tail) old.standing.members new.standing.members
+          AllZip (λ (a b : Membership Q). (scan : List ℕ) (answer : Offered) → offer_gives a.tail scan answer b.tail → IsMet scan answer a.tail b.tail)
+          old.standing.members new.standing.members
       AreMet offer_gives answer old new = Unit {0}
 
 -- ---- what the ends of the queues that are there tell

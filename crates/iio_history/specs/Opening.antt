@@ -56,7 +56,8 @@ host_of ds d mask = host_by d.kind ds d mask
 -- the refusals of an OPEN at a device, in their order; `is_open` is whether it is taken
 abbrev pub open_refusals : Setup → List Outline → Host → Outline → Bool → Bool → Bool → ℕ → ℕ → List (Bool × Errno)
 open_refusals s outlines host o is_open is_mask cyclic mask capacity =
-    asked_refusals (not o.site.plugged) (cyclic && not (is_output o.kind)) (not is_mask) (not (has_data o.shape mask)) (is_excess capacity (scan_size o.shape mask)) is_open
+    asked_refusals (not o.site.plugged) (cyclic && not (is_output o.kind)) (not is_mask) (not (has_data o.shape mask))
+    (is_excess capacity (scan_size o.shape mask)) is_open
     ++ join_refusals (is_none host.outline.site.trigger) (host.joins && is_without_union host.outline.shape host.beside host.mask)
     (host.joins && is_empty host.outline.masks && has_no_place s outlines host.outline.site.trigger)
 
@@ -80,7 +81,8 @@ open_answer s r d who buffers samples text cyclic =
 -- the refusals of a member's new mask, in their order, beside the masks of the others
 abbrev pub remask_refusals : ShapeRecord → List ℕ → Member → Bool → ℕ → List (Bool × Errno)
 remask_refusals shape others m is_mask mask =
-    mask_refusals (not is_mask) (not (has_data shape mask)) (nat_lt MAX_BYTES (m.capacity * scan_size shape mask)) ++ (is_without_union shape others mask, EINVAL) ∷ []
+    mask_refusals (not is_mask) (not (has_data shape mask)) (nat_lt MAX_BYTES (m.capacity * scan_size shape mask))
+    ++ (is_without_union shape others mask, EINVAL) ∷ []
 
 -- a mask is given to a member
 pub record Remasked : Type 0 where

@@ -112,7 +112,8 @@ abbrev pub event_text : Setup → Told → Event → List ℕ
 event_text s m (Heard name item) = text_of (reply s m name item)
 event_text s m (Polled trigger moment) = printed (codes "poll" ∷ trigger_name s.desc trigger ∷ poll_words m trigger moment)
 event_text s m (Handled trigger device) =
-    printed (codes "handle" ∷ trigger_name s.desc trigger ∷ device_name s.desc device ∷ handled_word (slice_get m.stations device) (entry_of device (entries_at m.triggers trigger)) ∷ [])
+    printed (codes "handle" ∷ trigger_name s.desc trigger ∷ device_name s.desc device
+    ∷ handled_word (slice_get m.stations device) (entry_of device (entries_at m.triggers trigger)) ∷ [])
 event_text s m (Sensed device moment) = printed (device_name s.desc device ∷ sense_words (slice_get m.stations device) moment)
 event_text s m (Clock moment) = printed (codes "clock" ∷ signed_decimal moment ∷ [])
 event_text s m (Dropped name) = printed (name ∷ (if is_live name (registry_of m).users then codes "dropped" else codes "closed") ∷ [])

@@ -25,7 +25,8 @@ there k [] j less all = absurd (omega arith)
 there k (c ∷ cs) zero less all = (c, refl, all 0 c (omega arith))
 there k (c ∷ cs) (suc j) less all = there k cs j (omega arith) (λ i d l. all (suc i) d (omega arith))
 
-pub opens : (k : Key) (cells : List Cell) (words : List ℕ) → Words words 0 0 0 → 0 < k.slots → length cells ≡ k.slots → All (λ (c : Cell). length c.bytes.items ≡ k.size) cells
+pub opens : (k : Key) (cells : List Cell) (words : List ℕ) → Words words 0 0 0 → 0 < k.slots → length cells ≡ k.slots
+    → All (λ (c : Cell). length c.bytes.items ≡ k.size) cells
     → holds k (opening words cells (new_view Fresh k.size))
 opens k cells words start room count all = record {
   is = refl;
@@ -67,7 +68,8 @@ joins k id other v w writes reads s h at off at' =
         → HoldsOf k s.words s.homes (set (set views id (joined v w)) other spent)
     one views id other e d c q = rw (e, d, c) (inr (record { is = refl; size = q.size.0; rings = q.rings }, refl))
 
-settled : (k : Key) (words : List ℕ) (homes : List (Option Cell)) (w : Writing) (r : Reading) → Rings k words homes (accepted w.offers) w r → (left : List Sent) × (accepted w.offers ≡ r.received ++ left)
+settled : (k : Key) (words : List ℕ) (homes : List (Option Cell)) (w : Writing) (r : Reading) → Rings k words homes (accepted w.offers) w r → (left : List Sent)
+    × (accepted w.offers ≡ r.received ++ left)
 settled k words homes w r h =
     let xs = accepted w.offers in
     let out = length r.received in
@@ -79,7 +81,8 @@ settled k words homes w r h =
     take_whole [] b = refl
     take_whole (x ∷ a) b = ap (λ (ys : List Sent). x ∷ ys) (take_whole a b)
 
-pub settle_at : (k : Key) (id slots : ℕ) (v : View) (held : List (ℕ × Cell)) → v.part ≡ Joined → Allows (holds k) slots id (v, held) 0 (λ n. n) (λ n b. Settles (v, held) n b)
+pub settle_at : (k : Key) (id slots : ℕ) (v : View) (held : List (ℕ × Cell)) → v.part ≡ Joined
+    → Allows (holds k) slots id (v, held) 0 (λ n. n) (λ n b. Settles (v, held) n b)
 settle_at k id slots v held both s h count at fits =
     let j = as_joined k s.words s.homes s.views id v h at both in
     let parts = settled k s.words s.homes v.writing v.reading j.rings in (

@@ -22,7 +22,8 @@ refuse_from lost [] = refl
 refuse_from lost (Accepted s ∷ offers) = ap (λ (xs : List Sent). record { scan = s; lost = lost } ∷ xs) (refuse_from lost offers)
 refuse_from lost (Refused ∷ offers) = refuse_from (lost + 1) offers
 
-pub accepted-accept : (offers : List Offer) (scan : List ℕ) → accepted (offers ++ Accepted scan ∷ []) ≡ accepted offers ++ record { scan = scan; lost = lost_in offers } ∷ []
+pub accepted-accept : (offers : List Offer) (scan : List ℕ)
+    → accepted (offers ++ Accepted scan ∷ []) ≡ accepted offers ++ record { scan = scan; lost = lost_in offers } ∷ []
 unfolding sent_with
 accepted-accept offers scan =
     let e : 0 + lost_in offers ≡ lost_in offers = omega arith in

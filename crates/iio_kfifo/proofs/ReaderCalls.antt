@@ -16,7 +16,8 @@ use Rattle.iio_kfifo.specs.Rule.{sent_at, sent_of}
 use Rattle.iio_kfifo.specs.Steps.{with_reading, in_hand, AreIn, Turned, LookedIn}
 use Rattle.iio_kfifo.proofs.ReaderLaws.{MayReceive}
 
-same_size : (k : Key) (slots size size' i t : ℕ) (ss : List Sent) (held : List (ℕ × Cell)) → slots ≡ k.slots → size ≡ size' → Turned slots size i t ss held → Turned k.slots size' i t ss held
+same_size : (k : Key) (slots size size' i t : ℕ) (ss : List Sent) (held : List (ℕ × Cell)) → slots ≡ k.slots → size ≡ size' → Turned slots size i t ss held
+    → Turned k.slots size' i t ss held
 same_size k slots size size' i t ss held e d h = rw (← e, ← d) h
 
 -- ---- after a load
@@ -59,7 +60,8 @@ pub record Next (slots size i t : ℕ) (ss : List Sent) (held : List (ℕ × Cel
   pub sum : (i + t) + (sent_at ss t).lost < 2 ^ 64
   pub after : Turned slots size i (t + 1) ss (turned held)
 
-AreIn-append : (slots size i : ℕ) (ss ss' : List Sent) (held held' : List (ℕ × Cell)) → AreIn slots size i ss held → AreIn slots size (i + length ss) ss' held' → AreIn slots size i (ss ++ ss') (held ++ held')
+AreIn-append : (slots size i : ℕ) (ss ss' : List Sent) (held held' : List (ℕ × Cell)) → AreIn slots size i ss held → AreIn slots size (i + length ss) ss' held'
+    → AreIn slots size i (ss ++ ss') (held ++ held')
 AreIn-append slots size i [] ss' [] held' a b = let e : i + 0 ≡ i = omega arith in subst (λ (n : ℕ). AreIn slots size n ss' held') e b
 AreIn-append slots size i [] ss' (x ∷ xs) held' a b = absurd a
 AreIn-append slots size i (s ∷ ss) ss' [] held' a b = absurd a
@@ -101,7 +103,8 @@ next slots size i t ss held h less = by h.front h.parts (subst (λ (xs : List Se
         few = one_more;
         first = subst (λ (n : ℕ). AreIn slots size n (drop (t + 1) ss) front) on are.1;
         last = subst (λ (xs : List Sent). AreIn slots size i xs (h.back ++ x ∷ [])) (sym (take_more ss t nil less))
-            (AreIn-append slots size i (take t ss) (sent_at ss t ∷ []) h.back (x ∷ []) h.last (subst (λ (n : ℕ). AreIn slots size n (sent_at ss t ∷ []) (x ∷ [])) all (are.0, tt)));
+            (AreIn-append slots size i (take t ss) (sent_at ss t ∷ []) h.back (x ∷ []) h.last
+            (subst (λ (n : ℕ). AreIn slots size n (sent_at ss t ∷ []) (x ∷ [])) all (are.0, tt)));
       };
     }
 
@@ -124,8 +127,10 @@ same_cell xs ys zs s t c d e f = ap (λ (l : List (ℕ × Cell)). cell_at l c) (
 -- ---- scans were received
 
 -- the slots in hand are those of the view after a load, and that many of them are received
-pub may_receive : (k : Key) (slots n m t : ℕ) (a : View) (b : Me Cell View) (v : View) (held : List (ℕ × Cell)) (count : ℕ) → (g : InHand slots n a b) → a.part ≡ Reads → slots ≡ k.slots → a.size ≡ k.size
-    → v ≡ b.0 → Turned slots a.size (length a.reading.received) t g.hand held → count ≡ length a.reading.received → m ≤ length g.hand → MayReceive k v held (count + m)
+pub may_receive : (k : Key) (slots n m t : ℕ) (a : View) (b : Me Cell View) (v : View) (held : List (ℕ × Cell)) (count : ℕ) → (g : InHand slots n a b)
+    → a.part ≡ Reads → slots ≡ k.slots → a.size ≡ k.size
+    → v ≡ b.0 → Turned slots a.size (length a.reading.received) t g.hand held → count ≡ length a.reading.received → m ≤ length g.hand
+    → MayReceive k v held (count + m)
 may_receive k slots n m t a b v held count g reads same size is are counted few = rw (is, g.view) (record {
   reads = reads;
   turns = t;
@@ -136,7 +141,8 @@ may_receive k slots n m t a b v held count g reads same size is are counted few 
 
 -- ---- bytes of a run
 
-pub flat_more : (ss : List Sent) (t : ℕ) → t < length ss → flat_map (λ (s : Sent). s.scan) (take (t + 1) ss) ≡ flat_map (λ (s : Sent). s.scan) (take t ss) ++ (sent_at ss t).scan
+pub flat_more : (ss : List Sent) (t : ℕ) → t < length ss
+    → flat_map (λ (s : Sent). s.scan) (take (t + 1) ss) ≡ flat_map (λ (s : Sent). s.scan) (take t ss) ++ (sent_at ss t).scan
 flat_more ss t less =
     let scan : Sent → List ℕ = λ s. s.scan in
     ap (λ (xs : List Sent). flat_map scan xs) (take_more ss t (record { scan = []; lost = 0 }) less) ∙ flat_map-append scan (take t ss) (sent_at ss t ∷ [])

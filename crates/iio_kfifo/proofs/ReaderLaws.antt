@@ -29,7 +29,8 @@ record LooksIn (k : Key) (words : List ℕ) (homes : List (Option Cell)) (xs : L
   pub rings : Rings k words (homes_after homes [] act) xs w new
   pub looked : LookedIn (step k.slots 0 0 0 none) (v, []) (length xs) (with_reading v new, carried_after [] act)
 
-module _ (k : Key) (words : List ℕ) (homes : List (Option Cell)) (w : Writing) (v : View) (h : Rings k words homes (accepted w.offers) w v.reading) (idle : v.reading.hand ≡ []) (size : v.size ≡ k.size) where
+module _ (k : Key) (words : List ℕ) (homes : List (Option Cell)) (w : Writing) (v : View) (h : Rings k words homes (accepted w.offers) w v.reading)
+    (idle : v.reading.hand ≡ []) (size : v.size ≡ k.size) where
   abbrev r : Reading
   r = v.reading
 
@@ -79,7 +80,10 @@ module _ (k : Key) (words : List ℕ) (homes : List (Option Cell)) (w : Writing)
       prefix = sym all_left ∙ sym (take_all (out + length window) xs (omega (arith, window_long, on)));
       turn = h.turn;
       count = t.count ∙ h.count;
-      home = λ j below off. let old = h.home j below (λ a. was_home j off a) in (old.0, t.others j (λ d low high e. off (inr (d, low, omega (arith, high, window_long), e))) ∙ old.1, old.2);
+      home =
+          λ j below off. let old =
+          h.home j below (λ a. was_home j off a) in
+          (old.0, t.others j (λ d low high e. off (inr (d, low, omega (arith, high, window_long), e))) ∙ old.1, old.2);
       full = λ i low high. absurd (omega (arith, low, high, window_long, on));
       sums = h.sums;
       told = h.told;
@@ -95,7 +99,9 @@ module _ (k : Key) (words : List ℕ) (homes : List (Option Cell)) (w : Writing)
   }
     where
       t : Taken k homes xs out number
-      t = take_run k homes xs number out (omega (arith, h.within)) (omega (arith, on)) (λ d low high. h.full d (omega (arith, low, none_held)) (omega (arith, high, on))) h.sums
+      t =
+          take_run k homes xs number out (omega (arith, h.within)) (omega (arith, on))
+          (λ d low high. h.full d (omega (arith, low, none_held)) (omega (arith, high, on))) h.sums
 
       was_home : (j : ℕ) → ¬ IsAway k xs w looker j → ¬ IsAway k xs w r j
       was_home j off (inl p) = off (inl p)
@@ -178,7 +184,8 @@ module _ (k : Key) (words : List ℕ) (homes : List (Option Cell)) (w : Writing)
 
 -- ---- the store of `out`
 
-module _ (k : Key) (words : List ℕ) (homes : List (Option Cell)) (w : Writing) (q : Reading) (t m : ℕ) (held : List (ℕ × Cell)) (h : Rings k words homes (accepted w.offers) w q)
+module _ (k : Key) (words : List ℕ) (homes : List (Option Cell)) (w : Writing) (q : Reading) (t m : ℕ) (held : List (ℕ × Cell))
+    (h : Rings k words homes (accepted w.offers) w q)
     (are : Turned k.slots k.size (length q.received) t q.hand held) (few_in_hand : m ≤ length q.hand) where
   abbrev ys : List Sent
   ys = accepted w.offers
@@ -202,7 +209,8 @@ module _ (k : Key) (words : List ℕ) (homes : List (Option Cell)) (w : Writing)
   same : (e : ℕ) → e < length q.hand → sent_at q.hand e ≡ sent_at ys (from + e)
   same e less =
       let nil : Sent = record { scan = []; lost = 0 } in
-      sym (get_or-append-add q.received q.hand e nil) ∙ ap (λ (zs : List Sent). sent_at zs (from + e)) h.prefix ∙ get_or-take (far q) ys (from + e) nil (omega (arith, less))
+      sym (get_or-append-add q.received q.hand e nil) ∙ ap (λ (zs : List Sent). sent_at zs (from + e)) h.prefix
+      ∙ get_or-take (far q) ys (from + e) nil (omega (arith, less))
 
   back : (j : ℕ) → ((d : ℕ) → from ≤ d → d < from + length q.hand → j ≢ slot_of k d) → get_elem? (returned homes held) j ≡ get_elem? homes j
   back j off = others_back k.slots k.size from t q.hand homes held are h.room few h.count j off
@@ -212,12 +220,15 @@ module _ (k : Key) (words : List ℕ) (homes : List (Option Cell)) (w : Writing)
 
   received_more : q.received ++ take m q.hand ≡ take (from + m) ys
   received_more =
-      sym (take-append-add q.received q.hand m) ∙ ap (λ (zs : List Sent). take (from + m) zs) h.prefix ∙ take-take (from + m) (far q) ys (omega (arith, few_in_hand))
+      sym (take-append-add q.received q.hand m) ∙ ap (λ (zs : List Sent). take (from + m) zs) h.prefix
+      ∙ take-take (from + m) (far q) ys (omega (arith, few_in_hand))
 
   receives : Rings k (set words 16 (from + m)) (returned homes held) ys w receiver
   receives = record {
     room = h.room;
-    counted = subst (λ (n : ℕ). Words (set words 16 (from + m)) (length ys) n (closed_word w.closed (lost_in w.offers))) (sym long) (outs_stored words _ _ _ (from + m) h.counted);
+    counted =
+        subst (λ (n : ℕ). Words (set words 16 (from + m)) (length ys) n (closed_word w.closed (lost_in w.offers))) (sym long)
+        (outs_stored words _ _ _ (from + m) h.counted);
     within = (omega (arith, long, within, few_in_hand), omega (arith, long, h.within.1));
     saw = (omega (arith, long, h.saw.0), omega (arith, long, few_in_hand, h.saw.1), h.saw.2);
     prefix = append-nil (q.received ++ take m q.hand) ∙ received_more ∙ ap (λ (n : ℕ). take n ys) next;
@@ -233,7 +244,8 @@ module _ (k : Key) (words : List ℕ) (homes : List (Option Cell)) (w : Writing)
       next = omega (arith, long)
 
       at_home : (j : ℕ) → j < k.slots → ¬ IsAway k ys w receiver j
-          → ((d : ℕ) × (from ≤ d) × (d < from + length q.hand) × (j ≡ d % k.slots)) ⊎ ((d : ℕ) → from ≤ d → d < from + length q.hand → j ≢ d % k.slots) → IsHome k (returned homes held) j
+          → ((d : ℕ) × (from ≤ d) × (d < from + length q.hand) × (j ≡ d % k.slots)) ⊎ ((d : ℕ) → from ≤ d → d < from + length q.hand → j ≢ d % k.slots)
+          → IsHome k (returned homes held) j
       at_home j below off (inl found) =
           let is : from + (found.0 - from) ≡ found.0 = omega (arith, found.1) in
           let one = got (found.0 - from) (omega (arith, found.1, found.2)) in
@@ -246,29 +258,48 @@ module _ (k : Key) (words : List ℕ) (homes : List (Option Cell)) (w : Writing)
           not_away (inl p) = off (inl p)
           not_away (inr p) = clear p.0 p.1 p.2 p.3
 
-      filled : (i : ℕ) → far receiver ≤ i → i < length ys → (i < from + length q.hand) ⊎ (from + length q.hand ≤ i) → IsFull k (returned homes held) i (sent_at ys i)
+      filled : (i : ℕ) → far receiver ≤ i → i < length ys → (i < from + length q.hand) ⊎ (from + length q.hand ≤ i)
+          → IsFull k (returned homes held) i (sent_at ys i)
       filled i low high (inl less) =
           let is : from + (i - from) ≡ i = omega (arith, low, long) in
           let e : i - from < length q.hand = omega (arith, low, long, less) in
-          let one = got (i - from) e in
-          (one.0, ap (λ (n : ℕ). get_elem? (returned homes held) (slot_of k n)) (sym is) ∙ one.1, one.2, one.3 ∙ same (i - from) e ∙ ap (λ (n : ℕ). sent_at ys n) is)
+          let one = got (i - from) e in (
+            one.0,
+            ap (λ (n : ℕ). get_elem? (returned homes held) (slot_of k n)) (sym is) ∙ one.1,
+            one.2,
+            one.3 ∙ same (i - from) e
+                ∙ ap (λ (n : ℕ). sent_at ys n) is,
+          )
       filled i low high (inr more) =
           let was = h.full i more high in (
             was.0,
-            back (slot_of k i) (λ d least less e. absurd (omega (arith, least, less, more, high, h.within.1, one_turn d i k.slots (omega (arith, less, more)) (omega (arith, least, high, h.within.1)) (sym e)))) ∙ was.1,
+            back (slot_of k i) (λ d least less e. absurd
+                (omega (
+                  arith,
+                  least,
+                  less,
+                  more,
+                  high,
+                  h.within.1,
+                  one_turn d i k.slots (omega (arith, less, more)) (omega (arith, least, high, h.within.1))
+                      (sym e),
+                ))) ∙ was.1,
             was.2,
             was.3,
           )
 
 -- ---- the steps as the table has them
 
-rings_at : (k : Key) (words words' : List ℕ) (homes homes' : List (Option Cell)) (xs : List Sent) (w : Writing) (r : Reading) → words' ≡ words → homes' ≡ homes → Rings k words homes xs w r → Rings k words' homes' xs w r
+rings_at : (k : Key) (words words' : List ℕ) (homes homes' : List (Option Cell)) (xs : List Sent) (w : Writing) (r : Reading) → words' ≡ words → homes' ≡ homes
+    → Rings k words homes xs w r → Rings k words' homes' xs w r
 rings_at k words words' homes homes' xs w r e d h = rw (e, d) h
 
-as_looked : (slots n m : ℕ) (k : Key) (a b : Me Cell View) → slots ≡ k.slots → n ≡ m → LookedIn (step k.slots 0 0 0 none) a m b → LookedIn (step slots 0 0 0 none) a n b
+as_looked : (slots n m : ℕ) (k : Key) (a b : Me Cell View) → slots ≡ k.slots → n ≡ m → LookedIn (step k.slots 0 0 0 none) a m b
+    → LookedIn (step slots 0 0 0 none) a n b
 as_looked slots n m k a b e d x = rw (e, d) x
 
-look_in : (k : Key) (id slots : ℕ) (v : View) → v.part ≡ Reads → v.reading.hand ≡ [] → slots ≡ k.slots → Allows (holds k) slots id (v, []) 0 (λ n. n) (LookedIn (step slots 0 0 0 none) (v, []))
+look_in : (k : Key) (id slots : ℕ) (v : View) → v.part ≡ Reads → v.reading.hand ≡ [] → slots ≡ k.slots
+    → Allows (holds k) slots id (v, []) 0 (λ n. n) (LookedIn (step slots 0 0 0 none) (v, []))
 look_in k id slots v reads idle e s h count at fits =
     let r = as_reader k s.words s.homes s.views id v h at reads in
     let m = look k s.words s.homes r.other.writing v r.rings idle r.size in (
@@ -298,7 +329,8 @@ count_in k id slots v reads idle s h count at fits =
       record { low = omega (arith, is, r.rings.within.0); after = refl },
     )
 
-pub count_in_at : (k : Key) (id slots : ℕ) (v : View) (held : List (ℕ × Cell)) → held ≡ [] → v.part ≡ Reads → v.reading.hand ≡ [] → Allows (holds k) slots id (v, held) 0 (λ n. n) (λ n b. Counts (v, held) n b)
+pub count_in_at : (k : Key) (id slots : ℕ) (v : View) (held : List (ℕ × Cell)) → held ≡ [] → v.part ≡ Reads → v.reading.hand ≡ []
+    → Allows (holds k) slots id (v, held) 0 (λ n. n) (λ n b. Counts (v, held) n b)
 count_in_at k id slots v held nil reads idle = rw nil (count_in k id slots v reads idle)
 
 ask : (k : Key) (id slots : ℕ) (v : View) → v.part ≡ Reads → v.reading.hand ≡ [] → Allows (holds k) slots id (v, []) 1 (λ n. n) (λ n b. Asked (v, []) n b)
@@ -308,11 +340,13 @@ ask k id slots v reads idle s h count at fits =
       with_reading v m.new,
       keeps,
       tt,
-      r.put (set s.words 1 (slice_index s.words 1)) s.homes (with_reading v m.new) reads r.size (rings_at k s.words _ _ _ _ _ m.new (load_keeps s.words 1) refl m.rings),
+      r.put (set s.words 1 (slice_index s.words 1)) s.homes (with_reading v m.new) reads r.size
+          (rings_at k s.words _ _ _ _ _ m.new (load_keeps s.words 1) refl m.rings),
       m.asked,
     )
 
-pub ask_at : (k : Key) (id slots : ℕ) (v : View) (held : List (ℕ × Cell)) → held ≡ [] → v.part ≡ Reads → v.reading.hand ≡ [] → Allows (holds k) slots id (v, held) 1 (λ n. n) (λ n b. Asked (v, held) n b)
+pub ask_at : (k : Key) (id slots : ℕ) (v : View) (held : List (ℕ × Cell)) → held ≡ [] → v.part ≡ Reads → v.reading.hand ≡ []
+    → Allows (holds k) slots id (v, held) 1 (λ n. n) (λ n b. Asked (v, held) n b)
 ask_at k id slots v held nil reads idle = rw nil (ask k id slots v reads idle)
 
 -- what a store of `out` asks
@@ -323,7 +357,8 @@ pub record MayReceive (k : Key) (v : View) (held : List (ℕ × Cell)) (n : ℕ)
   pub low : length v.reading.received ≤ n
   pub few : n ≤ far v.reading
 
-pub receive_at : (k : Key) (id slots n : ℕ) (v : View) (held : List (ℕ × Cell)) → MayReceive k v held n → Allows (holds k) slots id (v, held) 16 (λ x. n) (λ x b. Receives (v, held) n b)
+pub receive_at : (k : Key) (id slots n : ℕ) (v : View) (held : List (ℕ × Cell)) → MayReceive k v held n
+    → Allows (holds k) slots id (v, held) 16 (λ x. n) (λ x b. Receives (v, held) n b)
 receive_at k id slots n v held may s h count there fits =
     let r = as_reader k s.words s.homes s.views id v h there may.reads in
     let m = n - length v.reading.received in

@@ -51,10 +51,12 @@ module _ (first count size slots room : ℕ) (bytes : List ℕ) where
       let long = length-drop (first * size) bytes in
       elim (cases_lt (first + count) slots) [
         | inl on ↦
-            let some : (first + count) * size ≤ length bytes = slots_written first (count + suc left) size slots (length bytes) room ring (first + count) (omega (arith, on)) in
+            let some : (first + count) * size ≤ length bytes =
+            slots_written first (count + suc left) size slots (length bytes) room ring (first + count) (omega (arith, on)) in
             let same : first * size + count * size ≡ next * size = rw (goes_on first count slots on) (omega arith) in
             ap (λ xs. scans_in size (suc left) xs)
-            (drop-append-le (count * size) run bytes (omega (arith, long, some)) ∙ ap (λ xs. xs ++ bytes) (drop-drop (count * size) (first * size) bytes) ∙ ap (λ n. drop n bytes ++ bytes) same)
+            (drop-append-le (count * size) run bytes (omega (arith, long, some)) ∙ ap (λ xs. xs ++ bytes) (drop-drop (count * size) (first * size) bytes)
+            ∙ ap (λ n. drop n bytes ++ bytes) same)
         | inr round ↦
             let all = all_written first (count + suc left) size slots (length bytes) room ring (omega (arith, round)) in
             let is : next + slots ≡ first + count = omega (arith, round, goes_round first count slots round) in
@@ -64,7 +66,8 @@ module _ (first count size slots room : ℕ) (bytes : List ℕ) where
             let fits : suc left + next ≤ slots = omega (arith, is, h, m) in
             ap (λ n. scans_in size (suc left) (drop n (run ++ bytes))) past
             ∙ ap (λ xs. scans_in size (suc left) xs) (drop-append-add run bytes (next * size))
-            ∙ sym (scans_in-front size (suc left) (drop (next * size) bytes) bytes (omega (arith, length-drop (next * size) bytes, all, mul-le-mul_right size fits)))
+            ∙ sym (scans_in-front size (suc left) (drop (next * size) bytes) bytes
+            (omega (arith, length-drop (next * size) bytes, all, mul-le-mul_right size fits)))
       ]
 
   left_ring : (left len : ℕ) → IsRing first (count + left) size slots len room → IsRing (first_after first count left slots) left size slots len room
@@ -101,7 +104,8 @@ module _ (first waiting count size slots room : ℕ) (bytes : List ℕ) (ring : 
   ring' = subst (λ n. IsRing first n size slots (length bytes) room) parts ring
 
   pub ring_less : scans_in size waiting (bytes_from (first * size) bytes)
-      ≡ scans_in size count (bytes_from (first * size) bytes) ++ scans_in size (waiting - count) (bytes_from (first_after first count (waiting - count) slots * size) bytes)
+      ≡ scans_in size count (bytes_from (first * size) bytes)
+      ++ scans_in size (waiting - count) (bytes_from (first_after first count (waiting - count) slots * size) bytes)
   ring_less =
       ap (λ n. scans_in size n (bytes_from (first * size) bytes)) parts
       ∙ scans_in-split size count (waiting - count) (bytes_from (first * size) bytes)
@@ -132,7 +136,8 @@ module _ (first waiting count size slots room : ℕ) (bytes : List ℕ) (ring : 
             let is : min count (slots - first) ≡ count = omega (arith, h, on) in
             let less : count - count ≡ 0 = omega arith in
             let none : (count - count) * size ≡ 0 = rw less (omega arith) in
-            let some : (first + count) * size ≤ length bytes = slots_written first waiting size slots (length bytes) room ring (first + count) (omega (arith, there, on)) in
+            let some : (first + count) * size ≤ length bytes =
+            slots_written first waiting size slots (length bytes) room ring (first + count) (omega (arith, there, on)) in
             rw (is, none) (take-append-le (count * size) run bytes (omega (arith, long, some)) ∙ sym (append-nil (take (count * size) run)))
       ]
 
@@ -142,15 +147,18 @@ module _ (first waiting count size slots room : ℕ) (bytes : List ℕ) (ring : 
       omega (arith, slots_written first waiting size slots (length bytes) room ring (first + min count (slots - first)) (omega (arith, there, h)))
 
 -- the scans that a take of at most that many gives, their bytes, and those that are left
-module _ (first waiting most count size slots room : ℕ) (bytes : List ℕ) (ring : IsRing first waiting size slots (length bytes) room) (is : count ≡ min waiting most) where
+module _ (first waiting most count size slots room : ℕ) (bytes : List ℕ) (ring : IsRing first waiting size slots (length bytes) room)
+    (is : count ≡ min waiting most) where
   less : scans_in size waiting (bytes_from (first * size) bytes)
-      ≡ scans_in size count (bytes_from (first * size) bytes) ++ scans_in size (waiting - count) (bytes_from (first_after first count (waiting - count) slots * size) bytes)
+      ≡ scans_in size count (bytes_from (first * size) bytes)
+      ++ scans_in size (waiting - count) (bytes_from (first_after first count (waiting - count) slots * size) bytes)
   less = ring_less first waiting count size slots room bytes ring (omega (arith, is))
 
   long : length (scans_in size count (bytes_from (first * size) bytes)) ≡ min most (length (scans_in size waiting (bytes_from (first * size) bytes)))
   long = omega (arith, is, length-scans_in size count (bytes_from (first * size) bytes), length-scans_in size waiting (bytes_from (first * size) bytes))
 
-  pub given_bytes : flat_map (λ scan. scan) (take most (scans_in size waiting (bytes_from (first * size) bytes))) ≡ take (count * size) (bytes_from (first * size) bytes)
+  pub given_bytes : flat_map (λ scan. scan) (take most (scans_in size waiting (bytes_from (first * size) bytes)))
+      ≡ take (count * size) (bytes_from (first * size) bytes)
   given_bytes =
       ap (λ xs. flat_map (λ scan. scan) xs) (take_most most _ _ _ less long) ∙ scans_in-bytes size count (bytes_from (first * size) bytes)
 
@@ -159,9 +167,11 @@ module _ (first waiting most count size slots room : ℕ) (bytes : List ℕ) (ri
       let h = ring.begins in
       let m = ring.most in
       let there = slots_written first waiting size slots (length bytes) room ring count (omega (arith, is, h, m)) in
-      ap length given_bytes ∙ length-take-le (count * size) (bytes_from (first * size) bytes) (omega (arith, length-append (drop (first * size) bytes) bytes, there))
+      ap length given_bytes ∙ length-take-le (count * size) (bytes_from (first * size) bytes)
+      (omega (arith, length-append (drop (first * size) bytes) bytes, there))
 
-  pub scans_left : drop most (scans_in size waiting (bytes_from (first * size) bytes)) ≡ scans_in size (waiting - count) (bytes_from (first_after first count (waiting - count) slots * size) bytes)
+  pub scans_left : drop most (scans_in size waiting (bytes_from (first * size) bytes))
+      ≡ scans_in size (waiting - count) (bytes_from (first_after first count (waiting - count) slots * size) bytes)
   scans_left = drop_most most _ _ _ less long
 
 -- the first scan's bytes are there
@@ -201,13 +211,16 @@ offer_on size waiting from start bytes scan is within one =
     = ap (λ xs. xs ++ new) (drop-append-le from (before ++ scan) later low' ∙ ap (λ xs. xs ++ later) (drop-append-le from before scan low))
     ∙ append_assoc (run ++ scan) later new in
     let old_run : run ++ (after ++ bytes) ≡ bytes_from from bytes
-    = sym (append_assoc run after bytes) ∙ ap (λ xs. xs ++ bytes) (sym (drop-append-le from before after low) ∙ ap (λ xs. drop from xs) (take-append-drop start bytes)) in
+    =
+    sym (append_assoc run after bytes)
+    ∙ ap (λ xs. xs ++ bytes) (sym (drop-append-le from before after low) ∙ ap (λ xs. drop from xs) (take-append-drop start bytes)) in
     ap (λ xs. scans_in size (suc waiting) xs) new_run
     ∙ one_more size waiting run scan (after ++ bytes) (later ++ new) all one
     ∙ ap (λ xs. scans_in size waiting xs ++ scan ∷ []) old_run
 
 -- before the first scan, the ring's last bytes being in use
-offer_round : (size waiting from start : ℕ) (bytes scan : List ℕ) → length bytes + start ≡ from + waiting * size → start + size ≤ from → from ≤ length bytes → length scan ≡ size
+offer_round : (size waiting from start : ℕ) (bytes scan : List ℕ) → length bytes + start ≡ from + waiting * size → start + size ≤ from → from ≤ length bytes
+    → length scan ≡ size
     → scans_in size (suc waiting) (bytes_from from (overwritten start scan bytes)) ≡ scans_in size waiting (bytes_from from bytes) ++ scan ∷ []
 offer_round size waiting from start bytes scan is below within one =
     let before = take start bytes in
@@ -251,7 +264,8 @@ module _ (first waiting size slots room : ℕ) (bytes : List ℕ) (ring : IsRing
         ≡ scans_in size waiting (bytes_from (first * size) bytes) ++ scan ∷ []
     ring_offer =
         rw add-one (elim (cases_lt (first + waiting) slots) [
-          | inl on ↦ offer_on size waiting (first * size) (slot_after first waiting slots * size) bytes scan (rw (goes_on first waiting slots on) (omega arith)) free_within one
+          | inl on ↦ offer_on size waiting (first * size) (slot_after first waiting slots * size) bytes scan (rw (goes_on first waiting slots on) (omega arith))
+              free_within one
           | inr round ↦
               let h = ring.begins in
               let all : min (first + waiting) slots ≡ slots = omega (arith, round) in
@@ -264,7 +278,8 @@ module _ (first waiting size slots room : ℕ) (bytes : List ℕ) (ring : IsRing
               (omega (arith, times, whole, ring.within)) (omega (arith, mul-le-mul_right size below)) (omega (arith, mul-le-mul_right size less, whole)) one
         ])
 
-    long_after : length (overwritten (slot_after first waiting slots * size) scan bytes) ≡ slot_after first waiting slots * size + size + (length bytes - (slot_after first waiting slots * size + size))
+    long_after : length (overwritten (slot_after first waiting slots * size) scan bytes) ≡ slot_after first waiting slots * size + size
+        + (length bytes - (slot_after first waiting slots * size + size))
     long_after =
         let start = slot_after first waiting slots * size in
         omega (
@@ -276,7 +291,8 @@ module _ (first waiting size slots room : ℕ) (bytes : List ℕ) (ring : IsRing
           one,
         )
 
-    pub offer_ring : (room' : ℕ) → room ≤ room' → IsRing first (waiting + 1) size slots (length (overwritten (slot_after first waiting slots * size) scan bytes)) room'
+    pub offer_ring : (room' : ℕ) → room ≤ room'
+        → IsRing first (waiting + 1) size slots (length (overwritten (slot_after first waiting slots * size) scan bytes)) room'
     offer_ring room' more = record {
       begins = ring.begins;
       most = omega (arith, fewer);

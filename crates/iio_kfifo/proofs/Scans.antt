@@ -36,7 +36,8 @@ scans_in-front size (suc count) bytes rest long =
     ∙ ap (λ xs. take size bytes ∷ xs) (scans_in-front size count (drop size bytes) rest fewer)
 
 -- the first of them, and then the others
-pub scans_in-split : (size first count : ℕ) (bytes : List ℕ) → scans_in size (first + count) bytes ≡ scans_in size first bytes ++ scans_in size count (drop (first * size) bytes)
+pub scans_in-split : (size first count : ℕ) (bytes : List ℕ)
+    → scans_in size (first + count) bytes ≡ scans_in size first bytes ++ scans_in size count (drop (first * size) bytes)
 scans_in-split size zero count bytes =
     let all : 0 + count ≡ count = omega arith in
     let none : 0 * size ≡ 0 = omega arith in
@@ -46,7 +47,8 @@ scans_in-split size (suc first) count bytes =
     let times : suc first * size ≡ size + first * size = omega arith in
     rw (more, times)
     (ap (λ xs. take size bytes ∷ xs)
-    (scans_in-split size first count (drop size bytes) ∙ ap (λ xs. scans_in size first (drop size bytes) ++ scans_in size count xs) (drop-drop (first * size) size bytes)))
+    (scans_in-split size first count (drop size bytes)
+    ∙ ap (λ xs. scans_in size first (drop size bytes) ++ scans_in size count xs) (drop-drop (first * size) size bytes)))
 
 -- their bytes are the first of those that they stand in
 pub scans_in-bytes : (size count : ℕ) (bytes : List ℕ) → flat_map (λ scan. scan) (scans_in size count bytes) ≡ take (count * size) bytes

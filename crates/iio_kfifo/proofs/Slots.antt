@@ -51,13 +51,34 @@ module _ (words : List ℕ) (taken given word n : ℕ) (h : Words words taken gi
   else i j apart = get_or-set_other words i j n 0 apart
 
   pub ins_stored : Words (set words 0 n) n given word
-  ins_stored = record { count = long 0; ins = here 0 (omega arith); outs = else 0 16 (λ e. absurd (omega (arith, e))) ∙ h.outs; closed = else 0 1 (λ e. absurd (omega (arith, e))) ∙ h.closed }
+  ins_stored =
+      record {
+        count = long 0;
+        ins = here 0 (omega arith);
+        outs = else 0 16 (λ e. absurd (omega (arith, e))) ∙ h.outs;
+        closed =
+            else 0 1 (λ e. absurd (omega (arith, e))) ∙ h.closed;
+      }
 
   pub outs_stored : Words (set words 16 n) taken n word
-  outs_stored = record { count = long 16; ins = else 16 0 (λ e. absurd (omega (arith, e))) ∙ h.ins; outs = here 16 (omega arith); closed = else 16 1 (λ e. absurd (omega (arith, e))) ∙ h.closed }
+  outs_stored =
+      record {
+        count = long 16;
+        ins = else 16 0 (λ e. absurd (omega (arith, e))) ∙ h.ins;
+        outs = here 16 (omega arith);
+        closed =
+            else 16 1 (λ e. absurd (omega (arith, e))) ∙ h.closed;
+      }
 
   pub closed_stored : Words (set words 1 n) taken given n
-  closed_stored = record { count = long 1; ins = else 1 0 (λ e. absurd (omega (arith, e))) ∙ h.ins; outs = else 1 16 (λ e. absurd (omega (arith, e))) ∙ h.outs; closed = here 1 (omega arith) }
+  closed_stored =
+      record {
+        count = long 1;
+        ins = else 1 0 (λ e. absurd (omega (arith, e))) ∙ h.ins;
+        outs = else 1 16 (λ e. absurd (omega (arith, e))) ∙ h.outs;
+        closed =
+            here 1 (omega arith);
+      }
 
 -- ---- all slots of a run are taken
 
@@ -81,13 +102,17 @@ pub take_run : (k : Key) (homes : List (Option Cell)) (xs : List Sent) (n i : �
     → ((d : ℕ) → i ≤ d → d < i + n → IsFull k homes d (sent_at xs d)) → ((d : ℕ) → d < length xs → d + (sent_at xs d).lost < 2 ^ 64) → Taken k homes xs i n
 take_run k homes xs zero i few within full sums = record { act = keeps; valid = tt; others = λ j far. refl; count = refl; are = tt }
 take_run k homes xs (suc n) i few within full sums =
-    let later : Taken k homes xs (suc i) n = take_run k homes xs n (suc i) (omega (arith, few)) (omega (arith, within)) (λ d low high. full d (omega (arith, low)) (omega (arith, high))) sums in
+    let later : Taken k homes xs (suc i) n =
+    take_run k homes xs n (suc i) (omega (arith, few)) (omega (arith, within)) (λ d low high. full d (omega (arith, low)) (omega (arith, high))) sums in
     let c : IsFull k homes i (sent_at xs i) = full i (omega arith) (omega arith) in record {
       act = chain later.act (takes (slot_of k i) c.0);
       valid = (later.valid, later.others (slot_of k i) (λ d low high. apart k i d (suc n) (omega (arith, low)) (omega (arith, high)) few) ∙ c.1);
-      others = λ j far. set_else (homes_after homes [] later.act) (slot_of k i) j none (far i (omega arith) (omega arith)) ∙ later.others j (λ d low high. far d (omega (arith, low)) (omega (arith, high)));
+      others =
+          λ j far. set_else (homes_after homes [] later.act) (slot_of k i) j none (far i (omega arith) (omega arith))
+          ∙ later.others j (λ d low high. far d (omega (arith, low)) (omega (arith, high)));
       count = length-set (homes_after homes [] later.act) (slot_of k i) none ∙ later.count;
-      are = subst (λ (ss : List Sent). AreIn k.slots k.size i ss ((slot_of k i, c.0) ∷ carried_after [] later.act)) (sym (take_on xs i n (omega (arith, within))))
+      are =
+          subst (λ (ss : List Sent). AreIn k.slots k.size i ss ((slot_of k i, c.0) ∷ carried_after [] later.act)) (sym (take_on xs i n (omega (arith, within))))
           (record { place = refl; sized = c.2; sent = c.3; sum = sums i (omega (arith, within)) }, later.are);
     }
 
@@ -139,7 +164,8 @@ outside slots size i (s ∷ ss) homes (x ∷ xs) are j far =
 abbrev pub GotBack : (slots size place : ℕ) → Sent → List (Option Cell) → Type 0
 GotBack slots size place s homes = (c : Cell) × (get_elem? homes (place % slots) ≡ some (some c)) × (length c.bytes.items ≡ size) × (sent_of c ≡ s)
 
-inside : (slots size i : ℕ) (ss : List Sent) (homes : List (Option Cell)) (held : List (ℕ × Cell)) → AreIn slots size i ss held → 0 < slots → length ss ≤ slots → length homes ≡ slots
+inside : (slots size i : ℕ) (ss : List Sent) (homes : List (Option Cell)) (held : List (ℕ × Cell)) → AreIn slots size i ss held → 0 < slots → length ss ≤ slots
+    → length homes ≡ slots
     → (e : ℕ) → e < length ss → GotBack slots size (i + e) (sent_at ss e) (returned homes held)
 unfolding returned
 inside slots size i [] homes held are room few count e less = absurd (omega arith)
@@ -150,15 +176,23 @@ inside slots size i (s ∷ ss) homes (x ∷ xs) are room few count zero less =
     let apart : (d : ℕ) → suc i ≤ d → d < suc i + length ss → i % slots ≢ d % slots
     = λ d low high e. absurd (omega (arith, low, one_turn i d slots (omega (arith, low)) (omega (arith, high, few)) e)) in
     let at : get_elem? put (i % slots) ≡ some (some x.1)
-    = ap (λ (j : ℕ). get_elem? put j) (sym are.0.place) ∙ set_here homes x.0 (some x.1) (omega (arith, ap (λ (j : ℕ). j) are.0.place, mod_below i slots room, count)) in
-    (x.1, ap (λ (n : ℕ). get_elem? (returned put xs) (n % slots)) same ∙ outside slots size (suc i) ss put xs are.1 (i % slots) apart ∙ at, are.0.sized, are.0.sent)
+    =
+    ap (λ (j : ℕ). get_elem? put j) (sym are.0.place)
+    ∙ set_here homes x.0 (some x.1) (omega (arith, ap (λ (j : ℕ). j) are.0.place, mod_below i slots room, count)) in (
+      x.1,
+      ap (λ (n : ℕ). get_elem? (returned put xs) (n % slots)) same ∙ outside slots size (suc i) ss put xs are.1 (i % slots) apart
+          ∙ at,
+      are.0.sized,
+      are.0.sent,
+    )
 inside slots size i (s ∷ ss) homes (x ∷ xs) are room few count (suc e) less =
     let put = set homes x.0 (some x.1) in
     let same : i + suc e ≡ suc i + e = omega arith in
     let one = inside slots size (suc i) ss put xs are.1 room (omega (arith, few)) (length-set homes x.0 (some x.1) ∙ count) e (omega (arith, less)) in
     (one.0, ap (λ (n : ℕ). get_elem? (returned put xs) (n % slots)) same ∙ one.1, one.2, one.3)
 
-module _ (slots size i t : ℕ) (ss : List Sent) (homes : List (Option Cell)) (held : List (ℕ × Cell)) (are : Turned slots size i t ss held) (room : 0 < slots) (few : length ss ≤ slots) (count : length homes ≡ slots) where
+module _ (slots size i t : ℕ) (ss : List Sent) (homes : List (Option Cell)) (held : List (ℕ × Cell)) (are : Turned slots size i t ss held) (room : 0 < slots)
+    (few : length ss ≤ slots) (count : length homes ≡ slots) where
   both : returned homes held ≡ returned (returned homes are.front) are.back
   both = ap (λ (xs : List (ℕ × Cell)). returned homes xs) are.parts ∙ returned-append homes are.front are.back
 
@@ -171,7 +205,8 @@ module _ (slots size i t : ℕ) (ss : List Sent) (homes : List (Option Cell)) (h
   pub counted_back : length (returned homes held) ≡ slots
   counted_back = length-returned homes held ∙ count
 
-  pub others_back : (j : ℕ) → ((d : ℕ) → i ≤ d → d < i + length ss → j ≢ slot_of (record { slots = slots; size = size }) d) → get_elem? (returned homes held) j ≡ get_elem? homes j
+  pub others_back : (j : ℕ) → ((d : ℕ) → i ≤ d → d < i + length ss → j ≢ slot_of (record { slots = slots; size = size }) d)
+      → get_elem? (returned homes held) j ≡ get_elem? homes j
   others_back j far =
       ap (λ (hs : List (Option Cell)). get_elem? hs j) both
       ∙ outside slots size i (take t ss) (returned homes are.front) are.back are.last j (λ d low high. far d low (omega (arith, high, long_last, are.few)))
@@ -180,13 +215,30 @@ module _ (slots size i t : ℕ) (ss : List Sent) (homes : List (Option Cell)) (h
   pub run_back : (e : ℕ) → e < length ss → GotBack slots size (i + e) (sent_at ss e) (returned homes held)
   run_back e less = by (compare e t)
     where
-      early : e < t → GotBack slots size (i + e) (sent_at (take t ss) e) (returned (returned homes are.front) are.back) → GotBack slots size (i + e) (sent_at ss e) (returned homes held)
-      early low one = (one.0, ap (λ (hs : List (Option Cell)). get_elem? hs ((i + e) % slots)) both ∙ one.1, one.2, one.3 ∙ get_or-take t ss e (record { scan = []; lost = 0 }) low)
+      early : e < t → GotBack slots size (i + e) (sent_at (take t ss) e) (returned (returned homes are.front) are.back)
+          → GotBack slots size (i + e) (sent_at ss e) (returned homes held)
+      early low one = (
+        one.0,
+        ap (λ (hs : List (Option Cell)). get_elem? hs ((i + e) % slots)) both ∙ one.1,
+        one.2,
+        one.3
+            ∙ get_or-take t ss e (record { scan = []; lost = 0 }) low,
+      )
 
       far : t ≤ e → (d : ℕ) → i ≤ d → d < i + length (take t ss) → (i + e) % slots ≢ d % slots
-      far high d from to same = absurd (omega (arith, from, to, long_last, high, one_turn d (i + e) slots (omega (arith, to, long_last, high)) (omega (arith, from, less, few)) (sym same)))
+      far high d from to same =
+          absurd (omega (
+            arith,
+            from,
+            to,
+            long_last,
+            high,
+            one_turn d (i + e) slots (omega (arith, to, long_last, high)) (omega (arith, from, less, few))
+                (sym same),
+          ))
 
-      late : t ≤ e → GotBack slots size ((i + t) + (e - t)) (sent_at (drop t ss) (e - t)) (returned homes are.front) → GotBack slots size (i + e) (sent_at ss e) (returned homes held)
+      late : t ≤ e → GotBack slots size ((i + t) + (e - t)) (sent_at (drop t ss) (e - t)) (returned homes are.front)
+          → GotBack slots size (i + e) (sent_at ss e) (returned homes held)
       late high one =
           let on : (i + t) + (e - t) ≡ i + e = omega (arith, high) in
           let on' : t + (e - t) ≡ e = omega (arith, high) in (
@@ -199,8 +251,12 @@ module _ (slots size i t : ℕ) (ss : List Sent) (homes : List (Option Cell)) (h
           )
 
       by : (e < t) ⊎ (t ≤ e) → GotBack slots size (i + e) (sent_at ss e) (returned homes held)
-      by (inl low) = early low (inside slots size i (take t ss) (returned homes are.front) are.back are.last room (omega (arith, long_last, few, are.few)) (length-returned homes are.front ∙ count) e (omega (arith, long_last, low)))
-      by (inr high) = late high (inside slots size (i + t) (drop t ss) homes are.front are.first room (omega (arith, long_first, few)) count (e - t) (omega (arith, long_first, less, high)))
+      by (inl low) =
+          early low (inside slots size i (take t ss) (returned homes are.front) are.back are.last room (omega (arith, long_last, few, are.few))
+          (length-returned homes are.front ∙ count) e (omega (arith, long_last, low)))
+      by (inr high) =
+          late high (inside slots size (i + t) (drop t ss) homes are.front are.first room (omega (arith, long_first, few)) count (e - t)
+          (omega (arith, long_first, less, high)))
 
 -- whether a slot is that of a place of a run
 pub find_place : (slots j i n : ℕ) → ((d : ℕ) × (i ≤ d) × (d < i + n) × (j ≡ d % slots)) ⊎ ((d : ℕ) → i ≤ d → d < i + n → j ≢ d % slots)

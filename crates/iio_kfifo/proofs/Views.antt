@@ -66,10 +66,12 @@ pub record AtWriter (k : Key) (words : List ℕ) (homes : List (Option Cell)) (v
   pub other : View
   pub size : v.size ≡ k.size
   pub rings : Rings k words homes (accepted v.writing.offers) v.writing other.reading
-  pub put : (words' : List ℕ) (homes' : List (Option Cell)) (x : View) → x.part ≡ Writes → x.size ≡ k.size → Rings k words' homes' (accepted x.writing.offers) x.writing other.reading
+  pub put : (words' : List ℕ) (homes' : List (Option Cell)) (x : View) → x.part ≡ Writes → x.size ≡ k.size
+      → Rings k words' homes' (accepted x.writing.offers) x.writing other.reading
       → HoldsOf k words' homes' (set views id x)
 
-pub as_writer : (k : Key) (words : List ℕ) (homes : List (Option Cell)) (views : List View) (id : ℕ) (v : View) → HoldsOf k words homes views → get_elem? views id ≡ some v → v.part ≡ Writes
+pub as_writer : (k : Key) (words : List ℕ) (homes : List (Option Cell)) (views : List View) (id : ℕ) (v : View) → HoldsOf k words homes views
+    → get_elem? views id ≡ some v → v.part ≡ Writes
     → AtWriter k words homes views id v
 as_writer k words homes [] id v h e p = absurd h
 as_writer k words homes (x ∷ []) zero v h e p = absurd (fresh_writes (part_of e p h.is))
@@ -92,10 +94,12 @@ pub record AtReader (k : Key) (words : List ℕ) (homes : List (Option Cell)) (v
   pub other : View
   pub size : v.size ≡ k.size
   pub rings : Rings k words homes (accepted other.writing.offers) other.writing v.reading
-  pub put : (words' : List ℕ) (homes' : List (Option Cell)) (x : View) → x.part ≡ Reads → x.size ≡ k.size → Rings k words' homes' (accepted other.writing.offers) other.writing x.reading
+  pub put : (words' : List ℕ) (homes' : List (Option Cell)) (x : View) → x.part ≡ Reads → x.size ≡ k.size
+      → Rings k words' homes' (accepted other.writing.offers) other.writing x.reading
       → HoldsOf k words' homes' (set views id x)
 
-pub as_reader : (k : Key) (words : List ℕ) (homes : List (Option Cell)) (views : List View) (id : ℕ) (v : View) → HoldsOf k words homes views → get_elem? views id ≡ some v → v.part ≡ Reads
+pub as_reader : (k : Key) (words : List ℕ) (homes : List (Option Cell)) (views : List View) (id : ℕ) (v : View) → HoldsOf k words homes views
+    → get_elem? views id ≡ some v → v.part ≡ Reads
     → AtReader k words homes views id v
 as_reader k words homes [] id v h e p = absurd h
 as_reader k words homes (x ∷ []) zero v h e p = absurd (fresh_reads (part_of e p h.is))
@@ -114,7 +118,8 @@ as_reader k words homes (x ∷ y ∷ []) (suc (suc n)) v h e p = absurd (cc)
 as_reader k words homes (x ∷ y ∷ z ∷ zs) id v h e p = absurd h
 
 -- a new ring's one view is split
-pub split_fresh : (k : Key) (words : List ℕ) (homes : List (Option Cell)) (views : List View) (id : ℕ) (v : View) → HoldsOf k words homes views → get_elem? views id ≡ some v → v.part ≡ Fresh
+pub split_fresh : (k : Key) (words : List ℕ) (homes : List (Option Cell)) (views : List View) (id : ℕ) (v : View) → HoldsOf k words homes views
+    → get_elem? views id ≡ some v → v.part ≡ Fresh
     → (views ≡ v ∷ []) × (id ≡ 0) × Whole Fresh k words homes v
 split_fresh k words homes [] id v h e p = absurd h
 split_fresh k words homes (x ∷ []) zero v h e p = let same : v ≡ x = cc in (ap (λ (z : View). z ∷ []) (sym same), refl, rw same h)
@@ -127,7 +132,8 @@ split_fresh k words homes (x ∷ y ∷ []) (suc (suc n)) v h e p = absurd (cc)
 split_fresh k words homes (x ∷ y ∷ z ∷ zs) id v h e p = absurd h
 
 -- both ends in one view
-pub as_joined : (k : Key) (words : List ℕ) (homes : List (Option Cell)) (views : List View) (id : ℕ) (v : View) → HoldsOf k words homes views → get_elem? views id ≡ some v → v.part ≡ Joined
+pub as_joined : (k : Key) (words : List ℕ) (homes : List (Option Cell)) (views : List View) (id : ℕ) (v : View) → HoldsOf k words homes views
+    → get_elem? views id ≡ some v → v.part ≡ Joined
     → Whole Joined k words homes v
 as_joined k words homes [] id v h e p = absurd h
 as_joined k words homes (x ∷ []) zero v h e p = absurd (fresh_joined (part_of e p h.is))
@@ -140,7 +146,8 @@ as_joined k words homes (x ∷ y ∷ []) (suc (suc n)) v h e p = absurd (cc)
 as_joined k words homes (x ∷ y ∷ z ∷ zs) id v h e p = absurd h
 
 -- the two ends of a ring, of which the one is the writer's and the other the reader's
-pub both_ends : (k : Key) (words : List ℕ) (homes : List (Option Cell)) (views : List View) (id other : ℕ) (v w both : View) → HoldsOf k words homes views → get_elem? views id ≡ some v → v.part ≡ Writes
+pub both_ends : (k : Key) (words : List ℕ) (homes : List (Option Cell)) (views : List View) (id other : ℕ) (v w both : View) → HoldsOf k words homes views
+    → get_elem? views id ≡ some v → v.part ≡ Writes
     → ¬ (other ≡ id) → get_elem? (set views id both) other ≡ some w → w.part ≡ Reads
     → (views ≡ v ∷ w ∷ []) × (id ≡ 0) × (other ≡ 1) × Apart k words homes v w
 both_ends k words homes [] id other v w both h e p off f q = absurd h

@@ -23,8 +23,10 @@ pub record Begun (slots n : ℕ) (a : View) (b : Me Cell View) : Type 0 where
   pub view : b.0 ≡ with_writing a (record a.writing { turn = true; seen = n; looks = a.writing.looks + 1 })
   pub held : b.1 ≡ (length (accepted a.writing.offers) % slots, cell) ∷ []
 
-pub begun : (slots n : ℕ) (a b : Me Cell View) → LookedOut (step slots 16 0 0 none) a n b → length (accepted a.0.writing.offers) < n + slots → Begun slots n a.0 b
-begun slots n a b (Begins c size low less e) room = record { cell = c; size = size; view = ap (λ (x : Me Cell View). x.0) e; held = ap (λ (x : Me Cell View). x.1) e }
+pub begun : (slots n : ℕ) (a b : Me Cell View) → LookedOut (step slots 16 0 0 none) a n b → length (accepted a.0.writing.offers) < n + slots
+    → Begun slots n a.0 b
+begun slots n a b (Begins c size low less e) room =
+    record { cell = c; size = size; view = ap (λ (x : Me Cell View). x.0) e; held = ap (λ (x : Me Cell View). x.1) e }
 begun slots n a b (Loses full e) room = absurd (omega (arith, full, room))
 
 -- the slot in hand
@@ -33,8 +35,10 @@ in_hand_is held i j c d e =
     let r : rest held ≡ [] = ap (λ (l : List (ℕ × Cell)). rest l) e in
     rw (r, ← d) e
 
-pub may_accept : (k : Key) (z slots n count lost : ℕ) (a : View) (b : Me Cell View) (c : Cell) → a.part ≡ Writes → a.writing.closed ≡ false → count ≡ length (accepted a.writing.offers)
-    → lost ≡ lost_in a.writing.offers → count + lost < 2 ^ 64 - 1 → k.slots ≡ slots → length c.bytes.items ≡ k.size → c.lost ≡ lost → Begun z n a b → MayAccept k b.0 (count % slots) c (count + 1)
+pub may_accept : (k : Key) (z slots n count lost : ℕ) (a : View) (b : Me Cell View) (c : Cell) → a.part ≡ Writes → a.writing.closed ≡ false
+    → count ≡ length (accepted a.writing.offers)
+    → lost ≡ lost_in a.writing.offers → count + lost < 2 ^ 64 - 1 → k.slots ≡ slots → length c.bytes.items ≡ k.size → c.lost ≡ lost → Begun z n a b
+    → MayAccept k b.0 (count % slots) c (count + 1)
 may_accept k z slots n count lost a b c writes still counted lost' fewer same size with_lost g = rw g.view (record {
   writes = writes;
   busy = refl;
@@ -47,7 +51,8 @@ may_accept k z slots n count lost a b c writes still counted lost' fewer same si
 })
 
 module _ (capacity : ℕ) (w w' : Writing) (scan : List ℕ) where
-  taken_counts : Answers capacity w scan Taken w' → (accepted w'.offers ≡ accepted w.offers ++ record { scan = scan; lost = lost_in w.offers } ∷ []) × (lost_in w'.offers ≡ lost_in w.offers)
+  taken_counts : Answers capacity w scan Taken w' → (accepted w'.offers ≡ accepted w.offers ++ record { scan = scan; lost = lost_in w.offers } ∷ [])
+      × (lost_in w'.offers ≡ lost_in w.offers)
   taken_counts a = rw a.1 (accepted-accept w.offers scan, lost-accept w.offers scan)
 
   lost_counts : Answers capacity w scan Lost w' → (accepted w'.offers ≡ accepted w.offers) × (lost_in w'.offers ≡ lost_in w.offers + 1)
@@ -61,7 +66,8 @@ module _ (capacity : ℕ) (w w' : Writing) (scan : List ℕ) where
   pub one_lost : Answers capacity w scan Lost w' → (length (accepted w'.offers) ≡ length (accepted w.offers)) × (lost_in w'.offers ≡ lost_in w.offers + 1)
   one_lost a = let t = lost_counts a in (ap (λ (xs : List Sent). length xs) t.0, t.1)
 
-  pub counts_taken : (k : Key) (count lost slots size : ℕ) → WriterCounts k w count lost slots size → Answers capacity w scan Taken w' → WriterCounts k w' (count + 1) lost slots size
+  pub counts_taken : (k : Key) (count lost slots size : ℕ) → WriterCounts k w count lost slots size → Answers capacity w scan Taken w'
+      → WriterCounts k w' (count + 1) lost slots size
   counts_taken k count lost slots size h a = let t = one_taken a in record {
     slots_is = h.slots_is;
     size_is = h.size_is;
@@ -70,7 +76,8 @@ module _ (capacity : ℕ) (w w' : Writing) (scan : List ℕ) where
     fits = h.fits;
   }
 
-  pub counts_lost : (k : Key) (count lost slots size : ℕ) → WriterCounts k w count lost slots size → 0 < capacity → count + lost < 2 ^ 64 - 1 → Answers capacity w scan Lost w' → WriterCounts k w' count (lost + 1) slots size
+  pub counts_lost : (k : Key) (count lost slots size : ℕ) → WriterCounts k w count lost slots size → 0 < capacity → count + lost < 2 ^ 64 - 1
+      → Answers capacity w scan Lost w' → WriterCounts k w' count (lost + 1) slots size
   counts_lost k count lost slots size h room fewer a = let t = one_lost a in record {
     slots_is = h.slots_is;
     size_is = h.size_is;

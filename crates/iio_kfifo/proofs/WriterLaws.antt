@@ -38,7 +38,8 @@ record LooksOut (k : Key) (words : List ℕ) (homes : List (Option Cell)) (v : V
   pub rings : Rings k words (homes_after homes [] act) (accepted new.offers) new r
   pub looked : LookedOut (step k.slots 16 0 0 none) (v, []) (length r.received) (with_writing v new, carried_after [] act)
 
-module _ (k : Key) (words : List ℕ) (homes : List (Option Cell)) (v : View) (r : Reading) (h : Rings k words homes (accepted v.writing.offers) v.writing r) (idle : v.writing.turn ≡ false) (open' : v.writing.closed ≡ false) (size : v.size ≡ k.size) where
+module _ (k : Key) (words : List ℕ) (homes : List (Option Cell)) (v : View) (r : Reading) (h : Rings k words homes (accepted v.writing.offers) v.writing r)
+    (idle : v.writing.turn ≡ false) (open' : v.writing.closed ≡ false) (size : v.size ≡ k.size) where
   abbrev w : Writing
   w = v.writing
 
@@ -100,7 +101,9 @@ module _ (k : Key) (words : List ℕ) (homes : List (Option Cell)) (v : View) (r
       turn = λ t. more;
       count = length-set homes at none ∙ h.count;
       home = λ j below off. let old = h.home j below (not_away j off) in (old.0, set_else homes at j none (λ e. off (inl (refl, e))) ∙ old.1, old.2);
-      full = λ i low high. let old = h.full i low high in (old.0, set_else homes at (slot_of k i) none (apart i (omega (arith, low)) high more) ∙ old.1, old.2, old.3);
+      full =
+          λ i low high. let old =
+          h.full i low high in (old.0, set_else homes at (slot_of k i) none (apart i (omega (arith, low)) high more) ∙ old.1, old.2, old.3);
       sums = h.sums;
       told = λ t. never_told t;
     };
@@ -123,7 +126,8 @@ module _ (k : Key) (words : List ℕ) (homes : List (Option Cell)) (v : View) (r
 
 -- ---- the store of `in`
 
-module _ (k : Key) (words : List ℕ) (homes : List (Option Cell)) (w : Writing) (r : Reading) (c : Cell) (h : Rings k words homes (accepted w.offers) w r) (busy : w.turn ≡ true) (open' : w.closed ≡ false)
+module _ (k : Key) (words : List ℕ) (homes : List (Option Cell)) (w : Writing) (r : Reading) (c : Cell) (h : Rings k words homes (accepted w.offers) w r)
+    (busy : w.turn ≡ true) (open' : w.closed ≡ false)
     (size : length c.bytes.items ≡ k.size) (lost : c.lost ≡ lost_in w.offers) (sum : length (accepted w.offers) + lost_in w.offers < 2 ^ 64) where
   abbrev old : List Sent
   old = accepted w.offers
@@ -150,7 +154,8 @@ module _ (k : Key) (words : List ℕ) (homes : List (Option Cell)) (w : Writing)
   accepts = subst (λ (ys : List Sent). Rings k (set words 0 (length old + 1)) (set homes place (some c)) ys accepter r) (sym all) (record {
     room = h.room;
     counted = same_words _ _ _ _ _ (open_word w.closed (lost_in w.offers) (lost_in accepter.offers) open')
-        (subst (λ (n : ℕ). Words (set words 0 (length old + 1)) n (length r.received) (closed_word w.closed (lost_in w.offers))) (sym long) (ins_stored words _ _ _ (length old + 1) h.counted));
+        (subst (λ (n : ℕ). Words (set words 0 (length old + 1)) n (length r.received) (closed_word w.closed (lost_in w.offers))) (sym long)
+        (ins_stored words _ _ _ (length old + 1) h.counted));
     within = (omega (arith, long, h.within.0), omega (arith, long, h.turn busy, h.saw.0));
     saw = (h.saw.0, h.saw.1, omega (arith, long, h.saw.2));
     prefix = h.prefix ∙ sym (take-append-le (far r) old (sent_of c ∷ []) (omega (arith, h.saw)));
@@ -163,14 +168,16 @@ module _ (k : Key) (words : List ℕ) (homes : List (Option Cell)) (w : Writing)
   })
     where
       at_home : (j : ℕ) → j < k.slots → ¬ IsAway k (old ++ sent_of c ∷ []) accepter r j → (j ≡ place) ⊎ (j ≢ place) → IsHome k (set homes place (some c)) j
-      at_home j below off (inl e) = (c, ap (λ (n : ℕ). get_elem? (set homes place (some c)) n) e ∙ set_here homes place (some c) (omega (arith, inside, h.count)), size)
+      at_home j below off (inl e) =
+          (c, ap (λ (n : ℕ). get_elem? (set homes place (some c)) n) e ∙ set_here homes place (some c) (omega (arith, inside, h.count)), size)
       at_home j below off (inr d) = let was = h.home j below (λ a. not_away a) in (was.0, set_else homes place j (some c) d ∙ was.1, was.2)
         where
           not_away : ¬ IsAway k old w r j
           not_away (inl p) = d p.1
           not_away (inr p) = off (inr p)
 
-      filled : (i : ℕ) → far r ≤ i → (i ≡ length old) ⊎ (i ≢ length old) → i < length old + 1 → IsFull k (set homes place (some c)) i (sent_at (old ++ sent_of c ∷ []) i)
+      filled : (i : ℕ) → far r ≤ i → (i ≡ length old) ⊎ (i ≢ length old) → i < length old + 1
+          → IsFull k (set homes place (some c)) i (sent_at (old ++ sent_of c ∷ []) i)
       filled i low (inl e) high = (
         c,
         ap (λ (n : ℕ). get_elem? (set homes place (some c)) (slot_of k n)) e ∙ set_here homes place (some c) (omega (arith, inside, h.count)),
@@ -179,17 +186,24 @@ module _ (k : Key) (words : List ℕ) (homes : List (Option Cell)) (w : Writing)
       )
       filled i low (inr d) high =
           let less : i < length old = omega (arith, d, high) in
-          let was = h.full i low less in
-          (was.0, set_else homes place (slot_of k i) (some c) (distinct i low less) ∙ was.1, was.2, was.3 ∙ sym (get_or_append_left old (sent_of c ∷ []) (record { scan = []; lost = 0 }) i less))
+          let was = h.full i low less in (
+            was.0,
+            set_else homes place (slot_of k i) (some c) (distinct i low less) ∙ was.1,
+            was.2,
+            was.3
+                ∙ sym (get_or_append_left old (sent_of c ∷ []) (record { scan = []; lost = 0 }) i less),
+          )
 
       summed : (i : ℕ) → (i ≡ length old) ⊎ (i ≢ length old) → i < length old + 1 → i + (sent_at (old ++ sent_of c ∷ []) i).lost < 2 ^ 64
       summed i (inl e) high =
-          let is : sent_at (old ++ sent_of c ∷ []) i ≡ sent_of c = ap (λ (n : ℕ). sent_at (old ++ sent_of c ∷ []) n) e ∙ get_or-append_seam old (sent_of c) [] (record { scan = []; lost = 0 }) in
+          let is : sent_at (old ++ sent_of c ∷ []) i ≡ sent_of c =
+          ap (λ (n : ℕ). sent_at (old ++ sent_of c ∷ []) n) e ∙ get_or-append_seam old (sent_of c) [] (record { scan = []; lost = 0 }) in
           let n : (sent_at (old ++ sent_of c ∷ []) i).lost ≡ lost_in w.offers = ap (λ (s : Sent). s.lost) is ∙ lost in
           omega (arith, n, e, sum)
       summed i (inr d) high =
           let less : i < length old = omega (arith, d, high) in
-          let n : (sent_at (old ++ sent_of c ∷ []) i).lost ≡ (sent_at old i).lost = ap (λ (s : Sent). s.lost) (get_or_append_left old (sent_of c ∷ []) (record { scan = []; lost = 0 }) i less) in
+          let n : (sent_at (old ++ sent_of c ∷ []) i).lost ≡ (sent_at old i).lost =
+          ap (λ (s : Sent). s.lost) (get_or_append_left old (sent_of c ∷ []) (record { scan = []; lost = 0 }) i less) in
           omega (arith, n, h.sums i less)
 
 -- ---- the store of the closed word
@@ -212,10 +226,12 @@ closes k words homes w r h open' = record {
 
 -- ---- the steps as the table has them
 
-rings_at : (k : Key) (words words' : List ℕ) (homes : List (Option Cell)) (xs : List Sent) (w : Writing) (r : Reading) → words' ≡ words → Rings k words homes xs w r → Rings k words' homes xs w r
+rings_at : (k : Key) (words words' : List ℕ) (homes : List (Option Cell)) (xs : List Sent) (w : Writing) (r : Reading) → words' ≡ words
+    → Rings k words homes xs w r → Rings k words' homes xs w r
 rings_at k words words' homes xs w r e h = rw e h
 
-as_looked : (slots n m : ℕ) (k : Key) (a b : Me Cell View) → slots ≡ k.slots → n ≡ m → LookedOut (step k.slots 16 0 0 none) a m b → LookedOut (step slots 16 0 0 none) a n b
+as_looked : (slots n m : ℕ) (k : Key) (a b : Me Cell View) → slots ≡ k.slots → n ≡ m → LookedOut (step k.slots 16 0 0 none) a m b
+    → LookedOut (step slots 16 0 0 none) a n b
 as_looked slots n m k a b e d x = rw (e, d) x
 
 look_out : (k : Key) (id slots : ℕ) (v : View) → v.part ≡ Writes → v.writing.turn ≡ false → v.writing.closed ≡ false → slots ≡ k.slots
@@ -228,10 +244,12 @@ look_out k id slots v writes idle open' e s h count at fits =
       m.valid,
       w.put (set s.words 16 (slice_index s.words 16)) (homes_after s.homes [] m.act) (with_writing v m.new) writes w.size
           (rings_at k s.words _ _ _ m.new w.other.reading (load_keeps s.words 16) m.rings),
-      as_looked slots (slice_index s.words 16) (length w.other.reading.received) k (v, []) (with_writing v m.new, carried_after [] m.act) e w.rings.counted.outs m.looked,
+      as_looked slots (slice_index s.words 16) (length w.other.reading.received) k (v, []) (with_writing v m.new, carried_after [] m.act) e w.rings.counted.outs
+          m.looked,
     )
 
-pub look_out_at : (k : Key) (id slots : ℕ) (v : View) (held : List (ℕ × Cell)) → held ≡ [] → v.part ≡ Writes → v.writing.turn ≡ false → v.writing.closed ≡ false → slots ≡ k.slots
+pub look_out_at : (k : Key) (id slots : ℕ) (v : View) (held : List (ℕ × Cell)) → held ≡ [] → v.part ≡ Writes → v.writing.turn ≡ false → v.writing.closed ≡ false
+    → slots ≡ k.slots
     → Allows (holds k) slots id (v, held) 16 (λ n. n) (LookedOut (step slots 16 0 0 none) (v, held))
 look_out_at k id slots v held nil writes idle open' e = rw nil (look_out k id slots v writes idle open' e)
 
@@ -246,7 +264,8 @@ pub record MayAccept (k : Key) (v : View) (at : ℕ) (c : Cell) (n : ℕ) : Type
   pub sum : length (accepted v.writing.offers) + lost_in v.writing.offers < 2 ^ 64
   pub next : n ≡ length (accepted v.writing.offers) + 1
 
-accept : (k : Key) (id slots : ℕ) (v : View) (at : ℕ) (c : Cell) (n : ℕ) → MayAccept k v at c n → Allows (holds k) slots id (v, (at, c) ∷ []) 0 (λ x. n) (λ x b. Accepts (v, (at, c) ∷ []) b)
+accept : (k : Key) (id slots : ℕ) (v : View) (at : ℕ) (c : Cell) (n : ℕ) → MayAccept k v at c n
+    → Allows (holds k) slots id (v, (at, c) ∷ []) 0 (λ x. n) (λ x b. Accepts (v, (at, c) ∷ []) b)
 accept k id slots v at c n may s h count there fits =
     let w = as_writer k s.words s.homes s.views id v h there may.writes in
     let new : View = with_writing v (record v.writing { offers = v.writing.offers ++ Accepted c.bytes.items ∷ []; turn = false }) in (
@@ -274,6 +293,7 @@ close k id slots n v writes open' e s h count there fits =
       refl,
     )
 
-pub close_at : (k : Key) (id slots n : ℕ) (v : View) (held : List (ℕ × Cell)) → held ≡ [] → v.part ≡ Writes → v.writing.closed ≡ false → n ≡ lost_in v.writing.offers + 1
+pub close_at : (k : Key) (id slots n : ℕ) (v : View) (held : List (ℕ × Cell)) → held ≡ [] → v.part ≡ Writes → v.writing.closed ≡ false
+    → n ≡ lost_in v.writing.offers + 1
     → Allows (holds k) slots id (v, held) 1 (λ x. n) (λ x b. Closes (v, held) b)
 close_at k id slots n v held nil writes open' e = rw nil (close k id slots n v writes open' e)

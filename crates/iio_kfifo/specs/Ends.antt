@@ -43,8 +43,10 @@ pub record WriterLeft : Type 0 where
 -- what one offer makes of what the writer knows. It is lost only where the load of this call showed as many scans waiting as
 -- the ring has slots
 abbrev pub Answers : ℕ → Writing → List ℕ → Offered → Writing → Type 0
-Answers capacity w scan Taken w' = (length (accepted w.offers) < w'.seen + capacity) × (w' ≡ record w { offers = w.offers ++ Accepted scan ∷ []; seen = w'.seen; looks = w.looks + 1 })
-Answers capacity w scan Lost w' = (length (accepted w.offers) ≡ w'.seen + capacity) × (w' ≡ record w { offers = w.offers ++ Refused ∷ []; seen = w'.seen; looks = w.looks + 1 })
+Answers capacity w scan Taken w' =
+    (length (accepted w.offers) < w'.seen + capacity) × (w' ≡ record w { offers = w.offers ++ Accepted scan ∷ []; seen = w'.seen; looks = w.looks + 1 })
+Answers capacity w scan Lost w' =
+    (length (accepted w.offers) ≡ w'.seen + capacity) × (w' ≡ record w { offers = w.offers ++ Refused ∷ []; seen = w'.seen; looks = w.looks + 1 })
 
 -- what one offer makes of the writer's end: nothing changes but what it knows
 abbrev pub Offers : WriterEnd → List ℕ → Offered → WriterEnd → Type 0

@@ -24,9 +24,14 @@ with_reading v r = record v { reading = r }
 -- its load of `out`: a slot is in hand, or the offer is lost, where that showed as many scans waiting as there are slots
 pub data LookedOut (s : Step Cell) (a : Me Cell View) (n : ℕ) (b : Me Cell View) : Type 0 where
   Begins : (c : Cell) → length c.bytes.items ≡ a.0.size → n ≤ length (accepted a.0.writing.offers) → length (accepted a.0.writing.offers) < n + s.slots
-      → b ≡ (with_writing a.0 (record a.0.writing { turn = true; seen = n; looks = a.0.writing.looks + 1 }), (length (accepted a.0.writing.offers) % s.slots, c) ∷ []) → LookedOut s a n b
+      → b ≡ (
+        with_writing a.0 (record a.0.writing { turn = true; seen = n; looks = a.0.writing.looks + 1 }),
+        (length (accepted a.0.writing.offers) % s.slots, c)
+            ∷ [],
+      ) → LookedOut s a n b
   Loses : length (accepted a.0.writing.offers) ≡ n + s.slots
-      → b ≡ (with_writing a.0 (record a.0.writing { offers = a.0.writing.offers ++ Refused ∷ []; seen = n; looks = a.0.writing.looks + 1 }), []) → LookedOut s a n b
+      → b ≡ (with_writing a.0 (record a.0.writing { offers = a.0.writing.offers ++ Refused ∷ []; seen = n; looks = a.0.writing.looks + 1 }), [])
+      → LookedOut s a n b
 
 -- the bytes of the first scan in hand
 abbrev pub in_hand : List (ℕ × Cell) → List ℕ
@@ -88,7 +93,8 @@ Receives a n b =
 -- its load of the closed word
 pub data Asked (a : Me Cell View) (n : ℕ) (b : Me Cell View) : Type 0 where
   Open : n ≡ 0 → b ≡ (with_reading a.0 (record a.0.reading { word = 0; asks = a.0.reading.asks + 1; looked = a.0.reading.looks }), a.1) → Asked a n b
-  Closed : (all : List Offer) (left : List Sent) → n ≡ lost_in all + 1 → accepted all ≡ a.0.reading.received ++ left → (a.0.reading.word ≢ 0 → all ≡ a.0.reading.offers)
+  Closed : (all : List Offer) (left : List Sent) → n ≡ lost_in all + 1 → accepted all ≡ a.0.reading.received ++ left
+      → (a.0.reading.word ≢ 0 → all ≡ a.0.reading.offers)
       → b ≡ (with_reading a.0 (record a.0.reading { word = n; asks = a.0.reading.asks + 1; looked = a.0.reading.looks; offers = all }), a.1) → Asked a n b
 
 -- ---- both

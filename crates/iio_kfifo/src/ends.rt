@@ -181,7 +181,8 @@ fn settle(
     requires ring { (seat.old.table_id ≡ shared.now.table_id) × (shared.now.table_id.words ≡ 32) }
     requires writes { seat.old.me.0.part ≡ Writes }
     requires reads { (other.table_id ≡ shared.now.table_id) × (other.me.1 ≡ []) × (other.me.0.part ≡ Reads) }
-    ensures left { (left : List Sent) × (result ≡ length other.me.0.reading.received + length left) × (accepted seat.old.me.0.writing.offers ≡ other.me.0.reading.received ++ left) }
+    ensures left { (left : List Sent) × (result ≡ length other.me.0.reading.received + length left)
+        × (accepted seat.old.me.0.writing.offers ≡ other.me.0.reading.received ++ left) }
     ensures told { (other.me.0.reading.word ≢ 0) → other.me.0.reading.offers ≡ seat.old.me.0.writing.offers }
 {
     shared.join_seat::<EndsJoined>(seat, other);

@@ -29,7 +29,13 @@ impl Model for Kfifo {
 
     ghost Value = { Queue };
 
-    ghost view = { λ q. record { scans = scans_in q.size q.waiting (bytes_from (q.first * q.size) q.bytes.items); taken = q.taken; lost = q.lost; size = q.size; capacity = q.capacity } };
+    ghost view = { λ q. record {
+      scans = scans_in q.size q.waiting (bytes_from (q.first * q.size) q.bytes.items);
+      taken = q.taken;
+      lost = q.lost;
+      size = q.size;
+      capacity = q.capacity;
+    } };
 
     ghost invariant = { λ q. IsRing q.first q.waiting q.size q.capacity (length q.bytes.items) (vec_capacity q.bytes) };
 }

@@ -223,7 +223,8 @@ impl Reader {
     pub fn take(&mut self, out: &mut [u8]) -> Option<Mark>
         requires { length out.old ≡ self.old.size }
         ensures same { self.new ≡ record self.old { knows = self.new.knows } }
-        ensures some { IfSome result (λ m. (m.seq ≡ length self.old.knows.received) × (m.number ≡ m.seq + m.lost) × TakesOne self.old.knows out.new m.lost self.new.knows) }
+        ensures some { IfSome result
+            (λ m. (m.seq ≡ length self.old.knows.received) × (m.number ≡ m.seq + m.lost) × TakesOne self.old.knows out.new m.lost self.new.knows) }
         ensures none { IfNone result (FindsNone self.old.knows self.new.knows × (out.new ≡ out.old)) }
     {
         let taken = take_one(
@@ -288,7 +289,8 @@ impl Reader {
     /// How many scans are left, as this call found it. The writer may have added some since.
     pub fn waiting(&mut self) -> u64
         ensures same { self.new ≡ record self.old { knows = self.new.knows } }
-        ensures left { self.new.knows ≡ record self.old.knows { seen = length self.old.knows.received + result; left = result; looks = self.old.knows.looks + 1 } }
+        ensures left { self.new.knows
+            ≡ record self.old.knows { seen = length self.old.knows.received + result; left = result; looks = self.old.knows.looks + 1 } }
     {
         count_left(&self.table.shared, &mut self.seat, self.count)
     }

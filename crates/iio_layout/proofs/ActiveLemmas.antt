@@ -15,7 +15,8 @@ use Rattle.iio_layout.specs.Active.{active_of, data_part, with_stamp}
 -- ---- listed masks
 
 -- the first of several that passes a test passes it
-passes_by : (b : Bool) (test : ℕ → Bool) (x m : ℕ) (rest : Option ℕ) → test x ≡ b → cond b (Some x) rest ≡ Some m → (rest ≡ Some m → test m ≡ true) → test m ≡ true
+passes_by : (b : Bool) (test : ℕ → Bool) (x m : ℕ) (rest : Option ℕ) → test x ≡ b → cond b (Some x) rest ≡ Some m → (rest ≡ Some m → test m ≡ true)
+    → test m ≡ true
 passes_by true test x m rest is h next = let same : x ≡ m = cc in ap test (sym same) ∙ is
 passes_by false test x m rest is h next = next h
 
@@ -37,7 +38,8 @@ below_by false x m n rest small h next = next h
 
 found_below : (test : ℕ → Bool) (xs : List ℕ) (m n : ℕ) → All (λ x. x < n) xs → find test xs ≡ Some m → m < n
 found_below test [] m n all h = cc
-found_below test (x ∷ xs) m n all h = below_by (test x) x m n (find test xs) (all 0 0 (omega arith)) h (λ g. found_below test xs m n (λ k d lt. all (suc k) d (omega (arith, lt))) g)
+found_below test (x ∷ xs) m n all h =
+    below_by (test x) x m n (find test xs) (all 0 0 (omega arith)) h (λ g. found_below test xs m n (λ k d lt. all (suc k) d (omega (arith, lt))) g)
 
 pub matching_mask_below : (listed : List ℕ) (wanted m n : ℕ) → All (λ x. x < n) listed → wanted < n → matching_mask listed wanted ≡ Some m → m < n
 matching_mask_below [] wanted m n all below h = let same : wanted ≡ m = cc in omega (arith, same)
@@ -57,7 +59,8 @@ found_weaker strong test (x ∷ xs) m weaker h =
 within_trans : (a b c : ℕ) → is_within a b ≡ true → is_within b c ≡ true → is_within a c ≡ true
 within_trans a b c first second = is_within-from a c (λ k there. has-within b c second k (has-within a b first k there))
 
-matching_mask_fewer : (listed : List ℕ) (less wanted m : ℕ) → is_within less wanted ≡ true → matching_mask listed wanted ≡ Some m → IsSome (matching_mask listed less)
+matching_mask_fewer : (listed : List ℕ) (less wanted m : ℕ) → is_within less wanted ≡ true → matching_mask listed wanted ≡ Some m
+    → IsSome (matching_mask listed less)
 matching_mask_fewer [] less wanted m within h = refl
 matching_mask_fewer (x ∷ xs) less wanted m within h =
     found_weaker (λ bits. is_within wanted bits) (λ bits. is_within less bits) (x ∷ xs) m (λ bits passes. within_trans less wanted bits within passes) h
@@ -104,7 +107,8 @@ other_channel : (b : Bool) (c n : ℕ) → c ≢ n → b ≡ true → (b && not 
 other_channel b c n apart there = let is = ne_eqb c n apart in rw (there, is) refl
 
 -- the active mask has all that is wanted
-pub active_contains : (shape : ShapeRecord) (wanted mask : ℕ) → is_within (data_part shape wanted) mask ≡ true → is_within wanted (with_stamp shape wanted mask) ≡ true
+pub active_contains : (shape : ShapeRecord) (wanted mask : ℕ) → is_within (data_part shape wanted) mask ≡ true
+    → is_within wanted (with_stamp shape wanted mask) ≡ true
 active_contains shape wanted mask inside = by_stamp (is_some shape.stamp) inside
   where
     n : ℕ
@@ -124,7 +128,8 @@ active_contains shape wanted mask inside = by_stamp (is_some shape.stamp) inside
       | inr apart ↦ others inside c apart there
     ])
 
-    by_stamp : (b : Bool) → is_within (cond b (without_channel wanted n) wanted) mask ≡ true → is_within wanted (cond (b && has wanted n) (union_of mask (2 ^ n)) mask) ≡ true
+    by_stamp : (b : Bool) → is_within (cond b (without_channel wanted n) wanted) mask ≡ true
+        → is_within wanted (cond (b && has wanted n) (union_of mask (2 ^ n)) mask) ≡ true
     by_stamp true inside = by_bit (has wanted n) refl inside
     by_stamp false inside = inside
 

@@ -101,7 +101,8 @@ limit_whole size k power within =
     split a b h = omega arith
 
 -- k channels end within k times the limit
-pub end-few : (end size k : ℕ) → IsPowerOfTwo size → 1 ≤ size → size ≤ MAX_CHANNEL_SIZE → end ≤ MAX_CHANNEL_SIZE * k → next_multiple_of end size ≤ MAX_CHANNEL_SIZE * k
+pub end-few : (end size k : ℕ) → IsPowerOfTwo size → 1 ≤ size → size ≤ MAX_CHANNEL_SIZE → end ≤ MAX_CHANNEL_SIZE * k
+    → next_multiple_of end size ≤ MAX_CHANNEL_SIZE * k
 end-few end size k power some within few = next_multiple-le end size (MAX_CHANNEL_SIZE * k) some few (limit_whole size k power within)
 
 -- ---- one channel more
@@ -123,7 +124,8 @@ pub largest_more : (formats : List Format) (mask n largest size : ℕ) → has m
     → max largest size ≡ largest_below formats mask (n + 1)
 largest_more formats mask n largest size selected is_largest is_size = rw (is_largest, is_size, add-one, selected) refl
 
-pub largest_same : (formats : List Format) (mask n largest : ℕ) → has mask n ≡ false → largest ≡ largest_below formats mask n → largest ≡ largest_below formats mask (n + 1)
+pub largest_same : (formats : List Format) (mask n largest : ℕ) → has mask n ≡ false → largest ≡ largest_below formats mask n
+    → largest ≡ largest_below formats mask (n + 1)
 largest_same formats mask n largest other is_largest = rw (is_largest, add-one, other) (omega arith)
 
 -- the larger of two powers of two is one, where the first may be 0
@@ -146,7 +148,8 @@ end_within shape mask c within selected =
 -- ---- the timestamp
 
 -- its type is the last
-pub stamp_type : (xs : List Channel) (endian : Endian) → format_at (map (λ channel. channel.ty) xs ++ stamp_formats (Some endian)) (length xs) ≡ stamp_format endian
+pub stamp_type : (xs : List Channel) (endian : Endian)
+    → format_at (map (λ channel. channel.ty) xs ++ stamp_formats (Some endian)) (length xs) ≡ stamp_format endian
 stamp_type [] endian = refl
 stamp_type (x ∷ xs) endian = stamp_type xs endian
 
@@ -184,7 +187,11 @@ stamp_field shape values t c wide after within = by_stamp shape.stamp refl
     by_stamp (Some endian) some =
         let count = stamped_count shape endian some in
         let last : c ≡ length shape.channels = omega arith in
-        rw last (ap (λ (f : Format). f.repeat) (stamp_type_of shape endian some), ap (channel_bytes (format_at (formats_of shape) (length shape.channels))) (stamp_values shape endian values t some wide))
+        rw last (
+          ap (λ (f : Format). f.repeat) (stamp_type_of shape endian some),
+          ap (channel_bytes (format_at (formats_of shape) (length shape.channels)))
+              (stamp_values shape endian values t some wide),
+        )
 
 -- ---- bytes
 

@@ -88,7 +88,8 @@ end_over-all formats mask (suc n) =
     ∙ ap (λ end. end_over formats end (cond (has mask n) (n ∷ []) [])) (end_over-all formats mask n)
     ∙ elim (cases_Bool (has mask n)) [ inl there ↦ rw there refl | inr other ↦ rw other refl ]
 
-pub front_over-all : (formats : List Format) (values : List ℤ) (mask n : ℕ) → front_over formats values [] (channels_below mask n) ≡ front_below formats mask values n
+pub front_over-all : (formats : List Format) (values : List ℤ) (mask n : ℕ)
+    → front_over formats values [] (channels_below mask n) ≡ front_below formats mask values n
 front_over-all formats values mask zero = refl
 front_over-all formats values mask (suc n) =
     ap (front_over formats values []) (channels_more mask n) ∙ front_over-append formats values [] (channels_below mask n) (cond (has mask n) (n ∷ []) [])

@@ -35,7 +35,8 @@ split_at formats value c (suc n) below =
 
 -- the values of a data channel are its elements
 pub data_field : (shape : ShapeRecord) (value : ℕ → ℕ → ℤ) (t : ℤ) (c : ℕ) → c < length shape.channels
-    → channel_bytes (format_at (formats_of shape) c) (elements_below (value c) (format_at (formats_of shape) c).repeat) ≡ field_of shape (values_by shape value) t c
+    → channel_bytes (format_at (formats_of shape) c) (elements_below (value c) (format_at (formats_of shape) c).repeat)
+    ≡ field_of shape (values_by shape value) t c
 data_field shape value t c within =
     let formats = formats_of shape in
     let before : List ℤ = values_below formats value c in
@@ -67,7 +68,8 @@ values_in formats xs zero within many = refl
 values_in formats xs (suc n) within many =
     let more = first_value_more formats n (omega arith) in
     let next : first_value formats (suc n) ≡ first_value formats n + (format_at formats n).repeat = ap (first_value formats) (sym (add-one n)) ∙ more in
-    ap (λ ys. ys ++ elements_below (λ k. get_or xs (first_value formats n + k) (pos 0)) (format_at formats n).repeat) (values_in formats xs n (omega arith) (omega arith))
+    ap (λ ys. ys ++ elements_below (λ k. get_or xs (first_value formats n + k) (pos 0)) (format_at formats n).repeat)
+    (values_in formats xs n (omega arith) (omega arith))
     ∙ ap (λ ys. take (first_value formats n) xs ++ ys) (elements_in xs (first_value formats n) (format_at formats n).repeat (omega arith))
     ∙ sym (take-add (first_value formats n) (format_at formats n).repeat xs) ∙ ap (λ k. take k xs) (sym next)
 
@@ -77,7 +79,8 @@ pub values_by-list : (shape : ShapeRecord) (xs : List ℤ) → length xs ≡ wid
 values_by-list shape xs many =
     let all = first_value_all shape in
     let count = count_is shape in
-    values_in (formats_of shape) xs (length shape.channels) (omega arith) (omega arith) ∙ take_all (first_value (formats_of shape) (length shape.channels)) xs (omega arith)
+    values_in (formats_of shape) xs (length shape.channels) (omega arith) (omega arith)
+    ∙ take_all (first_value (formats_of shape) (length shape.channels)) xs (omega arith)
 
 -- ---- the elements of a channel, as they are written
 

@@ -114,7 +114,8 @@ first_value_all shape =
     first_value_is shape.channels (stamp_formats shape.stamp) (length shape.channels) (omega arith)
     ∙ ap (λ xs. sum_by (λ channel. channel.ty.repeat) xs) (take_all (length shape.channels) shape.channels (omega arith))
 
-pub length-values_below : (formats : List Format) (value : ℕ → ℕ → ℤ) (c : ℕ) → c ≤ length formats → length (values_below formats value c) ≡ first_value formats c
+pub length-values_below : (formats : List Format) (value : ℕ → ℕ → ℤ) (c : ℕ) → c ≤ length formats
+    → length (values_below formats value c) ≡ first_value formats c
 length-values_below formats value zero within = refl
 length-values_below formats value (suc c) within =
     let before = length-values_below formats value c (omega arith) in
@@ -162,7 +163,8 @@ values_at_many shape values t c wide within =
 field_size : (shape : ShapeRecord) (values : List ℤ) (t : ℤ) (c : ℕ) → length values ≡ width_of shape → c < count_of shape
     → length (field_of shape values t c) ≡ size_at (formats_of shape) c
 field_size shape values t c wide within =
-    length-channel_bytes (format_at (formats_of shape) c) (values_at (formats_of shape) (capture_values values t) c) (values_at_many shape values t c wide within)
+    length-channel_bytes (format_at (formats_of shape) c) (values_at (formats_of shape) (capture_values values t) c)
+    (values_at_many shape values t c wide within)
 
 -- ---- where the channels end
 
@@ -257,7 +259,8 @@ front_own front end size field j is_end =
     get_or-append_right (padded front size) field place (place + j) 0 pad (omega arith) ∙ ap (λ i. get_or field i 0) after
 
 front_at : (formats : List Format) (mask : ℕ) (values : List ℤ) (n c j : ℕ) → AreSized formats values n → c < n → has mask c ≡ true → j < size_at formats c
-    → get_or (front_below formats mask values n) (next_multiple_of (end_below formats mask c) (size_at formats c) + j) 0 ≡ get_or (field_at formats values c) j 0
+    → get_or (front_below formats mask values n) (next_multiple_of (end_below formats mask c) (size_at formats c) + j) 0
+    ≡ get_or (field_at formats values c) j 0
 front_at formats mask values zero c j sized within selected inside = absurd (omega arith)
 front_at formats mask values (suc n) c j sized within selected inside =
     let before = λ (k : ℕ) (below : k < n). sized k (omega arith) in

@@ -174,10 +174,12 @@ and_one_less n c one none =
                 omega (arith, no_bit, left)
           ]
       | inr above ↦
-          let here : bit_at n i ≡ bit_at high (i - suc c) = ap (λ m. bit_at m i) parts ∙ bit_at_cat_high high (suc c) (2 ^ c) i (omega (arith, wider, some)) above in
+          let here : bit_at n i ≡ bit_at high (i - suc c) =
+          ap (λ m. bit_at m i) parts ∙ bit_at_cat_high high (suc c) (2 ^ c) i (omega (arith, wider, some)) above in
           let below : bit_at (n - 1) i ≡ bit_at high (i - suc c) =
           ap (λ m. bit_at m i) less ∙ bit_at_cat_high high (suc c) (2 ^ c - 1) i (omega (arith, wider, some)) above in
-          let left : bit_at (n - 2 ^ c) i ≡ bit_at high (i - suc c) = ap (λ m. bit_at m i) rest ∙ bit_at_cat_high high (suc c) 0 i (omega (arith, wider, some)) above in
+          let left : bit_at (n - 2 ^ c) i ≡ bit_at high (i - suc c) =
+          ap (λ m. bit_at m i) rest ∙ bit_at_cat_high high (suc c) 0 i (omega (arith, wider, some)) above in
           omega (arith, here, below, left)
     ]))
   where

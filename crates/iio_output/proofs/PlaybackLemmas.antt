@@ -23,7 +23,8 @@ pub record Queue : Type 0 where
 
 -- ---- lists
 
-dropped : (xs : List (List ℕ)) (i : ℕ) (x : List ℕ) (rest : List (List ℕ)) → drop i xs ≡ x ∷ rest → (slice_get xs i ≡ Some x) × (drop (suc i) xs ≡ rest) × (take (suc i) xs ≡ take i xs ++ x ∷ [])
+dropped : (xs : List (List ℕ)) (i : ℕ) (x : List ℕ) (rest : List (List ℕ)) → drop i xs ≡ x ∷ rest → (slice_get xs i ≡ Some x) × (drop (suc i) xs ≡ rest)
+    × (take (suc i) xs ≡ take i xs ++ x ∷ [])
 dropped [] i x rest h = let e : [] ≡ x ∷ rest = sym (none i) ∙ h in cc
   where
     none : (n : ℕ) → drop {A = List ℕ} n [] ≡ []
@@ -72,13 +73,15 @@ wrote_goes true capacity scans w whole fine = by_scans w.written w.given fine
     it : List (List ℕ) → ℕ → Outgoing
     it xs g = record { written = xs; given = g; underruns = w.underruns }
 
-    by_scans : (xs : List (List ℕ)) (g : ℕ) → (xs ≡ [] → g ≡ 0) → Goes true (wrote true capacity scans (queue_by true (it xs g))) (it (xs ++ taken_at true capacity (it xs g) scans) g)
+    by_scans : (xs : List (List ℕ)) (g : ℕ) → (xs ≡ [] → g ≡ 0)
+        → Goes true (wrote true capacity scans (queue_by true (it xs g))) (it (xs ++ taken_at true capacity (it xs g) scans) g)
     by_scans [] g none =
         let e : g ≡ 0 = none refl in
         let f : g % length scans ≡ 0 = ap (λ (n : ℕ). n % length scans) e ∙ zero-mod (length scans) in
         let plain : turned (g % 0) [] ≡ [] = ap (λ (n : ℕ). turned n []) (ap (λ (n : ℕ). n % 0) e ∙ zero-mod 0) in (
           ap (λ (q : List (List ℕ)). wrote true capacity scans (record { scans = q; lost = min w.underruns most })) plain
-              ∙ ap (λ (q : List (List ℕ)). record { scans = q; lost = min w.underruns most }) (take_all capacity scans (whole refl) ∙ sym (append-nil scans) ∙ ap (λ (n : ℕ). turned n scans) (sym f)),
+              ∙ ap (λ (q : List (List ℕ)). record { scans = q; lost = min w.underruns most })
+              (take_all capacity scans (whole refl) ∙ sym (append-nil scans) ∙ ap (λ (n : ℕ). turned n scans) (sym f)),
           λ x. e,
         )
     by_scans (x ∷ xs) g none = (
@@ -98,7 +101,8 @@ wrote_goes true capacity scans w whole fine = by_scans w.written w.given fine
             by_first [] = refl
             by_first (z ∷ zs) = refl
 
-        by_queue : (q : List (List ℕ)) → is_none_left q ≡ false → wrote true capacity scans (record { scans = q; lost = min w.underruns most }) ≡ record { scans = q; lost = min w.underruns most }
+        by_queue : (q : List (List ℕ)) → is_none_left q ≡ false
+            → wrote true capacity scans (record { scans = q; lost = min w.underruns most }) ≡ record { scans = q; lost = min w.underruns most }
         by_queue [] some = cc
         by_queue (y ∷ ys) some = ap (λ (zs : List (List ℕ)). record { scans = y ∷ zs; lost = min w.underruns most }) (append-nil ys)
 
@@ -120,10 +124,14 @@ counted n top = by (nat_lt n top) refl
         let far : top ≤ n + 1 = omega (arith, more) in
         ap (λ (i : ℕ). min (i + 1) top) (min-eq_right more) ∙ min-eq_right above ∙ sym (min-eq_right far)
 
-gave_false : (w : Outgoing) (ws : List (List ℕ)) → drop w.given w.written ≡ ws → IsWritten false w → Goes false (gave false ws (min w.underruns most)) (after_entry (slice_get w.written w.given) w)
+gave_false : (w : Outgoing) (ws : List (List ℕ)) → drop w.given w.written ≡ ws → IsWritten false w
+    → Goes false (gave false ws (min w.underruns most)) (after_entry (slice_get w.written w.given) w)
 gave_false w [] is fine = let none = dropped_none w.written w.given is in
-    subst (λ (o : Option (List ℕ)). Goes false (gave false [] (min w.underruns most)) (after_entry o w)) (sym none)
-    (ap (λ (n : ℕ). record { scans = []; lost = n }) (counted w.underruns most) ∙ ap (λ (xs : List (List ℕ)). record { scans = xs; lost = min (w.underruns + 1) most }) (sym is), fine)
+    subst (λ (o : Option (List ℕ)). Goes false (gave false [] (min w.underruns most)) (after_entry o w)) (sym none) (
+      ap (λ (n : ℕ). record { scans = []; lost = n }) (counted w.underruns most)
+          ∙ ap (λ (xs : List (List ℕ)). record { scans = xs; lost = min (w.underruns + 1) most }) (sym is),
+      fine,
+    )
 gave_false w (x ∷ ws) is fine = let got = dropped w.written w.given x ws is in
     subst (λ (o : Option (List ℕ)). Goes false (gave false (x ∷ ws) (min w.underruns most)) (after_entry o w)) (sym got.0)
     (ap (λ (xs : List (List ℕ)). record { scans = xs; lost = min w.underruns most }) (sym got.1), some_dropped w.written w.given x ws is)
@@ -141,7 +149,8 @@ turn : (xs : List (List ℕ)) (g i : ℕ) (x : List ℕ) (rest : List (List ℕ)
 turn xs g i x rest is less here =
     let got = dropped xs i x rest here in
     let one : (rest ++ take i xs) ++ x ∷ [] ≡ turned (suc i) xs =
-    append_assoc rest (take i xs) (x ∷ []) ∙ ap (λ (ys : List (List ℕ)). rest ++ ys) (sym got.2) ∙ ap (λ (ys : List (List ℕ)). ys ++ take (suc i) xs) (sym got.1) in
+    append_assoc rest (take i xs) (x ∷ []) ∙ ap (λ (ys : List (List ℕ)). rest ++ ys) (sym got.2)
+    ∙ ap (λ (ys : List (List ℕ)). ys ++ take (suc i) xs) (sym got.1) in
     one ∙ by_end (suc i == length xs) refl
   where
     by_end : (b : Bool) → (suc i == length xs) ≡ b → turned (suc i) xs ≡ turned (suc g % length xs) xs
@@ -155,7 +164,8 @@ turn xs g i x rest is less here =
         ap (λ (n : ℕ). turned n xs) (sym (next_place g (length xs) i is less more))
 
 gave_true : (xs : List (List ℕ)) (g u : ℕ) → (xs ≡ [] → g ≡ 0)
-    → Goes true (gave true (turned (g % length xs) xs) (min u most)) (after_entry (slice_get xs (g % length xs)) (record { written = xs; given = g; underruns = u }))
+    → Goes true (gave true (turned (g % length xs) xs) (min u most))
+    (after_entry (slice_get xs (g % length xs)) (record { written = xs; given = g; underruns = u }))
 gave_true [] g u none =
     let e : g ≡ 0 = none refl in
     let plain : turned (g % 0) [] ≡ [] = ap (λ (n : ℕ). turned n []) (ap (λ (n : ℕ). n % 0) e ∙ zero-mod 0) in (
@@ -172,24 +182,29 @@ gave_true (y ∷ ys) g u none = by_first (drop (g % suc (length ys)) (y ∷ ys))
     some_not e = cc
 
     by_first : (ds : List (List ℕ)) → drop (g % suc (length ys)) (y ∷ ys) ≡ ds
-        → Goes true (gave true (drop (g % suc (length ys)) (y ∷ ys) ++ take (g % suc (length ys)) (y ∷ ys)) (min u most)) (after_entry (slice_get (y ∷ ys) (g % suc (length ys))) (record { written = y ∷ ys; given = g; underruns = u }))
-    by_first [] is = let n : length (y ∷ ys) - g % suc (length ys) ≡ 0 = sym (length-drop (g % suc (length ys)) (y ∷ ys)) ∙ ap length is in absurd (omega (arith, n, less))
+        → Goes true (gave true (drop (g % suc (length ys)) (y ∷ ys) ++ take (g % suc (length ys)) (y ∷ ys)) (min u most))
+        (after_entry (slice_get (y ∷ ys) (g % suc (length ys))) (record { written = y ∷ ys; given = g; underruns = u }))
+    by_first [] is =
+        let n : length (y ∷ ys) - g % suc (length ys) ≡ 0 = sym (length-drop (g % suc (length ys)) (y ∷ ys)) ∙ ap length is in absurd (omega (arith, n, less))
     by_first (x ∷ ds) is =
         let i : ℕ = g % suc (length ys) in
         let got = dropped (y ∷ ys) i x ds is in
-        subst (λ (o : Option (List ℕ)). Goes true (gave true (drop i (y ∷ ys) ++ take i (y ∷ ys)) (min u most)) (after_entry o (record { written = y ∷ ys; given = g; underruns = u }))) (sym got.0) (
+        subst (λ (o : Option (List ℕ)). Goes true (gave true (drop i (y ∷ ys) ++ take i (y ∷ ys)) (min u most))
+        (after_entry o (record { written = y ∷ ys; given = g; underruns = u }))) (sym got.0) (
           ap (λ (zs : List (List ℕ)). gave true (zs ++ take i (y ∷ ys)) (min u most)) is
               ∙ ap (λ (zs : List (List ℕ)). record { scans = zs; lost = min u most }) (turn (y ∷ ys) g i x ds refl less is),
           λ e. absurd (some_not e),
         )
 
-pub gave_goes : (cyclic : Bool) (w : Outgoing) → IsWritten cyclic w → Goes cyclic (gave cyclic (scans_to_give cyclic w) (min w.underruns most)) (after_entry (given_at cyclic w) w)
+pub gave_goes : (cyclic : Bool) (w : Outgoing) → IsWritten cyclic w
+    → Goes cyclic (gave cyclic (scans_to_give cyclic w) (min w.underruns most)) (after_entry (given_at cyclic w) w)
 gave_goes true w fine = gave_true w.written w.given w.underruns fine
 gave_goes false w fine = gave_false w (drop w.given w.written) refl fine
 
 -- ---- what the queue shows
 
-pub first_given : (cyclic : Bool) (w : Outgoing) → (slice_get (scans_to_give cyclic w) 0 ≡ given_at cyclic w) × (length (scans_to_give cyclic w) ≡ waiting_of cyclic w)
+pub first_given : (cyclic : Bool) (w : Outgoing) → (slice_get (scans_to_give cyclic w) 0 ≡ given_at cyclic w)
+    × (length (scans_to_give cyclic w) ≡ waiting_of cyclic w)
 first_given false w = (by_first (drop w.given w.written) refl, length-drop w.given w.written)
   where
     by_first : (ds : List (List ℕ)) → drop w.given w.written ≡ ds → slice_get (drop w.given w.written) 0 ≡ slice_get w.written w.given
@@ -197,7 +212,8 @@ first_given false w = (by_first (drop w.given w.written) refl, length-drop w.giv
     by_first (x ∷ ds) is = ap (λ (zs : List (List ℕ)). slice_get zs 0) is ∙ sym (dropped w.written w.given x ds is).0
 first_given true w = by_scans w.written
   where
-    by_scans : (xs : List (List ℕ)) → (slice_get (turned (w.given % length xs) xs) 0 ≡ slice_get xs (w.given % length xs)) × (length (turned (w.given % length xs) xs) ≡ length xs)
+    by_scans : (xs : List (List ℕ)) → (slice_get (turned (w.given % length xs) xs) 0 ≡ slice_get xs (w.given % length xs))
+        × (length (turned (w.given % length xs) xs) ≡ length xs)
     by_scans [] = (none (w.given % 0), none_long (w.given % 0))
       where
         none : (n : ℕ) → slice_get (turned n []) 0 ≡ None
@@ -215,7 +231,8 @@ first_given true w = by_scans w.written
         let c : length (turned i (y ∷ ys)) ≡ length (drop i (y ∷ ys)) + length (take i (y ∷ ys)) = length-append (drop i (y ∷ ys)) (take i (y ∷ ys)) in
         (by_first i less (drop i (y ∷ ys)) refl, omega (arith, a, b, c, less))
       where
-        by_first : (i : ℕ) → i < suc (length ys) → (ds : List (List ℕ)) → drop i (y ∷ ys) ≡ ds → slice_get (drop i (y ∷ ys) ++ take i (y ∷ ys)) 0 ≡ slice_get (y ∷ ys) i
+        by_first : (i : ℕ) → i < suc (length ys) → (ds : List (List ℕ)) → drop i (y ∷ ys) ≡ ds
+            → slice_get (drop i (y ∷ ys) ++ take i (y ∷ ys)) 0 ≡ slice_get (y ∷ ys) i
         by_first i less [] is = let n : length (y ∷ ys) - i ≡ 0 = sym (length-drop i (y ∷ ys)) ∙ ap length is in absurd (omega (arith, n, less))
         by_first i less (x ∷ ds) is = ap (λ (zs : List (List ℕ)). slice_get (zs ++ take i (y ∷ ys)) 0) is ∙ sym (dropped (y ∷ ys) i x ds is).0
 
@@ -288,5 +305,6 @@ plays_next o mid after answer room room' = by o.writer refl
     by None is answered moved given counted x plays = tt
     by (Some w) is answered moved given counted x plays =
         let it = plays_given w o room x plays in
-        let whole : after ≡ with_given w o = counted ∙ rw (given, answered) (ap (λ (n : ℕ). record (after_giving w o) { underruns = n }) (both w.scans o.underruns)) in
+        let whole : after ≡ with_given w o =
+        counted ∙ rw (given, answered) (ap (λ (n : ℕ). record (after_giving w o) { underruns = n }) (both w.scans o.underruns)) in
         rw (answered, moved, whole) it

@@ -55,7 +55,8 @@ pub length-scans_of : (size : ℕ) (bytes : List ℕ) → length (scans_of size 
 length-scans_of size bytes = length-scans_in (length bytes / size) size bytes
 
 -- two runs of whole scans
-pub scans_of-append : (size : ℕ) (xs ys : List ℕ) → 1 ≤ size → length xs % size ≡ 0 → length ys % size ≡ 0 → scans_of size (xs ++ ys) ≡ scans_of size xs ++ scans_of size ys
+pub scans_of-append : (size : ℕ) (xs ys : List ℕ) → 1 ≤ size → length xs % size ≡ 0 → length ys % size ≡ 0
+    → scans_of size (xs ++ ys) ≡ scans_of size xs ++ scans_of size ys
 scans_of-append size xs ys some whole whole' =
     let m : ℕ = length xs / size in
     let n : ℕ = length ys / size in

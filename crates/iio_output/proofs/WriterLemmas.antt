@@ -20,7 +20,8 @@ writer_of mask size capacity cyclic bytes = record { mask = mask; size = size; c
 -- ---- refusals
 
 -- a full queue of bytes is one of as many scans as the capacity
-pub full_is : (size capacity room : ℕ) (bytes : List ℕ) → AreWhole size capacity room bytes → (length bytes == room) ≡ not (nat_lt (length (scans_of size bytes)) capacity)
+pub full_is : (size capacity room : ℕ) (bytes : List ℕ) → AreWhole size capacity room bytes
+    → (length bytes == room) ≡ not (nat_lt (length (scans_of size bytes)) capacity)
 full_is size capacity room bytes whole =
     ap (λ n. length bytes == n) whole.roomy ∙ ap (λ n. n == capacity * size) is
     ∙ same n capacity size whole.sized within
@@ -71,7 +72,8 @@ or_false true b h = cc
 or_false false b h = (refl, h)
 
 -- the room that is left, in bytes
-room_left : (size capacity room : ℕ) (bytes : List ℕ) → AreWhole size capacity room bytes → room - length bytes ≡ (capacity - length (scans_of size bytes)) * size
+room_left : (size capacity room : ℕ) (bytes : List ℕ) → AreWhole size capacity room bytes
+    → room - length bytes ≡ (capacity - length (scans_of size bytes)) * size
 room_left size capacity room bytes whole =
     ap (λ n. n - length bytes) whole.roomy
     ∙ ap (λ n. capacity * size - n) (whole_is size (length bytes) whole.whole)
@@ -79,7 +81,8 @@ room_left size capacity room bytes whole =
     ∙ ap (λ n. (capacity - n) * size) (sym (length-scans_of size bytes))
 
 -- the same, of a writer that doesn't refuse the payload
-room_is : (size capacity room : ℕ) (cyclic : Bool) (bytes payload : List ℕ) → AreWhole size capacity room bytes → is_standing cyclic (scans_of size bytes) ≡ false
+room_is : (size capacity room : ℕ) (cyclic : Bool) (bytes payload : List ℕ) → AreWhole size capacity room bytes
+    → is_standing cyclic (scans_of size bytes) ≡ false
     → room - length bytes ≡ room_of cyclic capacity (scans_of size bytes) * size
 room_is size capacity room false bytes payload whole standing = room_left size capacity room bytes whole
 room_is size capacity room true bytes payload whole standing = by (scans_of size bytes) refl standing
@@ -110,7 +113,15 @@ written mask size capacity room cyclic bytes payload taken whole unrefused is = 
     fits = whole.fits;
     roomy = whole.roomy;
     whole = is_whole size (length (bytes ++ take taken payload)) (length bytes / size + length (taken_by w payload))
-        (omega (arith, length-append bytes (take taken payload), whole_is size (length bytes) whole.whole, here, number, mul_comm size (length (taken_by w payload))));
+        (omega (
+          arith,
+          length-append bytes (take taken payload),
+          whole_is size (length bytes) whole.whole,
+          here,
+          number,
+          mul_comm size
+              (length (taken_by w payload)),
+        ));
     within = omega (arith, length-append bytes (take taken payload), here, is, whole.within, min-le_right (length payload) (room - length bytes));
   };
 }
@@ -118,7 +129,8 @@ written mask size capacity room cyclic bytes payload taken whole unrefused is = 
     w : WriterRecord
     w = writer_of mask size capacity cyclic bytes
 
-    none : (is_bad_size cyclic capacity size (length payload) ≡ false) × (is_standing cyclic (scans_of size bytes) ≡ false) × (is_full cyclic capacity (scans_of size bytes) (scans_of size payload) ≡ false)
+    none : (is_bad_size cyclic capacity size (length payload) ≡ false) × (is_standing cyclic (scans_of size bytes) ≡ false)
+        × (is_full cyclic capacity (scans_of size bytes) (scans_of size payload) ≡ false)
     none = none_applies _ _ _ BadSize Standing Full unrefused
 
     payload_whole : length payload % size ≡ 0
@@ -154,7 +166,8 @@ written mask size capacity room cyclic bytes payload taken whole unrefused is = 
 
     number : taken ≡ size * length (taken_by w payload)
     number = counted ∙ mul_comm count size
-        ∙ ap (λ n. size * n) (sym (ap length scans ∙ length-scans_of size (take taken payload) ∙ counts_of size (length (take taken payload)) count whole.sized (here ∙ counted)))
+        ∙ ap (λ n. size * n) (sym
+        (ap length scans ∙ length-scans_of size (take taken payload) ∙ counts_of size (length (take taken payload)) count whole.sized (here ∙ counted)))
 
     accepted : accepted_of w payload ≡ scans_of size (take taken payload)
     accepted = ap (λ (o : Option Wrote). if is_some o then [] else taken_by w payload) unrefused ∙ scans
@@ -169,7 +182,8 @@ pub record Gave (mask size capacity room : ℕ) (bytes : List ℕ) : Type 0 wher
   pub again : writer_of mask size capacity true (drop size bytes ++ take size bytes) ≡ after_next (writer_of mask size capacity true bytes)
   pub whole : AreWhole size capacity room (drop size bytes)
   pub whole_again : AreWhole size capacity room (drop size bytes ++ take size bytes)
-  pub read : (count : ℕ) (out : List ℕ) → length out ≡ size → count ≡ min (length out) (length bytes) → (count ≡ size) × (take count bytes ++ drop count out ≡ take size bytes)
+  pub read : (count : ℕ) (out : List ℕ) → length out ≡ size → count ≡ min (length out) (length bytes) → (count ≡ size)
+      × (take count bytes ++ drop count out ≡ take size bytes)
   pub filled : (count : ℕ) → count ≡ min (length (take size bytes)) (room - length (drop size bytes)) → take count (take size bytes) ≡ take size bytes
 
 pub gave : (mask size capacity room : ℕ) (bytes : List ℕ) → AreWhole size capacity room bytes → (length bytes == 0) ≡ false → Gave mask size capacity room bytes
@@ -178,7 +192,8 @@ gave mask size capacity room bytes whole any = record {
   scan = λ out. ap (λ (xs : List (List ℕ)). room_after xs out) (sym first.0);
   once = ap (λ (xs : List (List ℕ)). with_scans false (after_given false xs)) (sym first.0);
   again = ap (λ (xs : List (List ℕ)). with_scans true xs) behind ∙ ap (λ (xs : List (List ℕ)). with_scans true (after_given true xs)) (sym first.0);
-  whole = record { sized = whole.sized; some = whole.some; fits = whole.fits; roomy = whole.roomy; whole = first.2; within = omega (arith, less, whole.within) };
+  whole =
+      record { sized = whole.sized; some = whole.some; fits = whole.fits; roomy = whole.roomy; whole = first.2; within = omega (arith, less, whole.within) };
   whole_again = record {
     sized = whole.sized;
     some = whole.some;
@@ -188,8 +203,11 @@ gave mask size capacity room bytes whole any = record {
     within = omega (arith, length-append (drop size bytes) (take size bytes), less, sized, first.1, whole.within);
   };
   read = λ count out is n.
-      let all : count ≡ size = omega (arith, is, n, first.1) in
-      (all, ap (λ k. take k bytes ++ drop k out) all ∙ ap (λ (xs : List ℕ). take size bytes ++ xs) (drop_all size out (omega (arith, is))) ∙ append-nil (take size bytes));
+      let all : count ≡ size = omega (arith, is, n, first.1) in (
+        all,
+        ap (λ k. take k bytes ++ drop k out) all ∙ ap (λ (xs : List ℕ). take size bytes ++ xs) (drop_all size out (omega (arith, is)))
+            ∙ append-nil (take size bytes),
+      );
   filled = λ count n. take_all count (take size bytes) (omega (arith, n, less, sized, first.1, whole.within));
 }
   where

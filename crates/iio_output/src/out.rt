@@ -164,7 +164,8 @@ impl Out {
         ensures answer { IfSome self.old.writer (λ w. result ≡ next_answer w.scans) }
         ensures scan { IfSome self.old.writer (λ w. out.new ≡ room_after w.scans out.old) }
         ensures given { IfSome self.old.writer (λ w. self.new ≡ with_given w self.old) }
-        ensures playback { (x : Outgoing) → Plays x self.old → IfSome self.old.writer (λ w. GivesAt (given_at w.cyclic x) result out.old out.new × Plays (after_entry (given_at w.cyclic x) x) self.new) }
+        ensures playback { (x : Outgoing) → Plays x self.old
+            → IfSome self.old.writer (λ w. GivesAt (given_at w.cyclic x) result out.old out.new × Plays (after_entry (given_at w.cyclic x) x) self.new) }
     {
         let answer = self.give(out);
         self.count(answer);

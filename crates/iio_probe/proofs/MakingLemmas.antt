@@ -46,15 +46,18 @@ any_append p [] x e = (refl, left (p x) e)
     left false e = refl
 any_append p (y ∷ ys) x e = by (p y) e (any_append p ys x)
   where
-    by : (b : Bool) → (b || list_any p (ys ++ x ∷ [])) ≡ false → (list_any p (ys ++ x ∷ []) ≡ false → (list_any p ys ≡ false) × (p x ≡ false)) → ((b || list_any p ys) ≡ false) × (p x ≡ false)
+    by : (b : Bool) → (b || list_any p (ys ++ x ∷ [])) ≡ false → (list_any p (ys ++ x ∷ []) ≡ false → (list_any p ys ≡ false) × (p x ≡ false))
+        → ((b || list_any p ys) ≡ false) × (p x ≡ false)
     by true e h = absurd (cc)
     by false e h = h e
 
 -- no device above has the driver of one
-none_above : (k : ℕ) (xs ys : List DeviceRecord) (x : DeviceRecord) → AllPairs (λ a b. share_driver a b ≡ false) (xs ++ x ∷ ys) → x.driver ≡ Some k → list_any (drives k) xs ≡ false
+none_above : (k : ℕ) (xs ys : List DeviceRecord) (x : DeviceRecord) → AllPairs (λ a b. share_driver a b ≡ false) (xs ++ x ∷ ys) → x.driver ≡ Some k
+    → list_any (drives k) xs ≡ false
 none_above k [] ys x apart own = refl
 none_above k (z ∷ zs) ys x apart own =
-    let pair : share_driver z (slice_index_or (zs ++ x ∷ ys) (length zs) x) ≡ false = apart 0 (suc (length zs)) x (omega arith) (let h = inside zs ys x in omega arith) in
+    let pair : share_driver z (slice_index_or (zs ++ x ∷ ys) (length zs) x) ≡ false =
+    apart 0 (suc (length zs)) x (omega arith) (let h = inside zs ys x in omega arith) in
     let two : share_driver z x ≡ false = subst (λ (b : DeviceRecord). share_driver z b ≡ false) (read_at zs ys x x) pair in
     let other : drives k z ≡ false = sym (ap (λ (o : Option ℕ). option_map_or (λ k. drives k z) o false) own) ∙ two in
     rw (other, none_above k zs ys x (λ i j d less within. apart (suc i) (suc j) d (omega (arith, less)) (omega (arith, within))) own) refl
@@ -79,7 +82,8 @@ append_one {A} (z ∷ zs) ys x = ap (λ (ws : List A). z ∷ ws) (append_one zs 
 devices_append : {Q : Type 0} (drivers : List Driver) (n m : ℕ) (xs : List DeviceRecord) (x : DeviceRecord) → m ≡ n + length xs
     → first_devices {Q = Q} drivers n (xs ++ x ∷ []) ≡ first_devices {Q = Q} drivers n xs ++ new_view x m (first_driver drivers x) ∷ []
 devices_append drivers n m [] x e = let same : n ≡ m = omega (arith, e) in rw same refl
-devices_append {Q} drivers n m (y ∷ ys) x e = ap (λ (vs : List (DeviceView Q)). new_view y n (first_driver drivers y) ∷ vs) (devices_append drivers (suc n) m ys x (omega (arith, e)))
+devices_append {Q} drivers n m (y ∷ ys) x e =
+    ap (λ (vs : List (DeviceView Q)). new_view y n (first_driver drivers y) ∷ vs) (devices_append drivers (suc n) m ys x (omega (arith, e)))
 
 module _ {B D Q : Type 0} (given : B → Driver) (view : D → DeviceView Q) (descs : List DeviceRecord) (drivers : List B) where
   -- that many devices are made, and the drivers of the others lie in their slots
@@ -91,45 +95,56 @@ module _ {B D Q : Type 0} (given : B → Driver) (view : D → DeviceView Q) (de
     pub slots_are : length slots ≡ length drivers
 
   -- the same, over another name of the devices, or of what is left
-  pub pushed : (done left : List DeviceRecord) (devices devices' : List D) (slots : List (Option B)) → devices' ≡ devices → Making done left devices slots → Making done left devices' slots
+  pub pushed : (done left : List DeviceRecord) (devices devices' : List D) (slots : List (Option B)) → devices' ≡ devices → Making done left devices slots
+      → Making done left devices' slots
   pushed done left devices devices' slots e making = subst (λ (ds : List D). Making done left ds slots) (sym e) making
 
-  pub before_next : (done rest left : List DeviceRecord) (devices : List D) (slots : List (Option B)) (x : DeviceRecord) → rest ≡ x ∷ left → Making done rest devices slots → Making done (x ∷ left) devices slots
+  pub before_next : (done rest left : List DeviceRecord) (devices : List D) (slots : List (Option B)) (x : DeviceRecord) → rest ≡ x ∷ left
+      → Making done rest devices slots → Making done (x ∷ left) devices slots
   before_next done rest left devices slots x e making = subst (λ (ds : List DeviceRecord). Making done ds devices slots) e making
 
-  pub fit_next : (done left : List DeviceRecord) (devices : List D) (slots : List (Option B)) (x : DeviceRecord) → Making done (x ∷ left) devices slots → All (IsFit (length drivers)) descs → IsFit (length drivers) x
+  pub fit_next : (done left : List DeviceRecord) (devices : List D) (slots : List (Option B)) (x : DeviceRecord) → Making done (x ∷ left) devices slots
+      → All (IsFit (length drivers)) descs → IsFit (length drivers) x
   fit_next done left devices slots x making fit =
       let all : All (IsFit (length drivers)) (done ++ x ∷ left) = subst (λ (ds : List DeviceRecord). All (IsFit (length drivers)) ds) (sym making.whole) fit in
       subst (λ (y : DeviceRecord). IsFit (length drivers) y) (read_at done left x x) (all (length done) x (inside done left x))
 
-  module _ (done left : List DeviceRecord) (devices : List D) (slots slots' : List (Option B)) (x : DeviceRecord) (d : D) (making : Making done (x ∷ left) devices slots) (apart : AllPairs (λ a b. share_driver a b ≡ false) descs) where
-    driver_is : (o : Option ℕ) → x.driver ≡ o → IfSome o (λ k. k < length drivers) → driver_from given (slot_in o slots) x.rows ≡ option_map_or (λ k. slice_index_or (map given drivers) k no_driver) o (recorded x.rows)
+  module _ (done left : List DeviceRecord) (devices : List D) (slots slots' : List (Option B)) (x : DeviceRecord) (d : D)
+      (making : Making done (x ∷ left) devices slots) (apart : AllPairs (λ a b. share_driver a b ≡ false) descs) where
+    driver_is : (o : Option ℕ) → x.driver ≡ o → IfSome o (λ k. k < length drivers)
+        → driver_from given (slot_in o slots) x.rows ≡ option_map_or (λ k. slice_index_or (map given drivers) k no_driver) o (recorded x.rows)
     driver_is None own fit = refl
     driver_is (Some k) own fit =
         let there = there_is drivers k fit in
-        let lies : slice_get slots k ≡ Some (Some there.0) = making.waiting k there.0 there.1 (none_above k done left x (subst (λ (ds : List DeviceRecord). AllPairs (λ a b. share_driver a b ≡ false) ds) (sym making.whole) apart) own) in
+        let lies : slice_get slots k ≡ Some (Some there.0) =
+        making.waiting k there.0 there.1
+        (none_above k done left x (subst (λ (ds : List DeviceRecord). AllPairs (λ a b. share_driver a b ≡ false) ds) (sym making.whole) apart) own) in
         ap (λ (o : Option (Option B)). driver_from given (unwrap_or o None) x.rows) lies ∙ sym (read_map given drivers k there.0 no_driver there.1)
 
-    waiting_after : (o : Option ℕ) → x.driver ≡ o → slots' ≡ slots_left o slots → (k : ℕ) (b : B) → slice_get drivers k ≡ Some b → list_any (drives k) (done ++ x ∷ []) ≡ false → slice_get slots' k ≡ Some (Some b)
+    waiting_after : (o : Option ℕ) → x.driver ≡ o → slots' ≡ slots_left o slots → (k : ℕ) (b : B) → slice_get drivers k ≡ Some b
+        → list_any (drives k) (done ++ x ∷ []) ≡ false → slice_get slots' k ≡ Some (Some b)
     waiting_after None own after k b at none = ap (λ (s : List (Option B)). slice_get s k) after ∙ making.waiting k b at (any_append (drives k) done x none).0
     waiting_after (Some j) own after k b at none =
         let free = any_append (drives k) done x none in
         let other : (j == k) ≡ false = sym (ap (λ (o : Option ℕ). option_map_or (λ (driver : ℕ). driver == k) o false) own) ∙ free.1 in
-        ap (λ (s : List (Option B)). slice_get s k) after ∙ get_other slots j k None (λ e. absurd (let same : (j == k) ≡ true = grind (arith, nat_tests) in cc)) ∙ making.waiting k b at free.0
+        ap (λ (s : List (Option B)). slice_get s k) after ∙ get_other slots j k None (λ e. absurd (let same : (j == k) ≡ true = grind (arith, nat_tests) in cc))
+        ∙ making.waiting k b at free.0
 
     slots_after : (o : Option ℕ) → slots' ≡ slots_left o slots → length slots' ≡ length drivers
     slots_after None after = ap (λ (s : List (Option B)). length s) after ∙ making.slots_are
     slots_after (Some j) after = ap (λ (s : List (Option B)). length s) after ∙ length_after slots j None ∙ making.slots_are
 
     -- one device more
-    pub made_next : (n : ℕ) → n ≡ length devices → IfSome x.driver (λ k. k < length drivers) → view d ≡ new_view x n (driver_from given (slot_in x.driver slots) x.rows)
+    pub made_next : (n : ℕ) → n ≡ length devices → IfSome x.driver (λ k. k < length drivers)
+        → view d ≡ new_view x n (driver_from given (slot_in x.driver slots) x.rows)
         → slots' ≡ slots_left x.driver slots → Making (done ++ x ∷ []) left (devices ++ d ∷ []) slots'
     made_next n own fit is after = record {
       whole = append_one done left x ∙ making.whole;
       views =
           map_append view devices (d ∷ [])
           ∙ ap (λ (vs : List (DeviceView Q)). vs ++ view d ∷ []) making.views
-          ∙ ap (λ (v : DeviceView Q). first_devices (map given drivers) 0 done ++ v ∷ []) (is ∙ ap (λ (r : Driver). new_view {Q = Q} x n r) (driver_is x.driver refl fit))
+          ∙ ap (λ (v : DeviceView Q). first_devices (map given drivers) 0 done ++ v ∷ [])
+          (is ∙ ap (λ (r : Driver). new_view {Q = Q} x n r) (driver_is x.driver refl fit))
           ∙ sym (devices_append (map given drivers) 0 n done x (omega (arith, own, making.many)));
       many = longer devices d ∙ ap (λ (n : ℕ). suc n) making.many ∙ sym (longer done x);
       waiting = waiting_after x.driver refl after;

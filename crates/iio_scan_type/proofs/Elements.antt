@@ -106,10 +106,12 @@ number_of-number_bytes Big k n h = ap low_first_number (reverse-high_first k n) 
 
 channel_bytes-append : (f : Format) (xs ys : List ℤ) → channel_bytes f (xs ++ ys) ≡ channel_bytes f xs ++ channel_bytes f ys
 channel_bytes-append f [] ys = refl
-channel_bytes-append f (x ∷ xs) ys = ap (λ t. element_bytes f x ++ t) (channel_bytes-append f xs ys) ∙ sym (append_assoc (element_bytes f x) (channel_bytes f xs) (channel_bytes f ys))
+channel_bytes-append f (x ∷ xs) ys =
+    ap (λ t. element_bytes f x ++ t) (channel_bytes-append f xs ys) ∙ sym (append_assoc (element_bytes f x) (channel_bytes f xs) (channel_bytes f ys))
 
 -- one element more
-pub channel_bytes-more : (f : Format) (xs : List ℤ) (k : ℕ) (v : ℤ) → k < length xs → v ≡ get_or xs k v → channel_bytes f (take (k + 1) xs) ≡ channel_bytes f (take k xs) ++ element_bytes f v
+pub channel_bytes-more : (f : Format) (xs : List ℤ) (k : ℕ) (v : ℤ) → k < length xs → v ≡ get_or xs k v
+    → channel_bytes f (take (k + 1) xs) ≡ channel_bytes f (take k xs) ++ element_bytes f v
 channel_bytes-more f xs k v h e =
     ap (channel_bytes f) (take_more xs k v h ∙ ap (λ x. take k xs ++ x ∷ []) (sym e)) ∙ channel_bytes-append f (take k xs) (v ∷ [])
     ∙ ap (λ t. channel_bytes f (take k xs) ++ t) (append-nil (element_bytes f v))
@@ -143,7 +145,8 @@ storage_bytes n h = by_cases (storage_cases n h)
 pub number_below : (f : Format) (v : ℤ) → IsInProfile f → low_bits f.realbits v * 2 ^ f.shift < 2 ^ f.storagebits
 number_below f v p =
     let b = bounds_of f p in
-    let small : low_bits f.realbits v * 2 ^ f.shift < 2 ^ (f.realbits + f.shift) = shl_below (low_bits f.realbits v) f.realbits f.shift (low_bits_lt f.realbits v) in
+    let small : low_bits f.realbits v * 2 ^ f.shift < 2 ^ (f.realbits + f.shift) =
+    shl_below (low_bits f.realbits v) f.realbits f.shift (low_bits_lt f.realbits v) in
     let room : 2 ^ (f.realbits + f.shift) ≤ 2 ^ f.storagebits = pow-le-pow_right {n = 2} (omega arith) b.within in
     omega arith
 
@@ -153,7 +156,8 @@ extended_in_range f m v p small is =
     subst (λ z. IsInRange f z) is (value_in_range f.sign f.realbits (m / 2 ^ (64 - f.realbits)) (bounds_of f p).some (high_below f m p small))
 
 -- a value in range is read back
-pub value_at-channel_bytes : (f : Format) (vs : List ℤ) (k : ℕ) (d : ℤ) → IsInProfile f → k < length vs → IsInRange f (get_or vs k d) → value_at f (channel_bytes f vs) k ≡ get_or vs k d
+pub value_at-channel_bytes : (f : Format) (vs : List ℤ) (k : ℕ) (d : ℤ) → IsInProfile f → k < length vs → IsInRange f (get_or vs k d)
+    → value_at f (channel_bytes f vs) k ≡ get_or vs k d
 value_at-channel_bytes f vs k d p h range =
     let b = bounds_of f p in
     let v : ℤ = get_or vs k d in
@@ -179,7 +183,9 @@ put_more f vs k n out part v size h e room w so_far =
 
 -- what is read lies in the range, and its bits are those that stand there
 pub value_in-range : (f : Format) (n : ℕ) → IsInProfile f → IsInRange f (value_in f n)
-value_in-range f n p = value_in_range f.sign f.realbits (n / 2 ^ f.shift % 2 ^ f.realbits) (bounds_of f p).some (mod_below (n / 2 ^ f.shift) (2 ^ f.realbits) (pow_pos f.realbits))
+value_in-range f n p =
+    value_in_range f.sign f.realbits (n / 2 ^ f.shift % 2 ^ f.realbits) (bounds_of f p).some (mod_below (n / 2 ^ f.shift) (2 ^ f.realbits) (pow_pos f.realbits))
 
 pub low_bits-value_in : (f : Format) (n : ℕ) → IsInProfile f → low_bits f.realbits (value_in f n) ≡ n / 2 ^ f.shift % 2 ^ f.realbits
-low_bits-value_in f n p = low_bits-value f.sign f.realbits (n / 2 ^ f.shift % 2 ^ f.realbits) (bounds_of f p).some (mod_below (n / 2 ^ f.shift) (2 ^ f.realbits) (pow_pos f.realbits))
+low_bits-value_in f n p =
+    low_bits-value f.sign f.realbits (n / 2 ^ f.shift % 2 ^ f.realbits) (bounds_of f p).some (mod_below (n / 2 ^ f.shift) (2 ^ f.realbits) (pow_pos f.realbits))

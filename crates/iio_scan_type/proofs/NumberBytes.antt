@@ -59,7 +59,8 @@ low_first_read bs ys e h =
     rw e (low_first_word (bs ++ drop (length bs) (replicate 8 0)) (grind (arith, common_steps)) ∙ zeros_above bs _ (zeros-drop (length bs) 8))
 
 pub high_first_read : (bs ys : List ℕ) → ys ≡ bs → length bs ≤ 8
-    → from_be_bytes w64 (take (8 - length bs) (replicate 8 0) ++ (ys ++ drop (8 - (8 - length bs)) (drop (8 - length bs) (replicate 8 0)))) ≡ low_first_number (reverse bs)
+    → from_be_bytes w64 (take (8 - length bs) (replicate 8 0) ++ (ys ++ drop (8 - (8 - length bs)) (drop (8 - length bs) (replicate 8 0))))
+    ≡ low_first_number (reverse bs)
 high_first_read bs ys e h =
     let z : List ℕ = replicate 8 0 in
     let m : ℕ = 8 - length bs in

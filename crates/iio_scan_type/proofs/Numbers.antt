@@ -77,7 +77,8 @@ signed_high m r a some e h = by_cases (ltb m (2 ^ 63)) refl
         let below : m / 2 ^ a < 2 ^ r = shr_below m r a (rw e h) in
         let turned : cast_signed w64 m ≡ negsuc (2 ^ 64 - suc m) = rw (le-ltb m (2 ^ 63) big) refl in
         let parts : 2 ^ 64 - suc m ≡ (2 ^ r - 1 - m / 2 ^ a) * 2 ^ a + (2 ^ a - 1 - m % 2 ^ a) = (rw e at (complement r a m (rw e h))) in
-        let high : (2 ^ 64 - suc m) / 2 ^ a ≡ 2 ^ r - 1 - m / 2 ^ a = rw parts (shr_high (2 ^ r - 1 - m / 2 ^ a) a (2 ^ a - 1 - m % 2 ^ a) (omega (arith, pow_pos a))) in
+        let high : (2 ^ 64 - suc m) / 2 ^ a ≡ 2 ^ r - 1 - m / 2 ^ a =
+        rw parts (shr_high (2 ^ r - 1 - m / 2 ^ a) a (2 ^ a - 1 - m % 2 ^ a) (omega (arith, pow_pos a))) in
         rw (turned, high, le-ltb _ _ above) (omega (arith, ints))
 
 top_ones : (j a : ℕ) → j + a ≡ 63 → (2 ^ 63 - 1) / 2 ^ a ≡ 2 ^ j - 1
@@ -124,7 +125,17 @@ pub record Bounds (f : Format) : Type 0 where
   pub most : f.realbits ≤ max_realbits f.sign
 
 pub bounds_of : (f : Format) → IsInProfile f → Bounds f
-bounds_of f h = record { some = grind (arith, nat_tests); within = grind (arith, nat_tests); word = grind (arith, nat_tests); storage = grind (arith, nat_tests); repeat = grind (arith, nat_tests); few = grind (arith, nat_tests); most = grind (arith, nat_tests) }
+bounds_of f h =
+    record {
+      some = grind (arith, nat_tests);
+      within = grind (arith, nat_tests);
+      word = grind (arith, nat_tests);
+      storage = grind (arith, nat_tests);
+      repeat =
+          grind (arith, nat_tests);
+      few = grind (arith, nat_tests);
+      most = grind (arith, nat_tests);
+    }
 
 -- the number of an element, as its word is shifted
 pub number_put : (f : Format) (v : ℤ) (u : ℕ) → IsInProfile f → FitsSigned w64 v → u ≡ cast_unsigned w64 v
@@ -161,7 +172,8 @@ size_power f h = product (storage_cases f.storagebits (bounds_of f h).storage) (
     product (inr (inr (inr s))) r = by_repeat (f.storagebits / 8) 3 (ap (λ n. n / 8) s) r
 
 -- the value of an element, as its word is shifted
-pub number_field : (f : Format) (n : ℕ) → IsInProfile f → (n * 2 ^ (64 - f.realbits - f.shift)) % 2 ^ 64 / 2 ^ (64 - f.realbits) ≡ n / 2 ^ f.shift % 2 ^ f.realbits
+pub number_field : (f : Format) (n : ℕ) → IsInProfile f
+    → (n * 2 ^ (64 - f.realbits - f.shift)) % 2 ^ 64 / 2 ^ (64 - f.realbits) ≡ n / 2 ^ f.shift % 2 ^ f.realbits
 number_field f n p =
     let b = bounds_of f p in
     lowered n f.realbits f.shift (64 - f.realbits) (64 - f.realbits - f.shift) 64 (omega arith) (omega arith)
@@ -195,7 +207,8 @@ high_unsigned f m e = rw e refl
 ends_fit : (f : Format) → IsInProfile f → FitsSigned w64 (least_of f) × FitsSigned w64 (greatest_of f) × (least_of f ≤ℤ greatest_of f)
 ends_fit f p = by_sign f.sign f.realbits (bounds_of f p).some (bounds_of f p).most
   where
-    by_sign : (s : Sign) (r : ℕ) → 1 ≤ r → r ≤ max_realbits s → FitsSigned w64 (least_by s r) × FitsSigned w64 (greatest_by s r) × (least_by s r ≤ℤ greatest_by s r)
+    by_sign : (s : Sign) (r : ℕ) → 1 ≤ r → r ≤ max_realbits s → FitsSigned w64 (least_by s r) × FitsSigned w64 (greatest_by s r)
+        × (least_by s r ≤ℤ greatest_by s r)
     by_sign Signed r some most =
         let p = pow_pos (r - 1) in
         let q : 2 ^ (r - 1) ≤ 2 ^ 63 = pow-le-pow_right {n = 2} (omega arith) {i = r - 1} {j = 63} (omega arith) in

@@ -61,7 +61,8 @@ after_byte_takes c (b ∷ bs) rest h =
     let p = cond_some (b == c) bs rest h in
     rw (eqb-true b c p.0, p.1) refl
 
-either_takes : {A : Type 0} (c : ℕ) (x : A) (d : ℕ) (y : A) (spell : A → ℕ) → spell x ≡ c → spell y ≡ d → (text : List ℕ) (p : A × List ℕ) → either_at c x d y text ≡ Some p → text ≡ spell p.0 ∷ p.1
+either_takes : {A : Type 0} (c : ℕ) (x : A) (d : ℕ) (y : A) (spell : A → ℕ) → spell x ≡ c → spell y ≡ d → (text : List ℕ) (p : A × List ℕ)
+    → either_at c x d y text ≡ Some p → text ≡ spell p.0 ∷ p.1
 either_takes c x d y spell ex ey [] p h = absurd (none-some p h)
 either_takes c x d y spell ex ey (b ∷ bs) p h =
     chosen (b == c) (Some (x, bs)) _ (Some p) h
@@ -85,7 +86,8 @@ endian_takes text p h =
     spelled Big r = refl
     spelled Little r = refl
 
-    joined : (o : Endian × List ℕ) (r r3 : List ℕ) → text ≡ first_of_endian o.0 ∷ o.1 → o.1 ≡ 101 ∷ r → r ≡ 58 ∷ r3 → (o.0, r3) ≡ p → text ≡ endian_text p.0 ++ p.1
+    joined : (o : Endian × List ℕ) (r r3 : List ℕ) → text ≡ first_of_endian o.0 ∷ o.1 → o.1 ≡ 101 ∷ r → r ≡ 58 ∷ r3 → (o.0, r3) ≡ p
+        → text ≡ endian_text p.0 ++ p.1
     joined o r r3 a b c d = a ∙ ap (λ t. first_of_endian o.0 ∷ t) (b ∙ ap (λ t. 101 ∷ t) c) ∙ spelled o.0 r3 ∙ ap (λ q. endian_text q.0 ++ q.1) d
 
 abbrev first_of_sign : Sign → ℕ
@@ -130,7 +132,8 @@ shift_takes (b ∷ bs) n h =
     option_and_then_some _ (small_at r2) n g2 (λ s e3 g3.
     inl (ended s r r2 (after_byte_takes 62 (b ∷ bs) r e) (after_byte_takes 62 r r2 e2) (small_takes r2 s e3) g3))))
   where
-    ended : (s : ℕ × List ℕ) (r r2 : List ℕ) → b ∷ bs ≡ 62 ∷ r → r ≡ 62 ∷ r2 → r2 ≡ decimal s.0 ++ s.1 → cond (is_empty s.1) (Some s.0) None ≡ Some n → b ∷ bs ≡ codes ">>" ++ decimal n
+    ended : (s : ℕ × List ℕ) (r r2 : List ℕ) → b ∷ bs ≡ 62 ∷ r → r ≡ 62 ∷ r2 → r2 ≡ decimal s.0 ++ s.1 → cond (is_empty s.1) (Some s.0) None ≡ Some n
+        → b ∷ bs ≡ codes ">>" ++ decimal n
     ended s r r2 x y z g =
         let q = cond_some (is_empty s.1) s.0 n g in
         x ∙ ap (λ t. 62 ∷ t) (y ∙ ap (λ t. 62 ∷ t) (z ∙ ap (λ t. decimal s.0 ++ t) (nothing s.1 q.0) ∙ append-nil (decimal s.0) ∙ ap decimal q.1))
@@ -168,7 +171,8 @@ type_takes text f h =
     ∙ sym (regroup (endian_text e.0) (sign_text s.0) (decimal real.0) (decimal storage.0) (repeat_text repeat.0) repeat.1))
     (shift_takes repeat.1 shift hshift))))))))
   where
-    spelled : (g : Format) (rest : List ℕ) → text ≡ short_text g ++ rest → (rest ≡ codes ">>" ++ decimal g.shift) ⊎ ((g.shift ≡ 0) × (rest ≡ [])) → IsTypeText text g
+    spelled : (g : Format) (rest : List ℕ) → text ≡ short_text g ++ rest → (rest ≡ codes ">>" ++ decimal g.shift) ⊎ ((g.shift ≡ 0) × (rest ≡ []))
+        → IsTypeText text g
     spelled g rest e (inl r) = inl (e ∙ ap (λ t. short_text g ++ t) r)
     spelled g rest e (inr r) = inr (r.0, e ∙ ap (λ t. short_text g ++ t) r.1 ∙ append-nil (short_text g))
 

@@ -29,7 +29,8 @@ no_described : (n : ℕ) (lines : List (List ℕ)) (read : Result Description De
 no_described n lines (Ok desc) is = cc
 no_described n lines (Err fault) is = cc
 
-cut_step : (ends : Bool) (one one' other other' : Head) → (one ≡ Cut → one' ≡ Cut) → (other ≡ Cut → other' ≡ Cut) → cond ends one other ≡ Cut → cond ends one' other' ≡ Cut
+cut_step : (ends : Bool) (one one' other other' : Head) → (one ≡ Cut → one' ≡ Cut) → (other ≡ Cut → other' ≡ Cut) → cond ends one other ≡ Cut
+    → cond ends one' other' ≡ Cut
 cut_step true one one' other other' first second is = first is
 cut_step false one one' other other' first second is = second is
 
@@ -43,7 +44,8 @@ head_take (Ok reading) n (suc k) (line ∷ lines) is =
     (head_from true (after_line (Ok reading) line) (n + 1) lines) (head_from true (after_line (Ok reading) line) (n + 1) (take k lines))
     (λ ends. absurd (no_described (n + 1) lines (ended_by (Ok reading) line) ends)) (head_take (after_line (Ok reading) line) (n + 1) k lines) is
 
-pub takes_unended : (drivers : ℕ) (input : List ℕ) (front : List (List ℕ)) (h : Hand) (left : Option (List ℕ)) → IsHand h → head_from true (new_reader drivers) 1 front ≡ Cut
+pub takes_unended : (drivers : ℕ) (input : List ℕ) (front : List (List ℕ)) (h : Hand) (left : Option (List ℕ)) → IsHand h
+    → head_from true (new_reader drivers) 1 front ≡ Cut
     → Follows input front h left → TakesUnended drivers input left
 takes_unended drivers input front h left is cut follows =
     by_over (TakesUnended drivers input left) input front h left
@@ -75,7 +77,8 @@ unended_first drivers (Some input) = unended_none drivers input
 -- ---- the script
 
 -- more was written
-pub answers_more : (s : Setup) (first : ℕ) (front : List (List ℕ)) (input sent more : List ℕ) (begin left : Option (List ℕ)) → AnswersScript s first front input sent begin left
+pub answers_more : (s : Setup) (first : ℕ) (front : List (List ℕ)) (input sent more : List ℕ) (begin left : Option (List ℕ))
+    → AnswersScript s first front input sent begin left
     → AnswersScript s first front input (sent ++ more) begin left
 answers_more s first front input sent more begin left (inl same) = inl same
 answers_more s first front input sent more begin left (inr a) = inr (record {
@@ -91,7 +94,8 @@ answers_more s first front input sent more begin left (inr a) = inr (record {
 
 -- all was written, and then read on
 pub answers_found : (s : Setup) (first : ℕ) (front given : List (List ℕ)) (input sent : List ℕ) (h : Hand) (begin left : Option (List ℕ)) → IsHand h
-    → sent ≡ script_text s (script_from s.desc Finished [] first given) → h.over ≡ false → Follows input (front ++ given) h left → AnswersScript s first front input sent begin left
+    → sent ≡ script_text s (script_from s.desc Finished [] first given) → h.over ≡ false → Follows input (front ++ given) h left
+    → AnswersScript s first front input sent begin left
 answers_found s first front given input sent h begin left is all going follows =
     let goes = going_of input (front ++ given) h left going follows in
     inr (record {
@@ -106,7 +110,8 @@ answers_found s first front given input sent h begin left is all going follows =
     })
 
 -- a line that a look has told needs no read; for any other nothing was kept
-pub read_on : (seen : Option Found) (l1 l2 : Option (List ℕ)) (h1 h2 : Hand) (kept : List ℕ) → IfSome seen (λ _. l2 ≡ l1) → (seen ≡ None → kept ≡ []) → IfNone seen (NeedsMore h1)
+pub read_on : (seen : Option Found) (l1 l2 : Option (List ℕ)) (h1 h2 : Hand) (kept : List ℕ) → IfSome seen (λ _. l2 ≡ l1) → (seen ≡ None → kept ≡ [])
+    → IfNone seen (NeedsMore h1)
     → h2.over ≡ h1.over → (l2 ≡ l1) ⊎ ((h2.over ≡ false) × (kept ≡ []))
 read_on (Some found) l1 l2 h1 h2 kept same flushed needs over = inl same
 read_on None l1 l2 h1 h2 kept same flushed needs over = inr (over ∙ needs.going, flushed refl)

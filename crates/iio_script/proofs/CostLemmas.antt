@@ -32,7 +32,8 @@ no_longer_before : (b n : ℕ) (read : Result (List ℕ) ℕ) → NoLonger n rea
 no_longer_before b n (Ok bytes) few = omega (arith, few)
 no_longer_before b n (Err place) few = tt
 
-no_longer_piece : (place n : ℕ) (piece : Option (ℕ × ℕ)) (next : ℕ → Result (List ℕ) ℕ) → ((more : ℕ) → NoLonger n (next more)) → NoLonger (suc n) (piece_then place piece next)
+no_longer_piece : (place n : ℕ) (piece : Option (ℕ × ℕ)) (next : ℕ → Result (List ℕ) ℕ) → ((more : ℕ) → NoLonger n (next more))
+    → NoLonger (suc n) (piece_then place piece next)
 no_longer_piece place n None next each = tt
 no_longer_piece place n (Some piece) next each = no_longer_before piece.0 n (next piece.1) (each piece.1)
 
@@ -111,11 +112,13 @@ few_trigger_step step none n desc words =
 
 few_handle_step : FewForm handle_step
 few_handle_step n desc words =
-    few_after n (ok_or (two_of words) why.Count) _ (λ pair. few_after n (trigger_word desc pair.0) _ (λ trigger. few_after n (device_word desc pair.1) _ (λ device. omega arith)))
+    few_after n (ok_or (two_of words) why.Count) _
+    (λ pair. few_after n (trigger_word desc pair.0) _ (λ trigger. few_after n (device_word desc pair.1) _ (λ device. omega arith)))
 
 few_sense_step : FewForm sense_step
 few_sense_step n desc words =
-    few_after n (ok_or (two_of words) why.Count) _ (λ pair. few_after n (device_word desc pair.0) _ (λ device. few_after n (moment_word pair.1) _ (λ moment. omega arith)))
+    few_after n (ok_or (two_of words) why.Count) _
+    (λ pair. few_after n (device_word desc pair.0) _ (λ device. few_after n (moment_word pair.1) _ (λ moment. omega arith)))
 
 few_clock_step : FewForm clock_step
 few_clock_step n desc words = few_after n (ok_or (one_of words) why.Count) _ (λ moment. few_after n (moment_word moment) _ (λ moment. omega arith))
@@ -183,7 +186,8 @@ few_of_words desc line (word ∷ words) =
     some_few (length line) (step_by desc line word words (entry_of step_words word))
     (few_step_by desc line word words (entry_of step_words word) (entry_has FewForm step_words word few_forms))
 
-few_by_words : (desc : Description) (line : List ℕ) (read : Result (List (List ℕ)) Why) → StepFeedsFew (length line) (read >>= λ words. step_of_words desc line words)
+few_by_words : (desc : Description) (line : List ℕ) (read : Result (List (List ℕ)) Why)
+    → StepFeedsFew (length line) (read >>= λ words. step_of_words desc line words)
 few_by_words desc line (Ok words) = few_of_words desc line words
 few_by_words desc line (Err refusal) = tt
 

@@ -9,7 +9,8 @@ pub sends_all : (before after : Option (List ℕ)) (kept : List ℕ) → IfSome 
 sends_all before after kept writes = record { sent = kept; parts = sym (append-nil kept); writes = writes }
 
 -- a front part of it
-pub sends_part : (before after : Option (List ℕ)) (kept : List ℕ) → IfSome before (λ xs. WritesPart xs kept after) → (rest : List ℕ) × Sends before after kept rest
+pub sends_part : (before after : Option (List ℕ)) (kept : List ℕ) → IfSome before (λ xs. WritesPart xs kept after) → (rest : List ℕ)
+    × Sends before after kept rest
 sends_part None after kept part = (kept, record { sent = []; parts = refl; writes = tt })
 sends_part (Some xs) after kept part = (
   drop part.count kept,
@@ -21,13 +22,15 @@ sends_part (Some xs) after kept part = (
 )
 
 -- more after what was written before
-pub sends_more : (first before after : Option (List ℕ)) (sent kept rest : List ℕ) → IfSome first (λ xs. before ≡ Some (xs ++ sent)) → (sends : Sends before after kept rest)
+pub sends_more : (first before after : Option (List ℕ)) (sent kept rest : List ℕ) → IfSome first (λ xs. before ≡ Some (xs ++ sent))
+    → (sends : Sends before after kept rest)
     → IfSome first (λ xs. after ≡ Some (xs ++ (sent ++ sends.sent)))
 sends_more None before after sent kept rest h sends = tt
 sends_more (Some xs) before after sent kept rest h sends = by_before before h sends.writes
   where
     by_before : (b : Option (List ℕ)) → b ≡ Some (xs ++ sent) → IfSome b (λ ys. after ≡ Some (ys ++ sends.sent)) → after ≡ Some (xs ++ (sent ++ sends.sent))
-    by_before b is writes = subst (λ (o : Option (List ℕ)). IfSome o (λ ys. after ≡ Some (ys ++ sends.sent))) is writes ∙ ap Some (append_assoc xs sent sends.sent)
+    by_before b is writes =
+        subst (λ (o : Option (List ℕ)). IfSome o (λ ys. after ≡ Some (ys ++ sends.sent))) is writes ∙ ap Some (append_assoc xs sent sends.sent)
 
 -- ---- what isn't told stays so
 

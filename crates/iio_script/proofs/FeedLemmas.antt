@@ -65,7 +65,8 @@ at_word : (text : List ℕ) → begins_quote (from_word text) ≡ true → from_
 at_word [] quote = refl
 at_word (b ∷ bs) quote = word_at b bs (is_space b) refl quote (at_word bs)
 
-first_byte_past : (b : ℕ) (bs rest : List ℕ) (t u : Bool) → is_ascii_alphabetic b ≡ t → nat_le (length bs) 31 ≡ u → is_name (b ∷ bs) ≡ true → from_quote ((b ∷ bs) ++ rest) ≡ from_quote rest
+first_byte_past : (b : ℕ) (bs rest : List ℕ) (t u : Bool) → is_ascii_alphabetic b ≡ t → nat_le (length bs) 31 ≡ u → is_name (b ∷ bs) ≡ true
+    → from_quote ((b ∷ bs) ++ rest) ≡ from_quote rest
 first_byte_past b bs rest false u byte size is = let h : false ≡ true = rw byte at is in absurd (cc)
 first_byte_past b bs rest true false byte size is = let h : false ≡ true = rw (byte, size) at is in absurd (cc)
 first_byte_past b bs rest true true byte size is = rw (no_quote is_ascii_alphabetic b refl byte) (past_name bs rest (rw (byte, size) at is))
@@ -74,7 +75,8 @@ past_whole_name : (name rest : List ℕ) → is_name name ≡ true → from_quot
 past_whole_name [] rest is = absurd (cc)
 past_whole_name (b ∷ bs) rest is = first_byte_past b bs rest (is_ascii_alphabetic b) (nat_le (length bs) 31) refl refl is
 
-quote_at : (line name words : List ℕ) → IsFirstWord is_space line name words → is_name name ≡ true → begins_quote (from_word words) ≡ true → from_quote line ≡ from_word words
+quote_at : (line name words : List ℕ) → IsFirstWord is_space line name words → is_name name ≡ true → begins_quote (from_word words) ≡ true
+    → from_quote line ≡ from_word words
 quote_at line name words first is quote =
     ap from_quote first.parts ∙ past_spaces line (name ++ words) ∙ past_whole_name name words is ∙ at_word words quote
 

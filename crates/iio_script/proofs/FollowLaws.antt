@@ -41,7 +41,8 @@ by_over P input front h left going over follows = cases h.over refl follows
 pub next_line : (input : List ℕ) (front : List (List ℕ)) (h : Hand) (left : Option (List ℕ)) → IsHand h → HasLine h → Follows input front h left
     → Begins (front ++ line_of h ∷ []) (looked_lines input)
 next_line input front h left is (inl has) follows =
-    let goes : FollowsFront input (front ++ line_of h ∷ []) (past h) left = passed_front input front h left is.plain has.stands (going_of input front h left has.going follows) in
+    let goes : FollowsFront input (front ++ line_of h ∷ []) (past h) left =
+    passed_front input front h left is.plain has.stands (going_of input front h left has.going follows) in
     subst (λ (xs : List ℕ). Begins (front ++ line_of h ∷ []) (looked_lines xs)) (sym goes.parts)
     (looked_begin goes.bytes ((past h).bytes ++ goes.rest) (front ++ line_of h ∷ []) goes.front_is (omega (arith, goes.given, has.within)))
 next_line input front h left is (inr has) follows =
@@ -49,17 +50,20 @@ next_line input front h left is (inr has) follows =
     record { more = []; parts = all.lines ∙ sym (append-nil (front ++ line_of h ∷ [])) }
 
 -- the lines that were given are the first that are looked at
-pub follows_begin : (input : List ℕ) (front : List (List ℕ)) (h : Hand) (left : Option (List ℕ)) → IsHand h → Follows input front h left → Begins front (looked_lines input)
+pub follows_begin : (input : List ℕ) (front : List (List ℕ)) (h : Hand) (left : Option (List ℕ)) → IsHand h → Follows input front h left
+    → Begins front (looked_lines input)
 follows_begin input front h left is follows =
     by_over (Begins front (looked_lines input)) input front h left
-    (λ going goes. subst (λ (xs : List ℕ). Begins front (looked_lines xs)) (sym goes.parts) (looked_begin goes.bytes (h.bytes ++ goes.rest) front goes.front_is (omega (arith, goes.given, is.given))))
+    (λ going goes. subst (λ (xs : List ℕ). Begins front (looked_lines xs)) (sym goes.parts)
+    (looked_begin goes.bytes (h.bytes ++ goes.rest) front goes.front_is (omega (arith, goes.given, is.given))))
     (λ over all. record { more = []; parts = all.lines ∙ sym (append-nil front) }) follows
 
 -- none is left
 pub no_line : (input : List ℕ) (front : List (List ℕ)) (h : Hand) (left : Option (List ℕ)) → IsHand h → IsDone h → Follows input front h left
     → (looked_lines input ≡ front) × (is_overlong input ≡ false) × (left ≡ Some []) × (length input ≤ ended_size front) × (lines_of input ≡ front)
 no_line input front h left is done follows =
-    by_over ((looked_lines input ≡ front) × (is_overlong input ≡ false) × (left ≡ Some []) × (length input ≤ ended_size front) × (lines_of input ≡ front)) input front h left
+    by_over ((looked_lines input ≡ front) × (is_overlong input ≡ false) × (left ≡ Some []) × (length input ≤ ended_size front) × (lines_of input ≡ front)) input
+    front h left
     (λ going goes. at_end goes (spent going done)) (λ over all. (all.lines, all.short, all.none_left, all.size, all.every)) follows
   where
     spent : h.over ≡ false → IsDone h → (h.ended ≡ true) × (h.bytes ≡ [])
@@ -70,7 +74,8 @@ no_line input front h left is done follows =
         → (looked_lines input ≡ front) × (is_overlong input ≡ false) × (left ≡ Some []) × (length input ≤ ended_size front) × (lines_of input ≡ front)
     at_end goes done =
         let none : goes.rest ≡ [] = goes.end done.0 in
-        let parts : input ≡ goes.bytes = goes.parts ∙ ap (λ t. goes.bytes ++ (t ++ goes.rest)) done.1 ∙ ap (λ t. goes.bytes ++ t) none ∙ append-nil goes.bytes in
+        let parts : input ≡ goes.bytes =
+        goes.parts ∙ ap (λ t. goes.bytes ++ (t ++ goes.rest)) done.1 ∙ ap (λ t. goes.bytes ++ t) none ∙ append-nil goes.bytes in
         let few : length goes.bytes ≤ input_limit = omega (arith, goes.given, is.given) in (
           ap looked_lines parts ∙ looked_whole goes.bytes front goes.front_is few,
           grind (arith, nat_tests, ap length parts, few),
@@ -108,9 +113,11 @@ long_line input front h left is long follows =
     let size : length line ≡ n = length-take-le n (line_of h) (omega (arith, few, length-take-le h.looked h.bytes is.looked)) in
     let same : line ≡ take n h.bytes = take-take n h.looked h.bytes few in
     let parts : input ≡ goes.bytes ++ (line ++ (drop n h.bytes ++ goes.rest)) =
-    goes.parts ∙ ap (λ t. goes.bytes ++ t) (ap (λ t. t ++ goes.rest) (sym (take-append-drop n h.bytes) ∙ ap (λ t. t ++ drop n h.bytes) (sym same)) ∙ append_assoc line (drop n h.bytes) goes.rest) in
+    goes.parts ∙ ap (λ t. goes.bytes ++ t)
+    (ap (λ t. t ++ goes.rest) (sym (take-append-drop n h.bytes) ∙ ap (λ t. t ++ drop n h.bytes) (sym same)) ∙ append_assoc line (drop n h.bytes) goes.rest) in
     subst (λ (xs : List ℕ). LongBehind front (looked_lines xs)) (sym parts)
-    (looked_long goes.bytes line (drop n h.bytes ++ goes.rest) front goes.front_is (plain_take n (line_of h) is.plain) (omega (arith, size)) (omega (arith, size, goes.given, long.within)))
+    (looked_long goes.bytes line (drop n h.bytes ++ goes.rest) front goes.front_is (plain_take n (line_of h) is.plain) (omega (arith, size))
+    (omega (arith, size, goes.given, long.within)))
 
 -- ---- the bytes that were taken
 
@@ -121,7 +128,8 @@ taken_front input front h left goes =
     let parts : input ≡ (goes.bytes ++ h.bytes) ++ goes.rest = goes.parts ∙ sym (append_assoc goes.bytes h.bytes goes.rest) in
     let size : taken_of h ≡ length (goes.bytes ++ h.bytes) = omega (arith, goes.given, length-append goes.bytes h.bytes) in (
       ap (λ n. take n input) size ∙ ap (take (length (goes.bytes ++ h.bytes))) parts ∙ take-append_seam (goes.bytes ++ h.bytes) goes.rest,
-      goes.left_is ∙ ap Some (sym (ap (λ n. drop n input) size ∙ ap (drop (length (goes.bytes ++ h.bytes))) parts ∙ drop-append_seam (goes.bytes ++ h.bytes) goes.rest)),
+      goes.left_is ∙ ap Some (sym
+          (ap (λ n. drop n input) size ∙ ap (drop (length (goes.bytes ++ h.bytes))) parts ∙ drop-append_seam (goes.bytes ++ h.bytes) goes.rest)),
       omega (arith, size, ap length parts, length-append (goes.bytes ++ h.bytes) goes.rest),
     )
 
@@ -132,12 +140,14 @@ whole_lines input front h left is needs follows =
     let goes : FollowsFront input front h left = going_of input front h left needs.going follows in
     let taken = taken_front input front h left goes in
     let all : line_of h ≡ h.bytes = take_all h.looked h.bytes (omega (arith, needs.all)) in (
-      ap (λ t. lines_of (ended_part t)) taken.0 ∙ ap lines_of (goes.front_is.ended h.bytes ∙ ap (λ t. goes.bytes ++ t) (ended_none h.bytes (subst IsPlain all is.plain)))
+      ap (λ t. lines_of (ended_part t)) taken.0
+          ∙ ap lines_of (goes.front_is.ended h.bytes ∙ ap (λ t. goes.bytes ++ t) (ended_none h.bytes (subst IsPlain all is.plain)))
           ∙ goes.front_is.lines [] ∙ append-nil front,
       taken.1,
     )
 
-pub takes_at_most : (input : List ℕ) (front : List (List ℕ)) (h : Hand) (left : Option (List ℕ)) → IsHand h → Follows input front h left → TakesAtMost input (input_limit + 1) left
+pub takes_at_most : (input : List ℕ) (front : List (List ℕ)) (h : Hand) (left : Option (List ℕ)) → IsHand h → Follows input front h left
+    → TakesAtMost input (input_limit + 1) left
 takes_at_most input front h left is follows =
     by_over (TakesAtMost input (input_limit + 1) left) input front h left
     (λ going goes. record { count = taken_of h; within = is.within; rest = (taken_front input front h left goes).1 })
@@ -149,7 +159,8 @@ takes_at_most input front h left is follows =
 
 -- ---- how far after the line that fails
 
-until_front : (front : List (List ℕ)) (line : List ℕ) (more : List (List ℕ)) → bytes_until (suc (length front)) (front ++ line ∷ more) ≡ ended_size front + (min (length line) MAX_LINE_BYTES + 1)
+until_front : (front : List (List ℕ)) (line : List ℕ) (more : List (List ℕ))
+    → bytes_until (suc (length front)) (front ++ line ∷ more) ≡ ended_size front + (min (length line) MAX_LINE_BYTES + 1)
 until_front [] line more = omega arith
 until_front (l ∷ ls) line more = omega (arith, until_front ls line more)
 
@@ -158,8 +169,10 @@ until_end [] = refl
 until_end (l ∷ ls) = omega (arith, until_end ls)
 
 -- at a line, whose bytes in hand are at least these
-near_line : (input : List ℕ) (front : List (List ℕ)) (h : Hand) (left : Option (List ℕ)) (line : List ℕ) (more : List (List ℕ)) (number : ℕ) → IsHand h → FollowsFront input front h left
-    → lines_of input ≡ front ++ line ∷ more → length (h.bytes) ≤ min (length line) MAX_LINE_BYTES + 1 + piece_size → number ≡ length front + 1 → TakesNear number input left
+near_line : (input : List ℕ) (front : List (List ℕ)) (h : Hand) (left : Option (List ℕ)) (line : List ℕ) (more : List (List ℕ)) (number : ℕ) → IsHand h
+    → FollowsFront input front h left
+    → lines_of input ≡ front ++ line ∷ more → length (h.bytes) ≤ min (length line) MAX_LINE_BYTES + 1 + piece_size → number ≡ length front + 1
+    → TakesNear number input left
 near_line input front h left line more number is goes lines few at =
     let taken = taken_front input front h left goes in
     let next : number ≡ suc (length front) = omega (arith, at) in
@@ -172,13 +185,15 @@ near_line input front h left line more number is goes lines few at =
       rest = taken.1;
     }
 
-near_found : (input : List ℕ) (front : List (List ℕ)) (h : Hand) (left : Option (List ℕ)) (number : ℕ) → IsHand h → HasLine h → Follows input front h left → number ≡ length front + 1
+near_found : (input : List ℕ) (front : List (List ℕ)) (h : Hand) (left : Option (List ℕ)) (number : ℕ) → IsHand h → HasLine h → Follows input front h left
+    → number ≡ length front + 1
     → TakesNear number input left
 near_found input front h left number is (inl has) follows at =
     let goes : FollowsFront input front h left = going_of input front h left has.going follows in
     let passed : FollowsFront input (front ++ line_of h ∷ []) (past h) left = passed_front input front h left is.plain has.stands goes in
     let lines : lines_of input ≡ front ++ line_of h ∷ lines_of ((past h).bytes ++ passed.rest) =
-    ap lines_of passed.parts ∙ passed.front_is.lines ((past h).bytes ++ passed.rest) ∙ append_assoc front (line_of h ∷ []) (lines_of ((past h).bytes ++ passed.rest)) in
+    ap lines_of passed.parts ∙ passed.front_is.lines ((past h).bytes ++ passed.rest)
+    ∙ append_assoc front (line_of h ∷ []) (lines_of ((past h).bytes ++ passed.rest)) in
     near_line input front h left (line_of h) (lines_of ((past h).bytes ++ passed.rest)) number is goes lines
     (omega (arith, is.near, is.few, length-take-le h.looked h.bytes is.looked)) at
 near_found input front h left number is (inr has) follows at =
@@ -186,7 +201,8 @@ near_found input front h left number is (inr has) follows at =
     let all : FollowsAll input (front ++ line_of h ∷ []) left = last_front input front h left is.plain has goes in
     near_line input front h left (line_of h) [] number is goes all.every (omega (arith, is.near, is.few, length-take-le h.looked h.bytes is.looked)) at
 
-near_long : (input : List ℕ) (front : List (List ℕ)) (h : Hand) (left : Option (List ℕ)) (number : ℕ) → IsHand h → IsLong h → Follows input front h left → number ≡ length front + 1
+near_long : (input : List ℕ) (front : List (List ℕ)) (h : Hand) (left : Option (List ℕ)) (number : ℕ) → IsHand h → IsLong h → Follows input front h left
+    → number ≡ length front + 1
     → TakesNear number input left
 near_long input front h left number is long follows at =
     let goes : FollowsFront input front h left = going_of input front h left long.going follows in
@@ -201,12 +217,14 @@ near_long input front h left number is long follows at =
     near_line input front h left (line ++ begins.rest) begins.more number is goes lines
     (omega (arith, is.few, size, long.long, length-append line begins.rest)) at
 
-near_end : (input : List ℕ) (front : List (List ℕ)) (h : Hand) (left : Option (List ℕ)) (number : ℕ) → IsHand h → IsDone h → Follows input front h left → number ≡ length front + 1
+near_end : (input : List ℕ) (front : List (List ℕ)) (h : Hand) (left : Option (List ℕ)) (number : ℕ) → IsHand h → IsDone h → Follows input front h left
+    → number ≡ length front + 1
     → TakesNear number input left
 near_end input front h left number is done follows at =
     let none = no_line input front h left is done follows in
     let next : number ≡ suc (length front) = omega (arith, at) in
-    let until : bytes_until number (lines_of input) ≡ ended_size front = ap (λ n. bytes_until n (lines_of input)) next ∙ ap (bytes_until (suc (length front))) none.4 ∙ until_end front in
+    let until : bytes_until number (lines_of input) ≡ ended_size front =
+    ap (λ n. bytes_until n (lines_of input)) next ∙ ap (bytes_until (suc (length front))) none.4 ∙ until_end front in
     record {
       count = length input;
       enough = omega arith;
@@ -215,7 +233,8 @@ near_end input front h left number is done follows at =
     }
 
 -- what was found tells where the line of the next number fails
-pub near : (input : List ℕ) (front : List (List ℕ)) (h : Hand) (left : Option (List ℕ)) (number : ℕ) (found : Found) → IsHand h → Shows found h → found ≢ Cut → Follows input front h left
+pub near : (input : List ℕ) (front : List (List ℕ)) (h : Hand) (left : Option (List ℕ)) (number : ℕ) (found : Found) → IsHand h → Shows found h → found ≢ Cut
+    → Follows input front h left
     → number ≡ length front + 1 → TakesNear number input left
 near input front h left number Line is shows other follows at = near_found input front h left number is shows follows at
 near input front h left number Long is shows other follows at = near_long input front h left number is shows follows at

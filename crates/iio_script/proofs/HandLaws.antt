@@ -26,7 +26,8 @@ plain_before text (suc n) none few =
     let next : n + 1 ≡ suc n = omega arith in
     subst (λ (k : ℕ). IsPlain (take k text)) next (list_any_more is_line_end text n 0 (omega (arith, few)) ∙ rw (front, byte) refl)
 
-looked_on : (h : Hand) (k : ℕ) → IsHand h → h.looked + k ≤ length h.bytes → IsPlain (take k (drop h.looked h.bytes)) → IsHand (record h { looked = h.looked + k })
+looked_on : (h : Hand) (k : ℕ) → IsHand h → h.looked + k ≤ length h.bytes → IsPlain (take k (drop h.looked h.bytes))
+    → IsHand (record h { looked = h.looked + k })
 looked_on h k is few plain = record {
   looked = few;
   plain = subst IsPlain (sym (take-add h.looked k h.bytes)) (plain_append (line_of h) (take k (drop h.looked h.bytes)) is.plain plain);
@@ -36,14 +37,16 @@ looked_on h k is few plain = record {
   within = is.within;
 }
 
-pub looked_to : (h : Hand) (text : List ℕ) (k : ℕ) → IsHand h → text ≡ drop h.looked h.bytes → NoneBefore (Passes (is_byte 10) text) 0 (length text) k × Passes (is_byte 10) text k
+pub looked_to : (h : Hand) (text : List ℕ) (k : ℕ) → IsHand h → text ≡ drop h.looked h.bytes → NoneBefore (Passes (is_byte 10) text) 0 (length text) k
+    × Passes (is_byte 10) text k
     → IsHand (record h { looked = h.looked + k })
 looked_to h text k is same found =
     let within : k < length text = found.0.high in
     looked_on h k is (omega (arith, ap length same, length-drop h.looked h.bytes, within))
     (subst (λ (t : List ℕ). IsPlain (take k t)) same (plain_before text k found.0.before (omega (arith, within))))
 
-pub stands_at : (h : Hand) (text : List ℕ) (k : ℕ) → h.looked ≤ length h.bytes → text ≡ drop h.looked h.bytes → NoneBefore (Passes (is_byte 10) text) 0 (length text) k × Passes (is_byte 10) text k
+pub stands_at : (h : Hand) (text : List ℕ) (k : ℕ) → h.looked ≤ length h.bytes → text ≡ drop h.looked h.bytes
+    → NoneBefore (Passes (is_byte 10) text) 0 (length text) k × Passes (is_byte 10) text k
     → StandsAtEnd (record h { looked = h.looked + k })
 stands_at h text k few same found =
     let byte : get_or text k 0 ≡ 10 = eqb-true (get_or text k 0) 10 found.1 in
@@ -52,19 +55,23 @@ stands_at h text k few same found =
       end = sym (get_or-drop h.looked h.bytes k 0) ∙ ap (λ t. get_or t k 0) (sym same) ∙ byte;
     }
 
-pub looked_all : (h : Hand) (text : List ℕ) (all : ℕ) → IsHand h → text ≡ drop h.looked h.bytes → Nowhere (Passes (is_byte 10) text) 0 (length text) → all ≡ length h.bytes
+pub looked_all : (h : Hand) (text : List ℕ) (all : ℕ) → IsHand h → text ≡ drop h.looked h.bytes → Nowhere (Passes (is_byte 10) text) 0 (length text)
+    → all ≡ length h.bytes
     → IsHand (record h { looked = all })
 looked_all h text all is same none whole =
     let sum : all ≡ h.looked + length text = omega (arith, whole, ap length same, length-drop h.looked h.bytes, is.looked) in
     subst (λ (n : ℕ). IsHand (record h { looked = n })) (sym sum)
-    (looked_on h (length text) is (omega (arith, sum, whole)) (subst (λ (t : List ℕ). IsPlain (take (length text) t)) same (plain_before text (length text) none (omega arith))))
+    (looked_on h (length text) is (omega (arith, sum, whole))
+    (subst (λ (t : List ℕ). IsPlain (take (length text) t)) same (plain_before text (length text) none (omega arith))))
 
 -- ---- a reader that hasn't given its last line
 
-pub going_of : (input : List ℕ) (front : List (List ℕ)) (h : Hand) (left : Option (List ℕ)) → h.over ≡ false → Follows input front h left → FollowsFront input front h left
+pub going_of : (input : List ℕ) (front : List (List ℕ)) (h : Hand) (left : Option (List ℕ)) → h.over ≡ false → Follows input front h left
+    → FollowsFront input front h left
 going_of input front h left going follows = subst (λ (over : Bool). FollowsBy over input front h left) going follows
 
-pub of_going : (input : List ℕ) (front : List (List ℕ)) (h : Hand) (left : Option (List ℕ)) → h.over ≡ false → FollowsFront input front h left → Follows input front h left
+pub of_going : (input : List ℕ) (front : List (List ℕ)) (h : Hand) (left : Option (List ℕ)) → h.over ≡ false → FollowsFront input front h left
+    → Follows input front h left
 of_going input front h left going goes = subst (λ (over : Bool). FollowsBy over input front h left) (sym going) goes
 
 -- ---- past a line
@@ -77,7 +84,8 @@ ended_at text n some end =
 abbrev pub past : Hand → Hand
 past h = record h { bytes = drop (h.looked + 1) h.bytes; looked = 0; given = h.given + (h.looked + 1) }
 
-pub passed_front : (input : List ℕ) (front : List (List ℕ)) (h : Hand) (left : Option (List ℕ)) → IsPlain (line_of h) → StandsAtEnd h → FollowsFront input front h left
+pub passed_front : (input : List ℕ) (front : List (List ℕ)) (h : Hand) (left : Option (List ℕ)) → IsPlain (line_of h) → StandsAtEnd h
+    → FollowsFront input front h left
     → FollowsFront input (front ++ line_of h ∷ []) (past h) left
 passed_front input front h left plain at goes = record {
   bytes = goes.bytes ++ (line_of h ++ 10 ∷ []);
@@ -86,7 +94,15 @@ passed_front input front h left plain at goes = record {
   parts = goes.parts ∙ ap (λ t. goes.bytes ++ (t ++ goes.rest)) (sym (ended_at h.bytes h.looked at.some at.end))
       ∙ ap (λ t. goes.bytes ++ t) (append_assoc (line_of h ++ 10 ∷ []) (drop (h.looked + 1) h.bytes) goes.rest)
       ∙ sym (append_assoc goes.bytes (line_of h ++ 10 ∷ []) (drop (h.looked + 1) h.bytes ++ goes.rest));
-  given = omega (arith, length-append goes.bytes (line_of h ++ 10 ∷ []), length-append (line_of h) (10 ∷ []), length-take-le h.looked h.bytes (omega (arith, at.some)), goes.given);
+  given =
+      omega (
+        arith,
+        length-append goes.bytes (line_of h ++ 10 ∷ []),
+        length-append (line_of h) (10 ∷ []),
+        length-take-le h.looked h.bytes
+            (omega (arith, at.some)),
+        goes.given,
+      );
   front_is = front_more goes.bytes (line_of h) front goes.front_is plain;
   end = goes.end;
 }
@@ -95,34 +111,42 @@ passed_front input front h left plain at goes = record {
 pub passed_ended : (input : List ℕ) (front : List (List ℕ)) (h : Hand) (left : Option (List ℕ)) → IsHand h → HasEnded h → Follows input front h left
     → Follows input (front ++ line_of h ∷ []) (past h) left
 passed_ended input front h left is has follows =
-    of_going input (front ++ line_of h ∷ []) (past h) left has.going (passed_front input front h left is.plain has.stands (going_of input front h left has.going follows))
+    of_going input (front ++ line_of h ∷ []) (past h) left has.going
+    (passed_front input front h left is.plain has.stands (going_of input front h left has.going follows))
 
 -- the input's end ends it
-pub last_front : (input : List ℕ) (front : List (List ℕ)) (h : Hand) (left : Option (List ℕ)) → IsPlain (line_of h) → HasLast h → FollowsFront input front h left
+pub last_front : (input : List ℕ) (front : List (List ℕ)) (h : Hand) (left : Option (List ℕ)) → IsPlain (line_of h) → HasLast h
+    → FollowsFront input front h left
     → FollowsAll input (front ++ line_of h ∷ []) left
 last_front input front h left plain has goes =
     let none : goes.rest ≡ [] = goes.end has.ended in
     let line : line_of h ≡ h.bytes = take_all h.looked h.bytes (omega (arith, has.all)) in
-    let parts : input ≡ goes.bytes ++ line_of h = goes.parts ∙ ap (λ t. goes.bytes ++ (h.bytes ++ t)) none ∙ ap (λ t. goes.bytes ++ t) (append-nil h.bytes ∙ sym line) in
+    let parts : input ≡ goes.bytes ++ line_of h =
+    goes.parts ∙ ap (λ t. goes.bytes ++ (h.bytes ++ t)) none ∙ ap (λ t. goes.bytes ++ t) (append-nil h.bytes ∙ sym line) in
     let size : length input ≡ length goes.bytes + length (line_of h) = ap length parts ∙ length-append goes.bytes (line_of h) in
     let some : 0 < length (line_of h) = omega (arith, ap length line, has.some, has.all) in
     let few : length input ≤ input_limit = omega (arith, size, ap length line, goes.given, has.within) in
     record {
       none_left = goes.left_is ∙ ap Some none;
-      lines = ap looked_lines parts ∙ looked_last goes.bytes (line_of h) front goes.front_is plain some (omega (arith, few, size, length-append goes.bytes (line_of h)));
+      lines =
+          ap looked_lines parts ∙ looked_last goes.bytes (line_of h) front goes.front_is plain some
+          (omega (arith, few, size, length-append goes.bytes (line_of h)));
       every = ap lines_of parts ∙ goes.front_is.lines (line_of h) ∙ ap (λ ls. front ++ ls) (lines_last (line_of h) plain some);
       short = grind (arith, nat_tests, few);
       size = omega (arith, size, ended_size-append front (line_of h ∷ []), goes.front_is.size);
     }
 
-pub passed_last : (input : List ℕ) (front : List (List ℕ)) (h h' : Hand) (left : Option (List ℕ)) → IsHand h → HasLast h → h'.over ≡ true → Follows input front h left
+pub passed_last : (input : List ℕ) (front : List (List ℕ)) (h h' : Hand) (left : Option (List ℕ)) → IsHand h → HasLast h → h'.over ≡ true
+    → Follows input front h left
     → Follows input (front ++ line_of h ∷ []) h' left
 passed_last input front h h' left is has over follows =
-    subst (λ (o : Bool). FollowsBy o input (front ++ line_of h ∷ []) h' left) (sym over) (last_front input front h left is.plain has (going_of input front h left has.going follows))
+    subst (λ (o : Bool). FollowsBy o input (front ++ line_of h ∷ []) h' left) (sym over)
+    (last_front input front h left is.plain has (going_of input front h left has.going follows))
 
 -- whichever
 pub passed : (input : List ℕ) (front : List (List ℕ)) (h h' : Hand) (left : Option (List ℕ)) → IsHand h → HasLine h
-    → (h.looked < length h.bytes → h' ≡ past h) → (length h.bytes ≤ h.looked → h'.over ≡ true) → Follows input front h left → Follows input (front ++ line_of h ∷ []) h' left
+    → (h.looked < length h.bytes → h' ≡ past h) → (length h.bytes ≤ h.looked → h'.over ≡ true) → Follows input front h left
+    → Follows input (front ++ line_of h ∷ []) h' left
 passed input front h h' left is (inl has) ended last follows =
     subst (λ (x : Hand). Follows input (front ++ line_of h ∷ []) x left) (sym (ended has.stands.some)) (passed_ended input front h left is has follows)
 passed input front h h' left is (inr has) ended last follows = passed_last input front h h' left is has (last (omega (arith, has.all))) follows
@@ -133,28 +157,33 @@ drop_none : (n : ℕ) → drop {A = ℕ} n [] ≡ []
 drop_none zero = refl
 drop_none (suc n) = refl
 
-filled_front : (input : List ℕ) (front : List (List ℕ)) (h : Hand) (left left' : Option (List ℕ)) (bytes' : List ℕ) (n : ℕ) (goes : FollowsFront input front h left)
+filled_front : (input : List ℕ) (front : List (List ℕ)) (h : Hand) (left left' : Option (List ℕ)) (bytes' : List ℕ) (n : ℕ)
+    (goes : FollowsFront input front h left)
     → ReadsPiece goes.rest h.bytes bytes' n left' → FollowsFront input front (record h { bytes = bytes'; ended = nat_eq n 0 }) left'
 filled_front input front h left left' bytes' n goes piece = record {
   bytes = goes.bytes;
   rest = drop n goes.rest;
   left_is = piece.rest;
   parts = goes.parts ∙ ap (λ t. goes.bytes ++ t)
-      (ap (λ t. h.bytes ++ t) (sym (take-append-drop n goes.rest)) ∙ sym (append_assoc h.bytes (take n goes.rest) (drop n goes.rest)) ∙ ap (λ t. t ++ drop n goes.rest) (sym piece.bytes));
+      (ap (λ t. h.bytes ++ t) (sym (take-append-drop n goes.rest)) ∙ sym (append_assoc h.bytes (take n goes.rest) (drop n goes.rest))
+      ∙ ap (λ t. t ++ drop n goes.rest) (sym piece.bytes));
   given = goes.given;
   front_is = goes.front_is;
   end = λ zero. ap (drop n) (piece.end (grind (arith, nat_tests, zero))) ∙ drop_none n;
 }
 
 pub filled : (input : List ℕ) (front : List (List ℕ)) (h : Hand) (left left' : Option (List ℕ)) (bytes' : List ℕ) (n : ℕ) → h.over ≡ false
-    → IfSome left (λ xs. ReadsPiece xs h.bytes bytes' n left') → Follows input front h left → Follows input front (record h { bytes = bytes'; ended = nat_eq n 0 }) left'
+    → IfSome left (λ xs. ReadsPiece xs h.bytes bytes' n left') → Follows input front h left
+    → Follows input front (record h { bytes = bytes'; ended = nat_eq n 0 }) left'
 filled input front h left left' bytes' n going read follows =
     let goes : FollowsFront input front h left = going_of input front h left going follows in
     of_going input front (record h { bytes = bytes'; ended = nat_eq n 0 }) left' going
-    (filled_front input front h left left' bytes' n goes (subst (λ (l : Option (List ℕ)). IfSome l (λ xs. ReadsPiece xs h.bytes bytes' n left')) goes.left_is read))
+    (filled_front input front h left left' bytes' n goes
+    (subst (λ (l : Option (List ℕ)). IfSome l (λ xs. ReadsPiece xs h.bytes bytes' n left')) goes.left_is read))
 
 -- after bytes that were given and are still there
-pub piece_behind : (before after : List ℕ) (begin n : ℕ) (left left' : Option (List ℕ)) → begin ≤ length before → IfSome left (λ xs. ReadsPiece xs before after n left')
+pub piece_behind : (before after : List ℕ) (begin n : ℕ) (left left' : Option (List ℕ)) → begin ≤ length before
+    → IfSome left (λ xs. ReadsPiece xs before after n left')
     → IfSome left (λ xs. ReadsPiece xs (drop begin before) (drop begin after) n left')
 piece_behind before after begin n None left' few read = tt
 piece_behind before after begin n (Some xs) left' few read = record {
@@ -164,7 +193,8 @@ piece_behind before after begin n (Some xs) left' few read = record {
   end = read.end;
 }
 
-pub filled_hand : (h : Hand) (before after : List ℕ) (begin n : ℕ) (ended : Bool) → IsHand h → NeedsMore h → h.bytes ≡ drop begin before → begin ≤ length before → take (length before) after ≡ before
+pub filled_hand : (h : Hand) (before after : List ℕ) (begin n : ℕ) (ended : Bool) → IsHand h → NeedsMore h → h.bytes ≡ drop begin before → begin ≤ length before
+    → take (length before) after ≡ before
     → length after ≡ length before + n → n ≤ piece_size → taken_of h + n ≤ input_limit + 1 → IsHand (record h { bytes = drop begin after; ended = ended })
 filled_hand h before after begin n ended is needs same few behind grown small within =
     let long : length (drop begin after) ≡ length h.bytes + n = omega (arith, length-drop begin after, length-drop begin before, ap length same, grown, few) in
@@ -181,7 +211,8 @@ filled_hand h before after begin n ended is needs same few behind grown small wi
       within = omega (arith, long, within);
     }
 
-pub takes_more : (h : Hand) (bytes' : List ℕ) (n : ℕ) → NeedsMore h → length bytes' ≡ length h.bytes + n → to_take (record h { bytes = bytes'; ended = nat_eq n 0 }) < to_take h
+pub takes_more : (h : Hand) (bytes' : List ℕ) (n : ℕ) → NeedsMore h → length bytes' ≡ length h.bytes + n
+    → to_take (record h { bytes = bytes'; ended = nat_eq n 0 }) < to_take h
 takes_more h bytes' zero needs grown = rw needs.unended (omega (arith, needs.within))
 takes_more h bytes' (suc n) needs grown =
     let test : nat_eq (suc n) 0 ≡ false = grind (arith, nat_tests) in

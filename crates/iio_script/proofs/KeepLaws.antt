@@ -42,7 +42,8 @@ kept_part false text lines = sym (take_all (length (text ++ lines)) (text ++ lin
 
 module _ {X : Type 0} {V : X → Type 0} (driver : Plug X V → Driver) where
   -- after an offence a step is only made
-  pub step_made : KeptGoesOn → (s : Setup) (a : List ℕ) (h : List Event) (n : ℕ) (t : Step) (offence : Option ℕ) (b : Bool) (text text' : List ℕ) (x' : System X V)
+  pub step_made : KeptGoesOn
+      → (s : Setup) (a : List ℕ) (h : List Event) (n : ℕ) (t : Step) (offence : Option ℕ) (b : Bool) (text text' : List ℕ) (x' : System X V)
       → b ≡ is_some offence → b ≡ true → StandsFor driver s (with_step s h t) x' → KeepsStep driver s a h n t offence offence text text' x'
   step_made law s a h n t None b text text' x' is some stands = let never : true ≡ false = sym some ∙ is in cc
   step_made law s a h n t (Some line) b text text' x' is some stands = record {
@@ -52,7 +53,8 @@ module _ {X : Type 0} {V : X → Type 0} (driver : Plug X V → Driver) where
   }
 
   -- a step against the rules
-  pub step_offends : KeptGoesOn → (s : Setup) (a : List ℕ) (h : List Event) (n : ℕ) (t : Step) (offence : Option ℕ) (b meets : Bool) (text text' : List ℕ) (x' : System X V)
+  pub step_offends : KeptGoesOn
+      → (s : Setup) (a : List ℕ) (h : List Event) (n : ℕ) (t : Step) (offence : Option ℕ) (b meets : Bool) (text text' : List ℕ) (x' : System X V)
       → b ≡ is_some offence → b ≡ false → ((offence ≡ None → only_bystanders s a h ≡ true))
       → (only_bystanders s a h ≡ true → meets ≡ only_bystanders s a (with_step s h t)) → meets ≡ false → StandsFor driver s (with_step s h t) x'
       → KeepsStep driver s a h n t offence (Some n) text text' x'
@@ -66,12 +68,15 @@ module _ {X : Type 0} {V : X → Type 0} (driver : Plug X V → Driver) where
       }
 
   -- a step that keeps to them
-  pub step_kept : KeptGoesOn → (s : Setup) (a : List ℕ) (h : List Event) (n : ℕ) (t : Step) (offence : Option ℕ) (b meets : Bool) (text whole text' : List ℕ) (count : ℕ) (x' : System X V)
+  pub step_kept : KeptGoesOn
+      → (s : Setup) (a : List ℕ) (h : List Event) (n : ℕ) (t : Step) (offence : Option ℕ) (b meets : Bool) (text whole text' : List ℕ) (count : ℕ)
+      (x' : System X V)
       → b ≡ is_some offence → b ≡ false → ((offence ≡ None → only_bystanders s a h ≡ true))
       → (only_bystanders s a h ≡ true → meets ≡ only_bystanders s a (with_step s h t)) → meets ≡ true → StandsFor driver s (with_step s h t) x'
       → whole ≡ text ++ lines_of_step s h t → count ≡ cond (is_others a t) (length text) (length whole) → text' ≡ take count whole
       → KeepsStep driver s a h n t offence offence text text' x'
-  step_kept law s a h n t (Some line) b meets text whole text' count x' is none modest decides keeps stands printed counted cut = let never : false ≡ true = sym none ∙ is in cc
+  step_kept law s a h n t (Some line) b meets text whole text' count x' is none modest decides keeps stands printed counted cut =
+      let never : false ≡ true = sym none ∙ is in cc
   step_kept law s a h n t None b meets text whole text' count x' is none modest decides keeps stands printed counted cut =
       let still : only_bystanders s a (with_step s h t) ≡ true = sym (decides (modest refl)) ∙ keeps in
       let part : text' ≡ take (cond (is_others a t) (length text) (length (text ++ lines_of_step s h t))) (text ++ lines_of_step s h t) =
@@ -87,7 +92,8 @@ module _ {X : Type 0} {V : X → Type 0} (driver : Plug X V → Driver) where
 
   -- ---- a run that has come to a line
 
-  pub keeps_first : KeptGoesOn → (s : Setup) (a : List ℕ) (x : System X V) (first : ℕ) → names_by x ≡ [] → StandsFor driver s [] x → KeepsOn driver s a x None [] first first []
+  pub keeps_first : KeptGoesOn → (s : Setup) (a : List ℕ) (x : System X V) (first : ℕ) → names_by x ≡ [] → StandsFor driver s [] x
+      → KeepsOn driver s a x None [] first first []
   keeps_first law s a x first none stands = record {
     done = [];
     names = [];
@@ -98,7 +104,8 @@ module _ {X : Type 0} {V : X → Type 0} (driver : Plug X V → Driver) where
   }
 
   -- a line that means nothing
-  pub keeps_past : (s : Setup) (a : List ℕ) (x : System X V) (offence : Option ℕ) (text : List ℕ) (first n : ℕ) (given : List (List ℕ)) (line : List ℕ) → step_of s.desc line ≡ Ok None
+  pub keeps_past : (s : Setup) (a : List ℕ) (x : System X V) (offence : Option ℕ) (text : List ℕ) (first n : ℕ) (given : List (List ℕ)) (line : List ℕ)
+      → step_of s.desc line ≡ Ok None
       → KeepsOn driver s a x offence text first n given → KeepsOn driver s a x offence text first (n + 1) (given ++ line ∷ [])
   keeps_past s a x offence text first n given line said keeps = record {
     done = keeps.done;
@@ -107,16 +114,20 @@ module _ {X : Type 0} {V : X → Type 0} (driver : Plug X V → Driver) where
     same = keeps.same;
     modest = keeps.modest;
     kept = λ ending lines.
-        sym (ap (λ (ts : List Numbered). kept_on s a offence text keeps.done ts (script_from s.desc ending keeps.names n (line ∷ lines)).ending) (numbered_nothing s.desc keeps.names n line lines said)
-        ∙ ap (λ (script : Script). kept_on s a offence text keeps.done (numbered_from s.desc keeps.names (n + 1) lines) script.ending) (means_nothing s.desc ending keeps.names n line lines said))
+        sym (ap (λ (ts : List Numbered). kept_on s a offence text keeps.done ts (script_from s.desc ending keeps.names n (line ∷ lines)).ending)
+        (numbered_nothing s.desc keeps.names n line lines said)
+        ∙ ap (λ (script : Script). kept_on s a offence text keeps.done (numbered_from s.desc keeps.names (n + 1) lines) script.ending)
+        (means_nothing s.desc ending keeps.names n line lines said))
         ∙ keeps.kept ending (line ∷ lines)
         ∙ sym (ap (λ (ls : List (List ℕ)). kept_of_lines s a ending first ls) (append_assoc given (line ∷ []) lines));
   }
 
   -- a step that was made
-  pub keeps_more : (s : Setup) (a : List ℕ) (x x' : System X V) (offence offence' : Option ℕ) (text text' : List ℕ) (first n : ℕ) (given : List (List ℕ)) (line : List ℕ) (step : Step)
+  pub keeps_more : (s : Setup) (a : List ℕ) (x x' : System X V) (offence offence' : Option ℕ) (text text' : List ℕ) (first n : ℕ) (given : List (List ℕ))
+      (line : List ℕ) (step : Step)
       → step_of s.desc line ≡ Ok (Some step) → keeps_names (names_by x) (Some step) ≡ true
-      → ((h : List Event) → StandsFor driver s h x → (offence ≡ None → only_bystanders s a h ≡ true) → KeepsStep driver s a h n step offence offence' text text' x')
+      → ((h : List Event) → StandsFor driver s h x → (offence ≡ None → only_bystanders s a h ≡ true)
+      → KeepsStep driver s a h n step offence offence' text text' x')
       → names_by x' ≡ names_with (names_by x) step
       → KeepsOn driver s a x offence text first n given → KeepsOn driver s a x' offence' text' first (n + 1) (given ++ line ∷ [])
   keeps_more s a x x' offence offence' text text' first n given line step said room makes fed keeps =
@@ -132,8 +143,10 @@ module _ {X : Type 0} {V : X → Type 0} (driver : Plug X V → Driver) where
             let next : Script = script_from s.desc ending (names_after keeps.names (Some step)) (n + 1) lines in
             let ts : List Numbered = numbered_from s.desc (names_after keeps.names (Some step)) (n + 1) lines in
             sym (made.kept ts next.ending)
-            ∙ sym (ap (λ (us : List Numbered). kept_on s a offence text keeps.done us (script_from s.desc ending keeps.names n (line ∷ lines)).ending) (numbered_step s.desc keeps.names n line lines step said known)
-            ∙ ap (λ (script : Script). kept_on s a offence text keeps.done (record { number = n; step = step } ∷ ts) script.ending) (says_step s.desc ending keeps.names n line lines step said known))
+            ∙ sym (ap (λ (us : List Numbered). kept_on s a offence text keeps.done us (script_from s.desc ending keeps.names n (line ∷ lines)).ending)
+            (numbered_step s.desc keeps.names n line lines step said known)
+            ∙ ap (λ (script : Script). kept_on s a offence text keeps.done (record { number = n; step = step } ∷ ts) script.ending)
+            (says_step s.desc ending keeps.names n line lines step said known))
             ∙ keeps.kept ending (line ∷ lines)
             ∙ sym (ap (λ (ls : List (List ℕ)). kept_of_lines s a ending first ls) (append_assoc given (line ∷ []) lines));
       }
@@ -141,18 +154,24 @@ module _ {X : Type 0} {V : X → Type 0} (driver : Plug X V → Driver) where
   -- ---- the end
 
   -- the next line is refused
-  keeps_refused : (s : Setup) (a : List ℕ) (x : System X V) (offence : Option ℕ) (text : List ℕ) (first n : ℕ) (given : List (List ℕ)) (line : List ℕ) (lines : List (List ℕ)) (why : Why) (ending : Ending)
-      → (keeps : KeepsOn driver s a x offence text first n given) → script_from s.desc ending keeps.names n (line ∷ lines) ≡ record { steps = []; ending = Refused n why }
+  keeps_refused : (s : Setup) (a : List ℕ) (x : System X V) (offence : Option ℕ) (text : List ℕ) (first n : ℕ) (given : List (List ℕ)) (line : List ℕ)
+      (lines : List (List ℕ)) (why : Why) (ending : Ending)
+      → (keeps : KeepsOn driver s a x offence text first n given)
+      → script_from s.desc ending keeps.names n (line ∷ lines) ≡ record { steps = []; ending = Refused n why }
       → kept_of_lines s a ending first (given ++ line ∷ lines) ≡ Err (Refused n why)
   keeps_refused s a x offence text first n given line lines why ending keeps is =
-      sym (keeps.kept ending (line ∷ lines)) ∙ ap (λ (script : Script). kept_on s a offence text keeps.done (numbered_from s.desc keeps.names n (line ∷ lines)) script.ending) is
+      sym (keeps.kept ending (line ∷ lines))
+      ∙ ap (λ (script : Script). kept_on s a offence text keeps.done (numbered_from s.desc keeps.names n (line ∷ lines)) script.ending) is
 
-  pub keeps_wrong : (s : Setup) (a : List ℕ) (x : System X V) (offence : Option ℕ) (text : List ℕ) (first n : ℕ) (given : List (List ℕ)) (line : List ℕ) (lines : List (List ℕ)) (why : Why) (ending : Ending)
-      → step_of s.desc line ≡ Err why → KeepsOn driver s a x offence text first n given → kept_of_lines s a ending first (given ++ line ∷ lines) ≡ Err (Refused n why)
+  pub keeps_wrong : (s : Setup) (a : List ℕ) (x : System X V) (offence : Option ℕ) (text : List ℕ) (first n : ℕ) (given : List (List ℕ)) (line : List ℕ)
+      (lines : List (List ℕ)) (why : Why) (ending : Ending)
+      → step_of s.desc line ≡ Err why → KeepsOn driver s a x offence text first n given
+      → kept_of_lines s a ending first (given ++ line ∷ lines) ≡ Err (Refused n why)
   keeps_wrong s a x offence text first n given line lines why ending said keeps =
       keeps_refused s a x offence text first n given line lines why ending keeps (is_refused s.desc ending keeps.names n line lines why said)
 
-  pub keeps_over : (s : Setup) (a : List ℕ) (x : System X V) (offence : Option ℕ) (text : List ℕ) (first n : ℕ) (given : List (List ℕ)) (line : List ℕ) (lines : List (List ℕ)) (step : Step) (ending : Ending)
+  pub keeps_over : (s : Setup) (a : List ℕ) (x : System X V) (offence : Option ℕ) (text : List ℕ) (first n : ℕ) (given : List (List ℕ)) (line : List ℕ)
+      (lines : List (List ℕ)) (step : Step) (ending : Ending)
       → step_of s.desc line ≡ Ok (Some step) → keeps_names (names_by x) (Some step) ≡ false → KeepsOn driver s a x offence text first n given
       → kept_of_lines s a ending first (given ++ line ∷ lines) ≡ Err (Refused n Limit)
   keeps_over s a x offence text first n given line lines step ending said over keeps =
@@ -160,12 +179,15 @@ module _ {X : Type 0} {V : X → Type 0} (driver : Plug X V → Driver) where
       (is_over s.desc ending keeps.names n line lines step said (same_kept keeps.names (names_by x) step keeps.same ∙ over))
 
   -- a line that is too long
-  pub keeps_long : (s : Setup) (a : List ℕ) (x : System X V) (offence : Option ℕ) (text : List ℕ) (first n : ℕ) (given : List (List ℕ)) (line : List ℕ) (lines : List (List ℕ)) (ending : Ending)
+  pub keeps_long : (s : Setup) (a : List ℕ) (x : System X V) (offence : Option ℕ) (text : List ℕ) (first n : ℕ) (given : List (List ℕ)) (line : List ℕ)
+      (lines : List (List ℕ)) (ending : Ending)
       → fits_line line ≡ false → KeepsOn driver s a x offence text first n given → kept_of_lines s a ending first (given ++ line ∷ lines) ≡ Err (Refused n Long)
-  keeps_long s a x offence text first n given line lines ending long keeps = keeps_wrong s a x offence text first n given line lines Long ending (rw long refl) keeps
+  keeps_long s a x offence text first n given line lines ending long keeps =
+      keeps_wrong s a x offence text first n given line lines Long ending (rw long refl) keeps
 
   -- no line is left
-  pub keeps_done : KeptGoesOn → (s : Setup) (a : List ℕ) (x : System X V) (offence : Option ℕ) (text : List ℕ) (first n : ℕ) (given : List (List ℕ)) → KeepsOn driver s a x offence text first n given
+  pub keeps_done : KeptGoesOn → (s : Setup) (a : List ℕ) (x : System X V) (offence : Option ℕ) (text : List ℕ) (first n : ℕ) (given : List (List ℕ))
+      → KeepsOn driver s a x offence text first n given
       → kept_of_lines s a Finished first given ≡ kept_at_end offence text
   keeps_done law s a x offence text first n given keeps =
       sym (keeps.kept Finished [] ∙ ap (λ (ls : List (List ℕ)). kept_of_lines s a Finished first ls) (append-nil given)) ∙ by offence
@@ -175,6 +197,8 @@ module _ {X : Type 0} {V : X → Type 0} (driver : Plug X V → Driver) where
       by (Some line) = refl
 
   -- the input goes on
-  pub keeps_cut : (s : Setup) (a : List ℕ) (x : System X V) (offence : Option ℕ) (text : List ℕ) (first n : ℕ) (given : List (List ℕ)) → KeepsOn driver s a x offence text first n given
+  pub keeps_cut : (s : Setup) (a : List ℕ) (x : System X V) (offence : Option ℕ) (text : List ℕ) (first n : ℕ) (given : List (List ℕ))
+      → KeepsOn driver s a x offence text first n given
       → kept_of_lines s a TooLong first given ≡ Err TooLong
-  keeps_cut s a x offence text first n given keeps = sym (keeps.kept TooLong [] ∙ ap (λ (ls : List (List ℕ)). kept_of_lines s a TooLong first ls) (append-nil given))
+  keeps_cut s a x offence text first n given keeps =
+      sym (keeps.kept TooLong [] ∙ ap (λ (ls : List (List ℕ)). kept_of_lines s a TooLong first ls) (append-nil given))

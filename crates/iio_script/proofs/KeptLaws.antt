@@ -26,12 +26,14 @@ use Rattle.iio_script.proofs.StepLaws.{same_rest}
 
 module _ {X : Type 0} {V : X → Type 0} (driver : Plug X V → Driver) where
   -- the lines `given` were played and kept of; the reader has gone on over them
-  pub record KeptSoFar (s : Setup) (a : List ℕ) (x : System X V) (offence : Option ℕ) (text : List ℕ) (first n : ℕ) (h h' : Hand) (left left' : Option (List ℕ)) : Type 0 where
+  pub record KeptSoFar (s : Setup) (a : List ℕ) (x : System X V) (offence : Option ℕ) (text : List ℕ) (first n : ℕ) (h h' : Hand)
+      (left left' : Option (List ℕ)) : Type 0 where
     pub given : List (List ℕ)
     pub keeps : KeepsOn driver s a x offence text first n given
     pub follows : (input : List ℕ) (front : List (List ℕ)) → Follows input front h left → Follows input (front ++ given) h' left'
 
-  pub so_far_first : (s : Setup) (a : List ℕ) (x : System X V) (text : List ℕ) (first : ℕ) (h : Hand) (left : Option (List ℕ)) → text ≡ [] → KeepsOn driver s a x None [] first first []
+  pub so_far_first : (s : Setup) (a : List ℕ) (x : System X V) (text : List ℕ) (first : ℕ) (h : Hand) (left : Option (List ℕ)) → text ≡ []
+      → KeepsOn driver s a x None [] first first []
       → KeptSoFar s a x None text first first h h left left
   so_far_first s a x text first h left empty keeps = record {
     given = [];
@@ -40,7 +42,8 @@ module _ {X : Type 0} {V : X → Type 0} (driver : Plug X V → Driver) where
   }
 
   -- the next line was looked for
-  pub so_far_found : (s : Setup) (a : List ℕ) (x : System X V) (offence : Option ℕ) (text : List ℕ) (first n : ℕ) (h h1 h2 : Hand) (left left1 left2 : Option (List ℕ))
+  pub so_far_found : (s : Setup) (a : List ℕ) (x : System X V) (offence : Option ℕ) (text : List ℕ) (first n : ℕ) (h h1 h2 : Hand)
+      (left left1 left2 : Option (List ℕ))
       → ((input : List ℕ) (front : List (List ℕ)) → Follows input front h1 left1 → Follows input front h2 left2)
       → KeptSoFar s a x offence text first n h h1 left left1 → KeptSoFar s a x offence text first n h h2 left left2
   so_far_found s a x offence text first n h h1 h2 left left1 left2 finds so = record {
@@ -50,8 +53,10 @@ module _ {X : Type 0} {V : X → Type 0} (driver : Plug X V → Driver) where
   }
 
   -- and played
-  pub so_far_played : (s : Setup) (a : List ℕ) (x x' : System X V) (offence offence' : Option ℕ) (text text' line : List ℕ) (first n : ℕ) (h h1 h2 : Hand) (left left' : Option (List ℕ))
-      → ((input : List ℕ) (front : List (List ℕ)) (l : Option (List ℕ)) → Follows input front h1 l → Follows input (front ++ line_of h1 ∷ []) h2 l) → line ≡ line_of h1
+  pub so_far_played : (s : Setup) (a : List ℕ) (x x' : System X V) (offence offence' : Option ℕ) (text text' line : List ℕ) (first n : ℕ) (h h1 h2 : Hand)
+      (left left' : Option (List ℕ))
+      → ((input : List ℕ) (front : List (List ℕ)) (l : Option (List ℕ)) → Follows input front h1 l → Follows input (front ++ line_of h1 ∷ []) h2 l)
+      → line ≡ line_of h1
       → (so : KeptSoFar s a x offence text first n h h1 left left') → KeepsOn driver s a x' offence' text' first (n + 1) (so.given ++ line ∷ [])
       → KeptSoFar s a x' offence' text' first (n + 1) h h2 left left'
   so_far_played s a x x' offence offence' text text' line first n h h1 h2 left left' passes same so keeps = record {
@@ -75,39 +80,56 @@ module _ {X : Type 0} {V : X → Type 0} (driver : Plug X V → Driver) where
       ap (λ (o : Bool). kept_of_lines s a (last_ending o) first more) long
       ∙ ap (λ (ls : List (List ℕ)). kept_of_lines s a (last_ending over) first ls) (same_rest front more (given ++ rest) (sym looked ∙ lines)) ∙ is
 
-  pub takes_so : (s : Setup) (a : List ℕ) (x : System X V) (offence : Option ℕ) (text : List ℕ) (first n : ℕ) (h h' : Hand) (left left' : Option (List ℕ)) (front : List (List ℕ)) (input : List ℕ)
+  pub takes_so : (s : Setup) (a : List ℕ) (x : System X V) (offence : Option ℕ) (text : List ℕ) (first n : ℕ) (h h' : Hand) (left left' : Option (List ℕ))
+      (front : List (List ℕ)) (input : List ℕ)
       → IsHand h' → Follows input front h left → KeptSoFar s a x offence text first n h h' left left' → TakesAtMost input (input_limit + 1) left'
-  takes_so s a x offence text first n h h' left left' front input is follows so = takes_at_most input (front ++ so.given) h' left' is (so.follows input front follows)
+  takes_so s a x offence text first n h h' left left' front input is follows so =
+      takes_at_most input (front ++ so.given) h' left' is (so.follows input front follows)
 
-  pub kept_done : KeptGoesOn → (s : Setup) (a : List ℕ) (x : System X V) (offence : Option ℕ) (text : List ℕ) (first n : ℕ) (h h' : Hand) (left left' : Option (List ℕ)) (front more : List (List ℕ)) (input : List ℕ)
+  pub kept_done : KeptGoesOn
+      → (s : Setup) (a : List ℕ) (x : System X V) (offence : Option ℕ) (text : List ℕ) (first n : ℕ) (h h' : Hand) (left left' : Option (List ℕ))
+      (front more : List (List ℕ)) (input : List ℕ)
       → IsHand h' → IsDone h' → Follows input front h left → looked_lines input ≡ front ++ more → KeptSoFar s a x offence text first n h h' left left'
       → Kept s a first input more (kept_at_end offence text)
   kept_done law s a x offence text first n h h' left left' front more input is done follows looked so =
       let none = no_line input (front ++ so.given) h' left' is done (so.follows input front follows) in
-      kept_by s a first front so.given more [] input false (kept_at_end offence text) looked (none.0 ∙ ap (λ (ls : List (List ℕ)). front ++ ls) (sym (append-nil so.given))) none.1
-      (ap (λ (ls : List (List ℕ)). kept_of_lines s a Finished first ls) (append-nil so.given) ∙ keeps_done driver law s a x offence text first n so.given so.keeps)
+      kept_by s a first front so.given more [] input false (kept_at_end offence text) looked
+      (none.0 ∙ ap (λ (ls : List (List ℕ)). front ++ ls) (sym (append-nil so.given))) none.1
+      (ap (λ (ls : List (List ℕ)). kept_of_lines s a Finished first ls) (append-nil so.given)
+      ∙ keeps_done driver law s a x offence text first n so.given so.keeps)
 
-  pub kept_cut : (s : Setup) (a : List ℕ) (x : System X V) (offence : Option ℕ) (text : List ℕ) (first n : ℕ) (h h' : Hand) (left left' : Option (List ℕ)) (front more : List (List ℕ)) (input : List ℕ)
-      → IsHand h' → IsCut h' → Follows input front h left → looked_lines input ≡ front ++ more → KeptSoFar s a x offence text first n h h' left left' → Kept s a first input more (Err TooLong)
+  pub kept_cut : (s : Setup) (a : List ℕ) (x : System X V) (offence : Option ℕ) (text : List ℕ) (first n : ℕ) (h h' : Hand) (left left' : Option (List ℕ))
+      (front more : List (List ℕ)) (input : List ℕ)
+      → IsHand h' → IsCut h' → Follows input front h left → looked_lines input ≡ front ++ more → KeptSoFar s a x offence text first n h h' left left'
+      → Kept s a first input more (Err TooLong)
   kept_cut s a x offence text first n h h' left left' front more input is cut follows looked so =
       let none = cut_line input (front ++ so.given) h' left' is cut (so.follows input front follows) in
-      kept_by s a first front so.given more [] input true (Err TooLong) looked (none.0 ∙ ap (λ (ls : List (List ℕ)). front ++ ls) (sym (append-nil so.given))) none.1
+      kept_by s a first front so.given more [] input true (Err TooLong) looked (none.0 ∙ ap (λ (ls : List (List ℕ)). front ++ ls) (sym (append-nil so.given)))
+      none.1
       (ap (λ (ls : List (List ℕ)). kept_of_lines s a TooLong first ls) (append-nil so.given) ∙ keeps_cut driver s a x offence text first n so.given so.keeps)
 
-  pub kept_refused : (s : Setup) (a : List ℕ) (x : System X V) (offence : Option ℕ) (text line : List ℕ) (first n : ℕ) (h h' : Hand) (left left' : Option (List ℕ)) (front more : List (List ℕ)) (input : List ℕ) (why : Why)
-      → IsHand h' → HasLine h' → Follows input front h left → looked_lines input ≡ front ++ more → line ≡ line_of h' → (so : KeptSoFar s a x offence text first n h h' left left')
-      → ((ending : Ending) (lines : List (List ℕ)) → kept_of_lines s a ending first (so.given ++ line ∷ lines) ≡ Err (Refused n why)) → Kept s a first input more (Err (Refused n why))
+  pub kept_refused : (s : Setup) (a : List ℕ) (x : System X V) (offence : Option ℕ) (text line : List ℕ) (first n : ℕ) (h h' : Hand)
+      (left left' : Option (List ℕ)) (front more : List (List ℕ)) (input : List ℕ) (why : Why)
+      → IsHand h' → HasLine h' → Follows input front h left → looked_lines input ≡ front ++ more → line ≡ line_of h'
+      → (so : KeptSoFar s a x offence text first n h h' left left')
+      → ((ending : Ending) (lines : List (List ℕ)) → kept_of_lines s a ending first (so.given ++ line ∷ lines) ≡ Err (Refused n why))
+      → Kept s a first input more (Err (Refused n why))
   kept_refused s a x offence text line first n h h' left left' front more input why is has follows looked same so refused =
       let next = next_line input (front ++ so.given) h' left' is has (so.follows input front follows) in
       let begins : looked_lines input ≡ front ++ (so.given ++ (line ∷ next.more)) =
-      next.parts ∙ append_assoc (front ++ so.given) (line_of h' ∷ []) next.more ∙ ap (λ l. (front ++ so.given) ++ l ∷ next.more) (sym same) ∙ append_assoc front so.given (line ∷ next.more) in
-      kept_by s a first front so.given more (line ∷ next.more) input (is_overlong input) (Err (Refused n why)) looked begins refl (refused (last_ending (is_overlong input)) next.more)
+      next.parts ∙ append_assoc (front ++ so.given) (line_of h' ∷ []) next.more ∙ ap (λ l. (front ++ so.given) ++ l ∷ next.more) (sym same)
+      ∙ append_assoc front so.given (line ∷ next.more) in
+      kept_by s a first front so.given more (line ∷ next.more) input (is_overlong input) (Err (Refused n why)) looked begins refl
+      (refused (last_ending (is_overlong input)) next.more)
 
-  pub kept_long : (s : Setup) (a : List ℕ) (x : System X V) (offence : Option ℕ) (text : List ℕ) (first n : ℕ) (h h' : Hand) (left left' : Option (List ℕ)) (front more : List (List ℕ)) (input : List ℕ)
-      → IsHand h' → IsLong h' → Follows input front h left → looked_lines input ≡ front ++ more → KeptSoFar s a x offence text first n h h' left left' → Kept s a first input more (Err (Refused n Long))
+  pub kept_long : (s : Setup) (a : List ℕ) (x : System X V) (offence : Option ℕ) (text : List ℕ) (first n : ℕ) (h h' : Hand) (left left' : Option (List ℕ))
+      (front more : List (List ℕ)) (input : List ℕ)
+      → IsHand h' → IsLong h' → Follows input front h left → looked_lines input ≡ front ++ more → KeptSoFar s a x offence text first n h h' left left'
+      → Kept s a first input more (Err (Refused n Long))
   kept_long s a x offence text first n h h' left left' front more input is long follows looked so =
       let next = long_line input (front ++ so.given) h' left' is long (so.follows input front follows) in
-      kept_by s a first front so.given more (next.line ∷ next.more) input (is_overlong input) (Err (Refused n Long)) looked (next.parts ∙ append_assoc front so.given (next.line ∷ next.more)) refl
+      kept_by s a first front so.given more (next.line ∷ next.more) input (is_overlong input) (Err (Refused n Long)) looked
+      (next.parts ∙ append_assoc front so.given (next.line ∷ next.more)) refl
       (keeps_long driver s a x offence text first n so.given next.line next.more (last_ending (is_overlong input)) next.long so.keeps)
 
 -- ---- by the head of the input
@@ -116,44 +138,54 @@ kept_head : (a : List ℕ) (drivers : List Driver) (count : ℕ) (input : List �
     → kept_of a drivers input ≡ kept_of_head a drivers (is_overlong input) head
 kept_head a drivers count input head many is = ap (kept_of_head a drivers (is_overlong input)) (sym (ap (λ (n : ℕ). head_of n input) many) ∙ is)
 
-pub kept_described : (a : List ℕ) (drivers : List Driver) (count : ℕ) (desc : Description) (first : ℕ) (input : List ℕ) (h : Hand) (left left' : Option (List ℕ)) {B E : Type 0} (bytes : B → Result (List ℕ) Ending) (r : Result B E)
+pub kept_described : (a : List ℕ) (drivers : List Driver) (count : ℕ) (desc : Description) (first : ℕ) (input : List ℕ) (h : Hand)
+    (left left' : Option (List ℕ)) {B E : Type 0} (bytes : B → Result (List ℕ) Ending) (r : Result B E)
     → count ≡ length drivers → IsHand h → EndsAt count desc first input h left
     → ((front more : List (List ℕ)) → Follows input front h left → looked_lines input ≡ front ++ more
-    → IfOk r (λ kept. kept_of_lines (record { desc = desc; drivers = drivers }) a (last_ending (is_overlong input)) first more ≡ bytes kept) × TakesAtMost input (input_limit + 1) left')
+    → IfOk r (λ kept. kept_of_lines (record { desc = desc; drivers = drivers }) a (last_ending (is_overlong input)) first more ≡ bytes kept)
+    × TakesAtMost input (input_limit + 1) left')
     → IfOk r (λ kept. kept_of a drivers input ≡ bytes kept) × TakesAtMost input (input_limit + 1) left'
 kept_described a drivers count desc first input h left left' {B = B} {E = E} bytes r many is ends keeps =
     let begins = follows_begin input ends.front h left is ends.follows in
-    let head : head_of count input ≡ Described desc first begins.more = ap (head_from (is_overlong input) (new_reader count) 1) begins.parts ∙ ends.head (is_overlong input) begins.more in
+    let head : head_of count input ≡ Described desc first begins.more =
+    ap (head_from (is_overlong input) (new_reader count) 1) begins.parts ∙ ends.head (is_overlong input) begins.more in
     let same = kept_head a drivers count input (Described desc first begins.more) many head in
     let run = keeps ends.front begins.more ends.follows begins.parts in
     (by r same run.0, run.1)
   where
-    by : {w : Result (List ℕ) Ending} (r : Result B E) → kept_of a drivers input ≡ w → IfOk r (λ kept. w ≡ bytes kept) → IfOk r (λ kept. kept_of a drivers input ≡ bytes kept)
+    by : {w : Result (List ℕ) Ending} (r : Result B E) → kept_of a drivers input ≡ w → IfOk r (λ kept. w ≡ bytes kept)
+        → IfOk r (λ kept. kept_of a drivers input ≡ bytes kept)
     by (Ok x) same is = same ∙ is
     by (Err e) same is = tt
 
-kept_alone : (a : List ℕ) (drivers : List Driver) (count : ℕ) (desc : Description) (input : List ℕ) → count ≡ length drivers → EndsAlone count desc input → kept_of a drivers input ≡ Ok []
+kept_alone : (a : List ℕ) (drivers : List Driver) (count : ℕ) (desc : Description) (input : List ℕ) → count ≡ length drivers → EndsAlone count desc input
+    → kept_of a drivers input ≡ Ok []
 kept_alone a drivers count desc input many alone =
-    kept_head a drivers count input (Described desc alone.next []) many alone.head ∙ ap (λ (o : Bool). kept_of_head a drivers o (Described desc alone.next [])) alone.short
+    kept_head a drivers count input (Described desc alone.next []) many alone.head
+    ∙ ap (λ (o : Bool). kept_of_head a drivers o (Described desc alone.next [])) alone.short
 
 -- ---- where the source tells
 
 module _ (a : List ℕ) (drivers : List Driver) (count : ℕ) where
-  pub told_alone : (desc : Description) (text : List ℕ) (left : Option (List ℕ)) → count ≡ length drivers → text ≡ [] → IfSome left (λ input. EndsAlone count desc input)
+  pub told_alone : (desc : Description) (text : List ℕ) (left : Option (List ℕ)) → count ≡ length drivers → text ≡ []
+      → IfSome left (λ input. EndsAlone count desc input)
       → IfSome left (λ input. kept_of a drivers input ≡ Ok text)
   told_alone desc text None many empty alone = tt
   told_alone desc text (Some input) many empty alone = kept_alone a drivers count desc input many alone ∙ ap (λ (t : List ℕ). Ok t) (sym empty)
 
-  pub told_faulty : (line : ℕ) (why : Why) (left left' : Option (List ℕ)) → count ≡ length drivers → IfSome left (λ input. RefusesAt count (read.Refused line why) line input left')
+  pub told_faulty : (line : ℕ) (why : Why) (left left' : Option (List ℕ)) → count ≡ length drivers
+      → IfSome left (λ input. RefusesAt count (read.Refused line why) line input left')
       → IfSome left (λ input. kept_of a drivers input ≡ Err (Refused line why))
   told_faulty line why None left' many refuses = tt
   told_faulty line why (Some input) left' many refuses = kept_head a drivers count input (Faulty (Line line why)) many refuses.head
 
-  pub told_cut : (left : Option (List ℕ)) → count ≡ length drivers → IfSome left (λ input. head_of count input ≡ Cut) → IfSome left (λ input. kept_of a drivers input ≡ Err TooLong)
+  pub told_cut : (left : Option (List ℕ)) → count ≡ length drivers → IfSome left (λ input. head_of count input ≡ Cut)
+      → IfSome left (λ input. kept_of a drivers input ≡ Err TooLong)
   told_cut None many cut = tt
   told_cut (Some input) many cut = kept_head a drivers count input Cut many cut
 
-pub takes_kept : (left left' : Option (List ℕ)) → IfSome left (λ input. TakesBlocks input left') → IfSome left (λ input. TakesAtMost input (input_limit + 1) left')
+pub takes_kept : (left left' : Option (List ℕ)) → IfSome left (λ input. TakesBlocks input left')
+    → IfSome left (λ input. TakesAtMost input (input_limit + 1) left')
 takes_kept None left' takes = tt
 takes_kept (Some input) left' takes = takes_of input left' takes
 
@@ -162,9 +194,11 @@ module _ {B E : Type 0} (bytes : B → Result (List ℕ) Ending) (a : List ℕ) 
   abbrev pub KeepsAll : (input : List ℕ) (left left' : Option (List ℕ)) → Result B E → Type 0
   KeepsAll input left left' r =
       (front more : List (List ℕ)) → Follows input front h left → looked_lines input ≡ front ++ more
-      → IfOk r (λ kept. kept_of_lines (record { desc = desc; drivers = drivers }) a (last_ending (is_overlong input)) first more ≡ bytes kept) × TakesAtMost input (input_limit + 1) left'
+      → IfOk r (λ kept. kept_of_lines (record { desc = desc; drivers = drivers }) a (last_ending (is_overlong input)) first more ≡ bytes kept)
+      × TakesAtMost input (input_limit + 1) left'
 
-  told_kept : (input : List ℕ) (r : Result B E) → IfOk r (λ kept. kept_of a drivers input ≡ bytes kept) → IfOk r (λ kept. IfSome (Some input) (λ xs. kept_of a drivers xs ≡ bytes kept))
+  told_kept : (input : List ℕ) (r : Result B E) → IfOk r (λ kept. kept_of a drivers input ≡ bytes kept)
+      → IfOk r (λ kept. IfSome (Some input) (λ xs. kept_of a drivers xs ≡ bytes kept))
   told_kept input (Ok x) is = is
   told_kept input (Err e) is = tt
 
@@ -172,12 +206,16 @@ module _ {B E : Type 0} (bytes : B → Result (List ℕ) Ending) (a : List ℕ) 
   untold (Ok x) = tt
   untold (Err e) = tt
 
-  pub both_kept : (left left1 left2 : Option (List ℕ)) (r : Result B E) → count ≡ length drivers → IsHand h → IfSome left (λ input. EndsAt count desc first input h left1)
+  pub both_kept : (left left1 left2 : Option (List ℕ)) (r : Result B E) → count ≡ length drivers → IsHand h
+      → IfSome left (λ input. EndsAt count desc first input h left1)
       → ((input : List ℕ) → KeepsAll input left1 left2 r) → IfOk r (λ kept. IfSome left (λ input. kept_of a drivers input ≡ bytes kept))
   both_kept None left1 left2 r many is ends keeps = untold r
-  both_kept (Some input) left1 left2 r many is ends keeps = told_kept input r (kept_described a drivers count desc first input h left1 left2 bytes r many is ends (keeps input)).0
+  both_kept (Some input) left1 left2 r many is ends keeps =
+      told_kept input r (kept_described a drivers count desc first input h left1 left2 bytes r many is ends (keeps input)).0
 
-  pub described_keeps : (left left1 left2 : Option (List ℕ)) (r : Result B E) → count ≡ length drivers → IsHand h → IfSome left (λ input. EndsAt count desc first input h left1)
+  pub described_keeps : (left left1 left2 : Option (List ℕ)) (r : Result B E) → count ≡ length drivers → IsHand h
+      → IfSome left (λ input. EndsAt count desc first input h left1)
       → ((input : List ℕ) → KeepsAll input left1 left2 r) → IfSome left (λ input. TakesAtMost input (input_limit + 1) left2)
   described_keeps None left1 left2 r many is ends keeps = tt
-  described_keeps (Some input) left1 left2 r many is ends keeps = (kept_described a drivers count desc first input h left1 left2 bytes r many is ends (keeps input)).1
+  described_keeps (Some input) left1 left2 r many is ends keeps =
+      (kept_described a drivers count desc first input h left1 left2 bytes r many is ends (keeps input)).1

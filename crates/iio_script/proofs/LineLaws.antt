@@ -107,7 +107,8 @@ pub record Parted (text : List ℕ) : Type 0 where
 parted_step : (t : Bool) (b : ℕ) (bs : List ℕ) → is_line_end b ≡ t → (IsPlain bs) ⊎ Parted bs → (IsPlain (b ∷ bs)) ⊎ Parted (b ∷ bs)
 parted_step true b bs is rest = inr (record { line = []; more = bs; plain = refl; parts = ap (λ c. c ∷ bs) (search (is, arith)) })
 parted_step false b bs is (inl plain) = inl (rw is plain)
-parted_step false b bs is (inr parted) = inr (record { line = b ∷ parted.line; more = parted.more; plain = rw is parted.plain; parts = ap (λ u. b ∷ u) parted.parts })
+parted_step false b bs is (inr parted) =
+    inr (record { line = b ∷ parted.line; more = parted.more; plain = rw is parted.plain; parts = ap (λ u. b ∷ u) parted.parts })
 
 pub parted : (text : List ℕ) → (IsPlain text) ⊎ Parted text
 parted [] = inl refl

@@ -43,7 +43,8 @@ part_within limit bytes rest front is few over =
     rw (long, take_front limit bytes rest few, told_front bytes (take (limit - length bytes) rest) front is)
     (is.lines (told_part (take (limit - length bytes) rest)))
 
-begins_within : (limit : ℕ) (bytes rest : List ℕ) (front : List (List ℕ)) → IsFront bytes front → length bytes ≤ limit → Begins front (lines_within limit (bytes ++ rest))
+begins_within : (limit : ℕ) (bytes rest : List ℕ) (front : List (List ℕ)) → IsFront bytes front → length bytes ≤ limit
+    → Begins front (lines_within limit (bytes ++ rest))
 begins_within limit bytes rest front is few = elim (cases_lt limit (length (bytes ++ rest))) [
   | inl over ↦ record { more = lines_of (told_part (take (limit - length bytes) rest)); parts = part_within limit bytes rest front is few over }
   | inr short ↦ record { more = lines_of rest; parts = all_within limit (bytes ++ rest) short ∙ is.lines rest }
@@ -87,13 +88,15 @@ long_lines front more plain long = begins_long front (lines_of (front ++ more)) 
 long_ended : (front more : List ℕ) → IsPlain front → MAX_LINE_BYTES < length front → fits_line (cut_line (front ++ more)) ≡ true → (IsPlain more) ⊎ Parted more
     → BeginsLong (lines_of (ended_part (front ++ more)))
 long_ended front more plain long fits (inl none) =
-    let whole : cut_line (front ++ more) ≡ front ++ more = ap (λ text. drop (length text) (front ++ more)) (ended_none (front ++ more) (plain_append front more plain none)) in
+    let whole : cut_line (front ++ more) ≡ front ++ more =
+    ap (λ text. drop (length text) (front ++ more)) (ended_none (front ++ more) (plain_append front more plain none)) in
     absurd (grind (arith, nat_tests, ap fits_line (sym whole) ∙ fits, length-append front more, long))
 long_ended front more plain long fits (inr parted) =
     let line : List ℕ = parted.line in
     let text : front ++ more ≡ (front ++ line) ++ 10 ∷ parted.more = ap (λ m. front ++ m) parted.parts ∙ sym (append_assoc front line (10 ∷ parted.more)) in
     let part : ended_part (front ++ more) ≡ front ++ (line ++ 10 ∷ ended_part parted.more) =
-    ap ended_part text ∙ ended_behind (front ++ line) parted.more ∙ append_assoc (front ++ line) (10 ∷ []) (ended_part parted.more) ∙ append_assoc front line (10 ∷ ended_part parted.more) in
+    ap ended_part text ∙ ended_behind (front ++ line) parted.more ∙ append_assoc (front ++ line) (10 ∷ []) (ended_part parted.more)
+    ∙ append_assoc front line (10 ∷ ended_part parted.more) in
     subst (λ (t : List ℕ). BeginsLong (lines_of t)) (sym part) (long_lines front (line ++ 10 ∷ ended_part parted.more) plain long)
 
 long_told : (front more : List ℕ) → IsPlain front → MAX_LINE_BYTES < length front → BeginsLong (lines_of (told_part (front ++ more)))
@@ -118,7 +121,8 @@ long_behind front lines all is begins = record {
   long = begins.long;
 }
 
-long_within : (limit : ℕ) (bytes line rest : List ℕ) (front : List (List ℕ)) → IsFront bytes front → IsPlain line → MAX_LINE_BYTES < length line → length bytes + length line ≤ limit
+long_within : (limit : ℕ) (bytes line rest : List ℕ) (front : List (List ℕ)) → IsFront bytes front → IsPlain line → MAX_LINE_BYTES < length line
+    → length bytes + length line ≤ limit
     → LongBehind front (lines_within limit (bytes ++ (line ++ rest)))
 long_within limit bytes line rest front is plain long few = elim (cases_lt limit (length (bytes ++ (line ++ rest)))) [
   | inl over ↦
@@ -134,7 +138,8 @@ long_within limit bytes line rest front is plain long few = elim (cases_lt limit
 
 -- ---- the same of the input's limit
 
-pub looked_begin : (bytes rest : List ℕ) (front : List (List ℕ)) → IsFront bytes front → length bytes ≤ input_limit → Begins front (looked_lines (bytes ++ rest))
+pub looked_begin : (bytes rest : List ℕ) (front : List (List ℕ)) → IsFront bytes front → length bytes ≤ input_limit
+    → Begins front (looked_lines (bytes ++ rest))
 unfolding lines_within
 looked_begin bytes rest front is few = begins_within input_limit bytes rest front is few
 
@@ -153,7 +158,8 @@ pub looked_cut : (bytes rest : List ℕ) (front : List (List ℕ)) → IsFront b
 unfolding lines_within
 looked_cut bytes rest front is few over plain short = cut_within input_limit bytes rest front is few over plain short
 
-pub looked_long : (bytes line rest : List ℕ) (front : List (List ℕ)) → IsFront bytes front → IsPlain line → MAX_LINE_BYTES < length line → length bytes + length line ≤ input_limit
+pub looked_long : (bytes line rest : List ℕ) (front : List (List ℕ)) → IsFront bytes front → IsPlain line → MAX_LINE_BYTES < length line
+    → length bytes + length line ≤ input_limit
     → LongBehind front (looked_lines (bytes ++ (line ++ rest)))
 unfolding lines_within
 looked_long bytes line rest front is plain long few = long_within input_limit bytes line rest front is plain long few

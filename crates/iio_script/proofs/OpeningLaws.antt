@@ -46,12 +46,14 @@ refused_at overlong reader n m why line lines other refused =
     goes_on overlong reader n line lines other ∙ ap (λ (r : Reader). head_from overlong r (n + 1) lines) refused
 
 -- a line that is too long, whatever it says
-pub too_long : (overlong : Bool) (reader : Reader) (n : ℕ) (line : List ℕ) (lines : List (List ℕ)) → IsOk reader → line_count reader + 1 ≡ n → fits_line line ≡ false
+pub too_long : (overlong : Bool) (reader : Reader) (n : ℕ) (line : List ℕ) (lines : List (List ℕ)) → IsOk reader → line_count reader + 1 ≡ n
+    → fits_line line ≡ false
     → head_from overlong reader n (line ∷ lines) ≡ Faulty (Line n Long)
 too_long overlong (Err fault) n line lines ok count long = absurd (false≢true ok)
 too_long overlong (Ok reading) n text lines ok count long = by_end (is_end text)
   where
-    by_end : (t : Bool) → cond t (described (n + 1) lines (ended_by (Ok reading) text)) (head_from overlong (after_line (Ok reading) text) (n + 1) lines) ≡ Faulty (Line n Long)
+    by_end : (t : Bool) → cond t (described (n + 1) lines (ended_by (Ok reading) text)) (head_from overlong (after_line (Ok reading) text) (n + 1) lines)
+        ≡ Faulty (Line n Long)
     by_end true = rw long (ap (λ k. Faulty (Line k Long)) count)
     by_end false = rw long (ap (λ k. Faulty (Line k Long)) count)
 
@@ -92,7 +94,8 @@ pub line_counts : (reader : Reader) (text : List ℕ) → IsOk reader → IsOk (
 line_counts (Err fault) text ok read = absurd (false≢true ok)
 line_counts (Ok reading) text ok read = by_line (line.after_line reading.desc text) refl read
   where
-    by_line : (result : Result PartialDesc Why) → line.after_line reading.desc text ≡ result → IsOk (after_line (Ok reading) text) → line_count (after_line (Ok reading) text) ≡ reading.lines + 1
+    by_line : (result : Result PartialDesc Why) → line.after_line reading.desc text ≡ result → IsOk (after_line (Ok reading) text)
+        → line_count (after_line (Ok reading) text) ≡ reading.lines + 1
     by_line (Ok desc) is read = rw is refl
     by_line (Err w) is read = absurd (false≢true (rw is at read))
 
@@ -106,11 +109,13 @@ pub record ReadsFront (drivers : ℕ) (reader : Reader) (number : ℕ) (front : 
 pub reads_first : (drivers : ℕ) → ReadsFront drivers (new_reader drivers) 1 []
 reads_first drivers = record { head = λ overlong more. refl; count = refl; ends = refl }
 
-pub reads_more : (drivers : ℕ) (reader : Reader) (number : ℕ) (front : List (List ℕ)) (line : List ℕ) → is_end line ≡ false → ReadsFront drivers reader number front
+pub reads_more : (drivers : ℕ) (reader : Reader) (number : ℕ) (front : List (List ℕ)) (line : List ℕ) → is_end line ≡ false
+    → ReadsFront drivers reader number front
     → ReadsFront drivers (after_line reader line) (number + 1) (front ++ line ∷ [])
 reads_more drivers reader number front line other reads = record {
   head = λ overlong more.
-      ap (head_from overlong (new_reader drivers) 1) (append_assoc front (line ∷ []) more) ∙ reads.head overlong (line ∷ more) ∙ goes_on overlong reader number line more other;
+      ap (head_from overlong (new_reader drivers) 1) (append_assoc front (line ∷ []) more) ∙ reads.head overlong (line ∷ more)
+      ∙ goes_on overlong reader number line more other;
   count = omega (arith, reads.count, length-append front (line ∷ []));
   ends = list_any-append is_end front (line ∷ []) ∙ rw (reads.ends, other) refl;
 }
@@ -138,36 +143,46 @@ opens_found drivers reader number h h1 h2 left l1 l2 keeps so = record {
 }
 
 pub opens_more : (drivers : ℕ) (reader reader' : Reader) (number : ℕ) (line : List ℕ) (h h1 h2 : Hand) (left l : Option (List ℕ))
-    → ((input : List ℕ) (front : List (List ℕ)) (l : Option (List ℕ)) → Follows input front h1 l → Follows input (front ++ line_of h1 ∷ []) h2 l) → line ≡ line_of h1
-    → is_end line ≡ false → reader' ≡ after_line reader line → OpensSoFar drivers reader number h h1 left l → OpensSoFar drivers reader' (number + 1) h h2 left l
+    → ((input : List ℕ) (front : List (List ℕ)) (l : Option (List ℕ)) → Follows input front h1 l → Follows input (front ++ line_of h1 ∷ []) h2 l)
+    → line ≡ line_of h1
+    → is_end line ≡ false → reader' ≡ after_line reader line → OpensSoFar drivers reader number h h1 left l
+    → OpensSoFar drivers reader' (number + 1) h h2 left l
 opens_more drivers reader reader' number line h h1 h2 left l passes same other read so = record {
   front = so.front ++ line ∷ [];
-  reads = subst (λ (r : Reader). ReadsFront drivers r (number + 1) (so.front ++ line ∷ [])) (sym read) (reads_more drivers reader number so.front line other so.reads);
+  reads =
+      subst (λ (r : Reader). ReadsFront drivers r (number + 1) (so.front ++ line ∷ [])) (sym read)
+      (reads_more drivers reader number so.front line other so.reads);
   follows = λ input follows. subst (λ (t : List ℕ). Follows input (so.front ++ t ∷ []) h2 l) (sym same) (passes input so.front l (so.follows input follows));
 }
 
 -- ---- what was read
 
-pub opens_taken : (drivers : ℕ) (reader : Reader) (number : ℕ) (h h' : Hand) (left left' : Option (List ℕ)) → h ≡ empty_hand → IsHand h' → OpensSoFar drivers reader number h h' left left'
+pub opens_taken : (drivers : ℕ) (reader : Reader) (number : ℕ) (h h' : Hand) (left left' : Option (List ℕ)) → h ≡ empty_hand → IsHand h'
+    → OpensSoFar drivers reader number h h' left left'
     → IfSome left (λ input. TakesBlocks input left')
 opens_taken drivers reader number h h' None left' empty is so = tt
 opens_taken drivers reader number h h' (Some input) left' empty is so =
-    takes_blocks input so.front h' left' is so.reads.ends (so.follows input (subst (λ (x : Hand). Follows input [] x (Some input)) (sym empty) (follows_first input)))
+    takes_blocks input so.front h' left' is so.reads.ends
+    (so.follows input (subst (λ (x : Hand). Follows input [] x (Some input)) (sym empty) (follows_first input)))
 
 -- a fact of what is followed from the input's start
-followed : (P : List ℕ → Type 0) (drivers : ℕ) (reader : Reader) (number : ℕ) (h h' : Hand) (left left' : Option (List ℕ)) → h ≡ empty_hand → (so : OpensSoFar drivers reader number h h' left left')
+followed : (P : List ℕ → Type 0) (drivers : ℕ) (reader : Reader) (number : ℕ) (h h' : Hand) (left left' : Option (List ℕ)) → h ≡ empty_hand
+    → (so : OpensSoFar drivers reader number h h' left left')
     → ((input : List ℕ) → Follows input so.front h' left' → P input) → IfSome left P
 followed P drivers reader number h h' None left' empty so each = tt
 followed P drivers reader number h h' (Some input) left' empty so each =
     each input (so.follows input (subst (λ (x : Hand). Follows input [] x (Some input)) (sym empty) (follows_first input)))
 
 -- the head of an input that goes on so
-head_at : (drivers : ℕ) (reader : Reader) (number : ℕ) (front rest : List (List ℕ)) (input : List ℕ) (overlong : Bool) → ReadsFront drivers reader number front → looked_lines input ≡ front ++ rest
+head_at : (drivers : ℕ) (reader : Reader) (number : ℕ) (front rest : List (List ℕ)) (input : List ℕ) (overlong : Bool) → ReadsFront drivers reader number front
+    → looked_lines input ≡ front ++ rest
     → is_overlong input ≡ overlong → head_of drivers input ≡ head_from overlong reader number rest
 head_at drivers reader number front rest input overlong reads looked long =
-    ap (head_from (is_overlong input) (new_reader drivers) 1) looked ∙ reads.head (is_overlong input) rest ∙ ap (λ (o : Bool). head_from o reader number rest) long
+    ap (head_from (is_overlong input) (new_reader drivers) 1) looked ∙ reads.head (is_overlong input) rest
+    ∙ ap (λ (o : Bool). head_from o reader number rest) long
 
-pub opens_failed : (drivers : ℕ) (reader : Reader) (number : ℕ) (h h' : Hand) (left left' : Option (List ℕ)) → h ≡ empty_hand → IsHand h' → NeedsMore h' → IsOk reader
+pub opens_failed : (drivers : ℕ) (reader : Reader) (number : ℕ) (h h' : Hand) (left left' : Option (List ℕ)) → h ≡ empty_hand → IsHand h' → NeedsMore h'
+    → IsOk reader
     → OpensSoFar drivers reader number h h' left left' → IfSome left (λ input. FailsWithin drivers input left')
 opens_failed drivers reader number h h' left left' empty is needs ok so =
     followed (λ input. FailsWithin drivers input left') drivers reader number h h' left left' empty so
@@ -178,14 +193,16 @@ opens_failed drivers reader number h h' left left' empty is needs ok so =
     })
 
 -- whatever was found
-pub opens_unended : (drivers : ℕ) (reader : Reader) (number : ℕ) (h h' : Hand) (left left' : Option (List ℕ)) → h ≡ empty_hand → IsHand h' → IsOk reader → OpensSoFar drivers reader number h h' left left'
+pub opens_unended : (drivers : ℕ) (reader : Reader) (number : ℕ) (h h' : Hand) (left left' : Option (List ℕ)) → h ≡ empty_hand → IsHand h' → IsOk reader
+    → OpensSoFar drivers reader number h h' left left'
     → IfSome left (λ input. TakesUnended drivers input left')
 opens_unended drivers reader number h h' left left' empty is ok so =
     followed (λ input. TakesUnended drivers input left') drivers reader number h h' left left' empty so
     (λ input follows. takes_unended drivers input so.front h' left' is
     (ap (head_from true (new_reader drivers) 1) (sym (append-nil so.front)) ∙ so.reads.head true [] ∙ cut_after reader number ok) follows)
 
-pub opens_long : (drivers : ℕ) (reader : Reader) (number : ℕ) (h h' : Hand) (left left' : Option (List ℕ)) → h ≡ empty_hand → IsHand h' → IsLong h' → IsOk reader → line_count reader + 1 ≡ number
+pub opens_long : (drivers : ℕ) (reader : Reader) (number : ℕ) (h h' : Hand) (left left' : Option (List ℕ)) → h ≡ empty_hand → IsHand h' → IsLong h'
+    → IsOk reader → line_count reader + 1 ≡ number
     → OpensSoFar drivers reader number h h' left left' → IfSome left (λ input. RefusesAt drivers (Refused number Long) number input left')
 opens_long drivers reader number h h' left left' empty is long ok lines so =
     followed (λ input. RefusesAt drivers (Refused number Long) number input left') drivers reader number h h' left left' empty so
@@ -203,13 +220,15 @@ opens_cut drivers reader number h h' left left' empty is cut ok so =
     head_at drivers reader number so.front [] input true so.reads (none.0 ∙ sym (append-nil so.front)) none.1 ∙ cut_after reader number ok)
 
 -- by what the reader answers
-pub opens_line : (drivers : ℕ) (reader : Reader) (number m : ℕ) (why : Why) (line : List ℕ) (h h' : Hand) (left left' : Option (List ℕ)) → h ≡ empty_hand → IsHand h' → HasLine h' → IsOk reader
+pub opens_line : (drivers : ℕ) (reader : Reader) (number m : ℕ) (why : Why) (line : List ℕ) (h h' : Hand) (left left' : Option (List ℕ)) → h ≡ empty_hand
+    → IsHand h' → HasLine h' → IsOk reader
     → line_count reader + 1 ≡ number → line ≡ line_of h' → is_end line ≡ false → after_line reader line ≡ Err (Line m why)
     → OpensSoFar drivers reader number h h' left left' → IfSome left (λ input. RefusesAt drivers (Refused m why) m input left')
 opens_line drivers reader number m why line h h' left left' empty is has ok lines same other refused so =
     followed (λ input. RefusesAt drivers (Refused m why) m input left') drivers reader number h h' left left' empty so
     (λ input follows. let next = next_line input so.front h' left' is has follows in
-    let looked : looked_lines input ≡ so.front ++ line ∷ next.more = next.parts ∙ append_assoc so.front (line_of h' ∷ []) next.more ∙ ap (λ l. so.front ++ l ∷ next.more) (sym same) in
+    let looked : looked_lines input ≡ so.front ++ line ∷ next.more =
+    next.parts ∙ append_assoc so.front (line_of h' ∷ []) next.more ∙ ap (λ l. so.front ++ l ∷ next.more) (sym same) in
     let at : m ≡ length so.front + 1 = line_number reader line m why ok refused ∙ lines ∙ so.reads.count in
     record {
       head = head_at drivers reader number so.front (line ∷ next.more) input (is_overlong input) so.reads looked refl
@@ -217,49 +236,64 @@ opens_line drivers reader number m why line h h' left left' empty is has ok line
       near = near input so.front h' left' m found.Line is has (λ is. cc) follows at;
     })
 
-pub opens_end : (drivers : ℕ) (reader : Reader) (number : ℕ) (opening : Opening) (h h' : Hand) (left left' : Option (List ℕ)) → h ≡ empty_hand → IsHand h' → IsDone h'
-    → line_count reader + 1 ≡ number → ((next : ℕ) (more : List (List ℕ)) → told next more opening ≡ described next [] (finished reader)) → IsRefusedAt (line_count reader + 1) opening
+pub opens_end : (drivers : ℕ) (reader : Reader) (number : ℕ) (opening : Opening) (h h' : Hand) (left left' : Option (List ℕ)) → h ≡ empty_hand → IsHand h'
+    → IsDone h'
+    → line_count reader + 1 ≡ number → ((next : ℕ) (more : List (List ℕ)) → told next more opening ≡ described next [] (finished reader))
+    → IsRefusedAt (line_count reader + 1) opening
     → IsUnended opening → OpensSoFar drivers reader number h h' left left' → IfSome left (λ input. Opens drivers opening input h' left')
 opens_end drivers reader number opening h h' left left' empty is done lines says at unended so =
     followed (λ input. Opens drivers opening input h' left') drivers reader number h h' left left' empty so
     (λ input follows. let none = no_line input so.front h' left' is done follows in
     let head : head_of drivers input ≡ told number [] opening =
-    head_at drivers reader number so.front [] input false so.reads (none.0 ∙ sym (append-nil so.front)) none.1 ∙ ends_after reader number ∙ sym (says number []) in
-    by_opening opening input head none.1 at unended (λ m is_m. near input so.front h' left' m found.End is done (λ is. cc) follows (is_m ∙ lines ∙ so.reads.count)))
+    head_at drivers reader number so.front [] input false so.reads (none.0 ∙ sym (append-nil so.front)) none.1 ∙ ends_after reader number
+    ∙ sym (says number []) in
+    by_opening opening input head none.1 at unended
+    (λ m is_m. near input so.front h' left' m found.End is done (λ is. cc) follows (is_m ∙ lines ∙ so.reads.count)))
   where
-    by_opening : (opening : Opening) (input : List ℕ) → head_of drivers input ≡ told number [] opening → is_overlong input ≡ false → IsRefusedAt (line_count reader + 1) opening → IsUnended opening
+    by_opening : (opening : Opening) (input : List ℕ) → head_of drivers input ≡ told number [] opening → is_overlong input ≡ false
+        → IsRefusedAt (line_count reader + 1) opening → IsUnended opening
         → ((m : ℕ) → m ≡ line_count reader + 1 → TakesNear m input left') → Opens drivers opening input h' left'
     by_opening (Described desc first) input head short at unended close = absurd unended
     by_opening (Alone desc) input head short at unended close = record { next = number; head = head; short = short }
     by_opening (Refused line why) input head short at unended close = record { head = head; near = close line at }
     by_opening read.Cut input head short at unended close = head
 
-pub opens_at : (drivers : ℕ) (reader : Reader) (number : ℕ) (opening : Opening) (line : List ℕ) (h h1 h2 : Hand) (left left' : Option (List ℕ)) → h ≡ empty_hand → IsHand h1 → HasLine h1
-    → line ≡ line_of h1 → is_end line ≡ true → ((more : List (List ℕ)) → told number more opening ≡ described (number + 1) more (ended_by reader line)) → IsRefusedAt number opening → IsEnded number opening
+pub opens_at : (drivers : ℕ) (reader : Reader) (number : ℕ) (opening : Opening) (line : List ℕ) (h h1 h2 : Hand) (left left' : Option (List ℕ)) → h ≡ empty_hand
+    → IsHand h1 → HasLine h1
+    → line ≡ line_of h1 → is_end line ≡ true → ((more : List (List ℕ)) → told number more opening ≡ described (number + 1) more (ended_by reader line))
+    → IsRefusedAt number opening → IsEnded number opening
     → ((input : List ℕ) (front : List (List ℕ)) (l : Option (List ℕ)) → Follows input front h1 l → Follows input (front ++ line_of h1 ∷ []) h2 l)
     → OpensSoFar drivers reader number h h1 left left' → IfSome left (λ input. Opens drivers opening input h2 left')
 opens_at drivers reader number opening line h h1 h2 left left' empty is has same ends says at ended passes so =
     followed (λ input. Opens drivers opening input h2 left') drivers reader number h h1 left left' empty so
     (λ input follows. let next = next_line input so.front h1 left' is has follows in
-    let looked : looked_lines input ≡ so.front ++ line ∷ next.more = next.parts ∙ append_assoc so.front (line_of h1 ∷ []) next.more ∙ ap (λ l. so.front ++ l ∷ next.more) (sym same) in
-    let head : (overlong : Bool) (more : List (List ℕ)) → head_from overlong (new_reader drivers) 1 ((so.front ++ line_of h1 ∷ []) ++ more) ≡ told number more opening =
-    (λ overlong more. ap (head_from overlong (new_reader drivers) 1) (append_assoc so.front (line_of h1 ∷ []) more ∙ ap (λ l. so.front ++ l ∷ more) (sym same)) ∙ so.reads.head overlong (line ∷ more)
+    let looked : looked_lines input ≡ so.front ++ line ∷ next.more =
+    next.parts ∙ append_assoc so.front (line_of h1 ∷ []) next.more ∙ ap (λ l. so.front ++ l ∷ next.more) (sym same) in
+    let head : (overlong : Bool) (more : List (List ℕ))
+    → head_from overlong (new_reader drivers) 1 ((so.front ++ line_of h1 ∷ []) ++ more) ≡ told number more opening =
+    (λ overlong more. ap (head_from overlong (new_reader drivers) 1) (append_assoc so.front (line_of h1 ∷ []) more ∙ ap (λ l. so.front ++ l ∷ more) (sym same))
+    ∙ so.reads.head overlong (line ∷ more)
     ∙ ends_at overlong reader number line more ends ∙ sym (says more)) in
-    by_opening opening input next.more (so.front ++ line_of h1 ∷ []) (head_at drivers reader number so.front (line ∷ next.more) input (is_overlong input) so.reads looked refl ∙ ends_at (is_overlong input) reader number line next.more ends ∙ sym (says next.more))
+    by_opening opening input next.more (so.front ++ line_of h1 ∷ [])
+    (head_at drivers reader number so.front (line ∷ next.more) input (is_overlong input) so.reads looked refl
+    ∙ ends_at (is_overlong input) reader number line next.more ends ∙ sym (says next.more))
     head (passes input so.front left' follows) (omega (arith, so.reads.count, length-append so.front (line_of h1 ∷ []))) at ended
     (λ m is_m. near input so.front h1 left' m found.Line is has (λ is. cc) follows (is_m ∙ so.reads.count)))
   where
     by_opening : (opening : Opening) (input : List ℕ) (more front : List (List ℕ)) → head_of drivers input ≡ told number more opening
         → ((overlong : Bool) (more : List (List ℕ)) → head_from overlong (new_reader drivers) 1 (front ++ more) ≡ told number more opening)
-        → Follows input front h2 left' → number + 1 ≡ length front + 1 → IsRefusedAt number opening → IsEnded number opening → ((m : ℕ) → m ≡ number → TakesNear m input left')
+        → Follows input front h2 left' → number + 1 ≡ length front + 1 → IsRefusedAt number opening → IsEnded number opening
+        → ((m : ℕ) → m ≡ number → TakesNear m input left')
         → Opens drivers opening input h2 left'
-    by_opening (Described desc first) input more front head heads follows next at ended close = record { front = front; follows = follows; next = ended ∙ next; head = heads; behind = more; whole = head }
+    by_opening (Described desc first) input more front head heads follows next at ended close =
+        record { front = front; follows = follows; next = ended ∙ next; head = heads; behind = more; whole = head }
     by_opening (Alone desc) input more front head heads follows next at ended close = absurd ended
     by_opening (Refused line why) input more front head heads follows next at ended close = record { head = head; near = close line at }
     by_opening read.Cut input more front head heads follows next at ended close = head
 
 -- whatever the end answers
-pub opens_end_by : (drivers : ℕ) (reader : Reader) (number : ℕ) (result : Result Opening ReadEnd) (h h' : Hand) (left left' : Option (List ℕ)) → h ≡ empty_hand → IsHand h' → IsDone h'
+pub opens_end_by : (drivers : ℕ) (reader : Reader) (number : ℕ) (result : Result Opening ReadEnd) (h h' : Hand) (left left' : Option (List ℕ)) → h ≡ empty_hand
+    → IsHand h' → IsDone h'
     → line_count reader + 1 ≡ number → IfOk result (λ opening. (next : ℕ) (more : List (List ℕ)) → told next more opening ≡ described next [] (finished reader))
     → IfOk result (IsRefusedAt (line_count reader + 1)) → IfOk result IsUnended → OpensSoFar drivers reader number h h' left left'
     → IfOk result (λ opening. IfSome left (λ input. Opens drivers opening input h' left'))

@@ -36,11 +36,14 @@ takes_of input left takes = record { count = takes.count; within = takes.within;
 -- ---- what was written before a further piece was taken
 
 -- nothing is printed before the description's end
-nothing_before : (drivers : List Driver) (count : ℕ) (taken : List ℕ) → count ≡ length drivers → head_from true (new_reader count) 1 (lines_of (ended_part taken)) ≡ Cut
+nothing_before : (drivers : List Driver) (count : ℕ) (taken : List ℕ) → count ≡ length drivers
+    → head_from true (new_reader count) 1 (lines_of (ended_part taken)) ≡ Cut
     → whole_lines_of drivers taken ≡ []
-nothing_before drivers count taken many head = ap (so_far drivers) (ap (λ (n : ℕ). head_from true (new_reader n) 1 (lines_of (ended_part taken))) (sym many) ∙ head)
+nothing_before drivers count taken many head =
+    ap (so_far drivers) (ap (λ (n : ℕ). head_from true (new_reader n) 1 (lines_of (ended_part taken))) (sym many) ∙ head)
 
-answers_unended : (drivers : List Driver) (count : ℕ) (input text : List ℕ) (left left' : Option (List ℕ)) → count ≡ length drivers → TakesUnended count input left → left' ≡ left
+answers_unended : (drivers : List Driver) (count : ℕ) (input text : List ℕ) (left left' : Option (List ℕ)) → count ≡ length drivers
+    → TakesUnended count input left → left' ≡ left
     → AnswersFirst drivers input text left'
 answers_unended drivers count input text left left' many u same = record {
   count = u.count;
@@ -51,8 +54,10 @@ answers_unended drivers count input text left left' many u same = record {
   written = sym (ap (λ t. t ++ text) (nothing_before drivers count (take u.before input) many u.head));
 }
 
-answers_script : (drivers : List Driver) (count : ℕ) (desc : Description) (first : ℕ) (front : List (List ℕ)) (input text : List ℕ) (left left' : Option (List ℕ)) → count ≡ length drivers
-    → ((overlong : Bool) (lines : List (List ℕ)) → head_from overlong (new_reader count) 1 (front ++ lines) ≡ Described desc first lines) → TakesUnended count input left
+answers_script : (drivers : List Driver) (count : ℕ) (desc : Description) (first : ℕ) (front : List (List ℕ)) (input text : List ℕ)
+    (left left' : Option (List ℕ)) → count ≡ length drivers
+    → ((overlong : Bool) (lines : List (List ℕ)) → head_from overlong (new_reader count) 1 (front ++ lines) ≡ Described desc first lines)
+    → TakesUnended count input left
     → AnswersScript (record { desc = desc; drivers = drivers }) first front input text left left' → AnswersFirst drivers input text left'
 answers_script drivers count desc first front input text left left' many heads u (inl same) = answers_unended drivers count input text left left' many u same
 answers_script drivers count desc first front input text left left' many heads u (inr a) = record {
@@ -62,7 +67,9 @@ answers_script drivers count desc first front input text left left' many heads u
   near = a.near;
   more = a.more;
   written = a.written ∙ ap (λ t. t ++ a.more)
-      (sym (ap (so_far drivers) (ap (λ (n : ℕ). head_from true (new_reader n) 1 (lines_of (ended_part (take a.before input)))) (sym many) ∙ ap (head_from true (new_reader count) 1) a.lines ∙ heads true a.given)));
+      (sym (ap (so_far drivers)
+      (ap (λ (n : ℕ). head_from true (new_reader n) 1 (lines_of (ended_part (take a.before input)))) (sym many)
+      ∙ ap (head_from true (new_reader count) 1) a.lines ∙ heads true a.given)));
 }
 
 -- ---- what was printed is told by the outcome
@@ -70,11 +77,14 @@ answers_script drivers count desc first front input text left left' many heads u
 front_as : (one other : Outcome) (text : List ℕ) → one ≡ other → IsFrontOf one text → IsFrontOf other text
 front_as one other text same front = subst (λ (o : Outcome). IsFrontOf o text) same front
 
-finishes_as : (one other : Outcome) (status : Status) (input text : List ℕ) (left : Option (List ℕ)) → one ≡ other → FinishesAt one status input text left → FinishesAt other status input text left
+finishes_as : (one other : Outcome) (status : Status) (input text : List ℕ) (left : Option (List ℕ)) → one ≡ other → FinishesAt one status input text left
+    → FinishesAt other status input text left
 finishes_as one other status input text left same f = subst (λ (o : Outcome). FinishesAt o status input text left) same f
 
-run_of_script : (drivers : List Driver) (count : ℕ) (desc : Description) (first : ℕ) (front more : List (List ℕ)) (input : List ℕ) (status : Status) (text : List ℕ) (left : Option (List ℕ))
-    → count ≡ length drivers → ((overlong : Bool) (lines : List (List ℕ)) → head_from overlong (new_reader count) 1 (front ++ lines) ≡ Described desc first lines)
+run_of_script : (drivers : List Driver) (count : ℕ) (desc : Description) (first : ℕ) (front more : List (List ℕ)) (input : List ℕ) (status : Status)
+    (text : List ℕ) (left : Option (List ℕ))
+    → count ≡ length drivers
+    → ((overlong : Bool) (lines : List (List ℕ)) → head_from overlong (new_reader count) 1 (front ++ lines) ≡ Described desc first lines)
     → looked_lines input ≡ front ++ more
     → EndsScript (record { desc = desc; drivers = drivers }) first front
     (outcome_of_script (record { desc = desc; drivers = drivers }) (script_from desc (last_ending (is_overlong input)) [] first more)) input status text left
@@ -84,11 +94,13 @@ run_of_script drivers count desc first front more input status text left many he
     head : head_of count input ≡ Described desc first more
     head = ap (head_from (is_overlong input) (new_reader count) 1) looked ∙ heads (is_overlong input) more
 
-    same : outcome_of_script (record { desc = desc; drivers = drivers }) (script_from desc (last_ending (is_overlong input)) [] first more) ≡ outcome_of drivers input
+    same : outcome_of_script (record { desc = desc; drivers = drivers }) (script_from desc (last_ending (is_overlong input)) [] first more)
+        ≡ outcome_of drivers input
     same = sym (outcome_by drivers count input (Described desc first more) many head)
 
     by_status : (status : Status) → EndsScript (record { desc = desc; drivers = drivers }) first front
-        (outcome_of_script (record { desc = desc; drivers = drivers }) (script_from desc (last_ending (is_overlong input)) [] first more)) input status text left → EndsRun drivers input status text left
+        (outcome_of_script (record { desc = desc; drivers = drivers }) (script_from desc (last_ending (is_overlong input)) [] first more)) input status text
+        left → EndsRun drivers input status text left
     by_status Done f = finishes_as _ _ Done input text left same f
     by_status (Refused line why) f = finishes_as _ _ (Refused line why) input text left same f
     by_status Usage f = finishes_as _ _ Usage input text left same f
@@ -99,12 +111,17 @@ run_of_script drivers count desc first front more input status text left many he
       begins = front_as _ _ text same f.begins;
       count = f.count;
       rest = f.rest;
-      lines = f.printed ∙ sym (ap (so_far drivers) (ap (λ (n : ℕ). head_from true (new_reader n) 1 (lines_of (ended_part (take f.count input)))) (sym many) ∙ ap (head_from true (new_reader count) 1) f.lines ∙ heads true f.given));
+      lines =
+          f.printed ∙ sym (ap (so_far drivers)
+          (ap (λ (n : ℕ). head_from true (new_reader n) 1 (lines_of (ended_part (take f.count input)))) (sym many)
+          ∙ ap (head_from true (new_reader count) 1) f.lines ∙ heads true f.given));
     }
 
-pub runs_described : (drivers : List Driver) (count : ℕ) (desc : Description) (first : ℕ) (input : List ℕ) (h : Hand) (left left' before after : Option (List ℕ)) (status : Status)
+pub runs_described : (drivers : List Driver) (count : ℕ) (desc : Description) (first : ℕ) (input : List ℕ) (h : Hand)
+    (left left' before after : Option (List ℕ)) (status : Status)
     → count ≡ length drivers → IsHand h → (ends : EndsAt count desc first input h left) → TakesUnended count input left
-    → ((front more : List (List ℕ)) → Follows input front h left → first ≡ length front + 1 → looked_lines input ≡ front ++ more → (text : List ℕ) × WritesText before after text
+    → ((front more : List (List ℕ)) → Follows input front h left → first ≡ length front + 1 → looked_lines input ≡ front ++ more → (text : List ℕ)
+    × WritesText before after text
     × EndsScript (record { desc = desc; drivers = drivers }) first front
     (outcome_of_script (record { desc = desc; drivers = drivers }) (script_from desc (last_ending (is_overlong input)) [] first more)) input status text left'
     × TakesAtMost input (input_limit + 1) left'
@@ -120,10 +137,13 @@ runs_described drivers count desc first input h left left' before after status m
       answers = answers_script drivers count desc first ends.front input run.0 left left' many ends.head unended run.4;
     }
 
-pub runs_alone : (drivers : List Driver) (count : ℕ) (desc : Description) (input : List ℕ) (left before : Option (List ℕ)) → count ≡ length drivers → EndsAlone count desc input → TakesBlocks input left
+pub runs_alone : (drivers : List Driver) (count : ℕ) (desc : Description) (input : List ℕ) (left before : Option (List ℕ)) → count ≡ length drivers
+    → EndsAlone count desc input → TakesBlocks input left
     → TakesUnended count input left → Runs drivers input Done left before before
 runs_alone drivers count desc input left before many alone takes unended =
-    let same = outcome_by drivers count input (Described desc alone.next []) many alone.head ∙ ap (λ (o : Bool). outcome_of_head drivers o (Described desc alone.next [])) alone.short in
+    let same =
+    outcome_by drivers count input (Described desc alone.next []) many alone.head
+    ∙ ap (λ (o : Bool). outcome_of_head drivers o (Described desc alone.next [])) alone.short in
     record {
       text = [];
       writes = nothing_sent before;
@@ -135,7 +155,8 @@ runs_alone drivers count desc input left before many alone takes unended =
       answers = answers_unended drivers count input [] left left many unended refl;
     }
 
-near_refused : (status : Status) (line : ℕ) (input : List ℕ) (left : Option (List ℕ)) → IsRefusedOr line status → TakesNear line input left → TakesFor status input left
+near_refused : (status : Status) (line : ℕ) (input : List ℕ) (left : Option (List ℕ)) → IsRefusedOr line status → TakesNear line input left
+    → TakesFor status input left
 near_refused (Refused line why) number input left is near = subst (λ (n : ℕ). TakesNear n input left) (sym is) near
 near_refused Done number input left is near = tt
 near_refused Usage number input left is near = tt
@@ -144,23 +165,31 @@ near_refused ReadFault number input left is near = tt
 near_refused WriteFault number input left is near = tt
 near_refused Memory number input left is near = tt
 
-run_of_prints : (drivers : List Driver) (outcome : Outcome) (input : List ℕ) (status : Status) (text : List ℕ) (left : Option (List ℕ)) → outcome ≡ outcome_of drivers input → TakesFor status input left
+run_of_prints : (drivers : List Driver) (outcome : Outcome) (input : List ℕ) (status : Status) (text : List ℕ) (left : Option (List ℕ))
+    → outcome ≡ outcome_of drivers input → TakesFor status input left
     → Prints outcome status text → EndsRun drivers input status text left
-run_of_prints drivers outcome input Done text left same near f = finishes_as outcome (outcome_of drivers input) Done input text left same (record { finishes = f; near = near })
-run_of_prints drivers outcome input (Refused line why) text left same near f = finishes_as outcome (outcome_of drivers input) (Refused line why) input text left same (record { finishes = f; near = near })
-run_of_prints drivers outcome input TooLong text left same near f = finishes_as outcome (outcome_of drivers input) TooLong input text left same (record { finishes = f; near = near })
+run_of_prints drivers outcome input Done text left same near f =
+    finishes_as outcome (outcome_of drivers input) Done input text left same (record { finishes = f; near = near })
+run_of_prints drivers outcome input (Refused line why) text left same near f =
+    finishes_as outcome (outcome_of drivers input) (Refused line why) input text left same (record { finishes = f; near = near })
+run_of_prints drivers outcome input TooLong text left same near f =
+    finishes_as outcome (outcome_of drivers input) TooLong input text left same (record { finishes = f; near = near })
 run_of_prints drivers outcome input Usage text left same near f = absurd f
 run_of_prints drivers outcome input ReadFault text left same near f = absurd f
 run_of_prints drivers outcome input WriteFault text left same near f = front_as outcome (outcome_of drivers input) text same f
 run_of_prints drivers outcome input Memory text left same near f = front_as outcome (outcome_of drivers input) text same f
 
-pub runs_refused : (drivers : List Driver) (count : ℕ) (line : ℕ) (why : Why) (input : List ℕ) (left before after : Option (List ℕ)) (status : Status) → count ≡ length drivers
+pub runs_refused : (drivers : List Driver) (count : ℕ) (line : ℕ) (why : Why) (input : List ℕ) (left before after : Option (List ℕ)) (status : Status)
+    → count ≡ length drivers
     → RefusesAt count (read.Refused line why) line input left → TakesBlocks input left → TakesUnended count input left → IsRefusedOr line status
-    → ((text : List ℕ) × WritesText before after text × Prints (only_ending (ending.Refused line why)) status text) → Runs drivers input status left before after
+    → ((text : List ℕ) × WritesText before after text × Prints (only_ending (ending.Refused line why)) status text)
+    → Runs drivers input status left before after
 runs_refused drivers count line why input left before after status many refuses takes unended at prints = record {
   text = prints.0;
   writes = prints.1;
-  ends = run_of_prints drivers (only_ending (ending.Refused line why)) input status prints.0 left (sym (outcome_by drivers count input (Faulty (Line line why)) many refuses.head))
+  ends =
+      run_of_prints drivers (only_ending (ending.Refused line why)) input status prints.0 left
+      (sym (outcome_by drivers count input (Faulty (Line line why)) many refuses.head))
       (near_refused status line input left at refuses.near) prints.2;
   takes = takes_of input left takes;
   answers = answers_unended drivers count input prints.0 left left many unended refl;
@@ -175,18 +204,23 @@ cut_near ReadFault input text left f = tt
 cut_near WriteFault input text left f = tt
 cut_near Memory input text left f = tt
 
-pub runs_cut : (drivers : List Driver) (count : ℕ) (input : List ℕ) (left before after : Option (List ℕ)) (status : Status) → count ≡ length drivers → head_of count input ≡ Cut
-    → TakesBlocks input left → TakesUnended count input left → ((text : List ℕ) × WritesText before after text × Prints (only_ending ending.TooLong) status text)
+pub runs_cut : (drivers : List Driver) (count : ℕ) (input : List ℕ) (left before after : Option (List ℕ)) (status : Status) → count ≡ length drivers
+    → head_of count input ≡ Cut
+    → TakesBlocks input left → TakesUnended count input left
+    → ((text : List ℕ) × WritesText before after text × Prints (only_ending ending.TooLong) status text)
     → Runs drivers input status left before after
 runs_cut drivers count input left before after status many cut takes unended prints = record {
   text = prints.0;
   writes = prints.1;
-  ends = run_of_prints drivers (only_ending ending.TooLong) input status prints.0 left (sym (outcome_by drivers count input Cut many cut)) (cut_near status input prints.0 left prints.2) prints.2;
+  ends =
+      run_of_prints drivers (only_ending ending.TooLong) input status prints.0 left (sym (outcome_by drivers count input Cut many cut))
+      (cut_near status input prints.0 left prints.2) prints.2;
   takes = takes_of input left takes;
   answers = answers_unended drivers count input prints.0 left left many unended refl;
 }
 
-pub runs_failed : (drivers : List Driver) (count : ℕ) (input : List ℕ) (left before : Option (List ℕ)) → count ≡ length drivers → FailsWithin count input left → TakesBlocks input left
+pub runs_failed : (drivers : List Driver) (count : ℕ) (input : List ℕ) (left before : Option (List ℕ)) → count ≡ length drivers → FailsWithin count input left
+    → TakesBlocks input left
     → TakesUnended count input left → Runs drivers input ReadFault left before before
 runs_failed drivers count input left before many fails takes unended = record {
   text = [];
@@ -195,13 +229,15 @@ runs_failed drivers count input left before many fails takes unended = record {
     begins = record { rest = (outcome_of drivers input).printed; parts = refl };
     count = fails.count;
     rest = fails.rest;
-    lines = sym (ap (so_far drivers) (ap (λ (n : ℕ). head_from true (new_reader n) 1 (lines_of (ended_part (take fails.count input)))) (sym many) ∙ fails.head));
+    lines =
+        sym (ap (so_far drivers) (ap (λ (n : ℕ). head_from true (new_reader n) 1 (lines_of (ended_part (take fails.count input)))) (sym many) ∙ fails.head));
   };
   takes = takes_of input left takes;
   answers = answers_unended drivers count input [] left left many unended refl;
 }
 
-pub runs_none : (drivers : List Driver) (count : ℕ) (input : List ℕ) (left before : Option (List ℕ)) → count ≡ length drivers → TakesAtMost input (input_limit + 1) left → TakesUnended count input left
+pub runs_none : (drivers : List Driver) (count : ℕ) (input : List ℕ) (left before : Option (List ℕ)) → count ≡ length drivers
+    → TakesAtMost input (input_limit + 1) left → TakesUnended count input left
     → Runs drivers input Memory left before before
 runs_none drivers count input left before many takes unended = record {
   text = [];
@@ -218,17 +254,20 @@ takes_none input = record { count = 0; within = omega arith; rest = refl }
 -- nothing was taken, and nothing written
 pub runs_nothing : (drivers : List Driver) (left before : Option (List ℕ)) → IfSome left (λ input. Runs drivers input Memory left before before)
 runs_nothing drivers None before = tt
-runs_nothing drivers (Some input) before = runs_none drivers (length drivers) input (Some input) before refl (takes_none input) (unended_none (length drivers) input)
+runs_nothing drivers (Some input) before =
+    runs_none drivers (length drivers) input (Some input) before refl (takes_none input) (unended_none (length drivers) input)
 
 -- ---- where the source tells
 
 -- what follows of two facts of the input
-pub both_told : (P Q R : List ℕ → Type 0) (left : Option (List ℕ)) → ((input : List ℕ) → P input → Q input → R input) → IfSome left P → IfSome left Q → IfSome left R
+pub both_told : (P Q R : List ℕ → Type 0) (left : Option (List ℕ)) → ((input : List ℕ) → P input → Q input → R input) → IfSome left P → IfSome left Q
+    → IfSome left R
 both_told P Q R None each p q = tt
 both_told P Q R (Some input) each p q = each input p q
 
 -- or of three
-pub all_told : (P Q R T : List ℕ → Type 0) (left : Option (List ℕ)) → ((input : List ℕ) → P input → Q input → R input → T input) → IfSome left P → IfSome left Q → IfSome left R → IfSome left T
+pub all_told : (P Q R T : List ℕ → Type 0) (left : Option (List ℕ)) → ((input : List ℕ) → P input → Q input → R input → T input) → IfSome left P → IfSome left Q
+    → IfSome left R → IfSome left T
 all_told P Q R T None each p q r = tt
 all_told P Q R T (Some input) each p q r = each input p q r
 
@@ -236,16 +275,20 @@ pub each_told : (P R : List ℕ → Type 0) (left : Option (List ℕ)) → ((inp
 each_told P R None each p = tt
 each_told P R (Some input) each p = each input p
 
-writes_whole : (outcome : Outcome) (status : Status) (xs text : List ℕ) (after : Option (List ℕ)) → Finishes outcome status [] text → after ≡ Some (xs ++ text) → WritesWhole xs outcome status after
+writes_whole : (outcome : Outcome) (status : Status) (xs text : List ℕ) (after : Option (List ℕ)) → Finishes outcome status [] text → after ≡ Some (xs ++ text)
+    → WritesWhole xs outcome status after
 writes_whole outcome status xs text after f writes = record { ends = f.ends; written = writes ∙ ap (λ t. Some (xs ++ t)) f.printed }
 
-writes_front : (outcome : Outcome) (xs text : List ℕ) (after : Option (List ℕ)) → IsFrontOf outcome text → after ≡ Some (xs ++ text) → WritesFront xs outcome.printed after
+writes_front : (outcome : Outcome) (xs text : List ℕ) (after : Option (List ℕ)) → IsFrontOf outcome text → after ≡ Some (xs ++ text)
+    → WritesFront xs outcome.printed after
 writes_front outcome xs text after front writes = record { front = text; rest = front.rest; parts = front.parts; written = writes }
 
-writes_by : (drivers : List Driver) (input : List ℕ) (status : Status) (text : List ℕ) (left : Option (List ℕ)) (xs : List ℕ) (after : Option (List ℕ)) → EndsRun drivers input status text left
+writes_by : (drivers : List Driver) (input : List ℕ) (status : Status) (text : List ℕ) (left : Option (List ℕ)) (xs : List ℕ) (after : Option (List ℕ))
+    → EndsRun drivers input status text left
     → after ≡ Some (xs ++ text) → Writes (outcome_of drivers input) xs status after
 writes_by drivers input Done text left xs after f writes = writes_whole (outcome_of drivers input) Done xs text after f.finishes writes
-writes_by drivers input (Refused line why) text left xs after f writes = writes_whole (outcome_of drivers input) (Refused line why) xs text after f.finishes writes
+writes_by drivers input (Refused line why) text left xs after f writes =
+    writes_whole (outcome_of drivers input) (Refused line why) xs text after f.finishes writes
 writes_by drivers input TooLong text left xs after f writes = writes_whole (outcome_of drivers input) TooLong xs text after f.finishes writes
 writes_by drivers input Usage text left xs after f writes = absurd f.finishes.end
 writes_by drivers input ReadFault text left xs after f writes = writes_front (outcome_of drivers input) xs text after f.begins writes
@@ -257,7 +300,8 @@ pub run_writes : (drivers : List Driver) (input : List ℕ) (status : Status) (l
 run_writes drivers input status left None after run = tt
 run_writes drivers input status left (Some xs) after run = writes_by drivers input status run.text left xs after run.ends run.writes
 
-status_by : (drivers : List Driver) (input : List ℕ) (status : Status) (text : List ℕ) (left : Option (List ℕ)) → EndsRun drivers input status text left → HasStatus (outcome_of drivers input) status
+status_by : (drivers : List Driver) (input : List ℕ) (status : Status) (text : List ℕ) (left : Option (List ℕ)) → EndsRun drivers input status text left
+    → HasStatus (outcome_of drivers input) status
 status_by drivers input Done text left f = f.finishes.ends
 status_by drivers input (Refused line why) text left f = f.finishes.ends
 status_by drivers input TooLong text left f = f.finishes.ends
@@ -266,10 +310,12 @@ status_by drivers input ReadFault text left f = tt
 status_by drivers input WriteFault text left f = tt
 status_by drivers input Memory text left f = tt
 
-pub run_status : (drivers : List Driver) (input : List ℕ) (status : Status) (left before after : Option (List ℕ)) → Runs drivers input status left before after → HasStatus (outcome_of drivers input) status
+pub run_status : (drivers : List Driver) (input : List ℕ) (status : Status) (left before after : Option (List ℕ)) → Runs drivers input status left before after
+    → HasStatus (outcome_of drivers input) status
 run_status drivers input status left before after run = status_by drivers input status run.text left run.ends
 
-near_by : (drivers : List Driver) (input : List ℕ) (status : Status) (text : List ℕ) (left : Option (List ℕ)) → EndsRun drivers input status text left → TakesFor status input left
+near_by : (drivers : List Driver) (input : List ℕ) (status : Status) (text : List ℕ) (left : Option (List ℕ)) → EndsRun drivers input status text left
+    → TakesFor status input left
 near_by drivers input Done text left f = tt
 near_by drivers input (Refused line why) text left f = f.near
 near_by drivers input TooLong text left f = tt
@@ -278,17 +324,21 @@ near_by drivers input ReadFault text left f = tt
 near_by drivers input WriteFault text left f = tt
 near_by drivers input Memory text left f = tt
 
-pub run_near : (drivers : List Driver) (input : List ℕ) (status : Status) (left before after : Option (List ℕ)) → Runs drivers input status left before after → TakesFor status input left
+pub run_near : (drivers : List Driver) (input : List ℕ) (status : Status) (left before after : Option (List ℕ)) → Runs drivers input status left before after
+    → TakesFor status input left
 run_near drivers input status left before after run = near_by drivers input status run.text left run.ends
 
-lines_by : (drivers : List Driver) (input : List ℕ) (left before after : Option (List ℕ)) → Runs drivers input ReadFault left before after → IfSome before (λ xs. WritesLines drivers input xs left after)
+lines_by : (drivers : List Driver) (input : List ℕ) (left before after : Option (List ℕ)) → Runs drivers input ReadFault left before after
+    → IfSome before (λ xs. WritesLines drivers input xs left after)
 lines_by drivers input left None after run = tt
 lines_by drivers input left (Some xs) after run =
     record { count = run.ends.count; rest = run.ends.rest; written = run.writes ∙ ap (λ t. Some (xs ++ t)) run.ends.lines }
 
-pub run_lines : (drivers : List Driver) (input : List ℕ) (status : Status) (left before after : Option (List ℕ)) → status ≡ ReadFault → Runs drivers input status left before after
+pub run_lines : (drivers : List Driver) (input : List ℕ) (status : Status) (left before after : Option (List ℕ)) → status ≡ ReadFault
+    → Runs drivers input status left before after
     → IfSome before (λ xs. WritesLines drivers input xs left after)
-run_lines drivers input status left before after is run = lines_by drivers input left before after (subst (λ (x : Status). Runs drivers input x left before after) is run)
+run_lines drivers input status left before after is run =
+    lines_by drivers input left before after (subst (λ (x : Status). Runs drivers input x left before after) is run)
 
 pub run_answers : (drivers : List Driver) (input : List ℕ) (status : Status) (left before after : Option (List ℕ)) → Runs drivers input status left before after
     → IfSome before (λ xs. WritesFirst drivers input xs left after)

@@ -101,7 +101,8 @@ same_step_by : (one other : Description) (line word : List ℕ) (words : List (L
 same_step_by one other line word words None same = refl
 same_step_by one other line word words (Some form) same = same words
 
-same_of_words : (one other : Description) (line : List ℕ) (words : List (List ℕ)) → FindsSame one other → step_of_words one line words ≡ step_of_words other line words
+same_of_words : (one other : Description) (line : List ℕ) (words : List (List ℕ)) → FindsSame one other
+    → step_of_words one line words ≡ step_of_words other line words
 same_of_words one other line [] same = refl
 same_of_words one other line (word ∷ words) same =
     ap (λ (read : Result Step Why). read >>= λ step. Ok (Some step))
@@ -123,12 +124,15 @@ same_position : {A : Type 0} (f : A → List ℕ) (xs ys : List A) (name : List 
     → position (λ x. bytes_eq (f x) name) xs ≡ position (λ x. bytes_eq (f x) name) ys
 same_position f xs ys name same =
     let first : position_or_len (λ x. bytes_eq (f x) name) xs ≡ position_or_len (λ x. bytes_eq (f x) name) ys =
-    sym (before_mapped f (λ n. not (bytes_eq n name)) xs) ∙ ap (prefix_len (λ n. not (bytes_eq n name))) same ∙ before_mapped f (λ n. not (bytes_eq n name)) ys in
+    sym (before_mapped f (λ n. not (bytes_eq n name)) xs) ∙ ap (prefix_len (λ n. not (bytes_eq n name))) same
+    ∙ before_mapped f (λ n. not (bytes_eq n name)) ys in
     ap (λ (n : ℕ). cond (nat_lt n (length xs)) (Some n) None) first
-    ∙ ap (λ (len : ℕ). cond (nat_lt (position_or_len (λ x. bytes_eq (f x) name) ys) len) (Some (position_or_len (λ x. bytes_eq (f x) name) ys)) None) (same_length f xs ys same)
+    ∙ ap (λ (len : ℕ). cond (nat_lt (position_or_len (λ x. bytes_eq (f x) name) ys) len) (Some (position_or_len (λ x. bytes_eq (f x) name) ys)) None)
+    (same_length f xs ys same)
 
 -- ... of the names of heads
-names_both : (xs ys : List DeviceHead) → map (λ (h : DeviceHead). h.name) (xs ++ ys) ≡ map (λ (h : DeviceHead). h.name) xs ++ map (λ (h : DeviceHead). h.name) ys
+names_both : (xs ys : List DeviceHead)
+    → map (λ (h : DeviceHead). h.name) (xs ++ ys) ≡ map (λ (h : DeviceHead). h.name) xs ++ map (λ (h : DeviceHead). h.name) ys
 names_both [] ys = refl
 names_both (x ∷ xs) ys = ap (λ (ns : List (List ℕ)). x.name ∷ ns) (names_both xs ys)
 
@@ -143,10 +147,12 @@ names_by_kind desc =
 head_names : (desc : Description) → map (λ (h : DeviceHead). h.name) (heads_of desc) ≡ names_by_kind desc
 head_names desc =
     names_both (map input_head desc.devices) (map output_head desc.outputs ++ map (average_head desc.devices) desc.averages)
-    ∙ ap (λ (ns : List (List ℕ)). ns ++ map (λ (h : DeviceHead). h.name) (map output_head desc.outputs ++ map (average_head desc.devices) desc.averages)) (names_through input_head desc.devices)
+    ∙ ap (λ (ns : List (List ℕ)). ns ++ map (λ (h : DeviceHead). h.name) (map output_head desc.outputs ++ map (average_head desc.devices) desc.averages))
+    (names_through input_head desc.devices)
     ∙ ap (λ (ns : List (List ℕ)). map (λ (d : DeviceRecord). d.name) desc.devices ++ ns)
     (names_both (map output_head desc.outputs) (map (average_head desc.devices) desc.averages)
-    ∙ ap (λ (ns : List (List ℕ)). ns ++ map (λ (h : DeviceHead). h.name) (map (average_head desc.devices) desc.averages)) (names_through output_head desc.outputs)
+    ∙ ap (λ (ns : List (List ℕ)). ns ++ map (λ (h : DeviceHead). h.name) (map (average_head desc.devices) desc.averages))
+    (names_through output_head desc.outputs)
     ∙ ap (λ (ns : List (List ℕ)). map (λ (d : OutputRecord). d.name) desc.outputs ++ ns) (names_through (average_head desc.devices) desc.averages))
 
 same_names : (one other : Description) → map (λ (d : DeviceRecord). d.name) one.devices ≡ map (λ (d : DeviceRecord). d.name) other.devices
@@ -160,7 +166,8 @@ same_names one other devices outputs averages =
     ∙ ap (λ (ns : List (List ℕ)). map (λ (d : DeviceRecord). d.name) other.devices ++ (map (λ (d : OutputRecord). d.name) other.outputs ++ ns)) averages
     ∙ sym (head_names other)
 
-pub finds_same : (one other : Description) → one.triggers ≡ other.triggers → map (λ (d : DeviceRecord). d.name) one.devices ≡ map (λ (d : DeviceRecord). d.name) other.devices
+pub finds_same : (one other : Description) → one.triggers ≡ other.triggers
+    → map (λ (d : DeviceRecord). d.name) one.devices ≡ map (λ (d : DeviceRecord). d.name) other.devices
     → map (λ (d : OutputRecord). d.name) one.outputs ≡ map (λ (d : OutputRecord). d.name) other.outputs
     → map (λ (d : AverageRecord). d.name) one.averages ≡ map (λ (d : AverageRecord). d.name) other.averages
     → FindsSame one other

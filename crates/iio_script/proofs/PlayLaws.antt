@@ -79,16 +79,19 @@ pub means_nothing : (desc : Description) (ending : Ending) (names : List (List �
     → script_from desc ending names n (line ∷ lines) ≡ script_from desc ending names (n + 1) lines
 means_nothing desc ending names n line lines said = rw (said, script_from) refl
 
-pub says_step : (desc : Description) (ending : Ending) (names : List (List ℕ)) (n : ℕ) (line : List ℕ) (lines : List (List ℕ)) (step : Step) → step_of desc line ≡ Ok (Some step)
+pub says_step : (desc : Description) (ending : Ending) (names : List (List ℕ)) (n : ℕ) (line : List ℕ) (lines : List (List ℕ)) (step : Step)
+    → step_of desc line ≡ Ok (Some step)
     → keeps_names names (Some step) ≡ true
     → script_from desc ending names n (line ∷ lines) ≡ first_step (Some step) (script_from desc ending (names_after names (Some step)) (n + 1) lines)
 says_step desc ending names n line lines step said kept = rw (said, kept, script_from) refl
 
-pub is_refused : (desc : Description) (ending : Ending) (names : List (List ℕ)) (n : ℕ) (line : List ℕ) (lines : List (List ℕ)) (why : Why) → step_of desc line ≡ Err why
+pub is_refused : (desc : Description) (ending : Ending) (names : List (List ℕ)) (n : ℕ) (line : List ℕ) (lines : List (List ℕ)) (why : Why)
+    → step_of desc line ≡ Err why
     → script_from desc ending names n (line ∷ lines) ≡ record { steps = []; ending = Refused n why }
 is_refused desc ending names n line lines why said = rw (said, script_from) refl
 
-pub is_over : (desc : Description) (ending : Ending) (names : List (List ℕ)) (n : ℕ) (line : List ℕ) (lines : List (List ℕ)) (step : Step) → step_of desc line ≡ Ok (Some step)
+pub is_over : (desc : Description) (ending : Ending) (names : List (List ℕ)) (n : ℕ) (line : List ℕ) (lines : List (List ℕ)) (step : Step)
+    → step_of desc line ≡ Ok (Some step)
     → keeps_names names (Some step) ≡ false → script_from desc ending names n (line ∷ lines) ≡ record { steps = []; ending = Refused n Limit }
 is_over desc ending names n line lines step said over = rw (said, over, script_from) refl
 
@@ -115,13 +118,15 @@ module _ {X : Type 0} {V : X → Type 0} (driver : Plug X V → Driver) where
     stands = plays.stands;
     same = plays.same;
     printed = λ ending lines.
-        sym (ap (λ (script : Script). text ++ text_after s plays.done script) (means_nothing s.desc ending plays.names n line lines said)) ∙ plays.printed ending (line ∷ lines)
+        sym (ap (λ (script : Script). text ++ text_after s plays.done script) (means_nothing s.desc ending plays.names n line lines said))
+        ∙ plays.printed ending (line ∷ lines)
         ∙ sym (ap (λ ls. script_text s (script_from s.desc ending [] first ls)) (append_assoc given (line ∷ []) lines));
     ends = λ ending lines.
         sym (ap (λ (script : Script). script.ending) (means_nothing s.desc ending plays.names n line lines said)) ∙ plays.ends ending (line ∷ lines)
         ∙ sym (ap (λ ls. (script_from s.desc ending [] first ls).ending) (append_assoc given (line ∷ []) lines));
     history = λ ending lines.
-        sym (ap (λ (script : Script). with_steps s plays.done script.steps) (means_nothing s.desc ending plays.names n line lines said)) ∙ plays.history ending (line ∷ lines)
+        sym (ap (λ (script : Script). with_steps s plays.done script.steps) (means_nothing s.desc ending plays.names n line lines said))
+        ∙ plays.history ending (line ∷ lines)
         ∙ sym (ap (λ ls. with_steps s [] (script_from s.desc ending [] first ls).steps) (append_assoc given (line ∷ []) lines));
   }
 
@@ -152,7 +157,8 @@ module _ {X : Type 0} {V : X → Type 0} (driver : Plug X V → Driver) where
             sym (ap (λ (script : Script). script.ending) (says_step s.desc ending plays.names n line lines step said keeps)) ∙ plays.ends ending (line ∷ lines)
             ∙ sym (ap (λ ls. (script_from s.desc ending [] first ls).ending) (append_assoc given (line ∷ []) lines));
         history = λ ending lines.
-            sym (ap (λ (script : Script). with_steps s plays.done script.steps) (says_step s.desc ending plays.names n line lines step said keeps)) ∙ plays.history ending (line ∷ lines)
+            sym (ap (λ (script : Script). with_steps s plays.done script.steps) (says_step s.desc ending plays.names n line lines step said keeps))
+            ∙ plays.history ending (line ∷ lines)
             ∙ sym (ap (λ ls. with_steps s [] (script_from s.desc ending [] first ls).steps) (append_assoc given (line ∷ []) lines));
       }
 
@@ -174,13 +180,15 @@ module _ {X : Type 0} {V : X → Type 0} (driver : Plug X V → Driver) where
       subst (λ (ls : List (List ℕ)). Finishes (outcome_of_script s (script_from s.desc ending [] first ls)) status [] after) (append-nil given)
       (ends_with s x text after first n given [] ending ending status plays refl f)
 
-  pub plays_refused : (s : Setup) (x : System X V) (text after : List ℕ) (first n : ℕ) (given : List (List ℕ)) (line : List ℕ) (lines : List (List ℕ)) (why : Why) (ending : Ending) (status : Status)
+  pub plays_refused : (s : Setup) (x : System X V) (text after : List ℕ) (first n : ℕ) (given : List (List ℕ)) (line : List ℕ) (lines : List (List ℕ))
+      (why : Why) (ending : Ending) (status : Status)
       → step_of s.desc line ≡ Err why → Plays driver s x text first n given → Finishes (only_ending (Refused n why)) status text after
       → Finishes (outcome_of_script s (script_from s.desc ending [] first (given ++ line ∷ lines))) status [] after
   plays_refused s x text after first n given line lines why ending status said plays f =
       ends_with s x text after first n given (line ∷ lines) ending (Refused n why) status plays (is_refused s.desc ending plays.names n line lines why said) f
 
-  pub plays_over : (s : Setup) (x : System X V) (text after : List ℕ) (first n : ℕ) (given : List (List ℕ)) (line : List ℕ) (lines : List (List ℕ)) (step : Step) (ending : Ending) (status : Status)
+  pub plays_over : (s : Setup) (x : System X V) (text after : List ℕ) (first n : ℕ) (given : List (List ℕ)) (line : List ℕ) (lines : List (List ℕ))
+      (step : Step) (ending : Ending) (status : Status)
       → step_of s.desc line ≡ Ok (Some step) → keeps_names (names_by x) (Some step) ≡ false → Plays driver s x text first n given
       → Finishes (only_ending (Refused n Limit)) status text after
       → Finishes (outcome_of_script s (script_from s.desc ending [] first (given ++ line ∷ lines))) status [] after
@@ -189,7 +197,8 @@ module _ {X : Type 0} {V : X → Type 0} (driver : Plug X V → Driver) where
       (is_over s.desc ending plays.names n line lines step said (same_kept plays.names (names_by x) step plays.same ∙ over)) f
 
   -- a line that is too long
-  pub plays_long : (s : Setup) (x : System X V) (text after : List ℕ) (first n : ℕ) (given : List (List ℕ)) (line : List ℕ) (lines : List (List ℕ)) (ending : Ending) (status : Status)
+  pub plays_long : (s : Setup) (x : System X V) (text after : List ℕ) (first n : ℕ) (given : List (List ℕ)) (line : List ℕ) (lines : List (List ℕ))
+      (ending : Ending) (status : Status)
       → fits_line line ≡ false → Plays driver s x text first n given → Finishes (only_ending (Refused n Long)) status text after
       → Finishes (outcome_of_script s (script_from s.desc ending [] first (given ++ line ∷ lines))) status [] after
   plays_long s x text after first n given line lines ending status long plays f =
@@ -203,7 +212,8 @@ module _ {X : Type 0} {V : X → Type 0} (driver : Plug X V → Driver) where
       (plays.history ending [] ∙ ap (λ ls. with_steps s [] (script_from s.desc ending [] first ls).steps) (append-nil given)) plays.stands
 
   -- what was printed is a front part of what any script prints that goes on so
-  pub plays_front : (s : Setup) (x : System X V) (text : List ℕ) (first n : ℕ) (given lines : List (List ℕ)) (ending : Ending) → Plays driver s x text first n given
+  pub plays_front : (s : Setup) (x : System X V) (text : List ℕ) (first n : ℕ) (given lines : List (List ℕ)) (ending : Ending)
+      → Plays driver s x text first n given
       → IsFrontOf (outcome_of_script s (script_from s.desc ending [] first (given ++ lines))) text
   plays_front s x text first n given lines ending plays = record {
     rest = text_after s plays.done (script_from s.desc ending plays.names n lines);
@@ -218,7 +228,8 @@ module _ {X : Type 0} {V : X → Type 0} (driver : Plug X V → Driver) where
 
 -- ---- what was written before
 
-pub behind_sent : (sent before after : List ℕ) (outcome : Outcome) (status : Status) → Finishes outcome status before after → Finishes outcome status (sent ++ before) (sent ++ after)
+pub behind_sent : (sent before after : List ℕ) (outcome : Outcome) (status : Status) → Finishes outcome status before after
+    → Finishes outcome status (sent ++ before) (sent ++ after)
 behind_sent sent before after outcome status f = record {
   end = f.end;
   ends = f.ends;

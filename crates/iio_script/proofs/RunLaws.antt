@@ -21,7 +21,8 @@ front_all outcome text is = record { rest = []; parts = sym is ∙ sym (append-n
 front_shorter : (outcome : Outcome) (text more : List ℕ) → IsFrontOf outcome (text ++ more) → IsFrontOf outcome text
 front_shorter outcome text more front = record { rest = more ++ front.rest; parts = front.parts ∙ append_assoc text more front.rest }
 
-front_of_steps : (s : Setup) (first : ℕ) (front : List (List ℕ)) (outcome : Outcome) (input : List ℕ) (status : Status) (sent kept : List ℕ) (left : Option (List ℕ))
+front_of_steps : (s : Setup) (first : ℕ) (front : List (List ℕ)) (outcome : Outcome) (input : List ℕ) (status : Status) (sent kept : List ℕ)
+    (left : Option (List ℕ))
     → EndsSteps s first front outcome input (Ok status) sent kept left → IsFrontOf outcome (sent ++ kept)
 front_of_steps s first front outcome input Done sent kept left f = front_all outcome (sent ++ kept) f.finishes.printed
 front_of_steps s first front outcome input (Refused line why) sent kept left f = front_all outcome (sent ++ kept) f.finishes.printed
@@ -33,7 +34,8 @@ front_of_steps s first front outcome input TooLong sent kept left f = front_all 
 
 -- ---- the end of a script
 
-script_of_steps : (s : Setup) (first : ℕ) (front : List (List ℕ)) (outcome : Outcome) (input : List ℕ) (status : Status) (sent kept : List ℕ) (left : Option (List ℕ))
+script_of_steps : (s : Setup) (first : ℕ) (front : List (List ℕ)) (outcome : Outcome) (input : List ℕ) (status : Status) (sent kept : List ℕ)
+    (left : Option (List ℕ))
     → EndsSteps s first front outcome input (Ok status) sent kept left → EndsScript s first front outcome input status (sent ++ kept) left
 script_of_steps s first front outcome input Done sent kept left f = f
 script_of_steps s first front outcome input (Refused line why) sent kept left f = f
@@ -44,28 +46,35 @@ script_of_steps s first front outcome input Memory sent kept left f = absurd f.f
 script_of_steps s first front outcome input TooLong sent kept left f = f
 
 -- all that was kept was sent
-sent_all : (first before after : Option (List ℕ)) (sent kept : List ℕ) → WritesText first before sent → Sends before after kept [] → WritesText first after (sent ++ kept)
+sent_all : (first before after : Option (List ℕ)) (sent kept : List ℕ) → WritesText first before sent → Sends before after kept []
+    → WritesText first after (sent ++ kept)
 sent_all first before after sent kept writes sends =
-    subst (λ (k : List ℕ). WritesText first after (sent ++ k)) (sym (sends.parts ∙ append-nil sends.sent)) (sends_more first before after sent kept [] writes sends)
+    subst (λ (k : List ℕ). WritesText first after (sent ++ k)) (sym (sends.parts ∙ append-nil sends.sent))
+    (sends_more first before after sent kept [] writes sends)
 
-pub script_written : (s : Setup) (first : ℕ) (front : List (List ℕ)) (outcome : Outcome) (input : List ℕ) (status result : Status) (sent kept : List ℕ) (left w0 w1 w2 : Option (List ℕ))
+pub script_written : (s : Setup) (first : ℕ) (front : List (List ℕ)) (outcome : Outcome) (input : List ℕ) (status result : Status) (sent kept : List ℕ)
+    (left w0 w1 w2 : Option (List ℕ))
     → WritesText w0 w1 sent → EndsSteps s first front outcome input (Ok status) sent kept left → EndsWriting status result w1 w2 kept
     → (more : List ℕ) × WritesText w0 w2 (sent ++ more) × EndsScript s first front outcome input result (sent ++ more) left
 script_written s first front outcome input status result sent kept left w0 w1 w2 writes ends (inl (is, sends)) = (
   kept,
   sent_all w0 w1 w2 sent kept writes sends,
-  subst (λ (r : Status). EndsScript s first front outcome input r (sent ++ kept) left) (sym is) (script_of_steps s first front outcome input status sent kept left ends),
+  subst (λ (r : Status). EndsScript s first front outcome input r (sent ++ kept) left) (sym is)
+      (script_of_steps s first front outcome input status sent kept left ends),
 )
 script_written s first front outcome input status result sent kept left w0 w1 w2 writes ends (inr (is, (rest, sends))) =
     let all : IsFrontOf outcome (sent ++ kept) = front_of_steps s first front outcome input status sent kept left ends in
-    let part : IsFrontOf outcome ((sent ++ sends.sent) ++ rest) = subst (λ (t : List ℕ). IsFrontOf outcome t) (ap (λ k. sent ++ k) sends.parts ∙ sym (append_assoc sent sends.sent rest)) all in (
+    let part : IsFrontOf outcome ((sent ++ sends.sent) ++ rest) =
+    subst (λ (t : List ℕ). IsFrontOf outcome t) (ap (λ k. sent ++ k) sends.parts ∙ sym (append_assoc sent sends.sent rest)) all in (
       sends.sent,
       sends_more w0 w1 w2 sent kept rest writes sends,
-      subst (λ (r : Status). EndsScript s first front outcome input r (sent ++ sends.sent) left) (sym is) (front_shorter outcome (sent ++ sends.sent) rest part),
+      subst (λ (r : Status). EndsScript s first front outcome input r (sent ++ sends.sent) left) (sym is)
+          (front_shorter outcome (sent ++ sends.sent) rest part),
     )
 
 -- nothing more is written
-pub script_fault : (s : Setup) (first : ℕ) (front : List (List ℕ)) (outcome : Outcome) (input : List ℕ) (status : Status) (sent kept : List ℕ) (left : Option (List ℕ)) → IsOver (Err status)
+pub script_fault : (s : Setup) (first : ℕ) (front : List (List ℕ)) (outcome : Outcome) (input : List ℕ) (status : Status) (sent kept : List ℕ)
+    (left : Option (List ℕ)) → IsOver (Err status)
     → EndsSteps s first front outcome input (Err status) sent kept left → EndsScript s first front outcome input status sent left
 script_fault s first front outcome input WriteFault sent kept left over f = f
 script_fault s first front outcome input Memory sent kept left over f = f
@@ -90,11 +99,13 @@ prints_by outcome ReadFault text f = absurd f.end
 prints_by outcome WriteFault text f = absurd f.end
 prints_by outcome Memory text f = absurd f.end
 
-pub end_sent : (outcome : Outcome) (status : Status) (kept : List ℕ) (before after : Option (List ℕ)) → Finishes outcome status [] kept → Sends before after kept []
+pub end_sent : (outcome : Outcome) (status : Status) (kept : List ℕ) (before after : Option (List ℕ)) → Finishes outcome status [] kept
+    → Sends before after kept []
     → (text : List ℕ) × WritesText before after text × Prints outcome status text
 end_sent outcome status kept before after f sends = (kept, sent_all before before after [] kept (nothing_sent before) sends, prints_by outcome status kept f)
 
-pub end_failed : (outcome : Outcome) (status fault : Status) (kept : List ℕ) (before after : Option (List ℕ)) → Finishes outcome status [] kept → fault ≡ WriteFault
+pub end_failed : (outcome : Outcome) (status fault : Status) (kept : List ℕ) (before after : Option (List ℕ)) → Finishes outcome status [] kept
+    → fault ≡ WriteFault
     → ((rest : List ℕ) × Sends before after kept rest) → (text : List ℕ) × WritesText before after text × Prints outcome fault text
 end_failed outcome status fault kept before after f is (rest, sends) = (
   sends.sent,
@@ -113,12 +124,14 @@ Whole s first front outcome input result begin left before after =
     (text : List ℕ) × WritesText before after text × EndsScript s first front outcome input result text left × TakesAtMost input (input_limit + 1) left
     × AnswersScript s first front input text begin left
 
-pub whole_none : (s : Setup) (first : ℕ) (front : List (List ℕ)) (outcome : Outcome) (input : List ℕ) (h : Hand) (left before : Option (List ℕ)) → IsHand h → Follows input front h left
+pub whole_none : (s : Setup) (first : ℕ) (front : List (List ℕ)) (outcome : Outcome) (input : List ℕ) (h : Hand) (left before : Option (List ℕ)) → IsHand h
+    → Follows input front h left
     → Whole s first front outcome input Memory left left before before
 whole_none s first front outcome input h left before is follows =
     ([], nothing_sent before, record { rest = outcome.printed; parts = refl }, takes_at_most input front h left is follows, inl refl)
 
-pub whole_written : (s : Setup) (first : ℕ) (front : List (List ℕ)) (outcome : Outcome) (input : List ℕ) (status result : Status) (kept : List ℕ) (begin left w0 w1 w2 : Option (List ℕ))
+pub whole_written : (s : Setup) (first : ℕ) (front : List (List ℕ)) (outcome : Outcome) (input : List ℕ) (status result : Status) (kept : List ℕ)
+    (begin left w0 w1 w2 : Option (List ℕ))
     → ((sent : List ℕ) × WritesText w0 w1 sent × EndsSteps s first front outcome input (Ok status) sent kept left × TakesAtMost input (input_limit + 1) left
     × AnswersScript s first front input sent begin left)
     → EndsWriting status result w1 w2 kept → Whole s first front outcome input result begin left w0 w2
@@ -126,7 +139,8 @@ whole_written s first front outcome input status result kept begin left w0 w1 w2
     let written = script_written s first front outcome input status result ends.0 kept left w0 w1 w2 ends.1 ends.2 writing in
     (ends.0 ++ written.0, written.1, written.2, ends.3, answers_more s first front input ends.0 written.0 begin left ends.4)
 
-pub whole_fault : (s : Setup) (first : ℕ) (front : List (List ℕ)) (outcome : Outcome) (input : List ℕ) (status : Status) (kept : List ℕ) (begin left w0 w1 : Option (List ℕ))
+pub whole_fault : (s : Setup) (first : ℕ) (front : List (List ℕ)) (outcome : Outcome) (input : List ℕ) (status : Status) (kept : List ℕ)
+    (begin left w0 w1 : Option (List ℕ))
     → ((sent : List ℕ) × WritesText w0 w1 sent × EndsSteps s first front outcome input (Err status) sent kept left × TakesAtMost input (input_limit + 1) left
     × AnswersScript s first front input sent begin left)
     → IsOver (Err status) → Whole s first front outcome input status begin left w0 w1

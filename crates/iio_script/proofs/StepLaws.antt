@@ -33,9 +33,11 @@ abbrev script_outcome : Setup → (input : List ℕ) (first : ℕ) (lines : List
 script_outcome s input first lines = outcome_of_script s (script_from s.desc (last_ending (is_overlong input)) [] first lines)
 
 -- how it ends, with what it took
-abbrev Ended : Setup → (first : ℕ) (front more : List (List ℕ)) (input : List ℕ) → Result Status Status → (kept : List ℕ) (begin left written written' : Option (List ℕ)) → Type 0
+abbrev Ended : Setup → (first : ℕ) (front more : List (List ℕ)) (input : List ℕ) → Result Status Status
+    → (kept : List ℕ) (begin left written written' : Option (List ℕ)) → Type 0
 Ended s first front more input result kept begin left written written' =
-    (sent : List ℕ) × (IfSome written (λ before. written' ≡ Some (before ++ sent))) × EndsSteps s first front (script_outcome s input first more) input result sent kept left
+    (sent : List ℕ) × (IfSome written (λ before. written' ≡ Some (before ++ sent)))
+    × EndsSteps s first front (script_outcome s input first more) input result sent kept left
     × TakesAtMost input (input_limit + 1) left × AnswersScript s first front input sent begin left
 
 -- a script that came to its end
@@ -74,7 +76,8 @@ no_cut_long is = cc
 
 module _ {X : Type 0} {V : X → Type 0} (driver : Plug X V → Driver) where
   -- the lines `given` were played, and `sent` of what they printed was written; the reader has gone on over them
-  pub record SoFar (s : Setup) (x : System X V) (kept : List ℕ) (first n : ℕ) (h h' : Hand) (left left' : Option (List ℕ)) (written written' : Option (List ℕ)) : Type 0 where
+  pub record SoFar (s : Setup) (x : System X V) (kept : List ℕ) (first n : ℕ) (h h' : Hand) (left left' : Option (List ℕ))
+      (written written' : Option (List ℕ)) : Type 0 where
     pub given : List (List ℕ)
     pub sent : List ℕ
     pub writes : IfSome written (λ before. written' ≡ Some (before ++ sent))
@@ -83,7 +86,8 @@ module _ {X : Type 0} {V : X → Type 0} (driver : Plug X V → Driver) where
     pub follows : (input : List ℕ) (front : List (List ℕ)) → Follows input front h left → Follows input (front ++ given) h' left'
     pub answers : (input : List ℕ) (front : List (List ℕ)) → Follows input front h left → AnswersScript s first front input sent left left'
 
-  pub so_far_first : (s : Setup) (x : System X V) (kept : List ℕ) (first : ℕ) (h : Hand) (left written : Option (List ℕ)) → kept ≡ [] → Plays driver s x [] first first []
+  pub so_far_first : (s : Setup) (x : System X V) (kept : List ℕ) (first : ℕ) (h : Hand) (left written : Option (List ℕ)) → kept ≡ []
+      → Plays driver s x [] first first []
       → SoFar s x kept first first h h left left written written
   so_far_first s x kept first h left written none plays = record {
     given = [];
@@ -107,7 +111,8 @@ module _ {X : Type 0} {V : X → Type 0} (driver : Plug X V → Driver) where
     given = so.given;
     sent = so.sent ++ sends.sent;
     writes = sends_more written w1 w2 so.sent kept kept' so.writes sends;
-    plays = subst (λ (t : List ℕ). Plays driver s x t first n so.given) (ap (λ t. so.sent ++ t) sends.parts ∙ sym (append_assoc so.sent sends.sent kept')) so.plays;
+    plays =
+        subst (λ (t : List ℕ). Plays driver s x t first n so.given) (ap (λ t. so.sent ++ t) sends.parts ∙ sym (append_assoc so.sent sends.sent kept')) so.plays;
     count = so.count;
     follows = λ input front follows. keeps input (front ++ so.given) left' (so.follows input front follows);
     answers = λ input front follows. answers_more s first front input so.sent sends.sent left left' (so.answers input front follows);
@@ -115,7 +120,8 @@ module _ {X : Type 0} {V : X → Type 0} (driver : Plug X V → Driver) where
 
   -- the next line was looked for
   pub so_far_found : (s : Setup) (x : System X V) (kept : List ℕ) (first n : ℕ) (h h1 h2 : Hand) (left l1 l2 written written' : Option (List ℕ))
-      → ((input : List ℕ) (front : List (List ℕ)) → Follows input front h1 l1 → Follows input front h2 l2) → IsHand h2 → (l2 ≡ l1) ⊎ ((h2.over ≡ false) × (kept ≡ []))
+      → ((input : List ℕ) (front : List (List ℕ)) → Follows input front h1 l1 → Follows input front h2 l2) → IsHand h2 → (l2 ≡ l1)
+      ⊎ ((h2.over ≡ false) × (kept ≡ []))
       → SoFar s x kept first n h h1 left l1 written written' → SoFar s x kept first n h h2 left l2 written written'
   so_far_found s x kept first n h h1 h2 left l1 l2 written written' keeps is read so = record {
     given = so.given;
@@ -127,8 +133,10 @@ module _ {X : Type 0} {V : X → Type 0} (driver : Plug X V → Driver) where
     answers = λ input front follows. answers_by read input front follows;
   }
     where
-      answers_by : (l2 ≡ l1) ⊎ ((h2.over ≡ false) × (kept ≡ [])) → (input : List ℕ) (front : List (List ℕ)) → Follows input front h left → AnswersScript s first front input so.sent left l2
-      answers_by (inl same) input front follows = subst (λ (l : Option (List ℕ)). AnswersScript s first front input so.sent left l) (sym same) (so.answers input front follows)
+      answers_by : (l2 ≡ l1) ⊎ ((h2.over ≡ false) × (kept ≡ [])) → (input : List ℕ) (front : List (List ℕ)) → Follows input front h left
+          → AnswersScript s first front input so.sent left l2
+      answers_by (inl same) input front follows =
+          subst (λ (l : Option (List ℕ)). AnswersScript s first front input so.sent left l) (sym same) (so.answers input front follows)
       answers_by (inr (going, none)) input front follows =
           answers_found s first front so.given input so.sent h2 left l2 is
           (sym (append-nil so.sent) ∙ ap (λ k. so.sent ++ k) (sym none) ∙ plays_all driver s x (so.sent ++ kept) first n so.given so.plays) going
@@ -136,7 +144,8 @@ module _ {X : Type 0} {V : X → Type 0} (driver : Plug X V → Driver) where
 
   -- it was played
   pub so_far_played : (s : Setup) (x x' : System X V) (kept kept' line : List ℕ) (first n : ℕ) (h h1 h2 : Hand) (left left' written written' : Option (List ℕ))
-      → ((input : List ℕ) (front : List (List ℕ)) (l : Option (List ℕ)) → Follows input front h1 l → Follows input (front ++ line_of h1 ∷ []) h2 l) → line ≡ line_of h1
+      → ((input : List ℕ) (front : List (List ℕ)) (l : Option (List ℕ)) → Follows input front h1 l → Follows input (front ++ line_of h1 ∷ []) h2 l)
+      → line ≡ line_of h1
       → (so : SoFar s x kept first n h h1 left left' written written') → Plays driver s x' (so.sent ++ kept') first (n + 1) (so.given ++ line ∷ [])
       → SoFar s x' kept' first (n + 1) h h2 left left' written written'
   so_far_played s x x' kept kept' line first n h h1 h2 left left' written written' passes same so plays = record {
@@ -154,10 +163,12 @@ module _ {X : Type 0} {V : X → Type 0} (driver : Plug X V → Driver) where
   -- ---- the end
 
   -- the lines given are those that are looked at, up to the next
-  given_of : (front given more rest : List (List ℕ)) (input : List ℕ) → looked_lines input ≡ front ++ more → looked_lines input ≡ (front ++ given) ++ rest → more ≡ given ++ rest
+  given_of : (front given more rest : List (List ℕ)) (input : List ℕ) → looked_lines input ≡ front ++ more → looked_lines input ≡ (front ++ given) ++ rest
+      → more ≡ given ++ rest
   given_of front given more rest input is begins = same_rest front more (given ++ rest) (sym is ∙ begins ∙ append_assoc front given rest)
 
-  pub ends_fault : (s : Setup) (x : System X V) (kept kept' : List ℕ) (first n : ℕ) (h h' : Hand) (left left' written written' : Option (List ℕ)) (front more : List (List ℕ)) (input : List ℕ) (st : Status)
+  pub ends_fault : (s : Setup) (x : System X V) (kept kept' : List ℕ) (first n : ℕ) (h h' : Hand) (left left' written written' : Option (List ℕ))
+      (front more : List (List ℕ)) (input : List ℕ) (st : Status)
       → IsHand h' → Follows input front h left → looked_lines input ≡ front ++ more → SoFar s x kept first n h h' left left' written written'
       → Ended s first front more input (Err st) kept' left left' written written'
   ends_fault s x kept kept' first n h h' left left' written written' front more input st is follows looked so =
@@ -165,19 +176,29 @@ module _ {X : Type 0} {V : X → Type 0} (driver : Plug X V → Driver) where
       let begins = follows_begin input (front ++ so.given) h' left' is now in
       let lines : more ≡ so.given ++ begins.more = given_of front so.given more begins.more input looked begins.parts in
       let whole : IsFrontOf (script_outcome s input first more) (so.sent ++ kept) =
-      subst (λ (ls : List (List ℕ)). IsFrontOf (script_outcome s input first ls) (so.sent ++ kept)) (sym lines) (plays_front driver s x (so.sent ++ kept) first n so.given begins.more (last_ending (is_overlong input)) so.plays) in
-      (so.sent, so.writes, record { rest = kept ++ whole.rest; parts = whole.parts ∙ append_assoc so.sent kept whole.rest }, takes_at_most input (front ++ so.given) h' left' is now, so.answers input front follows)
+      subst (λ (ls : List (List ℕ)). IsFrontOf (script_outcome s input first ls) (so.sent ++ kept)) (sym lines)
+      (plays_front driver s x (so.sent ++ kept) first n so.given begins.more (last_ending (is_overlong input)) so.plays) in (
+        so.sent,
+        so.writes,
+        record { rest = kept ++ whole.rest; parts = whole.parts ∙ append_assoc so.sent kept whole.rest },
+        takes_at_most input
+            (front ++ so.given) h' left' is now,
+        so.answers input front follows,
+      )
 
   -- a write failed
-  pub ends_sent_fault : (s : Setup) (x : System X V) (kept kept' : List ℕ) (first n : ℕ) (h h1 h2 : Hand) (left left' written w1 w2 : Option (List ℕ)) (front more : List (List ℕ)) (input : List ℕ) (st : Status)
+  pub ends_sent_fault : (s : Setup) (x : System X V) (kept kept' : List ℕ) (first n : ℕ) (h h1 h2 : Hand) (left left' written w1 w2 : Option (List ℕ))
+      (front more : List (List ℕ)) (input : List ℕ) (st : Status)
       → ((input : List ℕ) (front : List (List ℕ)) (l : Option (List ℕ)) → Follows input front h1 l → Follows input front h2 l) → IsHand h2
-      → Follows input front h left → looked_lines input ≡ front ++ more → ((rest : List ℕ) × Sends w1 w2 kept rest) → SoFar s x kept first n h h1 left left' written w1
+      → Follows input front h left → looked_lines input ≡ front ++ more → ((rest : List ℕ) × Sends w1 w2 kept rest)
+      → SoFar s x kept first n h h1 left left' written w1
       → Ended s first front more input (Err st) kept' left left' written w2
   ends_sent_fault s x kept kept' first n h h1 h2 left left' written w1 w2 front more input st keeps is follows looked sends so =
       ends_fault s x sends.0 kept' first n h h2 left left' written w2 front more input st is follows looked
       (so_far_sent s x kept sends.0 first n h h1 h2 left left' written w1 w2 keeps sends.1 so)
 
-  pub ends_read_fault : (s : Setup) (x : System X V) (kept : List ℕ) (first n : ℕ) (h h' : Hand) (left left' written written' : Option (List ℕ)) (front more : List (List ℕ)) (input : List ℕ)
+  pub ends_read_fault : (s : Setup) (x : System X V) (kept : List ℕ) (first n : ℕ) (h h' : Hand) (left left' written written' : Option (List ℕ))
+      (front more : List (List ℕ)) (input : List ℕ)
       → IsHand h' → NeedsMore h' → Follows input front h left → looked_lines input ≡ front ++ more → SoFar s x kept first n h h' left left' written written'
       → Ended s first front more input (Ok status.ReadFault) kept left left' written written'
   ends_read_fault s x kept first n h h' left left' written written' front more input is needs follows looked so =
@@ -201,18 +222,23 @@ module _ {X : Type 0} {V : X → Type 0} (driver : Plug X V → Driver) where
       )
 
   -- at the end of all lines
-  ends_last : (s : Setup) (x : System X V) (kept kept' : List ℕ) (first n : ℕ) (h h' : Hand) (left left' written written' : Option (List ℕ)) (front more : List (List ℕ)) (input : List ℕ) (over : Bool) (st : Status)
-      → looked_lines input ≡ front ++ more → (so : SoFar s x kept first n h h' left left' written written') → looked_lines input ≡ front ++ so.given → is_overlong input ≡ over
-      → TakesAtMost input (input_limit + 1) left' → AnswersScript s first front input so.sent left left' → Finishes (only_ending (last_ending over)) st kept kept' → Ended s first front more input (Ok st) kept' left left' written written'
+  ends_last : (s : Setup) (x : System X V) (kept kept' : List ℕ) (first n : ℕ) (h h' : Hand) (left left' written written' : Option (List ℕ))
+      (front more : List (List ℕ)) (input : List ℕ) (over : Bool) (st : Status)
+      → looked_lines input ≡ front ++ more → (so : SoFar s x kept first n h h' left left' written written') → looked_lines input ≡ front ++ so.given
+      → is_overlong input ≡ over
+      → TakesAtMost input (input_limit + 1) left' → AnswersScript s first front input so.sent left left'
+      → Finishes (only_ending (last_ending over)) st kept kept' → Ended s first front more input (Ok st) kept' left left' written written'
   ends_last s x kept kept' first n h h' left left' written written' front more input over st looked so all long takes answers f =
       let lines : more ≡ so.given = same_rest front more so.given (sym looked ∙ all) in
       let finishes : Finishes (outcome_of_script s (script_from s.desc (last_ending over) [] first so.given)) st [] (so.sent ++ kept') =
-      plays_last driver s x (so.sent ++ kept) (so.sent ++ kept') first n so.given (last_ending over) st so.plays (behind_sent so.sent kept kept' (only_ending (last_ending over)) st f) in (
+      plays_last driver s x (so.sent ++ kept) (so.sent ++ kept') first n so.given (last_ending over) st so.plays
+      (behind_sent so.sent kept kept' (only_ending (last_ending over)) st f) in (
         so.sent,
         so.writes,
         ended s first front (script_outcome s input first more) input st so.sent kept' left' (record {
           finishes = subst (λ (ls : List (List ℕ)). Finishes (script_outcome s input first ls) st [] (so.sent ++ kept')) (sym lines)
-              (subst (λ (o : Bool). Finishes (outcome_of_script s (script_from s.desc (last_ending o) [] first so.given)) st [] (so.sent ++ kept')) (sym long) finishes);
+              (subst (λ (o : Bool). Finishes (outcome_of_script s (script_from s.desc (last_ending o) [] first so.given)) st [] (so.sent ++ kept')) (sym long)
+              finishes);
           near = near_none st over input left' f.ends;
         }),
         takes,
@@ -220,27 +246,33 @@ module _ {X : Type 0} {V : X → Type 0} (driver : Plug X V → Driver) where
       )
 
   -- the input's end
-  pub ends_done : (s : Setup) (x : System X V) (kept kept' : List ℕ) (first n : ℕ) (h h' : Hand) (left left' written written' : Option (List ℕ)) (front more : List (List ℕ)) (input : List ℕ)
-      → IsHand h' → IsDone h' → Follows input front h left → looked_lines input ≡ front ++ more → kept' ≡ kept → SoFar s x kept first n h h' left left' written written'
+  pub ends_done : (s : Setup) (x : System X V) (kept kept' : List ℕ) (first n : ℕ) (h h' : Hand) (left left' written written' : Option (List ℕ))
+      (front more : List (List ℕ)) (input : List ℕ)
+      → IsHand h' → IsDone h' → Follows input front h left → looked_lines input ≡ front ++ more → kept' ≡ kept
+      → SoFar s x kept first n h h' left left' written written'
       → Ended s first front more input (Ok status.Done) kept' left left' written written'
   ends_done s x kept kept' first n h h' left left' written written' front more input is done follows looked same so =
       let now = so.follows input front follows in
       let none = no_line input (front ++ so.given) h' left' is done now in
       ends_last s x kept kept' first n h h' left left' written written' front more input false status.Done looked so none.0 none.1
-      (takes_at_most input (front ++ so.given) h' left' is now) (so.answers input front follows) (record { end = tt; ends = refl; printed = same ∙ sym (append-nil kept) })
+      (takes_at_most input (front ++ so.given) h' left' is now) (so.answers input front follows)
+      (record { end = tt; ends = refl; printed = same ∙ sym (append-nil kept) })
 
   -- the system then stands for the history of the script's steps
-  pub stands_done : (s : Setup) (x : System X V) (kept : List ℕ) (first n : ℕ) (h h' : Hand) (left left' written written' : Option (List ℕ)) (front more : List (List ℕ)) (input : List ℕ)
+  pub stands_done : (s : Setup) (x : System X V) (kept : List ℕ) (first n : ℕ) (h h' : Hand) (left left' written written' : Option (List ℕ))
+      (front more : List (List ℕ)) (input : List ℕ)
       → IsHand h' → IsDone h' → Follows input front h left → looked_lines input ≡ front ++ more → SoFar s x kept first n h h' left left' written written'
       → StandsFor driver s (with_steps s [] (script_from s.desc (last_ending (is_overlong input)) [] first more).steps) x
   stands_done s x kept first n h h' left left' written written' front more input is done follows looked so =
       let none = no_line input (front ++ so.given) h' left' is done (so.follows input front follows) in
       let lines : more ≡ so.given = same_rest front more so.given (sym looked ∙ none.0) in
-      subst (λ (ls : List (List ℕ)). StandsFor driver s (with_steps s [] (script_from s.desc (last_ending (is_overlong input)) [] first ls).steps) x) (sym lines)
+      subst (λ (ls : List (List ℕ)). StandsFor driver s (with_steps s [] (script_from s.desc (last_ending (is_overlong input)) [] first ls).steps) x)
+      (sym lines)
       (plays_done driver s x (so.sent ++ kept) first n so.given (last_ending (is_overlong input)) so.plays)
 
   -- the end of what is looked at
-  pub ends_cut : (s : Setup) (x : System X V) (kept kept' : List ℕ) (first n : ℕ) (h h' : Hand) (left left' written written' : Option (List ℕ)) (front more : List (List ℕ)) (input : List ℕ) (st : Status)
+  pub ends_cut : (s : Setup) (x : System X V) (kept kept' : List ℕ) (first n : ℕ) (h h' : Hand) (left left' written written' : Option (List ℕ))
+      (front more : List (List ℕ)) (input : List ℕ) (st : Status)
       → IsHand h' → IsCut h' → Follows input front h left → looked_lines input ≡ front ++ more → Finishes (only_ending (last_ending true)) st kept kept'
       → SoFar s x kept first n h h' left left' written written' → Ended s first front more input (Ok st) kept' left left' written written'
   ends_cut s x kept kept' first n h h' left left' written written' front more input st is cut follows looked f so =
@@ -250,10 +282,13 @@ module _ {X : Type 0} {V : X → Type 0} (driver : Plug X V → Driver) where
       (takes_at_most input (front ++ so.given) h' left' is now) (so.answers input front follows) f
 
   -- a line that is refused
-  refused : (s : Setup) (x : System X V) (kept kept' : List ℕ) (first n : ℕ) (h h' : Hand) (left left' written written' : Option (List ℕ)) (front more rest : List (List ℕ)) (line : List ℕ) (input : List ℕ) (st : Status)
-      → looked_lines input ≡ front ++ more → (so : SoFar s x kept first n h h' left left' written written') → looked_lines input ≡ (front ++ so.given) ++ line ∷ rest
+  refused : (s : Setup) (x : System X V) (kept kept' : List ℕ) (first n : ℕ) (h h' : Hand) (left left' written written' : Option (List ℕ))
+      (front more rest : List (List ℕ)) (line : List ℕ) (input : List ℕ) (st : Status)
+      → looked_lines input ≡ front ++ more → (so : SoFar s x kept first n h h' left left' written written')
+      → looked_lines input ≡ (front ++ so.given) ++ line ∷ rest
       → TakesAtMost input (input_limit + 1) left' → AnswersScript s first front input so.sent left left' → TakesFor st input left'
-      → Finishes (script_outcome s input first (so.given ++ line ∷ rest)) st [] (so.sent ++ kept') → Ended s first front more input (Ok st) kept' left left' written written'
+      → Finishes (script_outcome s input first (so.given ++ line ∷ rest)) st [] (so.sent ++ kept')
+      → Ended s first front more input (Ok st) kept' left left' written written'
   refused s x kept kept' first n h h' left left' written written' front more rest line input st looked so begins takes answers near f =
       let lines : more ≡ so.given ++ line ∷ rest = given_of front so.given more (line ∷ rest) input looked begins in (
         so.sent,
@@ -267,31 +302,43 @@ module _ {X : Type 0} {V : X → Type 0} (driver : Plug X V → Driver) where
       )
 
   -- the number of the next line
-  next_number : (s : Setup) (x : System X V) (kept : List ℕ) (first n : ℕ) (h h' : Hand) (left left' written written' : Option (List ℕ)) (front : List (List ℕ)) → first ≡ length front + 1
+  next_number : (s : Setup) (x : System X V) (kept : List ℕ) (first n : ℕ) (h h' : Hand) (left left' written written' : Option (List ℕ)) (front : List (List ℕ))
+      → first ≡ length front + 1
       → (so : SoFar s x kept first n h h' left left' written written') → n ≡ length (front ++ so.given) + 1
   next_number s x kept first n h h' left left' written written' front at so = omega (arith, at, so.count, length-append front so.given)
 
-  pub ends_refused : (s : Setup) (x : System X V) (kept kept' line : List ℕ) (first n : ℕ) (h h' : Hand) (left left' written written' : Option (List ℕ)) (front more : List (List ℕ)) (input : List ℕ) (st : Status)
-      → IsHand h' → HasLine h' → Follows input front h left → first ≡ length front + 1 → looked_lines input ≡ front ++ more → line ≡ line_of h' → IsRefusedWith n st
+  pub ends_refused : (s : Setup) (x : System X V) (kept kept' line : List ℕ) (first n : ℕ) (h h' : Hand) (left left' written written' : Option (List ℕ))
+      (front more : List (List ℕ)) (input : List ℕ) (st : Status)
+      → IsHand h' → HasLine h' → Follows input front h left → first ≡ length front + 1 → looked_lines input ≡ front ++ more → line ≡ line_of h'
+      → IsRefusedWith n st
       → (so : SoFar s x kept first n h h' left left' written written')
-      → ((ending : Ending) (lines : List (List ℕ)) → Finishes (outcome_of_script s (script_from s.desc ending [] first (so.given ++ line ∷ lines))) st [] (so.sent ++ kept'))
+      → ((ending : Ending) (lines : List (List ℕ))
+      → Finishes (outcome_of_script s (script_from s.desc ending [] first (so.given ++ line ∷ lines))) st [] (so.sent ++ kept'))
       → Ended s first front more input (Ok st) kept' left left' written written'
   ends_refused s x kept kept' line first n h h' left left' written written' front more input st is has follows at looked same number so f =
       let now = so.follows input front follows in
       let next = next_line input (front ++ so.given) h' left' is has now in
       let begins : looked_lines input ≡ (front ++ so.given) ++ line ∷ next.more =
       next.parts ∙ append_assoc (front ++ so.given) (line_of h' ∷ []) next.more ∙ ap (λ l. (front ++ so.given) ++ l ∷ next.more) (sym same) in
-      refused s x kept kept' first n h h' left left' written written' front more next.more line input st looked so begins (takes_at_most input (front ++ so.given) h' left' is now) (so.answers input front follows)
-      (near_for st n input left' number (near input (front ++ so.given) h' left' n found.Line is has (λ is_cut. no_cut is_cut) now (next_number s x kept first n h h' left left' written written' front at so)))
+      refused s x kept kept' first n h h' left left' written written' front more next.more line input st looked so begins
+      (takes_at_most input (front ++ so.given) h' left' is now) (so.answers input front follows)
+      (near_for st n input left' number
+      (near input (front ++ so.given) h' left' n found.Line is has (λ is_cut. no_cut is_cut) now
+      (next_number s x kept first n h h' left left' written written' front at so)))
       (f (last_ending (is_overlong input)) next.more)
 
-  pub ends_long : (s : Setup) (x : System X V) (kept kept' : List ℕ) (first n : ℕ) (h h' : Hand) (left left' written written' : Option (List ℕ)) (front more : List (List ℕ)) (input : List ℕ) (st : Status)
-      → IsHand h' → IsLong h' → Follows input front h left → first ≡ length front + 1 → looked_lines input ≡ front ++ more → Finishes (only_ending (Refused n Long)) st kept kept'
+  pub ends_long : (s : Setup) (x : System X V) (kept kept' : List ℕ) (first n : ℕ) (h h' : Hand) (left left' written written' : Option (List ℕ))
+      (front more : List (List ℕ)) (input : List ℕ) (st : Status)
+      → IsHand h' → IsLong h' → Follows input front h left → first ≡ length front + 1 → looked_lines input ≡ front ++ more
+      → Finishes (only_ending (Refused n Long)) st kept kept'
       → SoFar s x kept first n h h' left left' written written' → Ended s first front more input (Ok st) kept' left left' written written'
   ends_long s x kept kept' first n h h' left left' written written' front more input st is long follows at looked f so =
       let now = so.follows input front follows in
       let next = long_line input (front ++ so.given) h' left' is long now in
-      refused s x kept kept' first n h h' left left' written written' front more next.more next.line input st looked so next.parts (takes_at_most input (front ++ so.given) h' left' is now) (so.answers input front follows)
-      (near_for st n input left' (refused_with st n Long f.ends) (near input (front ++ so.given) h' left' n found.Long is long (λ is_cut. no_cut_long is_cut) now (next_number s x kept first n h h' left left' written written' front at so)))
+      refused s x kept kept' first n h h' left left' written written' front more next.more next.line input st looked so next.parts
+      (takes_at_most input (front ++ so.given) h' left' is now) (so.answers input front follows)
+      (near_for st n input left' (refused_with st n Long f.ends)
+      (near input (front ++ so.given) h' left' n found.Long is long (λ is_cut. no_cut_long is_cut) now
+      (next_number s x kept first n h h' left left' written written' front at so)))
       (plays_long driver s x (so.sent ++ kept) (so.sent ++ kept') first n so.given next.line next.more (last_ending (is_overlong input)) st next.long so.plays
       (behind_sent so.sent kept kept' (only_ending (Refused n Long)) st f))

@@ -17,7 +17,9 @@ use Rattle.iio_script.proofs.FollowLaws.{by_over, taken_front}
 
 -- among the first lines there is none where there is none among all
 any_take : (p : List ℕ → Bool) (n : ℕ) (lines : List (List ℕ)) → list_any p lines ≡ false → list_any p (take n lines) ≡ false
-any_take p n lines none = (both (list_any p (take n lines)) (list_any p (drop n lines)) (sym (list_any-append p (take n lines) (drop n lines)) ∙ ap (list_any p) (take-append-drop n lines) ∙ none))
+any_take p n lines none =
+    (both (list_any p (take n lines)) (list_any p (drop n lines))
+    (sym (list_any-append p (take n lines) (drop n lines)) ∙ ap (list_any p) (take-append-drop n lines) ∙ none))
   where
     both : (a b : Bool) → (a || b) ≡ false → a ≡ false
     both true b h = h
@@ -29,9 +31,11 @@ looked_front : (input : List ℕ) (front : List (List ℕ)) (h : Hand) (left : O
 looked_front input front h left is goes =
     let line : List ℕ = line_of h in
     let parts : input ≡ (goes.bytes ++ line) ++ (drop h.looked h.bytes ++ goes.rest) =
-    goes.parts ∙ ap (λ t. goes.bytes ++ t) (ap (λ t. t ++ goes.rest) (sym (take-append-drop h.looked h.bytes)) ∙ append_assoc line (drop h.looked h.bytes) goes.rest)
+    goes.parts ∙ ap (λ t. goes.bytes ++ t)
+    (ap (λ t. t ++ goes.rest) (sym (take-append-drop h.looked h.bytes)) ∙ append_assoc line (drop h.looked h.bytes) goes.rest)
     ∙ sym (append_assoc goes.bytes line (drop h.looked h.bytes ++ goes.rest)) in
-    let size : h.given + h.looked ≡ length (goes.bytes ++ line) = omega (arith, goes.given, length-append goes.bytes line, length-take-le h.looked h.bytes is.looked) in
+    let size : h.given + h.looked ≡ length (goes.bytes ++ line) =
+    omega (arith, goes.given, length-append goes.bytes line, length-take-le h.looked h.bytes is.looked) in
     ap (λ n. take n input) size ∙ ap (take (length (goes.bytes ++ line))) parts ∙ take-append_seam (goes.bytes ++ line) (drop h.looked h.bytes ++ goes.rest)
 
 -- whose whole lines are those that were given
@@ -42,12 +46,14 @@ looked_given input front h left is goes =
     ∙ ap lines_of (goes.front_is.ended (line_of h) ∙ ap (λ t. goes.bytes ++ t) (ended_none (line_of h) is.plain)) ∙ goes.front_is.lines [] ∙ append-nil front
 
 -- none of its lines ends a description
-none_ends : (input : List ℕ) (front : List (List ℕ)) (h : Hand) (left : Option (List ℕ)) → IsHand h → FollowsFront input front h left → list_any is_end front ≡ false
+none_ends : (input : List ℕ) (front : List (List ℕ)) (h : Hand) (left : Option (List ℕ)) → IsHand h → FollowsFront input front h left
+    → list_any is_end front ≡ false
     → has_end (take (h.given + h.looked) input) ≡ false
 none_ends input front h left is goes none = ap (list_any is_end) (looked_given input front h left is goes) ∙ none
 
 -- so a front part that has such a line is longer
-pub takes_blocks : (input : List ℕ) (front : List (List ℕ)) (h : Hand) (left : Option (List ℕ)) → IsHand h → list_any is_end front ≡ false → Follows input front h left
+pub takes_blocks : (input : List ℕ) (front : List (List ℕ)) (h : Hand) (left : Option (List ℕ)) → IsHand h → list_any is_end front ≡ false
+    → Follows input front h left
     → TakesBlocks input left
 takes_blocks input front h left is none follows =
     by_over (TakesBlocks input left) input front h left
@@ -71,7 +77,8 @@ takes_blocks input front h left is none follows =
       within = omega (arith, short);
       near = λ m ends. elim (cases_lt (length input) m) [
         | inl behind ↦ omega (arith, behind)
-        | inr within ↦ absurd (false≢true (sym no_end ∙ ap has_end (sym (take_all (length input) input (omega arith))) ∙ has_end-take input m (length input) within ends))
+        | inr within ↦ absurd (false≢true
+            (sym no_end ∙ ap has_end (sym (take_all (length input) input (omega arith))) ∙ has_end-take input m (length input) within ends))
       ];
       rest = all.none_left ∙ ap Some (sym (drop_all (length input) input (omega arith)));
     }) follows

@@ -44,13 +44,15 @@ pub script_done : (s : Setup) (first : ℕ) (front : List (List ℕ)) (script : 
     → EndsSteps s first front (outcome_of_script s script) input (Ok Done) sent kept left → script.ending ≡ Finished
 script_done s first front script input sent kept left f = done_ends script.ending f.finishes.ends
 
-pub script_refused : (s : Setup) (first : ℕ) (front : List (List ℕ)) (script : Script) (line : ℕ) (why : Why) (input sent kept : List ℕ) (left : Option (List ℕ))
+pub script_refused : (s : Setup) (first : ℕ) (front : List (List ℕ)) (script : Script) (line : ℕ) (why : Why) (input sent kept : List ℕ)
+    (left : Option (List ℕ))
     → EndsSteps s first front (outcome_of_script s script) input (Ok (Refused line why)) sent kept left → script.ending ≡ ending.Refused line why
 script_refused s first front script line why input sent kept left f = refused_ends line why script.ending f.finishes.ends
 
 -- ---- no drivers
 
-pub without_drivers : {X : Type 0} {V : X → Type 0} (driver : Plug X V → Driver) {A : Type 0} (f : A → Driver) (drivers : List A) (desc : Description) (x : System X V) → drivers ≡ []
+pub without_drivers : {X : Type 0} {V : X → Type 0} (driver : Plug X V → Driver) {A : Type 0} (f : A → Driver) (drivers : List A) (desc : Description)
+    (x : System X V) → drivers ≡ []
     → StandsFor driver (record { desc = desc; drivers = map f drivers }) [] x → StandsFor driver (record { desc = desc; drivers = [] }) [] x
 without_drivers driver f drivers desc x none stands = subst (λ ds. StandsFor driver (record { desc = desc; drivers = map f ds }) [] x) none stands
 
@@ -67,18 +69,21 @@ of_text text (Err (stop.Refused line why)) t = t
 of_text text (Err stop.Mem) t = tt
 
 of_script : (desc : Description) (over : Bool) (first : ℕ) (lines : List (List ℕ)) (r : Result Tally Stop)
-    → TalliesScript (record { desc = desc; drivers = [] }) (script_from desc (last_ending over) [] first lines) r → TalliesHead over (Described desc first lines) r
+    → TalliesScript (record { desc = desc; drivers = [] }) (script_from desc (last_ending over) [] first lines) r
+    → TalliesHead over (Described desc first lines) r
 of_script desc over first lines (Ok tally) t = t
 of_script desc over first lines (Err (stop.Refused line why)) t = t
 of_script desc over first lines (Err stop.Mem) t = tt
 
-pub described : (text : List ℕ) (desc : Description) (first : ℕ) (h : Hand) (left : Option (List ℕ)) (r : Result Tally Stop) → IsHand h → EndsAt 0 desc first text h left
+pub described : (text : List ℕ) (desc : Description) (first : ℕ) (h : Hand) (left : Option (List ℕ)) (r : Result Tally Stop) → IsHand h
+    → EndsAt 0 desc first text h left
     → ((front more : List (List ℕ)) → Follows text front h left → first ≡ length front + 1 → looked_lines text ≡ front ++ more
     → TalliesScript (record { desc = desc; drivers = [] }) (script_from desc (last_ending (is_overlong text)) [] first more) r)
     → Tallies text r
 described text desc first h left r is ends played =
     let begins = follows_begin text ends.front h left is ends.follows in
-    let head : head_of 0 text ≡ Described desc first begins.more = ap (head_from (is_overlong text) (new_reader 0) 1) begins.parts ∙ ends.head (is_overlong text) begins.more in
+    let head : head_of 0 text ≡ Described desc first begins.more =
+    ap (head_from (is_overlong text) (new_reader 0) 1) begins.parts ∙ ends.head (is_overlong text) begins.more in
     of_text text r
     (subst (λ (x : Head). TalliesHead (is_overlong text) x r) (sym head)
     (of_script desc (is_overlong text) first begins.more r (played ends.front begins.more ends.follows ends.next begins.parts)))
@@ -90,5 +95,6 @@ alone text desc r ends counted =
     (subst (λ (x : Head). TalliesHead (is_overlong text) x r) (sym ends.head)
     (subst (λ (o : Bool). TalliesHead o (Described desc ends.next []) r) (sym ends.short) (of_script desc false ends.next [] r (counted ends.next))))
 
-pub refused : (text : List ℕ) (line : ℕ) (why : Why) (left : Option (List ℕ)) → RefusesAt 0 (read.Refused line why) line text left → Tallies text (Err (stop.Refused line why))
+pub refused : (text : List ℕ) (line : ℕ) (why : Why) (left : Option (List ℕ)) → RefusesAt 0 (read.Refused line why) line text left
+    → Tallies text (Err (stop.Refused line why))
 refused text line why left refuses = ap (λ (x : Head). (outcome_of_head [] (is_overlong text) x).ending) refuses.head

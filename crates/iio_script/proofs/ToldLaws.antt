@@ -19,7 +19,15 @@ ended_lines-open text b h =
     let front = ended_lines-front text (b ∷ []) in
     let one : end_count (b ∷ []) ≡ 0 = rw h refl in
     let none : front.0 ≡ [] =
-    none_of front.0 (omega (arith, ap length front.1, length-append (ended_lines text) front.0, length-ended_lines (text ++ b ∷ []), length-ended_lines text, end_count-append text (b ∷ []), one)) in
+    none_of front.0 (omega (
+      arith,
+      ap length front.1,
+      length-append (ended_lines text) front.0,
+      length-ended_lines (text ++ b ∷ []),
+      length-ended_lines text,
+      end_count-append text (b ∷ []),
+      one,
+    )) in
     front.1 ∙ ap (λ rest. ended_lines text ++ rest) none ∙ append-nil (ended_lines text)
 
 -- an LF more ends them all

@@ -43,7 +43,8 @@ kept_of_lines s a ending first lines = kept_of_script s a (numbered_from s.desc 
 
 -- the same with lines yet to come, after feeds of these names
 abbrev pub kept_on_lines : Setup → List ℕ → Option ℕ → List ℕ → List Event → Ending → (names : List (List ℕ)) → ℕ → List (List ℕ) → Result (List ℕ) Ending
-kept_on_lines s a offence text h ending names n lines = kept_on s a offence text h (numbered_from s.desc names n lines) (script_from s.desc ending names n lines).ending
+kept_on_lines s a offence text h ending names n lines =
+    kept_on s a offence text h (numbered_from s.desc names n lines) (script_from s.desc ending names n lines).ending
 
 module _ {X : Type 0} {V : X → Type 0} (driver : Plug X V → Driver) where
   -- the lines `given`, from that number on, were played, and that text was kept of them, or a step offended; the next line has
@@ -54,15 +55,20 @@ module _ {X : Type 0} {V : X → Type 0} (driver : Plug X V → Driver) where
     pub stands : StandsFor driver s done x
     pub same : AreSame names (names_by x)
     pub modest : offence ≡ None → only_bystanders s a done ≡ true
-    pub kept : (ending : Ending) (lines : List (List ℕ)) → kept_on_lines s a offence text done ending names n lines ≡ kept_of_lines s a ending first (given ++ lines)
+    pub kept : (ending : Ending) (lines : List (List ℕ))
+        → kept_on_lines s a offence text done ending names n lines ≡ kept_of_lines s a ending first (given ++ lines)
 
   -- a step was made, of that line
-  pub record KeepsStep (s : Setup) (a : List ℕ) (h : List Event) (n : ℕ) (t : Step) (offence offence' : Option ℕ) (text text' : List ℕ) (x' : System X V) : Type 0 where
+  pub record KeepsStep (s : Setup) (a : List ℕ) (h : List Event) (n : ℕ) (t : Step) (offence offence' : Option ℕ) (text text' : List ℕ) (x' : System X V) : Type
+      0 where
     pub stands : StandsFor driver s (with_step s h t) x'
     pub modest : offence' ≡ None → only_bystanders s a (with_step s h t) ≡ true
-    pub kept : (ts : List Numbered) (ending : Ending) → kept_on s a offence text h (record { number = n; step = t } ∷ ts) ending ≡ kept_on s a offence' text' (with_step s h t) ts ending
+    pub kept : (ts : List Numbered) (ending : Ending)
+        → kept_on s a offence text h (record { number = n; step = t } ∷ ts) ending ≡ kept_on s a offence' text' (with_step s h t) ts ending
 
   -- a line was played; or it is refused, and so is the input there
-  abbrev pub KeepsLine : Setup → (a : List ℕ) → System X V → (offence : Option ℕ) (text : List ℕ) (first n : ℕ) (given : List (List ℕ)) → (line : List ℕ) → Option Why → Type 0
+  abbrev pub KeepsLine : Setup → (a : List ℕ) → System X V → (offence : Option ℕ) (text : List ℕ) (first n : ℕ) (given : List (List ℕ)) → (line : List ℕ)
+      → Option Why → Type 0
   KeepsLine s a x offence text first n given line None = KeepsOn s a x offence text first (n + 1) (given ++ line ∷ [])
-  KeepsLine s a x offence text first n given line (Some why) = (ending : Ending) (lines : List (List ℕ)) → kept_of_lines s a ending first (given ++ line ∷ lines) ≡ Err (Refused n why)
+  KeepsLine s a x offence text first n given line (Some why) =
+      (ending : Ending) (lines : List (List ℕ)) → kept_of_lines s a ending first (given ++ line ∷ lines) ≡ Err (Refused n why)

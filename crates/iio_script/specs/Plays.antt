@@ -33,8 +33,10 @@ module _ {X : Type 0} {V : X → Type 0} (driver : Plug X V → Driver) where
     pub names : List (List ℕ)
     pub stands : StandsFor driver s done x
     pub same : AreSame names (names_by x)
-    pub printed : (ending : Ending) (lines : List (List ℕ)) → text ++ text_after s done (script_from s.desc ending names n lines) ≡ script_text s (script_from s.desc ending [] first (given ++ lines))
-    pub ends : (ending : Ending) (lines : List (List ℕ)) → (script_from s.desc ending names n lines).ending ≡ (script_from s.desc ending [] first (given ++ lines)).ending
+    pub printed : (ending : Ending) (lines : List (List ℕ))
+        → text ++ text_after s done (script_from s.desc ending names n lines) ≡ script_text s (script_from s.desc ending [] first (given ++ lines))
+    pub ends : (ending : Ending) (lines : List (List ℕ))
+        → (script_from s.desc ending names n lines).ending ≡ (script_from s.desc ending [] first (given ++ lines)).ending
     pub history : (ending : Ending) (lines : List (List ℕ))
         → with_steps s done (script_from s.desc ending names n lines).steps ≡ with_steps s [] (script_from s.desc ending [] first (given ++ lines)).steps
 
@@ -79,7 +81,8 @@ pub record FinishesAt (outcome : Outcome) (status : Status) (input text : List �
   pub near : TakesFor status input left
 
 -- how the steps of a script end: `sent` was written, and `kept` is to be written yet
-abbrev pub EndsSteps : Setup → (first : ℕ) (front : List (List ℕ)) → Outcome → (input : List ℕ) → Result Status Status → (sent kept : List ℕ) → (left : Option (List ℕ)) → Type 0
+abbrev pub EndsSteps : Setup → (first : ℕ) (front : List (List ℕ)) → Outcome → (input : List ℕ) → Result Status Status → (sent kept : List ℕ)
+    → (left : Option (List ℕ)) → Type 0
 EndsSteps s first front outcome input (Ok ReadFault) sent kept left = FailsAt s first front outcome input (sent ++ kept) left
 EndsSteps s first front outcome input (Ok status) sent kept left = FinishesAt outcome status input (sent ++ kept) left
 EndsSteps s first front outcome input (Err status) sent kept left = IsFrontOf outcome sent
@@ -123,7 +126,8 @@ WritesText before after text = IfSome before (λ xs. after ≡ Some (xs ++ text)
 
 -- what ends so that nothing is left to be written: all of it was written, or a write failed
 abbrev pub EndsWriting : (status result : Status) (before after : Option (List ℕ)) (kept : List ℕ) → Type 0
-EndsWriting status result before after kept = ((result ≡ status) × Sends before after kept []) ⊎ ((result ≡ WriteFault) × ((rest : List ℕ) × Sends before after kept rest))
+EndsWriting status result before after kept =
+    ((result ≡ status) × Sends before after kept []) ⊎ ((result ≡ WriteFault) × ((rest : List ℕ) × Sends before after kept rest))
 
 -- an outcome was printed and written, or a front part of it where that failed
 abbrev pub Prints : Outcome → Status → (text : List ℕ) → Type 0

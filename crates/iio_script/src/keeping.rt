@@ -171,7 +171,8 @@ fn keep_steps<S: Source>(
     requires unused { system.old.used ≡ 0 }
     requires begun { first ≤ lines.old.given + 1 }
     requires hand { IsHand lines.old }
-    ensures keeps { (s : Setup) (input' : List ℕ) (front more : List (List ℕ)) → StandsFor ⟦<Plug as Sensor>⟧.driver s [] system.old → FindsSame names.now s.desc
+    ensures keeps { (s : Setup) (input' : List ℕ) (front more : List (List ℕ)) → StandsFor ⟦<Plug as Sensor>⟧.driver s [] system.old
+        → FindsSame names.now s.desc
         → Follows input' front lines.old (S.left input.old) → looked_lines input' ≡ front ++ more
         → IfOk result (λ keeping. kept_of_lines s watched.now (last_ending (is_overlong input')) first more ≡ keeping_view keeping)
         × TakesAtMost input' (input_limit + 1) (S.left input.new) }

@@ -109,7 +109,8 @@ impl Model for LineReader {
 
     ghost view = { λ r. record { bytes = drop r.begin r.bytes.items; looked = r.looked; given = r.given; ended = r.ended; over = r.over } };
 
-    ghost invariant = { λ r. (r.begin ≤ vec_len r.bytes) × (vec_len r.piece ≡ piece_size) × IsHand (record { bytes = drop r.begin r.bytes.items; looked = r.looked; given = r.given; ended = r.ended; over = r.over }) };
+    ghost invariant = { λ r. (r.begin ≤ vec_len r.bytes) × (vec_len r.piece ≡ piece_size)
+        × IsHand (record { bytes = drop r.begin r.bytes.items; looked = r.looked; given = r.given; ended = r.ended; over = r.over }) };
 }
 
 impl LineReader {
@@ -159,7 +160,8 @@ impl LineReader {
         ensures given { self.new.given ≡ self.old.given }
         ensures over { self.new.over ≡ self.old.over }
         ensures to_take { to_take self.new ≡ to_take self.old }
-        ensures follows { (input : List ℕ) (front : List (List ℕ)) (left : Option (List ℕ)) → Follows input front self.old left → Follows input front self.new left }
+        ensures follows { (input : List ℕ) (front : List (List ℕ)) (left : Option (List ℕ)) → Follows input front self.old left
+            → Follows input front self.new left }
     {
         if self.over {
             return Some(Found::End);
@@ -221,7 +223,8 @@ impl LineReader {
     /// Takes the next piece, where more bytes are wanted.
     fn fill<S: Source>(&mut self, source: &mut S) -> Result<(), ReadEnd>
         requires { NeedsMore self.old }
-        ensures follows { (input : List ℕ) (front : List (List ℕ)) → Follows input front self.old (S.left source.old) → Follows input front self.new (S.left source.new) }
+        ensures follows { (input : List ℕ) (front : List (List ℕ)) → Follows input front self.old (S.left source.old)
+            → Follows input front self.new (S.left source.new) }
         ensures hand { IsHand self.new }
         ensures given { self.new.given ≡ self.old.given }
         ensures over { self.new.over ≡ self.old.over }
@@ -245,7 +248,8 @@ impl LineReader {
     pub(crate) fn find<S: Source>(&mut self, source: &mut S) -> Result<Found, ReadEnd>
         ensures found { IfOk result (λ found. Shows found self.new) }
         ensures more { OnErr result (NeedsMore self.new) }
-        ensures follows { (input : List ℕ) (front : List (List ℕ)) → Follows input front self.old (S.left source.old) → Follows input front self.new (S.left source.new) }
+        ensures follows { (input : List ℕ) (front : List (List ℕ)) → Follows input front self.old (S.left source.old)
+            → Follows input front self.new (S.left source.new) }
         ensures hand { IsHand self.new }
         ensures given { self.new.given ≡ self.old.given }
         ensures over { self.new.over ≡ self.old.over }
@@ -275,7 +279,8 @@ impl LineReader {
         ensures asked { OnErr result (seen ≡ None) }
         ensures found { IfOk result (λ found. Shows found self.new) }
         ensures more { OnErr result (NeedsMore self.new) }
-        ensures follows { (input : List ℕ) (front : List (List ℕ)) → Follows input front self.old (S.left source.old) → Follows input front self.new (S.left source.new) }
+        ensures follows { (input : List ℕ) (front : List (List ℕ)) → Follows input front self.old (S.left source.old)
+            → Follows input front self.new (S.left source.new) }
         ensures hand { IsHand self.new }
         ensures given { self.new.given ≡ self.old.given }
         ensures over { self.new.over ≡ self.old.over }

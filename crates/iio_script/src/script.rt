@@ -99,7 +99,8 @@ fn write_ready<K: Sink>(
     out: &mut Vec<u8>,
 ) -> Result<Option<Found>, Status>
     ensures found { IfOk result (λ seen. IfSome seen (λ found. Shows found lines.new)) }
-    ensures follows { (input : List ℕ) (front : List (List ℕ)) (left : Option (List ℕ)) → Follows input front lines.old left → Follows input front lines.new left }
+    ensures follows { (input : List ℕ) (front : List (List ℕ)) (left : Option (List ℕ)) → Follows input front lines.old left
+        → Follows input front lines.new left }
     ensures given { lines.new.given ≡ lines.old.given }
     ensures hand { IsHand lines.new }
     ensures more { IfOk result (λ seen. IfNone seen (NeedsMore lines.new)) }
@@ -139,13 +140,16 @@ pub(crate) fn play_steps<S: Source, K: Sink>(
     requires begun { first ≤ lines.old.given + 1 }
     requires hand { IsHand lines.old }
     requires empty { out.old.items ≡ [] }
-    ensures played { (s : Setup) (input' : List ℕ) (front more : List (List ℕ)) → StandsFor ⟦<Plug as Sensor>⟧.driver s [] system.old → FindsSame names.now s.desc
+    ensures played { (s : Setup) (input' : List ℕ) (front more : List (List ℕ)) → StandsFor ⟦<Plug as Sensor>⟧.driver s [] system.old
+        → FindsSame names.now s.desc
         → Follows input' front lines.old (S.left input.old) → first ≡ length front + 1 → looked_lines input' ≡ front ++ more
         → (sent : List ℕ) × (IfSome (K.written output.old) (λ written. K.written output.new ≡ Some (written ++ sent)))
-        × EndsSteps s first front (outcome_of_script s (script_from s.desc (last_ending (is_overlong input')) [] first more)) input' result sent out.new.items (S.left input.new)
+        × EndsSteps s first front (outcome_of_script s (script_from s.desc (last_ending (is_overlong input')) [] first more)) input' result sent out.new.items
+        (S.left input.new)
         × TakesAtMost input' (input_limit + 1) (S.left input.new)
         × AnswersScript s first front input' sent (S.left input.old) (S.left input.new) }
-    ensures stands { result ≡ Ok Status.Done → (s : Setup) (input' : List ℕ) (front more : List (List ℕ)) → StandsFor ⟦<Plug as Sensor>⟧.driver s [] system.old → FindsSame names.now s.desc
+    ensures stands { result ≡ Ok Status.Done → (s : Setup) (input' : List ℕ) (front more : List (List ℕ)) → StandsFor ⟦<Plug as Sensor>⟧.driver s [] system.old
+        → FindsSame names.now s.desc
         → Follows input' front lines.old (S.left input.old) → looked_lines input' ≡ front ++ more
         → StandsFor ⟦<Plug as Sensor>⟧.driver s (with_steps s [] (script_from s.desc (last_ending (is_overlong input')) [] first more).steps) system.new }
     ensures over { IsOver result }
@@ -198,10 +202,12 @@ fn play_described<S: Source, K: Sink>(
     requires sound { IsWellFormed (length drivers.items) desc }
     requires begun { first ≤ lines.old.given + 1 }
     requires hand { IsHand lines.old }
-    ensures played { (input' : List ℕ) (front more : List (List ℕ)) → Follows input' front lines.old (S.left input.old) → first ≡ length front + 1 → looked_lines input' ≡ front ++ more
+    ensures played { (input' : List ℕ) (front more : List (List ℕ)) → Follows input' front lines.old (S.left input.old) → first ≡ length front + 1
+        → looked_lines input' ≡ front ++ more
         → (text : List ℕ) × WritesText (K.written output.old) (K.written output.new) text
         × EndsScript (record { desc = desc; drivers = map (λ d. ⟦<Plug as Sensor>⟧.driver (Given d)) drivers.items }) first front
-        (outcome_of_script (record { desc = desc; drivers = map (λ d. ⟦<Plug as Sensor>⟧.driver (Given d)) drivers.items }) (script_from desc (last_ending (is_overlong input')) [] first more)) input' result text (S.left input.new)
+        (outcome_of_script (record { desc = desc; drivers = map (λ d. ⟦<Plug as Sensor>⟧.driver (Given d)) drivers.items })
+        (script_from desc (last_ending (is_overlong input')) [] first more)) input' result text (S.left input.new)
         × TakesAtMost input' (input_limit + 1) (S.left input.new)
         × AnswersScript (record { desc = desc; drivers = map (λ d. ⟦<Plug as Sensor>⟧.driver (Given d)) drivers.items }) first front
         input' text (S.left input.old) (S.left input.new) }
@@ -239,7 +245,8 @@ fn play_input<S: Source, K: Sink>(
     output: &mut K,
 ) -> Status
     requires { count ≡ length drivers.items }
-    ensures runs { IfSome (S.left input.old) (λ left. Runs (map (λ d. ⟦<Plug as Sensor>⟧.driver (Given d)) drivers.items) left result (S.left input.new) (K.written output.old) (K.written output.new)) }
+    ensures runs { IfSome (S.left input.old)
+        (λ left. Runs (map (λ d. ⟦<Plug as Sensor>⟧.driver (Given d)) drivers.items) left result (S.left input.new) (K.written output.old) (K.written output.new)) }
     ensures words { result ≡ Status.Usage → ⊥ }
     ensures faults { ShowsFaults S.left S.faults K.written K.faults result input.old input.new output.old output.new }
 {

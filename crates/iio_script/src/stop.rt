@@ -79,7 +79,8 @@ fn tally_steps<S: Source>(
     requires sound { IsWellFormed 0 desc }
     requires begun { first ≤ lines.old.given + 1 }
     requires hand { IsHand lines.old }
-    ensures { (text : List ℕ) (front more : List (List ℕ)) → Follows text front lines.old (S.left input.old) → first ≡ length front + 1 → looked_lines text ≡ front ++ more
+    ensures { (text : List ℕ) (front more : List (List ℕ)) → Follows text front lines.old (S.left input.old) → first ≡ length front + 1
+        → looked_lines text ≡ front ++ more
         → TalliesScript (record { desc = desc; drivers = [] }) (script_from desc (last_ending (is_overlong text)) [] first more) result }
 {
     let Ok(names) = outline(alloc, &desc) else {

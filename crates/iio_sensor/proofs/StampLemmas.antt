@@ -18,7 +18,8 @@ use Rattle.iio_layout.proofs.ValueLemmas.{data_field}
 
 -- the data channels' bytes are the same at each moment
 front_same : (shape : ShapeRecord) (mask : ℕ) (value : ℕ → ℕ → ℤ) (t t' : ℤ) (c : ℕ) → c ≤ length shape.channels
-    → front_below (formats_of shape) mask (capture_values (values_by shape value) t') c ≡ front_below (formats_of shape) mask (capture_values (values_by shape value) t) c
+    → front_below (formats_of shape) mask (capture_values (values_by shape value) t') c
+    ≡ front_below (formats_of shape) mask (capture_values (values_by shape value) t) c
 front_same shape mask value t t' zero within = refl
 front_same shape mask value t t' (suc c) within =
     let formats = formats_of shape in
@@ -46,10 +47,13 @@ length-front shape mask value t (suc c) within =
     let field : List ℕ = field_of shape (values_by shape value) t c in
     let before = length-front shape mask value t c (omega arith) in
     let many = length-elements_below (value c) (format_at formats c).repeat in
-    let own : length field ≡ size = ap length (sym (data_field shape value t c (omega arith))) ∙ length-channel_bytes (format_at formats c) (elements_below (value c) (format_at formats c).repeat) many in
+    let own : length field ≡ size =
+    ap length (sym (data_field shape value t c (omega arith)))
+    ∙ length-channel_bytes (format_at formats c) (elements_below (value c) (format_at formats c).repeat) many in
     elim (cases_Bool (has mask c)) [
       | inl selected ↦
-          rw selected (length-append (padded front size) field ∙ ap (λ n. n + length field) (length-padded front size) ∙ ap (λ n. next_multiple_of n size + length field) before
+          rw selected (length-append (padded front size) field ∙ ap (λ n. n + length field) (length-padded front size)
+          ∙ ap (λ n. next_multiple_of n size + length field) before
           ∙ ap (λ n. next_multiple_of (end_below formats mask c) size + n) own)
       | inr other ↦ rw other before
     ]
@@ -62,7 +66,8 @@ pub same_without : (shape : ShapeRecord) (mask : ℕ) (value : ℕ → ℕ → �
 same_without shape mask value t t' none =
     let count = count_is shape in
     let no_stamp = ap (λ stamp. length (stamp_formats stamp)) none in
-    ap (λ front. padded front (largest_below (formats_of shape) mask (count_of shape))) (front_same shape mask value t t' (count_of shape) (omega (arith, count, no_stamp)))
+    ap (λ front. padded front (largest_below (formats_of shape) mask (count_of shape)))
+    (front_same shape mask value t t' (count_of shape) (omega (arith, count, no_stamp)))
 
 -- the timestamp comes after the data channels
 last_front : (shape : ShapeRecord) (mask : ℕ) (values : List ℤ) (endian : Endian) (t : ℤ) → shape.stamp ≡ Some endian
@@ -73,7 +78,8 @@ last_front shape mask values endian t stamped =
     ap (front_below (formats_of shape) mask (capture_values values t)) (sym (stamped_count shape endian stamped) ∙ add-one (length shape.channels))
 
 -- under a mask without the timestamp
-pub same_unselected : (shape : ShapeRecord) (mask : ℕ) (value : ℕ → ℕ → ℤ) (endian : Endian) (t t' : ℤ) → shape.stamp ≡ Some endian → has mask (length shape.channels) ≡ false
+pub same_unselected : (shape : ShapeRecord) (mask : ℕ) (value : ℕ → ℕ → ℤ) (endian : Endian) (t t' : ℤ) → shape.stamp ≡ Some endian
+    → has mask (length shape.channels) ≡ false
     → scan_of shape mask (values_by shape value) t' ≡ scan_of shape mask (values_by shape value) t
 same_unselected shape mask value endian t t' stamped other =
     ap (λ front. padded front (largest_below (formats_of shape) mask (count_of shape)))
@@ -85,7 +91,8 @@ same_unselected shape mask value endian t t' stamped other =
         let formats = formats_of shape in
         let all = capture_values (values_by shape value) m in
         last_front shape mask (values_by shape value) endian m stamped
-        ∙ ap (λ selected. with_field selected (front_below formats mask all (length shape.channels)) (size_at formats (length shape.channels)) (field_at formats all (length shape.channels))) other
+        ∙ ap (λ selected. with_field selected (front_below formats mask all (length shape.channels)) (size_at formats (length shape.channels))
+        (field_at formats all (length shape.channels))) other
 
 -- ---- where it has
 
@@ -104,9 +111,11 @@ length-stamp : (endian : Endian) (t : ℤ) → length (element_bytes (stamp_form
 length-stamp endian t = length-number_bytes endian 8 (low_bits 64 t * 2 ^ 0)
 
 -- the data channels' bytes at any moment, then those of this one
-stamped_front : (shape : ShapeRecord) (mask : ℕ) (value : ℕ → ℕ → ℤ) (endian : Endian) (t t' : ℤ) → shape.stamp ≡ Some endian → has mask (length shape.channels) ≡ true
+stamped_front : (shape : ShapeRecord) (mask : ℕ) (value : ℕ → ℕ → ℤ) (endian : Endian) (t t' : ℤ) → shape.stamp ≡ Some endian
+    → has mask (length shape.channels) ≡ true
     → front_below (formats_of shape) mask (capture_values (values_by shape value) t') (count_of shape)
-    ≡ padded (front_below (formats_of shape) mask (capture_values (values_by shape value) t) (length shape.channels)) 8 ++ element_bytes (stamp_format endian) t'
+    ≡ padded (front_below (formats_of shape) mask (capture_values (values_by shape value) t) (length shape.channels)) 8
+    ++ element_bytes (stamp_format endian) t'
 stamped_front shape mask value endian t t' stamped selected =
     let formats = formats_of shape in
     let last : ℕ = length shape.channels in
@@ -131,12 +140,14 @@ replaced before old new after place is long =
 repadded : (before old new : List ℕ) (place size : ℕ) → length before ≡ place → length old ≡ 8 → length new ≡ 8
     → padded (before ++ new) size ≡ take place (padded (before ++ old) size) ++ (new ++ drop (place + 8) (padded (before ++ old) size))
 repadded before old new place size is long long' =
-    let same : length (before ++ new) ≡ length (before ++ old) = length-append before new ∙ ap (λ n. length before + n) (long' ∙ sym long) ∙ sym (length-append before old) in
+    let same : length (before ++ new) ≡ length (before ++ old) =
+    length-append before new ∙ ap (λ n. length before + n) (long' ∙ sym long) ∙ sym (length-append before old) in
     ap (λ n. (before ++ new) ++ replicate (next_multiple_of n size - n) 0) same
     ∙ replaced before old new (replicate (next_multiple_of (length (before ++ old)) size - length (before ++ old)) 0) place is long
 
 -- the scan at another moment is the scan with the other moment in the timestamp's place
-pub restamped : (shape : ShapeRecord) (mask : ℕ) (value : ℕ → ℕ → ℤ) (endian : Endian) (t t' : ℤ) → shape.stamp ≡ Some endian → has mask (length shape.channels) ≡ true
+pub restamped : (shape : ShapeRecord) (mask : ℕ) (value : ℕ → ℕ → ℤ) (endian : Endian) (t t' : ℤ) → shape.stamp ≡ Some endian
+    → has mask (length shape.channels) ≡ true
     → scan_of shape mask (values_by shape value) t'
     ≡ take (place_of shape mask (length shape.channels)) (scan_of shape mask (values_by shape value) t)
     ++ (element_bytes (stamp_format endian) t' ++ drop (place_of shape mask (length shape.channels) + 8) (scan_of shape mask (values_by shape value) t))
@@ -153,10 +164,12 @@ restamped shape mask value endian t t' stamped selected =
     ∙ ap (next_multiple_of (end_below formats mask last)) (sym (stamp_size shape endian stamped)) in
     ap (λ xs. padded xs largest) (stamped_front shape mask value endian t t' stamped selected)
     ∙ repadded (padded front 8) old new place largest before (length-stamp endian t) (length-stamp endian t')
-    ∙ ap (λ xs. take place (padded xs largest) ++ (new ++ drop (place + 8) (padded xs largest))) (sym (stamped_front shape mask value endian t t stamped selected))
+    ∙ ap (λ xs. take place (padded xs largest) ++ (new ++ drop (place + 8) (padded xs largest)))
+    (sym (stamped_front shape mask value endian t t stamped selected))
 
 -- the timestamp lies within the scan
-pub stamp_fits : (shape : ShapeRecord) (mask : ℕ) (value : ℕ → ℕ → ℤ) (endian : Endian) (t : ℤ) → shape.stamp ≡ Some endian → has mask (length shape.channels) ≡ true
+pub stamp_fits : (shape : ShapeRecord) (mask : ℕ) (value : ℕ → ℕ → ℤ) (endian : Endian) (t : ℤ) → shape.stamp ≡ Some endian
+    → has mask (length shape.channels) ≡ true
     → place_of shape mask (length shape.channels) + 8 ≤ length (scan_of shape mask (values_by shape value) t)
 stamp_fits shape mask value endian t stamped selected =
     let last : ℕ = length shape.channels in

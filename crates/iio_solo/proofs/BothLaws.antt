@@ -22,7 +22,8 @@ pub sent_all : (w0 w1 : Option (List ℕ)) (text : List ℕ) → Wrote w0 w1 tex
 sent_all w0 w1 text wrote = record { sent = text; parts = sym (append-nil text); writes = wrote }
 
 -- a part of the next piece, after the pieces before, where these are left
-pub sent_part : (w0 w1 w2 : Option (List ℕ)) (a b c : List ℕ) → Wrote w0 w1 a → IfSome w1 (λ xs. WritesPart xs b w2) → (rest : List ℕ) × Sends w0 w2 (a ++ (b ++ c)) rest
+pub sent_part : (w0 w1 w2 : Option (List ℕ)) (a b c : List ℕ) → Wrote w0 w1 a → IfSome w1 (λ xs. WritesPart xs b w2) → (rest : List ℕ)
+    × Sends w0 w2 (a ++ (b ++ c)) rest
 sent_part None w1 w2 a b c f g = (a ++ (b ++ c), record { sent = []; parts = refl; writes = tt })
 sent_part (Some xs) w1 w2 a b c f g =
     let part : WritesPart (xs ++ a) b w2 = subst (λ (w : Option (List ℕ)). IfSome w (λ ys. WritesPart ys b w2)) f g in
@@ -42,14 +43,17 @@ module _ (text line : List ℕ) where
   pub first_part : (w0 w1 : Option (List ℕ)) → IfSome w0 (λ xs. WritesPart xs text w1) → (rest : List ℕ) × Sends w0 w1 (text ++ (line ++ text)) rest
   first_part w0 w1 part = sent_part w0 w0 w1 [] text (line ++ text) (wrote_none w0) part
 
-  pub line_part : (w0 w1 w2 : Option (List ℕ)) → Wrote w0 w1 text → IfSome w1 (λ xs. WritesPart xs line w2) → (rest : List ℕ) × Sends w0 w2 (text ++ (line ++ text)) rest
+  pub line_part : (w0 w1 w2 : Option (List ℕ)) → Wrote w0 w1 text → IfSome w1 (λ xs. WritesPart xs line w2) → (rest : List ℕ)
+      × Sends w0 w2 (text ++ (line ++ text)) rest
   line_part w0 w1 w2 first part = sent_part w0 w1 w2 text line text first part
 
   pub last_part : (w0 w1 w2 w3 : Option (List ℕ)) → Wrote w0 w1 text → Wrote w1 w2 line → IfSome w2 (λ xs. WritesPart xs text w3)
       → (rest : List ℕ) × Sends w0 w3 (text ++ (line ++ text)) rest
   last_part w0 w1 w2 w3 first second part =
-      let same : (text ++ line) ++ (text ++ []) ≡ text ++ (line ++ text) = append_assoc text line (text ++ []) ∙ ap (λ (t : List ℕ). text ++ (line ++ t)) (append-nil text) in
-      subst (λ (t : List ℕ). (rest : List ℕ) × Sends w0 w3 t rest) same (sent_part w0 w2 w3 (text ++ line) text [] (wrote_then w0 w1 w2 text line first second) part)
+      let same : (text ++ line) ++ (text ++ []) ≡ text ++ (line ++ text) =
+      append_assoc text line (text ++ []) ∙ ap (λ (t : List ℕ). text ++ (line ++ t)) (append-nil text) in
+      subst (λ (t : List ℕ). (rest : List ℕ) × Sends w0 w3 t rest) same
+      (sent_part w0 w2 w3 (text ++ line) text [] (wrote_then w0 w1 w2 text line first second) part)
 
   pub last_whole : (w0 w1 w2 w3 : Option (List ℕ)) → Wrote w0 w1 text → Wrote w1 w2 line → Wrote w2 w3 text → Sends w0 w3 (text ++ (line ++ text)) []
   last_whole w0 w1 w2 w3 first second third =
@@ -74,5 +78,6 @@ failed_part (Err e) text line w0 w1 part = subst (λ (t : List ℕ). (rest : Lis
 pub all_sent : (text line : List ℕ) (w0 w1 : Option (List ℕ)) → Sends w0 w1 (text ++ (line ++ text)) [] → Sends w0 w1 (text ++ line ++ text) []
 all_sent text line w0 w1 sends = subst (λ (t : List ℕ). Sends w0 w1 t []) (sym (append_assoc text line text)) sends
 
-pub left_part : (text line : List ℕ) (w0 w1 : Option (List ℕ)) → ((rest : List ℕ) × Sends w0 w1 (text ++ (line ++ text)) rest) → (rest : List ℕ) × Sends w0 w1 (text ++ line ++ text) rest
+pub left_part : (text line : List ℕ) (w0 w1 : Option (List ℕ)) → ((rest : List ℕ) × Sends w0 w1 (text ++ (line ++ text)) rest) → (rest : List ℕ)
+    × Sends w0 w1 (text ++ line ++ text) rest
 left_part text line w0 w1 part = subst (λ (t : List ℕ). (rest : List ℕ) × Sends w0 w1 t rest) (sym (append_assoc text line text)) part

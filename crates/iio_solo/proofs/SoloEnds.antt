@@ -12,9 +12,11 @@ use Rattle.iio_script.specs.Plays.{Prints, WritesText}
 use Rattle.iio_worlds.specs.Solo.{SoloIsTwice, between, kept_of, solo_outcome_of, twice}
 
 -- what was kept is that
-pub kept_prints : (kept is : Keeping) (st : Status) (before after : Option (List ℕ)) → kept ≡ is → ((t : List ℕ) × WritesText before after t × Prints (twice (keeping_view is)) st t)
+pub kept_prints : (kept is : Keeping) (st : Status) (before after : Option (List ℕ)) → kept ≡ is
+    → ((t : List ℕ) × WritesText before after t × Prints (twice (keeping_view is)) st t)
     → (t : List ℕ) × WritesText before after t × Prints (twice (keeping_view kept)) st t
-kept_prints kept is st before after same prints = subst (λ (k : Keeping). (t : List ℕ) × WritesText before after t × Prints (twice (keeping_view k)) st t) (sym same) prints
+kept_prints kept is st before after same prints =
+    subst (λ (k : Keeping). (t : List ℕ) × WritesText before after t × Prints (twice (keeping_view k)) st t) (sym same) prints
 
 -- both texts were written
 pub both_done : (text : List ℕ) (before after : Option (List ℕ)) → Sends before after (text ++ between ++ text) []
@@ -32,7 +34,8 @@ both_part text before after part = (part.1.sent, part.1.writes, record { rest = 
 
 -- ---- by what was printed
 
-prints_writes : (outcome : Outcome) (st : Status) (text xs : List ℕ) (after : Option (List ℕ)) → Prints outcome st text → after ≡ Some (xs ++ text) → Writes outcome xs st after
+prints_writes : (outcome : Outcome) (st : Status) (text xs : List ℕ) (after : Option (List ℕ)) → Prints outcome st text → after ≡ Some (xs ++ text)
+    → Writes outcome xs st after
 prints_writes outcome status.Done text xs after f writes = record { ends = f.ends; written = writes ∙ ap (λ t. Some (xs ++ t)) f.printed }
 prints_writes outcome (status.Refused line why) text xs after f writes = record { ends = f.ends; written = writes ∙ ap (λ t. Some (xs ++ t)) f.printed }
 prints_writes outcome status.TooLong text xs after f writes = record { ends = f.ends; written = writes ∙ ap (λ t. Some (xs ++ t)) f.printed }
@@ -62,14 +65,16 @@ module _ (law : SoloIsTwice) (a : List ℕ) (drivers : List Driver) (kept : Resu
   same : (input : List ℕ) → kept_of a drivers input ≡ kept → twice kept ≡ solo_outcome_of a drivers input
   same input is = ap (λ (r : Result (List ℕ) Ending). twice r) (sym is) ∙ sym (law a drivers input)
 
-  pub kept_writes : (left before after : Option (List ℕ)) → IfSome left (λ input. kept_of a drivers input ≡ kept) → ((text : List ℕ) × WritesText before after text × Prints (twice kept) st text)
+  pub kept_writes : (left before after : Option (List ℕ)) → IfSome left (λ input. kept_of a drivers input ≡ kept)
+      → ((text : List ℕ) × WritesText before after text × Prints (twice kept) st text)
       → IfSome left (λ input. IfSome before (λ xs. Writes (solo_outcome_of a drivers input) xs st after))
   kept_writes None before after is prints = tt
   kept_writes (Some input) None after is prints = tt
   kept_writes (Some input) (Some xs) after is prints =
       subst (λ (o : Outcome). Writes o xs st after) (same input is) (prints_writes (twice kept) st prints.0 xs after prints.2 prints.1)
 
-  pub kept_status : (left before after : Option (List ℕ)) → IfSome left (λ input. kept_of a drivers input ≡ kept) → ((text : List ℕ) × WritesText before after text × Prints (twice kept) st text)
+  pub kept_status : (left before after : Option (List ℕ)) → IfSome left (λ input. kept_of a drivers input ≡ kept)
+      → ((text : List ℕ) × WritesText before after text × Prints (twice kept) st text)
       → IfSome left (λ input. HasStatus (solo_outcome_of a drivers input) st)
   kept_status None before after is prints = tt
   kept_status (Some input) before after is prints = subst (λ (o : Outcome). HasStatus o st) (same input is) (prints_status (twice kept) st prints.0 prints.2)
@@ -83,12 +88,14 @@ front_none outcome xs = record { front = []; rest = outcome.printed; parts = ref
     nil [] = refl
     nil (y ∷ ys) = ap (λ (zs : List ℕ). y ∷ zs) (nil ys)
 
-pub nothing_failed : (outcome : List ℕ → Outcome) (left written : Option (List ℕ)) → IfSome left (λ input. IfSome written (λ xs. Writes (outcome input) xs status.ReadFault written))
+pub nothing_failed : (outcome : List ℕ → Outcome) (left written : Option (List ℕ))
+    → IfSome left (λ input. IfSome written (λ xs. Writes (outcome input) xs status.ReadFault written))
 nothing_failed outcome None written = tt
 nothing_failed outcome (Some input) None = tt
 nothing_failed outcome (Some input) (Some xs) = front_none (outcome input) xs
 
-pub nothing_memory : (outcome : List ℕ → Outcome) (left written : Option (List ℕ)) → IfSome left (λ input. IfSome written (λ xs. Writes (outcome input) xs status.Memory written))
+pub nothing_memory : (outcome : List ℕ → Outcome) (left written : Option (List ℕ))
+    → IfSome left (λ input. IfSome written (λ xs. Writes (outcome input) xs status.Memory written))
 nothing_memory outcome None written = tt
 nothing_memory outcome (Some input) None = tt
 nothing_memory outcome (Some input) (Some xs) = front_none (outcome input) xs

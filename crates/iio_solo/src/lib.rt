@@ -63,7 +63,8 @@ pub fn solo<S: Source, K: Sink>(
 ) -> Status
     ensures worlds { IfSome (S.left input.old) (λ left. IfSome (K.written output.old) (λ written.
         Writes (solo_outcome_of name.now (map (λ d. ⟦<Plug as Sensor>⟧.driver (Given d)) drivers.items) left) written result (K.written output.new))) }
-    ensures status { IfSome (S.left input.old) (λ left. HasStatus (solo_outcome_of name.now (map (λ d. ⟦<Plug as Sensor>⟧.driver (Given d)) drivers.items) left) result) }
+    ensures status { IfSome (S.left input.old)
+        (λ left. HasStatus (solo_outcome_of name.now (map (λ d. ⟦<Plug as Sensor>⟧.driver (Given d)) drivers.items) left) result) }
     ensures words { result ≡ Status.Usage → ⊥ }
     ensures taken { IfSome (S.left input.old) (λ left. TakesAtMost left (input_limit + 1) (S.left input.new)) }
     // Nothing is written before the input's end.

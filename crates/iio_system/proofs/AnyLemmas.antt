@@ -37,7 +37,8 @@ kept_from f i [] same = refl
 kept_from {A = A} f i (x ∷ xs) same = ap (λ (y : A). y ∷ map_from f (suc i) xs) (same i x) ∙ ap (λ (ys : List A). x ∷ ys) (kept_from f (suc i) xs same)
 
 -- a change at one place alone
-pub placed : {A : Type 0} (f : ℕ → A → A) (g : A → A) (k : ℕ) (xs : List A) → ((j : ℕ) (x : A) → f j x ≡ cond (k == j) (g x) x) → map_from f 0 xs ≡ at_place k g xs
+pub placed : {A : Type 0} (f : ℕ → A → A) (g : A → A) (k : ℕ) (xs : List A) → ((j : ℕ) (x : A) → f j x ≡ cond (k == j) (g x) x)
+    → map_from f 0 xs ≡ at_place k g xs
 placed f g k xs same = as_from f (λ n x. cond (k == n) (g x) x) 0 xs same ∙ sym (placed_from g k k 0 xs (omega arith))
 
 -- ---- kinds but for averaging devices
@@ -68,14 +69,16 @@ module _ (front : Front) (none : (k : ℕ) → is_average (kind_at front k) ≡ 
   joined_alone dev change m =
       ap (λ (sts : List Station). (let x : Machine = record m { stations = sts } in x))
       (placed (λ k st. cond (dev == k) (change st) (with_inner front dev k st)) change dev m.stations
-      (λ j st. ap (λ (b : Bool). cond (dev == j) (change st) (cond (b && is_input (kind_at front j)) (inner_joined dev (shape_at front j) st) st)) (over_none (kind_at front dev) j (none dev))))
+      (λ j st. ap (λ (b : Bool). cond (dev == j) (change st) (cond (b && is_input (kind_at front j)) (inner_joined dev (shape_at front j) st) st))
+      (over_none (kind_at front dev) j (none dev))))
 
   -- and so does a leaving
   left_alone : (dev : ℕ) (m : Machine) → inner_left front dev m ≡ m
   left_alone dev m =
       ap (λ (sts : List Station). (let x : Machine = record m { stations = sts } in x))
       (kept_from (without_inner front m dev) 0 m.stations
-      (λ j st. ap (λ (b : Bool). cond (b && is_input (kind_at front j) && is_empty (station_at m dev).members) (inner_gone dev st) st) (over_none (kind_at front dev) j (none dev))))
+      (λ j st. ap (λ (b : Bool). cond (b && is_input (kind_at front j) && is_empty (station_at m dev).members) (inner_gone dev st) st)
+      (over_none (kind_at front dev) j (none dev))))
 
   pub closed_alone : (m : Machine) (dev number : ℕ) → closed front m dev number ≡ with_station (left number) dev m
   unfolding closed
@@ -85,36 +88,46 @@ module _ (front : Front) (none : (k : ℕ) → is_average (kind_at front k) ≡ 
   made_alone dev change m (Ok n) = ap (λ (y : Machine). (let o : Outcome ℕ = record { answer = Ok n; machine = y } in o)) (joined_alone dev change m)
   made_alone dev change m (Err e) = refl
 
-  module _ (m : Machine) (dev mask capacity : ℕ) (cyclic : Bool) (st : Station) (shape : ShapeRecord) (here : station_at m dev ≡ st) (shaped : shape_at front dev ≡ shape) where
-    numbered_by : (kind : Kind) (r : Option Errno) → is_average kind ≡ false → kind_at front dev ≡ kind → first_refusal (open_refusals front m.stations kind (own_host st shape mask) st) ≡ r
-        → unless_refused (station_at m dev).next (first_refusal (open_refusals front m.stations (kind_at front dev) (host_by front m.stations (kind_at front dev) (station_at m dev) (shape_at front dev) mask) (station_at m dev)))
+  module _ (m : Machine) (dev mask capacity : ℕ) (cyclic : Bool) (st : Station) (shape : ShapeRecord) (here : station_at m dev ≡ st)
+      (shaped : shape_at front dev ≡ shape) where
+    numbered_by : (kind : Kind) (r : Option Errno) → is_average kind ≡ false → kind_at front dev ≡ kind
+        → first_refusal (open_refusals front m.stations kind (own_host st shape mask) st) ≡ r
+        → unless_refused (station_at m dev).next
+        (first_refusal (open_refusals front m.stations (kind_at front dev)
+        (host_by front m.stations (kind_at front dev) (station_at m dev) (shape_at front dev) mask) (station_at m dev)))
         ≡ unless_refused st.next r
     numbered_by Input r plain is e = rw (is, here, shaped, e) refl
     numbered_by Output r plain is e = rw (is, here, shaped, e) refl
     numbered_by (Average base window) r plain is e = absurd (cc)
 
     -- an OPEN by the refusals of the device itself
-    pub open_alone : (kind : Kind) (r : Option Errno) → kind_at front dev ≡ kind → first_refusal (open_refusals front m.stations kind (own_host st shape mask) st) ≡ r
+    pub open_alone : (kind : Kind) (r : Option Errno) → kind_at front dev ≡ kind
+        → first_refusal (open_refusals front m.stations kind (own_host st shape mask) st) ≡ r
         → open_of front m dev mask capacity cyclic ≡ unless (joined mask capacity cyclic None) dev m (unless_refused st.next r)
     unfolding open_of
     open_alone kind r is e =
-        ap (λ (x : Result ℕ Errno). unless_made (all_joined front dev (joined mask capacity cyclic None)) m x) (numbered_by kind r (ap is_average (sym is) ∙ none dev) is e)
+        ap (λ (x : Result ℕ Errno). unless_made (all_joined front dev (joined mask capacity cyclic None)) m x)
+        (numbered_by kind r (ap is_average (sym is) ∙ none dev) is e)
         ∙ made_alone dev (joined mask capacity cyclic None) m (unless_refused st.next r)
 
 -- ---- devices
 
-head_by : (n n' : List ℕ) (s s' : ShapeRecord) → n' ≡ n → s' ≡ s → (let x : DeviceHead = record { name = n'; kind = Input; shape = s' } in x) ≡ (let y : DeviceHead = record { name = n; kind = Input; shape = s } in y)
+head_by : (n n' : List ℕ) (s s' : ShapeRecord) → n' ≡ n → s' ≡ s
+    → (let x : DeviceHead = record { name = n'; kind = Input; shape = s' } in x) ≡ (let y : DeviceHead = record { name = n; kind = Input; shape = s } in y)
 head_by n n' s s' name shape =
-    ap (λ (m : List ℕ). (let x : DeviceHead = record { name = m; kind = Input; shape = s' } in x)) name ∙ ap (λ (z : ShapeRecord). (let x : DeviceHead = record { name = n; kind = Input; shape = z } in x)) shape
+    ap (λ (m : List ℕ). (let x : DeviceHead = record { name = m; kind = Input; shape = s' } in x)) name
+    ∙ ap (λ (z : ShapeRecord). (let x : DeviceHead = record { name = n; kind = Input; shape = z } in x)) shape
 
 module _ {X : Type 0} {V : X → Type 0} where
   plain_head : (d : AnyDevice X V) → is_average (any_front d).kind ≡ false
   plain_head (any.Input d) = refl
   plain_head (any.Output x) = refl
 
-  pub no_average : (context : List ℕ) (triggers : List TriggerDesc) (ds : List (AnyDevice X V)) (k : ℕ) → is_average (kind_at (fronts_by any_front context triggers ds) k) ≡ false
+  pub no_average : (context : List ℕ) (triggers : List TriggerDesc) (ds : List (AnyDevice X V)) (k : ℕ)
+      → is_average (kind_at (fronts_by any_front context triggers ds) k) ≡ false
   unfolding kind_at
-  no_average context triggers ds k = ap (λ (o : Option DeviceHead). is_average (option_map_or (λ (x : DeviceHead). x.kind) o Input)) (slice_get-map any_front ds k) ∙ by (slice_get ds k)
+  no_average context triggers ds k =
+      ap (λ (o : Option DeviceHead). is_average (option_map_or (λ (x : DeviceHead). x.kind) o Input)) (slice_get-map any_front ds k) ∙ by (slice_get ds k)
     where
       by : (o : Option (AnyDevice X V)) → is_average (option_map_or (λ (x : DeviceHead). x.kind) (option_map any_front o) Input) ≡ false
       by None = refl
@@ -135,7 +148,8 @@ module _ {X : Type 0} {V : X → Type 0} where
   keeps_head drive (any.Output x) y k = absurd k
 
   pub keeps_in : (drive : Plug X V → Driver) (x y : AnyDevice X V) → InputKeepsAll drive x y → KeepsFront x y
-  keeps_in drive (any.Input d) (any.Input d') k = record { head = record { front = head_by _ _ _ _ k.device.name k.device.shape; number = k.device.number }; captures = k.captures }
+  keeps_in drive (any.Input d) (any.Input d') k =
+      record { head = record { front = head_by _ _ _ _ k.device.name k.device.shape; number = k.device.number }; captures = k.captures }
   keeps_in drive (any.Input d) (any.Output y) k = absurd k
   keeps_in drive (any.Output x) y k = absurd k
 

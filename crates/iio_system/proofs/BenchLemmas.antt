@@ -40,8 +40,10 @@ kept_same st st' e = record {
 pub kept_along : (st x st' : Station) → KeepsPlace st x → st' ≡ x → KeepsPlace st st'
 kept_along st x st' k e = rw e k
 
-module _ (triggers : List TriggerDesc) (states : List State) (sts : List Station) (k : ℕ) (st st' : Station) (bench : IsBench triggers states sts) (at : slice_get sts k ≡ Some st) where
-  pub hosted_after : is_hosted (length triggers) st' ≡ true → (dev : ℕ) (x : Station) → slice_get (set sts k st') dev ≡ Some x → is_hosted (length triggers) x ≡ true
+module _ (triggers : List TriggerDesc) (states : List State) (sts : List Station) (k : ℕ) (st st' : Station) (bench : IsBench triggers states sts)
+    (at : slice_get sts k ≡ Some st) where
+  pub hosted_after : is_hosted (length triggers) st' ≡ true → (dev : ℕ) (x : Station) → slice_get (set sts k st') dev ≡ Some x
+      → is_hosted (length triggers) x ≡ true
   hosted_after h dev x e = by (after_set sts k dev st' x e)
     where
       by : ((dev ≡ k) × (x ≡ st')) ⊎ ((dev ≡ k → ⊥) × (slice_get sts dev ≡ Some x)) → is_hosted (length triggers) x ≡ true
@@ -68,7 +70,8 @@ bench_by f triggers states ds k d' b = rw (map-set f ds k d') b
 -- ---- which calls keep a place
 
 module _ {A : Type 0} (change : Station → Station) (st st' : Station) where
-  acts_kept_by : (answer : Result A Errno) (r : Result A No) → ((x : A) → answer ≡ Ok x → KeepsPlace st (change st)) → Acts change answer r st st' → KeepsPlace st st'
+  acts_kept_by : (answer : Result A Errno) (r : Result A No) → ((x : A) → answer ≡ Ok x → KeepsPlace st (change st)) → Acts change answer r st st'
+      → KeepsPlace st st'
   acts_kept_by (Ok x) (Ok y) kept t = kept_along st (change st) st' (kept x refl) t.1
   acts_kept_by (Ok x) (Err (NoErrno e)) kept t = kept_along st (change st) st' (kept x refl) t.1
   acts_kept_by (Ok x) (Err NoMem) kept t = kept_same st st' t
@@ -76,7 +79,8 @@ module _ {A : Type 0} (change : Station → Station) (st st' : Station) where
   acts_kept_by (Err e) (Err (NoErrno o)) kept t = kept_same st st' t.1
   acts_kept_by (Err e) (Err NoMem) kept t = kept_same st st' t
 
-  pub acts_kept : (answer : Result A Errno) (r : Result A No) → ((x : A) → answer ≡ Ok x → KeepsPlace st (change st)) → Acts change answer r st st' → KeepsPlace st st'
+  pub acts_kept : (answer : Result A Errno) (r : Result A No) → ((x : A) → answer ≡ Ok x → KeepsPlace st (change st)) → Acts change answer r st st'
+      → KeepsPlace st st'
   acts_kept answer r kept t = acts_kept_by answer r kept t
 
 pub written_kept : (channel : Option ℕ) (a : Attr) (v : Fixed) (st : Station) → KeepsPlace st (with_site (site_written channel a v) st)
@@ -104,7 +108,8 @@ answered_empty st x e = by st.site.plugged (is_empty st.members) refl refl e
     by true false i j e = absurd (let h = rw (i, j) at e in cc)
     by false false i j e = absurd (let h = rw i at e in cc)
 
-pub trigger_kept : (trigger : Option ℕ) (st : Station) (x : ⊤) → trigger_answer st ≡ Ok x → KeepsPlace st (with_site (λ site. record site { trigger = trigger }) st)
+pub trigger_kept : (trigger : Option ℕ) (st : Station) (x : ⊤) → trigger_answer st ≡ Ok x
+    → KeepsPlace st (with_site (λ site. record site { trigger = trigger }) st)
 trigger_kept trigger st x e =
     let empty = answered_empty st x e in
     let st' : Station = with_site (λ site. record site { trigger = trigger }) st in
@@ -122,7 +127,8 @@ empty_with_scans id scans (m ∷ ms) = by (is_id_of id m)
     by true = refl
     by false = refl
 
-pub scans_kept : (id : MemberId) (totals : Totals) (scans : List (List ℕ)) (st : Station) → KeepsPlace st (record st { totals = totals; members = with_scans id scans st.members })
+pub scans_kept : (id : MemberId) (totals : Totals) (scans : List (List ℕ)) (st : Station)
+    → KeepsPlace st (record st { totals = totals; members = with_scans id scans st.members })
 scans_kept id totals scans st =
     let same = empty_with_scans id scans st.members in
     record {
@@ -136,7 +142,8 @@ take_kept id Scan scan st st' t = kept_along st _ st' (scans_kept id _ _ st) t.1
 take_kept id Empty scan st st' t = kept_same st st' t.2
 take_kept id Gone scan st st' t = kept_same st st' t.2
 
-pub take_scans_kept : (id : MemberId) (most : ℕ) (took : Took) (before after : List ℕ) (st st' : Station) → TakesScansAt id most took before after st st' → KeepsPlace st st'
+pub take_scans_kept : (id : MemberId) (most : ℕ) (took : Took) (before after : List ℕ) (st st' : Station) → TakesScansAt id most took before after st st'
+    → KeepsPlace st st'
 take_scans_kept id most Scan before after st st' t = kept_along st _ st' (scans_kept id _ _ st) t.2
 take_scans_kept id most Empty before after st st' t = kept_same st st' t.3
 take_scans_kept id most Gone before after st st' t = kept_same st st' t.3
@@ -160,9 +167,11 @@ or_true false c e = e
 pub hosted_is : (t n : ℕ) (st : Station) → st.site.trigger ≡ Some t → t < n → is_hosted n st ≡ true
 hosted_is t n st e h = or_true (is_empty st.members) (has_trigger n st.site.trigger) (has_trigger_is t n st.site.trigger e h)
 
-module _ (triggers : List TriggerDesc) (states : List State) (sts : List Station) (k t : ℕ) (st st' : Station) (s s' : State) (bench : IsBench triggers states sts) (at : slice_get sts k ≡ Some st) (there : slice_get states t ≡ Some s) where
+module _ (triggers : List TriggerDesc) (states : List State) (sts : List Station) (k t : ℕ) (st st' : Station) (s s' : State)
+    (bench : IsBench triggers states sts) (at : slice_get sts k ≡ Some st) (there : slice_get states t ≡ Some s) where
   placed : s'.places ≡ s.places → s'.outstanding ≡ s.outstanding → s'.attached ≡ places_from 0 t (set sts k st')
-      → ((u : ℕ) → (u ≡ t → ⊥) → places_from 0 u (set sts k st') ≡ places_from 0 u sts) → is_hosted (length triggers) st' ≡ true → IsBench triggers (set states t s') (set sts k st')
+      → ((u : ℕ) → (u ≡ t → ⊥) → places_from 0 u (set sts k st') ≡ places_from 0 u sts) → is_hosted (length triggers) st' ≡ true
+      → IsBench triggers (set states t s') (set sts k st')
   placed places outstanding own others hosted = record {
     few = bench.few;
     devices = rw (length_after sts k st') bench.devices;
@@ -182,7 +191,8 @@ module _ (triggers : List TriggerDesc) (states : List State) (sts : List Station
       }
 
   -- it takes a place
-  pub bench_attached : (a : ℕ) → t < length triggers → is_empty st.members ≡ true → st'.site.trigger ≡ Some t → is_empty st'.members ≡ false → st'.site.attachment ≡ a
+  pub bench_attached : (a : ℕ) → t < length triggers → is_empty st.members ≡ true → st'.site.trigger ≡ Some t → is_empty st'.members ≡ false
+      → st'.site.attachment ≡ a
       → s' ≡ record s { attached = with_place k a s.attached } → IsBench triggers (set states t s') (set sts k st')
   bench_attached a within empty own some same after =
       placed (ap (λ (x : State). x.places) after) (ap (λ (x : State). x.outstanding) after)
@@ -203,4 +213,6 @@ module _ (triggers : List TriggerDesc) (states : List State) (sts : List Station
 
   -- it keeps its place
   pub bench_stays : KeepsPlace st st' → s' ≡ s → IsBench triggers (set states t s') (set sts k st')
-  bench_stays kept same = subst (λ (xs : List State). IsBench triggers xs (set sts k st')) (sym (ap (λ (x : State). set states t x) same ∙ set_same states t s there)) (bench_kept triggers states sts k st st' bench at kept)
+  bench_stays kept same =
+      subst (λ (xs : List State). IsBench triggers xs (set sts k st')) (sym (ap (λ (x : State). set states t x) same ∙ set_same states t s there))
+      (bench_kept triggers states sts k st st' bench at kept)

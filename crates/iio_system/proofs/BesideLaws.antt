@@ -51,7 +51,8 @@ module _ {S : Type 0} (seen : S → SeatRecord) where
   session_desk o = option_map (λ (x : SessionRecord S). desk_of seen x.desk) o
 
   -- a session has a seat at a device where it has a place
-  pub held_is : (x : SessionRecord S) (dev : ℕ) (b : Bool) → b ≡ is_some (place_of dev (seats_of seen x.desk.held.items)) → b ≡ has_seat dev (desk_of seen x.desk)
+  pub held_is : (x : SessionRecord S) (dev : ℕ) (b : Bool) → b ≡ is_some (place_of dev (seats_of seen x.desk.held.items))
+      → b ≡ has_seat dev (desk_of seen x.desk)
   held_is x dev b is = is ∙ open_same dev (seats_of seen x.desk.held.items)
 
   -- a session that is lent
@@ -64,11 +65,14 @@ module _ {S : Type 0} (seen : S → SeatRecord) where
   pub same_seated : (a : List ℕ) (c : Connection S) (k : ℕ) → bytes_eq c.name a ≡ true → false ≡ one_seated (desks_besides seen a (c ∷ [])) k
   same_seated a c k same = ap (λ (b : Bool). one_seated (cond b [] (with_desk seen c.session [])) k) (sym same)
 
-  pub ended_seated : (a : List ℕ) (c : Connection S) (k : ℕ) → bytes_eq c.name a ≡ false → c.session ≡ None → false ≡ one_seated (desks_besides seen a (c ∷ [])) k
+  pub ended_seated : (a : List ℕ) (c : Connection S) (k : ℕ) → bytes_eq c.name a ≡ false → c.session ≡ None
+      → false ≡ one_seated (desks_besides seen a (c ∷ [])) k
   ended_seated a c k other none =
-      ap (λ (o : Option (SessionRecord S)). one_seated (with_desk seen o []) k) (sym none) ∙ ap (λ (b : Bool). one_seated (cond b [] (with_desk seen c.session [])) k) (sym other)
+      ap (λ (o : Option (SessionRecord S)). one_seated (with_desk seen o []) k) (sym none)
+      ∙ ap (λ (b : Bool). one_seated (cond b [] (with_desk seen c.session [])) k) (sym other)
 
-  pub live_seated : (a : List ℕ) (c : Connection S) (x : SessionRecord S) (k : ℕ) (h : Bool) → bytes_eq c.name a ≡ false → c.session ≡ Some x → h ≡ has_seat k (desk_of seen x.desk)
+  pub live_seated : (a : List ℕ) (c : Connection S) (x : SessionRecord S) (k : ℕ) (h : Bool) → bytes_eq c.name a ≡ false → c.session ≡ Some x
+      → h ≡ has_seat k (desk_of seen x.desk)
       → h ≡ one_seated (desks_besides seen a (c ∷ [])) k
   live_seated a c x k h other some is =
       is ∙ or_last (has_seat k (desk_of seen x.desk)) ∙ ap (λ (o : Option (SessionRecord S)). one_seated (with_desk seen o []) k) (sym some)
@@ -79,9 +83,11 @@ module _ {S : Type 0} (seen : S → SeatRecord) where
 
   pub ended_none : (a : List ℕ) (c : Connection S) → bytes_eq c.name a ≡ false → c.session ≡ None → true ≡ none_seated (desks_besides seen a (c ∷ []))
   ended_none a c other none =
-      ap (λ (o : Option (SessionRecord S)). none_seated (with_desk seen o [])) (sym none) ∙ ap (λ (b : Bool). none_seated (cond b [] (with_desk seen c.session []))) (sym other)
+      ap (λ (o : Option (SessionRecord S)). none_seated (with_desk seen o [])) (sym none)
+      ∙ ap (λ (b : Bool). none_seated (cond b [] (with_desk seen c.session []))) (sym other)
 
-  pub live_none : (a : List ℕ) (c : Connection S) (x : SessionRecord S) (h : Bool) → bytes_eq c.name a ≡ false → c.session ≡ Some x → h ≡ is_empty (desk_of seen x.desk).seats
+  pub live_none : (a : List ℕ) (c : Connection S) (x : SessionRecord S) (h : Bool) → bytes_eq c.name a ≡ false → c.session ≡ Some x
+      → h ≡ is_empty (desk_of seen x.desk).seats
       → h ≡ none_seated (desks_besides seen a (c ∷ []))
   live_none a c x h other some is =
       is ∙ and_last (is_empty (desk_of seen x.desk).seats) ∙ ap (λ (o : Option (SessionRecord S)). none_seated (with_desk seen o [])) (sym some)
@@ -94,7 +100,8 @@ module _ {S : Type 0} (seen : S → SeatRecord) where
   seated_first a c cs k = by (bytes_eq c.name a) c.session
     where
       by : (b : Bool) (o : Option (SessionRecord S))
-          → one_seated (cond b (desks_besides seen a cs) (with_desk seen o (desks_besides seen a cs))) k ≡ (one_seated (cond b [] (with_desk seen o [])) k || one_seated (desks_besides seen a cs) k)
+          → one_seated (cond b (desks_besides seen a cs) (with_desk seen o (desks_besides seen a cs))) k
+          ≡ (one_seated (cond b [] (with_desk seen o [])) k || one_seated (desks_besides seen a cs) k)
       by true o = refl
       by false None = refl
       by false (Some x) = or_none (has_seat k (desk_of seen x.desk)) (one_seated (desks_besides seen a cs) k)
@@ -104,7 +111,8 @@ module _ {S : Type 0} (seen : S → SeatRecord) where
   none_first a c cs = by (bytes_eq c.name a) c.session
     where
       by : (b : Bool) (o : Option (SessionRecord S))
-          → none_seated (cond b (desks_besides seen a cs) (with_desk seen o (desks_besides seen a cs))) ≡ (none_seated (cond b [] (with_desk seen o [])) && none_seated (desks_besides seen a cs))
+          → none_seated (cond b (desks_besides seen a cs) (with_desk seen o (desks_besides seen a cs)))
+          ≡ (none_seated (cond b [] (with_desk seen o [])) && none_seated (desks_besides seen a cs))
       by true o = refl
       by false None = refl
       by false (Some x) = and_all (is_empty (desk_of seen x.desk).seats) (none_seated (desks_besides seen a cs))
@@ -112,7 +120,8 @@ module _ {S : Type 0} (seen : S → SeatRecord) where
   -- ---- from a place on
 
   pub seated_on : (a : List ℕ) (cs : List (Connection S)) (i : ℕ) (c : Connection S) (k : ℕ) (b : Bool) → i < length cs → c ≡ get_or cs i c
-      → b ≡ one_seated (desks_besides seen a (c ∷ [])) k → one_seated (desks_besides seen a (drop i cs)) k ≡ (b || one_seated (desks_besides seen a (drop (i + 1) cs)) k)
+      → b ≡ one_seated (desks_besides seen a (c ∷ [])) k
+      → one_seated (desks_besides seen a (drop i cs)) k ≡ (b || one_seated (desks_besides seen a (drop (i + 1) cs)) k)
   seated_on a cs i c k b within is first =
       at_drop_more (λ ds. one_seated (desks_besides seen a ds) k) cs i c within
       ∙ ap (λ (e : Connection S). one_seated (desks_besides seen a (e ∷ drop (i + 1) cs)) k) (sym is)
@@ -120,7 +129,8 @@ module _ {S : Type 0} (seen : S → SeatRecord) where
       ∙ ap (λ (x : Bool). x || one_seated (desks_besides seen a (drop (i + 1) cs)) k) (sym first)
 
   pub none_on : (a : List ℕ) (cs : List (Connection S)) (i : ℕ) (c : Connection S) (b : Bool) → i < length cs → c ≡ get_or cs i c
-      → b ≡ none_seated (desks_besides seen a (c ∷ [])) → none_seated (desks_besides seen a (drop i cs)) ≡ (b && none_seated (desks_besides seen a (drop (i + 1) cs)))
+      → b ≡ none_seated (desks_besides seen a (c ∷ []))
+      → none_seated (desks_besides seen a (drop i cs)) ≡ (b && none_seated (desks_besides seen a (drop (i + 1) cs)))
   none_on a cs i c b within is first =
       at_drop_more (λ ds. none_seated (desks_besides seen a ds)) cs i c within
       ∙ ap (λ (e : Connection S). none_seated (desks_besides seen a (e ∷ drop (i + 1) cs))) (sym is)
@@ -142,25 +152,30 @@ module _ {S : Type 0} (seen : S → SeatRecord) where
 
   seated_parts : (a : List ℕ) (cs ds : List (Connection S)) (k : ℕ)
       → (one_seated (desks_besides seen a cs) k || one_seated (desks_besides seen a ds) k) ≡ one_seated (desks_besides seen a (cs ++ ds)) k
-  seated_parts a cs ds k = sym (ap (λ (es : List DeskRecord). one_seated es k) (desks_parts a cs ds) ∙ seated_join (desks_besides seen a cs) (desks_besides seen a ds) k)
+  seated_parts a cs ds k =
+      sym (ap (λ (es : List DeskRecord). one_seated es k) (desks_parts a cs ds) ∙ seated_join (desks_besides seen a cs) (desks_besides seen a ds) k)
 
   none_parts : (a : List ℕ) (cs ds : List (Connection S))
       → (none_seated (desks_besides seen a cs) && none_seated (desks_besides seen a ds)) ≡ none_seated (desks_besides seen a (cs ++ ds))
   none_parts a cs ds = sym (ap none_seated (desks_parts a cs ds) ∙ none_join (desks_besides seen a cs) (desks_besides seen a ds))
 
   -- one has the device open where one of the first part has, or else one of the second
-  pub seated_before : (a : List ℕ) (cs ds : List (Connection S)) (k : ℕ) (x : Bool) → x ≡ true → x ≡ one_seated (desks_besides seen a cs) k → x ≡ one_seated (desks_besides seen a (cs ++ ds)) k
+  pub seated_before : (a : List ℕ) (cs ds : List (Connection S)) (k : ℕ) (x : Bool) → x ≡ true → x ≡ one_seated (desks_besides seen a cs) k
+      → x ≡ one_seated (desks_besides seen a (cs ++ ds)) k
   seated_before a cs ds k x is first = is ∙ ap (λ (b : Bool). b || one_seated (desks_besides seen a ds) k) (sym is ∙ first) ∙ seated_parts a cs ds k
 
-  pub seated_after : (a : List ℕ) (cs ds : List (Connection S)) (k : ℕ) (x y : Bool) → x ≡ false → x ≡ one_seated (desks_besides seen a cs) k → y ≡ one_seated (desks_besides seen a ds) k
+  pub seated_after : (a : List ℕ) (cs ds : List (Connection S)) (k : ℕ) (x y : Bool) → x ≡ false → x ≡ one_seated (desks_besides seen a cs) k
+      → y ≡ one_seated (desks_besides seen a ds) k
       → y ≡ one_seated (desks_besides seen a (cs ++ ds)) k
   seated_after a cs ds k x y is first second = second ∙ ap (λ (b : Bool). b || one_seated (desks_besides seen a ds) k) (sym is ∙ first) ∙ seated_parts a cs ds k
 
   -- and none has any where none of the first part has, and none of the second
-  pub none_before : (a : List ℕ) (cs ds : List (Connection S)) (x : Bool) → x ≡ false → x ≡ none_seated (desks_besides seen a cs) → x ≡ none_seated (desks_besides seen a (cs ++ ds))
+  pub none_before : (a : List ℕ) (cs ds : List (Connection S)) (x : Bool) → x ≡ false → x ≡ none_seated (desks_besides seen a cs)
+      → x ≡ none_seated (desks_besides seen a (cs ++ ds))
   none_before a cs ds x is first = is ∙ ap (λ (b : Bool). b && none_seated (desks_besides seen a ds)) (sym is ∙ first) ∙ none_parts a cs ds
 
-  pub none_after : (a : List ℕ) (cs ds : List (Connection S)) (x y : Bool) → x ≡ true → x ≡ none_seated (desks_besides seen a cs) → y ≡ none_seated (desks_besides seen a ds)
+  pub none_after : (a : List ℕ) (cs ds : List (Connection S)) (x y : Bool) → x ≡ true → x ≡ none_seated (desks_besides seen a cs)
+      → y ≡ none_seated (desks_besides seen a ds)
       → y ≡ none_seated (desks_besides seen a (cs ++ ds))
   none_after a cs ds x y is first second = second ∙ ap (λ (b : Bool). b && none_seated (desks_besides seen a ds)) (sym is ∙ first) ∙ none_parts a cs ds
 
@@ -173,7 +188,8 @@ module _ {S : Type 0} (seen : S → SeatRecord) where
   desk_found a [] = refl
   desk_found a (c ∷ cs) = by (bytes_eq c.name a) (desk_found a cs)
     where
-      by : (b : Bool) → desk_at (connection_named a cs) ≡ desk_named seen a cs → desk_at (cond b (Some c) (connection_named a cs)) ≡ cond b (session_desk c.session) (desk_named seen a cs)
+      by : (b : Bool) → desk_at (connection_named a cs) ≡ desk_named seen a cs
+          → desk_at (cond b (Some c) (connection_named a cs)) ≡ cond b (session_desk c.session) (desk_named seen a cs)
       by true rest = refl
       by false rest = rest
 
@@ -184,17 +200,20 @@ module _ {S : Type 0} (seen : S → SeatRecord) where
 
   pub lent_nowhere : (a : List ℕ) (cs : List (Connection S)) (own : Option (Bor (SessionRecord S))) (found : Option (Bor (Connection S)))
       → found ≡ None → option_copied found ≡ connection_named a cs → own ≡ None → desk_by seen own ≡ desk_named seen a cs
-  lent_nowhere a cs own found is named none = ap (λ (o : Option (Bor (SessionRecord S))). desk_by seen o) none ∙ ap desk_at (ap option_copied (sym is) ∙ named) ∙ desk_found a cs
+  lent_nowhere a cs own found is named none =
+      ap (λ (o : Option (Bor (SessionRecord S))). desk_by seen o) none ∙ ap desk_at (ap option_copied (sym is) ∙ named) ∙ desk_found a cs
 
   -- ---- all but one
 
   -- one of that name counts as nobody
-  pub besides_between : (a : List ℕ) (cs ds : List (Connection S)) (c : Connection S) → bytes_eq c.name a ≡ true → desks_besides seen a (cs ++ ds) ≡ desks_besides seen a (cs ++ c ∷ ds)
+  pub besides_between : (a : List ℕ) (cs ds : List (Connection S)) (c : Connection S) → bytes_eq c.name a ≡ true
+      → desks_besides seen a (cs ++ ds) ≡ desks_besides seen a (cs ++ c ∷ ds)
   besides_between a [] ds c is = rw is refl
   besides_between a (e ∷ cs) ds c is = ap (λ (es : List DeskRecord). cond (bytes_eq e.name a) es (with_desk seen e.session es)) (besides_between a cs ds c is)
 
   -- and one of another isn't the first of that name
-  pub named_between : (a : List ℕ) (cs ds : List (Connection S)) (c : Connection S) → bytes_eq c.name a ≡ false → desk_named seen a (cs ++ ds) ≡ desk_named seen a (cs ++ c ∷ ds)
+  pub named_between : (a : List ℕ) (cs ds : List (Connection S)) (c : Connection S) → bytes_eq c.name a ≡ false
+      → desk_named seen a (cs ++ ds) ≡ desk_named seen a (cs ++ c ∷ ds)
   named_between a [] ds c is = rw is refl
   named_between a (e ∷ cs) ds c is = ap (λ (o : Option DeskRecord). cond (bytes_eq e.name a) (session_desk e.session) o) (named_between a cs ds c is)
 
@@ -215,9 +234,11 @@ module _ {S : Type 0} (a : List ℕ) where
       by false rest = rest
 
   -- it is the first part's, or else the second's
-  pub named_before : (cs ds : List (Connection S)) (c : Bor (Connection S)) (found : Option (Bor (Connection S))) → found ≡ Some c → option_copied found ≡ connection_named a cs
+  pub named_before : (cs ds : List (Connection S)) (c : Bor (Connection S)) (found : Option (Bor (Connection S))) → found ≡ Some c
+      → option_copied found ≡ connection_named a cs
       → Some c.now ≡ connection_named a (cs ++ ds)
-  named_before cs ds c found is named = ap (λ (o : Option (Connection S)). or_else o (connection_named a ds)) (ap option_copied (sym is) ∙ named) ∙ named_parts cs ds
+  named_before cs ds c found is named =
+      ap (λ (o : Option (Connection S)). or_else o (connection_named a ds)) (ap option_copied (sym is) ∙ named) ∙ named_parts cs ds
 
   pub named_after : (cs ds : List (Connection S)) (found other : Option (Bor (Connection S))) → found ≡ None → option_copied found ≡ connection_named a cs
       → option_copied other ≡ connection_named a ds → option_copied other ≡ connection_named a (cs ++ ds)

@@ -20,22 +20,30 @@ script_isnt_server : Script ≡ Server → ⊥
 script_isnt_server e = absurd (cc)
 
 -- after a feed in a script nothing whole is left
-left_is : (front : Front) (a b : State) (all left : Scanned) (before after : List ℕ) (going : Going) → (going ≡ On → left.items ≡ []) → Feeds Script front a all before after b left going
+left_is : (front : Front) (a b : State) (all left : Scanned) (before after : List ℕ) (going : Going) → (going ≡ On → left.items ≡ [])
+    → Feeds Script front a all before after b left going
     → left ≡ no_item all.next
-left_is front a b all left before after On whole f = ap (λ items. (let x : Scanned = record { items = items; next = left.next } in x)) (whole refl) ∙ ap (λ next. no_item next) f.carried.fed.next
+left_is front a b all left before after On whole f =
+    ap (λ items. (let x : Scanned = record { items = items; next = left.next } in x)) (whole refl) ∙ ap (λ next. no_item next) f.carried.fed.next
 left_is front a b all left before after (Waits dev) whole f = absurd (script_isnt_server f.carried.stands.server)
-left_is front a b all left before after Ended whole f = f.carried.stands.1 ∙ ap (λ next. no_item next) (sym (ap (λ (x : Scanned). x.next) f.carried.stands.1) ∙ f.carried.fed.next)
+left_is front a b all left before after Ended whole f =
+    f.carried.stands.1 ∙ ap (λ next. no_item next) (sym (ap (λ (x : Scanned). x.next) f.carried.stands.1) ∙ f.carried.fed.next)
 
 module _ {S : Type 0} (seen : S → SeatRecord) where
   pub has_heard : (front : Front) (told told' : Option Machine) (x x' : SessionRecord S) (bytes before after : List ℕ) (going : Going)
       → Feeds x.manner front (state_of seen told x.desk) (scan_on x.stream bytes) before after (state_of seen told' x'.desk) x'.stream going
       → (going ≡ On → x'.stream.items ≡ []) → x'.manner ≡ x.manner
       → FeedTells x.manner front (state_of seen told x.desk) (scan_on x.stream bytes).items before after (state_of seen told' x'.desk)
-      → (s : Setup) (m : Told) (name : List ℕ) (begun : Scanner) → IsHearing seen s m front told name begun bytes x → HasHeard seen s m told' name begun bytes before after x'
+      → (s : Setup) (m : Told) (name : List ℕ) (begun : Scanner) → IsHearing seen s m front told name begun bytes x
+      → HasHeard seen s m told' name begun bytes before after x'
   has_heard front told told' x x' bytes before after going feeds whole manner tells s m name begun h =
-      let f : Feeds Script front (state_of seen told x.desk) (scan_on (no_item begun) bytes) before after (state_of seen told' x'.desk) x'.stream going = rw (h.session.manner, h.session.stream) at feeds in
-      let t : FeedTells Script (front_of s) (state_of seen told x.desk) (items_from begun bytes) before after (state_of seen told' x'.desk) = rw (h.session.manner, h.session.stream, h.front_is) at tells in
-      let r = script_feeds_tell s m name (items_from begun bytes) (state_of seen told x.desk) (state_of seen told' x'.desk) before after h.bench h.there h.session.desk h.room h.told_is t in
+      let f : Feeds Script front (state_of seen told x.desk) (scan_on (no_item begun) bytes) before after (state_of seen told' x'.desk) x'.stream going =
+      rw (h.session.manner, h.session.stream) at feeds in
+      let t : FeedTells Script (front_of s) (state_of seen told x.desk) (items_from begun bytes) before after (state_of seen told' x'.desk) =
+      rw (h.session.manner, h.session.stream, h.front_is) at tells in
+      let r =
+      script_feeds_tell s m name (items_from begun bytes) (state_of seen told x.desk) (state_of seen told' x'.desk) before after h.bench h.there h.session.desk
+      h.room h.told_is t in
       record {
         said = r.0;
         told_is = r.1;

@@ -45,12 +45,14 @@ lines_dropped : (s : Setup) (m : Told) (name : List ℕ) → (step s m (Dropped 
 lines_dropped s m name = append-nil (map (line_after s (registry_of m) (Dropped name)) m.lines)
 
 -- the line of a drop
-pub drop_lines : (s : Setup) (m : Told) (name : List ℕ) (live : Bool) → is_live name (registry_of m).users ≡ live → step_lines s m (Drop name) ≡ printed (name ∷ dropped_word live ∷ [])
+pub drop_lines : (s : Setup) (m : Told) (name : List ℕ) (live : Bool) → is_live name (registry_of m).users ≡ live
+    → step_lines s m (Drop name) ≡ printed (name ∷ dropped_word live ∷ [])
 drop_lines s m name live is =
     append-nil (printed (name ∷ cond (is_live name (registry_of m).users) (codes "dropped") (codes "closed") ∷ []))
     ∙ ap (λ (b : Bool). printed (name ∷ cond b (codes "dropped") (codes "closed") ∷ [])) is
 
-live_by : (m : Told) (name : List ℕ) (o : Option User) → user_named name (registry_of m).users ≡ o → is_live name (registry_of m).users ≡ elim o [ None ↦ false | Some u ↦ not u.ended ]
+live_by : (m : Told) (name : List ℕ) (o : Option User) → user_named name (registry_of m).users ≡ o
+    → is_live name (registry_of m).users ≡ elim o [ None ↦ false | Some u ↦ not u.ended ]
 live_by m name o is = ap (λ (x : Option User). elim x [ None ↦ false | Some u ↦ not u.ended ]) is
 
 module _ {S : Type 0} (seen : S → SeatRecord) where
@@ -58,22 +60,28 @@ module _ {S : Type 0} (seen : S → SeatRecord) where
       → OthersAre seen front (step s m (Dropped name)) name (step s m (Dropped name)).lines cs
   others_dropped s m front name cs are =
       subst (λ (ls : List Line). OthersAre seen front (step s m (Dropped name)) name ls cs) (sym (lines_dropped s m name))
-      (others_move seen front m (step s m (Dropped name)) name (line_after s (registry_of m) (Dropped name)) m.lines cs (λ l. refl) (λ l apart. other_dropped s (registry_of m) name l apart)
-      (desks_kept s m (Dropped name) name m.lines (λ l apart. apart_sym l.user.who name apart) (every_line_there m)) (others_are seen front m name m.lines cs are))
+      (others_move seen front m (step s m (Dropped name)) name (line_after s (registry_of m) (Dropped name)) m.lines cs (λ l. refl)
+      (λ l apart. other_dropped s (registry_of m) name l apart)
+      (desks_kept s m (Dropped name) name m.lines (λ l apart. apart_sym l.user.who name apart) (every_line_there m))
+      (others_are seen front m name m.lines cs are))
 
   -- what a connection has: a desk, by which its session is left
   abbrev pub HasDesk : Told → List ℕ → Option (SessionRecord S) → Type 0
-  HasDesk m name o = (desk : DeskRecord) × IsDeskOf m name desk × ((front : Front) (machine : Machine) → left_by seen front machine o ≡ left_machine front machine desk)
+  HasDesk m name o =
+      (desk : DeskRecord) × IsDeskOf m name desk × ((front : Front) (machine : Machine) → left_by seen front machine o ≡ left_machine front machine desk)
 
-  desk_by : (front : Front) (m : Told) (name : List ℕ) (l : Line) (o : Option (SessionRecord S)) → l.user.who ≡ name → IsServed seen front m l o → HasDesk m name o
+  desk_by : (front : Front) (m : Told) (name : List ℕ) (l : Line) (o : Option (SessionRecord S)) → l.user.who ≡ name → IsServed seen front m l o
+      → HasDesk m name o
   desk_by front m name l None who served = (
     served.desk,
     subst (λ (w : List ℕ). IsDeskOf m w served.desk) who served.has,
     λ front machine. sym (rw (served.bare.0, served.bare.1) refl),
   )
-  desk_by front m name l (Some x) who served = (desk_of seen x.desk, subst (λ (w : List ℕ). IsDeskOf m w (desk_of seen x.desk)) who served.session.desk, λ front machine. refl)
+  desk_by front m name l (Some x) who served =
+      (desk_of seen x.desk, subst (λ (w : List ℕ). IsDeskOf m w (desk_of seen x.desk)) who served.session.desk, λ front machine. refl)
 
-  live_is : (front : Front) (m : Told) (name : List ℕ) (l : Line) (o : Option (SessionRecord S)) → line_named name m.lines ≡ Some l → IsServed seen front m l o → is_live name (registry_of m).users ≡ is_some o
+  live_is : (front : Front) (m : Told) (name : List ℕ) (l : Line) (o : Option (SessionRecord S)) → line_named name m.lines ≡ Some l → IsServed seen front m l o
+      → is_live name (registry_of m).users ≡ is_some o
   live_is front m name l None is served = live_by m name (Some l.user) (user_is m name l is) ∙ ap (λ (b : Bool). not b) served.ended
   live_is front m name l (Some x) is served = live_by m name (Some l.user) (user_is m name l is) ∙ ap (λ (b : Bool). not b) served.live
 
@@ -95,12 +103,16 @@ module _ {S : Type 0} (seen : S → SeatRecord) where
         drop_lines s m name (is_some (get_or cs i d).session) (live_is front m name l (get_or cs i d).session at.1 at.2),
         record {
           front_is = stands.front_is;
-          told_is = ap (λ (n : Machine). Some n) (left ∙ has.2 front machine ∙ ap (λ (n : Machine). left_machine front n has.0) same ∙ ap (λ (f : Front). left_machine f (machine_of m) has.0) stands.front_is ∙ gone.state);
+          told_is =
+              ap (λ (n : Machine). Some n)
+              (left ∙ has.2 front machine ∙ ap (λ (n : Machine). left_machine front n has.0) same
+              ∙ ap (λ (f : Front). left_machine f (machine_of m) has.0) stands.front_is ∙ gone.state);
           bench = bench;
           lines =
               rejoined seen front (step s m (Dropped name)) name None i d (step s m (Dropped name)).lines cs (f l) bench.names
               (others_dropped s m front name cs stands.lines)
-              (ap (λ (ls : List Line). line_named name ls) (lines_dropped s m name) ∙ line_mapped name f (λ x. refl) m.lines ∙ ap (λ (o : Option Line). option_map f o) at.1)
+              (ap (λ (ls : List Line). line_named name ls) (lines_dropped s m name) ∙ line_mapped name f (λ x. refl) m.lines
+              ∙ ap (λ (o : Option Line). option_map f o) at.1)
               within apart here
               (record {
                 ended = ap (λ (b : Bool). l.user.ended || b) own ∙ or_true l.user.ended;
@@ -118,7 +130,8 @@ module _ {S : Type 0} (seen : S → SeatRecord) where
   dropped_nowhere s m front machine cs name stands none =
       let nobody = no_line name seen front m m.lines cs stands.lines none in
       let absent : is_in (names_of m) name ≡ false = none_in name m.lines nobody in
-      let gone : IsLeft s m name (new_desk (place_in (names_of m) name)) (Dropped name) = (ends_are_left s m name (new_desk (place_in (names_of m) name)) stands.bench (absent_is_desk s m name stands.bench absent)).1 in
+      let gone : IsLeft s m name (new_desk (place_in (names_of m) name)) (Dropped name) =
+      (ends_are_left s m name (new_desk (place_in (names_of m) name)) stands.bench (absent_is_desk s m name stands.bench absent)).1 in
       let f : Line → Line = line_after s (registry_of m) (Dropped name) in (
         drop_lines s m name false (live_by m name None (user_of_line name m.lines ∙ ap (λ (o : Option Line). option_map user_of o) nobody)),
         record {
@@ -127,7 +140,9 @@ module _ {S : Type 0} (seen : S → SeatRecord) where
           bench = bench_kept s m (Dropped name) tt stands.bench;
           lines =
               all_others seen front (step s m (Dropped name)) name (step s m (Dropped name)).lines cs
-              (none_in name (step s m (Dropped name)).lines (ap (λ (ls : List Line). line_named name ls) (lines_dropped s m name) ∙ line_mapped name f (λ x. refl) m.lines ∙ ap (λ (o : Option Line). option_map f o) nobody))
+              (none_in name (step s m (Dropped name)).lines
+              (ap (λ (ls : List Line). line_named name ls) (lines_dropped s m name) ∙ line_mapped name f (λ x. refl) m.lines
+              ∙ ap (λ (o : Option Line). option_map f o) nobody))
               (others_dropped s m front name cs stands.lines);
         },
       )

@@ -31,7 +31,8 @@ payload_is_no_end : (pending : Pending) (payload : List ℕ) → is_end (with_pa
 payload_is_no_end (OfWrite device target) payload = refl
 payload_is_no_end (OfWriteBuf device) payload = refl
 
-payload_agrees : (pending : Pending) (count : ℕ) (begun : List ℕ) → has_end (payload_after pending count begun).items ≡ is_at_end (payload_after pending count begun).next
+payload_agrees : (pending : Pending) (count : ℕ) (begun : List ℕ)
+    → has_end (payload_after pending count begun).items ≡ is_at_end (payload_after pending count begun).next
 payload_agrees pending count begun = by (length begun == count)
   where
     by : (b : Bool) → has_end (cond b (one_item (with_payload pending begun)) (no_item (InPayload pending count begun))).items
@@ -43,7 +44,8 @@ begun_agrees : (pending : Pending) (count : ℕ) → has_end (payload_begun pend
 begun_agrees pending count = by (nat_lt MAX_PAYLOAD count) (payload_agrees pending count [])
   where
     by : (b : Bool) → has_end (payload_after pending count []).items ≡ is_at_end (payload_after pending count []).next
-        → has_end (cond b (ended_by (Some EFBIG)) (payload_after pending count [])).items ≡ is_at_end (cond b (ended_by (Some EFBIG)) (payload_after pending count [])).next
+        → has_end (cond b (ended_by (Some EFBIG)) (payload_after pending count [])).items
+        ≡ is_at_end (cond b (ended_by (Some EFBIG)) (payload_after pending count [])).next
     by true h = refl
     by false h = h
 
@@ -99,7 +101,8 @@ bytes_agree s (b ∷ bs) h =
 abbrev IsEnding : Scanned → Type 0
 IsEnding x = (e : Option Errno) × (x.items ≡ End e ∷ [])
 
-payload_ends : (pending : Pending) (count : ℕ) (begun : List ℕ) → is_at_end (payload_after pending count begun).next ≡ true → IsEnding (payload_after pending count begun)
+payload_ends : (pending : Pending) (count : ℕ) (begun : List ℕ) → is_at_end (payload_after pending count begun).next ≡ true
+    → IsEnding (payload_after pending count begun)
 payload_ends pending count begun = by (length begun == count)
   where
     by : (b : Bool) → is_at_end (cond b (one_item (with_payload pending begun)) (no_item (InPayload pending count begun))).next ≡ true
@@ -111,7 +114,8 @@ begun_ends : (pending : Pending) (count : ℕ) → is_at_end (payload_begun pend
 begun_ends pending count h = by (nat_lt MAX_PAYLOAD count) (payload_ends pending count []) h
   where
     by : (b : Bool) → (is_at_end (payload_after pending count []).next ≡ true → IsEnding (payload_after pending count []))
-        → is_at_end (cond b (ended_by (Some EFBIG)) (payload_after pending count [])).next ≡ true → IsEnding (cond b (ended_by (Some EFBIG)) (payload_after pending count []))
+        → is_at_end (cond b (ended_by (Some EFBIG)) (payload_after pending count [])).next ≡ true
+        → IsEnding (cond b (ended_by (Some EFBIG)) (payload_after pending count []))
     by true rest h = (Some EFBIG, refl)
     by false rest h = rest h
 
@@ -139,11 +143,13 @@ nothing_more AtEnd (b ∷ bs) h = nothing_more AtEnd bs refl
 nothing_more (InLine begun) bytes h = absurd (true≢false (sym h))
 nothing_more (InPayload pending count begun) bytes h = absurd (true≢false (sym h))
 
-desk_after-append : (front : Front) (m : Machine) (desk : DeskRecord) (xs ys : List Item) → desk_after front m desk (xs ++ ys) ≡ desk_after front (machine_after front m desk xs) (desk_after front m desk xs) ys
+desk_after-append : (front : Front) (m : Machine) (desk : DeskRecord) (xs ys : List Item)
+    → desk_after front m desk (xs ++ ys) ≡ desk_after front (machine_after front m desk xs) (desk_after front m desk xs) ys
 desk_after-append front m desk [] ys = refl
 desk_after-append front m desk (x ∷ xs) ys = desk_after-append front (act front m desk x).machine (act front m desk x).desk xs ys
 
-pub bare_after : (front : Front) (m : Machine) (desk : DeskRecord) (s : Scanner) (bytes : List ℕ) → is_at_end s ≡ false → is_at_end (scanner_after s bytes) ≡ true → IsBare (desk_after front m desk (items_from s bytes))
+pub bare_after : (front : Front) (m : Machine) (desk : DeskRecord) (s : Scanner) (bytes : List ℕ) → is_at_end s ≡ false
+    → is_at_end (scanner_after s bytes) ≡ true → IsBare (desk_after front m desk (items_from s bytes))
 unfolding act
 bare_after front m desk s [] before after = absurd (true≢false (sym after ∙ before))
 bare_after front m desk s (b ∷ bs) before after =
@@ -152,11 +158,14 @@ bare_after front m desk s (b ∷ bs) before after =
     first : List Item
     first = (after_byte s b).items
 
-    by : (e : Bool) → is_at_end (after_byte s b).next ≡ e → ((m' : Machine) (desk' : DeskRecord) → is_at_end (after_byte s b).next ≡ false → IsBare (desk_after front m' desk' (items_from (after_byte s b).next bs)))
+    by : (e : Bool) → is_at_end (after_byte s b).next ≡ e
+        → ((m' : Machine) (desk' : DeskRecord) → is_at_end (after_byte s b).next ≡ false
+        → IsBare (desk_after front m' desk' (items_from (after_byte s b).next bs)))
         → IsBare (desk_after front m desk (first ++ items_from (after_byte s b).next bs))
     by true at rest =
         let one = byte_ends s b before at in
-        let all : first ++ items_from (after_byte s b).next bs ≡ End one.0 ∷ [] = ap (λ (xs : List Item). first ++ xs) (nothing_more (after_byte s b).next bs at) ∙ ap (λ (xs : List Item). xs ++ []) one.1 in
+        let all : first ++ items_from (after_byte s b).next bs ≡ End one.0 ∷ [] =
+        ap (λ (xs : List Item). first ++ xs) (nothing_more (after_byte s b).next bs at) ∙ ap (λ (xs : List Item). xs ++ []) one.1 in
         subst (λ (xs : List Item). IsBare (desk_after front m desk xs)) (sym all) (refl, refl)
     by false at rest =
         subst IsBare (sym (desk_after-append front m desk first (items_from (after_byte s b).next bs)))

@@ -38,7 +38,8 @@ pub user_of_line : (name : List ℕ) (ls : List Line) → user_named name (map u
 user_of_line name [] = refl
 user_of_line name (l ∷ ls) = by (bytes_eq l.user.who name) (user_of_line name ls)
   where
-    by : (b : Bool) → user_named name (map user_of ls) ≡ option_map user_of (line_named name ls) → cond b (Some l.user) (user_named name (map user_of ls)) ≡ option_map user_of (cond b (Some l) (line_named name ls))
+    by : (b : Bool) → user_named name (map user_of ls) ≡ option_map user_of (line_named name ls)
+        → cond b (Some l.user) (user_named name (map user_of ls)) ≡ option_map user_of (cond b (Some l) (line_named name ls))
     by true h = refl
     by false h = h
 
@@ -46,27 +47,33 @@ pub user_is : (m : Told) (name : List ℕ) (l : Line) → line_named name m.line
 user_is m name l is = user_of_line name m.lines ∙ ap (λ (o : Option Line). option_map user_of o) is
 
 -- nobody comes
-none_new : (s : Setup) (m : Told) (name bytes : List ℕ) (l : Line) → line_named name m.lines ≡ Some l → newcomers s (Arrived name bytes) (registry_of m).users ≡ []
+none_new : (s : Setup) (m : Told) (name bytes : List ℕ) (l : Line) → line_named name m.lines ≡ Some l
+    → newcomers s (Arrived name bytes) (registry_of m).users ≡ []
 none_new s m name bytes l is = ap (λ (o : Option User). cond (is_some o) [] (new_user s name ∷ [])) (user_is m name l is)
 
 -- its lines after its bytes came
-arrived_lines : (s : Setup) (m : Told) (name bytes : List ℕ) (l : Line) → line_named name m.lines ≡ Some l → (step s m (Arrived name bytes)).lines ≡ map (line_after s (registry_of m) (Arrived name bytes)) m.lines
+arrived_lines : (s : Setup) (m : Told) (name bytes : List ℕ) (l : Line) → line_named name m.lines ≡ Some l
+    → (step s m (Arrived name bytes)).lines ≡ map (line_after s (registry_of m) (Arrived name bytes)) m.lines
 arrived_lines s m name bytes l is =
-    ap (λ (us : List User). map (line_after s (registry_of m) (Arrived name bytes)) m.lines ++ map (new_line (Arrived name bytes)) us) (none_new s m name bytes l is) ∙ append-nil (map (line_after s (registry_of m) (Arrived name bytes)) m.lines)
+    ap (λ (us : List User). map (line_after s (registry_of m) (Arrived name bytes)) m.lines ++ map (new_line (Arrived name bytes)) us)
+    (none_new s m name bytes l is) ∙ append-nil (map (line_after s (registry_of m) (Arrived name bytes)) m.lines)
 
 pub arrived_own : (s : Setup) (m : Told) (name bytes : List ℕ) (l : Line) → line_named name m.lines ≡ Some l
     → line_named name (step s m (Arrived name bytes)).lines ≡ Some (line_after s (registry_of m) (Arrived name bytes) l)
 arrived_own s m name bytes l is =
-    ap (λ (ls : List Line). line_named name ls) (arrived_lines s m name bytes l is) ∙ line_mapped name (line_after s (registry_of m) (Arrived name bytes)) (λ x. refl) m.lines
+    ap (λ (ls : List Line). line_named name ls) (arrived_lines s m name bytes l is)
+    ∙ line_mapped name (line_after s (registry_of m) (Arrived name bytes)) (λ x. refl) m.lines
     ∙ ap (λ (o : Option Line). option_map (line_after s (registry_of m) (Arrived name bytes)) o) is
 
-arrived_begun : (s : Setup) (m : Told) (name bytes : List ℕ) (l : Line) → bytes_eq l.user.who name ≡ true → (line_after s (registry_of m) (Arrived name bytes) l).begun ≡ scanner_after l.begun bytes
+arrived_begun : (s : Setup) (m : Told) (name bytes : List ℕ) (l : Line) → bytes_eq l.user.who name ≡ true
+    → (line_after s (registry_of m) (Arrived name bytes) l).begun ≡ scanner_after l.begun bytes
 arrived_begun s m name bytes l own =
     ap (λ (b : Bool). cond b (scanner_after l.begun bytes) l.begun) (ap (λ (w : List ℕ). bytes_eq name w) (name_same l.user.who name own) ∙ name_itself name)
 
 module _ {S : Type 0} (seen : S → SeatRecord) where
   -- the session as it is when its bytes came
-  pub is_hearing : (s : Setup) (m : Told) (front : Front) (told : Option Machine) (cs : List (Connection S)) (name bytes : List ℕ) (l : Line) (x : SessionRecord S)
+  pub is_hearing : (s : Setup) (m : Told) (front : Front) (told : Option Machine) (cs : List (Connection S)) (name bytes : List ℕ) (l : Line)
+      (x : SessionRecord S)
       → Stands seen s m front told cs → line_named name m.lines ≡ Some l → IsLive seen front m l x → is_in (names_of m) name ≡ true
       → Every (CanJoinMore (suc (length (items_from l.begun bytes)))) m.stations
       → IsHearing seen s (step s m (Arrived name bytes)) front told name l.begun bytes x
@@ -80,7 +87,9 @@ module _ {S : Type 0} (seen : S → SeatRecord) where
         session = record {
           manner = live.session.manner;
           stream = live.session.stream;
-          desk = desks_are_kept s m (Arrived name bytes) name (desk_of seen x.desk) tt there (subst (λ (w : List ℕ). IsDeskOf m w (desk_of seen x.desk)) own live.session.desk);
+          desk =
+              desks_are_kept s m (Arrived name bytes) name (desk_of seen x.desk) tt there
+              (subst (λ (w : List ℕ). IsDeskOf m w (desk_of seen x.desk)) own live.session.desk);
         };
         room = room_after s m (Arrived name bytes) (length (items_from l.begun bytes)) room;
       }
@@ -95,7 +104,8 @@ at_end_not : (x : Scanner) → is_at_end x ≡ false → x ≡ AtEnd → ⊥
 at_end_not x h at = true≢false (sym (ap is_at_end at) ∙ h)
 
 -- the bytes have come: its line, and those of the others
-pub record HasArrived {S : Type 0} (seen : S → SeatRecord) (front : Front) (n : Told) (name : List ℕ) (begun : Scanner) (bytes : List ℕ) (cs : List (Connection S)) : Type 0 where
+pub record HasArrived {S : Type 0} (seen : S → SeatRecord) (front : Front) (n : Told) (name : List ℕ) (begun : Scanner) (bytes : List ℕ)
+    (cs : List (Connection S)) : Type 0 where
   pub line : Line
   pub is : line_named name n.lines ≡ Some line
   pub live : line.user.ended ≡ false
@@ -105,8 +115,10 @@ pub record HasArrived {S : Type 0} (seen : S → SeatRecord) (front : Front) (n 
 
 module _ {S : Type 0} (seen : S → SeatRecord) where
   -- its line once they were heard
-  line_heard : (s : Setup) (front : Front) (n : Told) (name : List ℕ) (begun : Scanner) (bytes : List ℕ) (cs : List (Connection S)) → HasArrived seen front n name begun bytes cs
-      → (l : Line) × (line_named name (steps s n (heard name (items_from begun bytes))).lines ≡ Some l) × (l.user.ended ≡ is_at_end (scanner_after begun bytes)) × (l.begun ≡ scanner_after begun bytes)
+  line_heard : (s : Setup) (front : Front) (n : Told) (name : List ℕ) (begun : Scanner) (bytes : List ℕ) (cs : List (Connection S))
+      → HasArrived seen front n name begun bytes cs
+      → (l : Line) × (line_named name (steps s n (heard name (items_from begun bytes))).lines ≡ Some l) × (l.user.ended ≡ is_at_end (scanner_after begun bytes))
+      × (l.begun ≡ scanner_after begun bytes)
   line_heard s front n name begun bytes cs h =
       let o = own_items s n name (items_from begun bytes) h.line h.is in
       (o.0, o.1, o.2 ∙ ap (λ (b : Bool). b || has_end (items_from begun bytes)) h.live ∙ bytes_agree begun bytes h.open_before, o.3 ∙ h.more)
@@ -117,7 +129,13 @@ module _ {S : Type 0} (seen : S → SeatRecord) where
       → IsServed seen front m l (cond e None (Some x))
   served_by front m name begun l x true own at ended same session desk gone =
       let left = gone at in
-      record { ended = ended ∙ at; desk = left.0; bare = left.1; has = subst (λ (w : List ℕ). IsDeskOf m w left.0) (sym (name_same l.user.who name own)) left.2 }
+      record {
+        ended = ended ∙ at;
+        desk = left.0;
+        bare = left.1;
+        has =
+            subst (λ (w : List ℕ). IsDeskOf m w left.0) (sym (name_same l.user.who name own)) left.2;
+      }
   served_by front m name begun l x false own at ended same session desk gone = record {
     live = ended ∙ at;
     begun = λ stops. at_end_not begun at (sym same ∙ stops);
@@ -127,12 +145,14 @@ module _ {S : Type 0} (seen : S → SeatRecord) where
     desk = desk;
   }
 
-  pub stands_fed : (s : Setup) (n : Told) (front : Front) (told' : Option Machine) (cs : List (Connection S)) (name : List ℕ) (begun : Scanner) (bytes : List ℕ) (x' : SessionRecord S) (i : ℕ) (d : Connection S) (before after : List ℕ)
+  pub stands_fed : (s : Setup) (n : Told) (front : Front) (told' : Option Machine) (cs : List (Connection S)) (name : List ℕ) (begun : Scanner) (bytes : List ℕ)
+      (x' : SessionRecord S) (i : ℕ) (d : Connection S) (before after : List ℕ)
       → front ≡ front_of s → HasArrived seen front n name begun bytes cs
       → HasHeard seen s n told' name begun bytes before after x' → IsOwning seen front (cond (is_at_end (scanner_after begun bytes)) None (Some x'))
       → (is_at_end (scanner_after begun bytes) ≡ true → HasNothing (steps s n (heard name (items_from begun bytes))) name)
       → i < length cs → ((k : ℕ) → k < i → bytes_eq (get_or cs k d).name name ≡ false) → bytes_eq (get_or cs i d).name name ≡ true
-      → Stands seen s (steps s n (heard name (items_from begun bytes))) front told' (set cs i (with_session seen (cond (is_at_end (scanner_after begun bytes)) None (Some x')) (get_or cs i d)))
+      → Stands seen s (steps s n (heard name (items_from begun bytes))) front told'
+      (set cs i (with_session seen (cond (is_at_end (scanner_after begun bytes)) None (Some x')) (get_or cs i d)))
   stands_fed s n front told' cs name begun bytes x' i d before after same arrived said desk gone less apart here =
       let m2 = steps s n (heard name (items_from begun bytes)) in
       let line = line_heard s front n name begun bytes cs arrived in
@@ -144,11 +164,13 @@ module _ {S : Type 0} (seen : S → SeatRecord) where
             rejoined seen front m2 name (cond (is_at_end (scanner_after begun bytes)) None (Some x')) i d m2.lines cs line.0 said.bench.names
             (others_after_items seen s n front name (items_from begun bytes) cs arrived.others)
             line.1 less apart here
-            (served_by front m2 name (scanner_after begun bytes) line.0 x' (is_at_end (scanner_after begun bytes)) (line_found name m2.lines line.0 line.1) refl line.2 line.3 said.session desk gone);
+            (served_by front m2 name (scanner_after begun bytes) line.0 x' (is_at_end (scanner_after begun bytes)) (line_found name m2.lines line.0 line.1) refl
+            line.2 line.3 said.session desk gone);
       }
 
   -- one that was there
-  pub has_arrived : (s : Setup) (m : Told) (front : Front) (told : Option Machine) (cs : List (Connection S)) (name bytes : List ℕ) (l : Line) (x : SessionRecord S)
+  pub has_arrived : (s : Setup) (m : Told) (front : Front) (told : Option Machine) (cs : List (Connection S)) (name bytes : List ℕ) (l : Line)
+      (x : SessionRecord S)
       → Stands seen s m front told cs → line_named name m.lines ≡ Some l → IsLive seen front m l x
       → HasArrived seen front (step s m (Arrived name bytes)) name l.begun bytes cs
   has_arrived s m front told cs name bytes l x stands is live = record {
@@ -168,7 +190,8 @@ module _ {S : Type 0} (seen : S → SeatRecord) where
 module _ {S : Type 0} (seen : S → SeatRecord) where
   -- once it has ended it has nothing
   pub has_nothing : (s : Setup) (n : Told) (front : Front) (told : Option Machine) (name : List ℕ) (begun : Scanner) (bytes : List ℕ) (x : SessionRecord S)
-      → IsHearing seen s n front told name begun bytes x → is_at_end begun ≡ false → is_at_end (scanner_after begun bytes) ≡ true → HasNothing (steps s n (heard name (items_from begun bytes))) name
+      → IsHearing seen s n front told name begun bytes x → is_at_end begun ≡ false → is_at_end (scanner_after begun bytes) ≡ true
+      → HasNothing (steps s n (heard name (items_from begun bytes))) name
   has_nothing s n front told name begun bytes x h before after = (
     desk_after (front_of s) (machine_of n) (desk_of seen x.desk) (items_from begun bytes),
     bare_after (front_of s) (machine_of n) (desk_of seen x.desk) begun bytes before after,
@@ -178,7 +201,8 @@ module _ {S : Type 0} (seen : S → SeatRecord) where
 -- ---- what is printed
 
 -- what the connection had begun before its bytes came
-module _ (s : Setup) (m : Told) (name bytes : List ℕ) (begun : Scanner) (live : has_ended name (registry_of m).users ≡ false) (was : begun_by name m.lines ≡ begun) where
+module _ (s : Setup) (m : Told) (name bytes : List ℕ) (begun : Scanner) (live : has_ended name (registry_of m).users ≡ false)
+    (was : begun_by name m.lines ≡ begun) where
   events_are : events_of_step m (Feed name bytes) ≡ Arrived name bytes ∷ heard name (items_from begun bytes)
   events_are =
       ap (λ (b : Bool). cond b [] (Arrived name bytes ∷ map (λ item. Heard name item) (items_from (begun_by name m.lines) bytes))) live
@@ -189,14 +213,17 @@ module _ (s : Setup) (m : Told) (name bytes : List ℕ) (begun : Scanner) (live 
 
   -- where it has ended then or not
   pub fed_lines : (e : Bool) → has_ended name (registry_of (steps s (step s m (Arrived name bytes)) (heard name (items_from begun bytes)))).users ≡ e
-      → step_lines s m (Feed name bytes) ≡ printed (name ∷ quoted (texts s (step s m (Arrived name bytes)) (heard name (items_from begun bytes))) ∷ []) ++ cond e (closed_line name) []
+      → step_lines s m (Feed name bytes) ≡ printed (name ∷ quoted (texts s (step s m (Arrived name bytes)) (heard name (items_from begun bytes))) ∷ [])
+      ++ cond e (closed_line name) []
   fed_lines e ended =
       ap (λ (es : List Event). step_text m (steps s m es) (Feed name bytes) (texts s m es)) events_are
       ∙ ap (λ (b : Bool). cond b [] (printed (name ∷ quoted (texts s (step s m (Arrived name bytes)) (heard name (items_from begun bytes))) ∷ []))
       ++ cond (has_ended name (registry_of (steps s (step s m (Arrived name bytes)) (heard name (items_from begun bytes)))).users) (closed_line name) []) live
-      ∙ ap (λ (b : Bool). printed (name ∷ quoted (texts s (step s m (Arrived name bytes)) (heard name (items_from begun bytes))) ∷ []) ++ cond b (closed_line name) []) ended
+      ∙ ap (λ (b : Bool). printed (name ∷ quoted (texts s (step s m (Arrived name bytes)) (heard name (items_from begun bytes))) ∷ [])
+      ++ cond b (closed_line name) []) ended
 
-pub live_user : (m : Told) (name : List ℕ) (l : Line) (e : Bool) → line_named name m.lines ≡ Some l → l.user.ended ≡ e → has_ended name (registry_of m).users ≡ e
+pub live_user : (m : Told) (name : List ℕ) (l : Line) (e : Bool) → line_named name m.lines ≡ Some l → l.user.ended ≡ e
+    → has_ended name (registry_of m).users ≡ e
 live_user m name l e is live = ap (λ (o : Option User). ended_by o) (user_is m name l is) ∙ live
 
 pub begun_line : (m : Told) (name : List ℕ) (l : Line) → line_named name m.lines ≡ Some l → begun_by name m.lines ≡ l.begun
@@ -204,7 +231,8 @@ begun_line m name l is = ap (λ (o : Option Line). elim o [ None ↦ InLine [] |
 
 -- whether it has ended then
 module _ {S : Type 0} (seen : S → SeatRecord) where
-  pub ended_heard : (s : Setup) (front : Front) (n : Told) (name : List ℕ) (begun : Scanner) (bytes : List ℕ) (cs : List (Connection S)) → HasArrived seen front n name begun bytes cs
+  pub ended_heard : (s : Setup) (front : Front) (n : Told) (name : List ℕ) (begun : Scanner) (bytes : List ℕ) (cs : List (Connection S))
+      → HasArrived seen front n name begun bytes cs
       → has_ended name (registry_of (steps s n (heard name (items_from begun bytes)))).users ≡ is_at_end (scanner_after begun bytes)
   ended_heard s front n name begun bytes cs h =
       let l = line_heard seen s front n name begun bytes cs h in

@@ -46,7 +46,8 @@ without_none : (dev : ℕ) (es : List Entry) → told_entry dev es ≡ None → 
 without_none dev [] none = refl
 without_none dev (e ∷ es) none = by (e.device == dev) none (without_none dev es)
   where
-    by : (b : Bool) → cond b (Some e) (told_entry dev es) ≡ None → (told_entry dev es ≡ None → told_without dev es ≡ es) → cond b (told_without dev es) (e ∷ told_without dev es) ≡ e ∷ es
+    by : (b : Bool) → cond b (Some e) (told_entry dev es) ≡ None → (told_entry dev es ≡ None → told_without dev es ≡ es)
+        → cond b (told_without dev es) (e ∷ told_without dev es) ≡ e ∷ es
     by true none rest = absurd (cc)
     by false none rest = ap (λ (xs : List Entry). e ∷ xs) (rest none)
 
@@ -56,8 +57,11 @@ handled_none dev zero (t ∷ ts) none = ap (λ (es : List Entry). (let x : Trigg
 handled_none dev (suc trigger) (t ∷ ts) none = ap (λ (xs : List Trigger). t ∷ xs) (handled_none dev trigger ts none)
 
 module _ {X : Type 0} {V : X → Type 0} (driver : Plug X V → Driver) where
-  module _ (trigger dev : ℕ) (b b' : Bench X V) (cs : List (Connection Seat)) (less : dev < length (bench_front b).devices) (front : bench_front b' ≡ bench_front b)
-      (told : bench_machine driver b' ≡ entry_machine (kind_at (bench_front b) dev) (entry_of dev (trigger_in (triggers_of b) trigger).entries) false (shape_at (bench_front b) dev) dev (bench_machine driver b))
+  module _ (trigger dev : ℕ) (b b' : Bench X V) (cs : List (Connection Seat)) (less : dev < length (bench_front b).devices)
+      (front : bench_front b' ≡ bench_front b)
+      (told : bench_machine driver b'
+      ≡ entry_machine (kind_at (bench_front b) dev) (entry_of dev (trigger_in (triggers_of b) trigger).entries) false (shape_at (bench_front b) dev) dev
+      (bench_machine driver b))
       (triggers : triggers_of b' ≡ at_place trigger (handled dev) (triggers_of b)) (s : Setup) (m : Told) (h : Holds driver s m b cs) where
     own : entry_of dev (trigger_in (triggers_of b) trigger).entries ≡ option_map handed_by (told_entry dev (entries_at m.triggers trigger))
     own = entry_here driver trigger dev b b' cs less front told triggers s m h
@@ -68,37 +72,50 @@ module _ {X : Type 0} {V : X → Type 0} (driver : Plug X V → Driver) where
       stands = record {
         front_is = front ∙ h.stands.front_is;
         told_is =
-            ap (λ (x : Machine). Some x) (told ∙ ap (λ (o : Option Handed). entry_machine (kind_at (bench_front b) dev) o false (shape_at (bench_front b) dev) dev (bench_machine driver b)) (own ∙ ap (λ (o : Option Entry). option_map handed_by o) none))
+            ap (λ (x : Machine). Some x)
+            (told ∙ ap (λ (o : Option Handed). entry_machine (kind_at (bench_front b) dev) o false (shape_at (bench_front b) dev) dev (bench_machine driver b))
+            (own ∙ ap (λ (o : Option Entry). option_map handed_by o) none))
             ∙ h.stands.told_is;
         bench = h.stands.bench;
         lines = subst (λ (f : Front). AreLines seen_of f m m.lines cs) (sym front) h.stands.lines;
       };
       triggers =
-          triggers ∙ ap (λ (ts : List TriggerRecord). at_place trigger (handled dev) ts) h.triggers ∙ sym (place_map trigger_by trigger (told_handled dev) (handled dev) m.triggers (handled_told dev))
+          triggers ∙ ap (λ (ts : List TriggerRecord). at_place trigger (handled dev) ts) h.triggers
+          ∙ sym (place_map trigger_by trigger (told_handled dev) (handled dev) m.triggers (handled_told dev))
           ∙ ap (λ (ts : List Trigger). map trigger_by ts) (handled_none dev trigger m.triggers none);
     }
 
-    pub plays_none : (before : List ℕ) → None ≡ entry_answer (kind_at (bench_front b) dev) (entry_of dev (trigger_in (triggers_of b) trigger).entries) false (station_at (bench_machine driver b) dev)
+    pub plays_none : (before : List ℕ)
+        → None ≡ entry_answer (kind_at (bench_front b) dev) (entry_of dev (trigger_in (triggers_of b) trigger).entries) false
+        (station_at (bench_machine driver b) dev)
         → Plays driver (handling_of trigger dev) s m trigger b' cs before before
     plays_none before answered = by (told_entry dev (entries_at m.triggers trigger)) refl
       where
         by : (o : Option Entry) → told_entry dev (entries_at m.triggers trigger) ≡ o
-            → (before ≡ before ++ texts s m (elim o [ None ↦ [] | Some e ↦ Handled trigger dev ∷ [] ])) × Holds driver s (steps s m (elim o [ None ↦ [] | Some e ↦ Handled trigger dev ∷ [] ])) b' cs
+            → (before ≡ before ++ texts s m (elim o [ None ↦ [] | Some e ↦ Handled trigger dev ∷ [] ]))
+            × Holds driver s (steps s m (elim o [ None ↦ [] | Some e ↦ Handled trigger dev ∷ [] ])) b' cs
         by None is = (sym (append-nil before), stays is)
         by (Some e) is =
-            absurd (let h = answered ∙ ap (λ (o : Option Handed). entry_answer (kind_at (bench_front b) dev) o false (station_at (bench_machine driver b) dev)) (own ∙ ap (λ (o : Option Entry). option_map handed_by o) is) in cc)
+            absurd (let h = answered
+            ∙ ap (λ (o : Option Handed). entry_answer (kind_at (bench_front b) dev) o false (station_at (bench_machine driver b) dev))
+            (own ∙ ap (λ (o : Option Entry). option_map handed_by o) is) in cc)
 
-    pub plays_some : (before after name device room : List ℕ) (answer : Became) → name ≡ trigger_name (bench_front b') trigger → device ≡ device_name (bench_front b') dev
-        → Some answer ≡ entry_answer (kind_at (bench_front b) dev) (entry_of dev (trigger_in (triggers_of b) trigger).entries) false (station_at (bench_machine driver b) dev)
+    pub plays_some : (before after name device room : List ℕ) (answer : Became) → name ≡ trigger_name (bench_front b') trigger
+        → device ≡ device_name (bench_front b') dev
+        → Some answer ≡ entry_answer (kind_at (bench_front b) dev) (entry_of dev (trigger_in (triggers_of b) trigger).entries) false
+        (station_at (bench_machine driver b) dev)
         → IsRoom (Some answer) (station_at (bench_machine driver b) dev).members room
         → after ≡ before ++ printed (codes "handle" ∷ name ∷ device ∷ became_word (Some answer) room ∷ [])
         → Plays driver (handling_of trigger dev) s m trigger b' cs before after
     plays_some before after name device room answer named called answered roomy line = by (told_entry dev (entries_at m.triggers trigger)) refl
       where
         by : (o : Option Entry) → told_entry dev (entries_at m.triggers trigger) ≡ o
-            → (after ≡ before ++ texts s m (elim o [ None ↦ [] | Some e ↦ Handled trigger dev ∷ [] ])) × Holds driver s (steps s m (elim o [ None ↦ [] | Some e ↦ Handled trigger dev ∷ [] ])) b' cs
+            → (after ≡ before ++ texts s m (elim o [ None ↦ [] | Some e ↦ Handled trigger dev ∷ [] ]))
+            × Holds driver s (steps s m (elim o [ None ↦ [] | Some e ↦ Handled trigger dev ∷ [] ])) b' cs
         by None is =
-            absurd (let h = answered ∙ ap (λ (o : Option Handed). entry_answer (kind_at (bench_front b) dev) o false (station_at (bench_machine driver b) dev)) (own ∙ ap (λ (o : Option Entry). option_map handed_by o) is) in cc)
+            absurd (let h = answered
+            ∙ ap (λ (o : Option Handed). entry_answer (kind_at (bench_front b) dev) o false (station_at (bench_machine driver b) dev))
+            (own ∙ ap (λ (o : Option Entry). option_map handed_by o) is) in cc)
         by (Some e) is = (
           handle_line driver trigger dev b b' cs less front told triggers s m h before after name device room (Some answer) named called answered roomy line,
           handle_holds driver trigger dev b b' cs less front told triggers s m h,
@@ -127,7 +144,8 @@ entry_none dev low high (e ∷ es) less order =
     let other : (e.device == dev) ≡ false = grind (arith, nat_tests) in
     ap (λ (b : Bool). cond b (Some e) (told_entry dev es)) other ∙ entry_none dev (suc e.device) high es (omega (arith, less, h)) order.1
 
-entries_placed : (f : Trigger → Trigger) (g : List Entry → List Entry) → ((t : Trigger) → (f t).entries ≡ g t.entries) → (k : ℕ) (ts : List Trigger) → (length ts ≤ k → g [] ≡ [])
+entries_placed : (f : Trigger → Trigger) (g : List Entry → List Entry) → ((t : Trigger) → (f t).entries ≡ g t.entries) → (k : ℕ) (ts : List Trigger)
+    → (length ts ≤ k → g [] ≡ [])
     → entries_at (at_place k f ts) k ≡ g (entries_at ts k)
 entries_placed f g same k [] past = sym (past (omega arith))
 entries_placed f g same zero (t ∷ ts) past = same t
@@ -166,11 +184,14 @@ module _ {X : Type 0} {V : X → Type 0} (driver : Plug X V → Driver) where
     pub text : before ++ texts s m (handlings trigger (entries_at m.triggers trigger)) ≡ now ++ texts s state (handlings trigger entries)
     pub last : steps s m (handlings trigger (entries_at m.triggers trigger)) ≡ steps s state (handlings trigger entries)
 
-  pub left_first : (s : Setup) (m : Told) (trigger high : ℕ) (b : Bench X V) (cs : List (Connection Seat)) (before : List ℕ) → Holds driver s m b cs → InOrder 0 high (entries_at m.triggers trigger)
+  pub left_first : (s : Setup) (m : Told) (trigger high : ℕ) (b : Bench X V) (cs : List (Connection Seat)) (before : List ℕ) → Holds driver s m b cs
+      → InOrder 0 high (entries_at m.triggers trigger)
       → IsLeft s m trigger 0 high b cs before before
-  left_first s m trigger high b cs before h order = record { state = m; entries = entries_at m.triggers trigger; there = refl; holds = h; order = order; text = refl; last = refl }
+  left_first s m trigger high b cs before h order =
+      record { state = m; entries = entries_at m.triggers trigger; there = refl; holds = h; order = order; text = refl; last = refl }
 
-  module _ (s : Setup) (m : Told) (trigger low high : ℕ) (b : Bench X V) (cs : List (Connection Seat)) (before now : List ℕ) (x : IsLeft s m trigger low high b cs before now) where
+  module _ (s : Setup) (m : Told) (trigger low high : ℕ) (b : Bench X V) (cs : List (Connection Seat)) (before now : List ℕ)
+      (x : IsLeft s m trigger low high b cs before now) where
     left_nothing : x.entries ≡ [] → Plays driver (handlings trigger) s m trigger b cs before now
     left_nothing none = (
       sym (x.text ∙ ap (λ (es : List Entry). now ++ texts s x.state (handlings trigger es)) none ∙ append-nil now),
@@ -181,7 +202,8 @@ module _ {X : Type 0} {V : X → Type 0} (driver : Plug X V → Driver) where
     first_left : first_due (trigger_in (triggers_of b) trigger).entries ≡ first_due (map handed_by x.entries)
     first_left =
         ap (λ (hs : List Handed). first_due hs)
-        (ap (λ (ts : List TriggerRecord). (trigger_in ts trigger).entries) x.holds.triggers ∙ entries_in x.state.triggers trigger ∙ ap (λ (es : List Entry). map handed_by es) x.there)
+        (ap (λ (ts : List TriggerRecord). (trigger_in ts trigger).entries) x.holds.triggers ∙ entries_in x.state.triggers trigger
+        ∙ ap (λ (es : List Entry). map handed_by es) x.there)
 
     -- as many turns as there are devices leave none
     pub left_last : high ≤ low → Plays driver (handlings trigger) s m trigger b cs before now
@@ -191,13 +213,15 @@ module _ {X : Type 0} {V : X → Type 0} (driver : Plug X V → Driver) where
     left_none none = left_nothing (no_first x.entries (sym first_left ∙ none))
 
     -- none is of a device that isn't there
-    pub left_past : (dev : ℕ) → first_due (trigger_in (triggers_of b) trigger).entries ≡ Some dev → high ≤ dev → Plays driver (handlings trigger) s m trigger b cs before now
+    pub left_past : (dev : ℕ) → first_due (trigger_in (triggers_of b) trigger).entries ≡ Some dev → high ≤ dev
+        → Plays driver (handlings trigger) s m trigger b cs before now
     left_past dev first past = let h = first_below dev low high x.entries (sym first_left ∙ first) x.order in absurd (omega (arith, h, past))
 
   -- what the handling of an entry, or of none, makes
   abbrev Took : Setup → Told → (trigger dev : ℕ) → Bench X V → List (Connection Seat) → (before after : List ℕ) → Option Entry → Type 0
   Took s n trigger dev b' cs before after o =
-      (after ≡ before ++ texts s n (elim o [ None ↦ [] | Some e ↦ Handled trigger dev ∷ [] ])) × Holds driver s (steps s n (elim o [ None ↦ [] | Some e ↦ Handled trigger dev ∷ [] ])) b' cs
+      (after ≡ before ++ texts s n (elim o [ None ↦ [] | Some e ↦ Handled trigger dev ∷ [] ]))
+      × Holds driver s (steps s n (elim o [ None ↦ [] | Some e ↦ Handled trigger dev ∷ [] ])) b' cs
 
   module _ (s : Setup) (m n : Told) (trigger dev low high : ℕ) (b' : Bench X V) (cs : List (Connection Seat)) (before now after : List ℕ) where
     next_by : (es : List Entry) → entries_at n.triggers trigger ≡ es → first_due (map handed_by es) ≡ Some dev → InOrder low high es
@@ -215,7 +239,8 @@ module _ {X : Type 0} {V : X → Type 0} (driver : Plug X V → Driver) where
           state = step s n (Handled trigger dev);
           entries = es;
           there =
-              ap (λ (ts : List Trigger). entries_at ts trigger) (triggers_are s n (Handled trigger dev)) ∙ entries_placed (told_handled dev) (told_without dev) (λ t. refl) trigger n.triggers (λ past. refl)
+              ap (λ (ts : List Trigger). entries_at ts trigger) (triggers_are s n (Handled trigger dev))
+              ∙ entries_placed (told_handled dev) (told_without dev) (λ t. refl) trigger n.triggers (λ past. refl)
               ∙ ap (λ (xs : List Entry). told_without dev xs) at ∙ ap (λ (c : Bool). cond c (told_without dev es) (e ∷ told_without dev es)) own
               ∙ without_none dev es (entry_none dev (suc e.device) high es (omega (arith, same)) order.1);
           holds = took'.1;
@@ -223,15 +248,19 @@ module _ {X : Type 0} {V : X → Type 0} (driver : Plug X V → Driver) where
           text =
               text ∙ ap (λ (d : ℕ). now ++ (event_text s n (Handled trigger d) ++ texts s (step s n (Handled trigger d)) (handlings trigger es))) same
               ∙ sym (append_assoc now ev (texts s (step s n (Handled trigger dev)) (handlings trigger es)))
-              ∙ ap (λ (t : List ℕ). t ++ texts s (step s n (Handled trigger dev)) (handlings trigger es)) (ap (λ (t : List ℕ). now ++ t) (sym (append-nil ev)) ∙ sym took'.0);
+              ∙ ap (λ (t : List ℕ). t ++ texts s (step s n (Handled trigger dev)) (handlings trigger es))
+              (ap (λ (t : List ℕ). now ++ t) (sym (append-nil ev)) ∙ sym took'.0);
           last = last ∙ ap (λ (d : ℕ). steps s (step s n (Handled trigger d)) (handlings trigger es)) same;
         }
 
   -- the handling of the first entry that is left
-  pub left_next : (s : Setup) (m : Told) (trigger dev low high : ℕ) (b b' : Bench X V) (cs : List (Connection Seat)) (before now after : List ℕ) → IsLeft s m trigger low high b cs before now
-      → first_due (trigger_in (triggers_of b) trigger).entries ≡ Some dev → HandlesOne driver trigger dev b b' cs now after → IsLeft s m trigger (low + 1) high b' cs before after
+  pub left_next : (s : Setup) (m : Told) (trigger dev low high : ℕ) (b b' : Bench X V) (cs : List (Connection Seat)) (before now after : List ℕ)
+      → IsLeft s m trigger low high b cs before now
+      → first_due (trigger_in (triggers_of b) trigger).entries ≡ Some dev → HandlesOne driver trigger dev b b' cs now after
+      → IsLeft s m trigger (low + 1) high b' cs before after
   left_next s m trigger dev low high b b' cs before now after x first one =
-      next_by s m x.state trigger dev low high b' cs before now after x.entries x.there (sym (first_left s m trigger low high b cs before now x) ∙ first) x.order x.text x.last
+      next_by s m x.state trigger dev low high b' cs before now after x.entries x.there (sym (first_left s m trigger low high b cs before now x) ∙ first)
+      x.order x.text x.last
       (subst (λ (es : List Entry). Took s x.state trigger dev b' cs now after (told_entry dev es)) x.there (one s x.state x.holds))
 
 -- ---- captures
@@ -252,7 +281,9 @@ bench_order dev trigger t (st ∷ sts) =
     by (is_attached trigger st) (subst (λ (n : ℕ). InOrder (suc dev) n (bench_entries (suc dev) trigger t sts)) on (bench_order (suc dev) trigger t sts))
   where
     by : (c : Bool) → InOrder (suc dev) (dev + suc (length sts)) (bench_entries (suc dev) trigger t sts)
-        → InOrder dev (dev + suc (length sts)) (cond c (record { device = dev; attachment = st.site.attachment; moment = t } ∷ bench_entries (suc dev) trigger t sts) (bench_entries (suc dev) trigger t sts))
+        → InOrder dev (dev + suc (length sts))
+        (cond c (record { device = dev; attachment = st.site.attachment; moment = t } ∷ bench_entries (suc dev) trigger t sts)
+        (bench_entries (suc dev) trigger t sts))
     by true rest = (omega arith, rest)
     by false rest = order_from dev (suc dev) (dev + suc (length sts)) (bench_entries (suc dev) trigger t sts) (omega arith) rest
 
@@ -265,10 +296,15 @@ misses made [] n missed answered = absurd (cc)
 misses made (e ∷ es) n missed answered = refl
 
 module _ {X : Type 0} {V : X → Type 0} (driver : Plug X V → Driver) where
-  module _ (trigger : ℕ) (t : ℤ) (b b' : Bench X V) (cs : List (Connection Seat)) (front : bench_front b' ≡ bench_front b) (told : bench_machine driver b' ≡ bench_machine driver b)
-      (triggers : triggers_of b' ≡ at_place trigger (polled (bench_machine driver b).stations trigger t) (triggers_of b)) (s : Setup) (m : Told) (h : Holds driver s m b cs) where
-    outstanding_told : (answer : Answer) → answer ≡ poll_answer (entries_from 0 trigger t (bench_machine driver b).stations) (trigger_in (triggers_of b) trigger).entries (trigger_in (triggers_of b) trigger).missed
-        → answer ≡ poll_answer (entries_from 0 trigger t (bench_machine driver b).stations) (map handed_by (entries_at m.triggers trigger)) (trigger_in (triggers_of b) trigger).missed
+  module _ (trigger : ℕ) (t : ℤ) (b b' : Bench X V) (cs : List (Connection Seat)) (front : bench_front b' ≡ bench_front b)
+      (told : bench_machine driver b' ≡ bench_machine driver b)
+      (triggers : triggers_of b' ≡ at_place trigger (polled (bench_machine driver b).stations trigger t) (triggers_of b)) (s : Setup) (m : Told)
+      (h : Holds driver s m b cs) where
+    outstanding_told : (answer : Answer)
+        → answer ≡ poll_answer (entries_from 0 trigger t (bench_machine driver b).stations) (trigger_in (triggers_of b) trigger).entries
+        (trigger_in (triggers_of b) trigger).missed
+        → answer ≡ poll_answer (entries_from 0 trigger t (bench_machine driver b).stations) (map handed_by (entries_at m.triggers trigger))
+        (trigger_in (triggers_of b) trigger).missed
     outstanding_told answer answered =
         answered
         ∙ ap (λ (hs : List Handed). poll_answer (entries_from 0 trigger t (bench_machine driver b).stations) hs (trigger_in (triggers_of b) trigger).missed)
@@ -276,50 +312,71 @@ module _ {X : Type 0} {V : X → Type 0} (driver : Plug X V → Driver) where
 
     -- a missed poll is all
     pub fire_missed : (before after name : List ℕ) (answer : Answer) (n : ℕ) → answer ≡ Missed n → name ≡ trigger_name (bench_front b') trigger
-        → answer ≡ poll_answer (entries_from 0 trigger t (bench_machine driver b).stations) (trigger_in (triggers_of b) trigger).entries (trigger_in (triggers_of b) trigger).missed
+        → answer ≡ poll_answer (entries_from 0 trigger t (bench_machine driver b).stations) (trigger_in (triggers_of b) trigger).entries
+        (trigger_in (triggers_of b) trigger).missed
         → after ≡ before ++ printed (codes "poll" ∷ name ∷ polled_words answer)
         → (after ≡ before ++ step_lines s m (Fire trigger t)) × Holds driver s (state_after s m (Fire trigger t)) b' cs
     fire_missed before after name answer n is named answered line =
-        let busy = misses (entries_from 0 trigger t (bench_machine driver b).stations) (entries_at m.triggers trigger) n (trigger_in (triggers_of b) trigger).missed (outstanding_told (Missed n) (sym is ∙ answered)) in
+        let busy =
+        misses (entries_from 0 trigger t (bench_machine driver b).stations) (entries_at m.triggers trigger) n (trigger_in (triggers_of b) trigger).missed
+        (outstanding_told (Missed n) (sym is ∙ answered)) in
         let none : poll_entries m trigger t ≡ [] = ap (λ (c : Bool). cond c (told_entries 0 trigger t (outlines_of (registry_of m))) []) busy in
-        subst (λ (es : List Entry). (after ≡ before ++ texts s m (Polled trigger t ∷ handlings trigger es)) × Holds driver s (steps s m (Polled trigger t ∷ handlings trigger es)) b' cs) (sym none) (
+        subst (λ (es : List Entry). (after ≡ before ++ texts s m (Polled trigger t ∷ handlings trigger es))
+        × Holds driver s (steps s m (Polled trigger t ∷ handlings trigger es)) b' cs) (sym none) (
           poll_line driver trigger t b b' cs front told triggers s m h before after name answer named answered line,
           poll_holds driver trigger t b b' cs front told triggers s m h,
         )
 
     -- one that is accepted
     module _ (many : length b.triggers.items ≡ length b.described.items) (within : trigger < length (bench_front b).triggers) where
-      polled_entries : entries_at (step s m (Polled trigger t)).triggers trigger ≡ poll_made (bench_entries 0 trigger t (machine_of m).stations) (entries_at m.triggers trigger)
+      polled_entries : entries_at (step s m (Polled trigger t)).triggers trigger
+          ≡ poll_made (bench_entries 0 trigger t (machine_of m).stations) (entries_at m.triggers trigger)
       polled_entries =
           let long : length m.triggers ≡ length b.described.items
-          = sym (length_map_is trigger_by m.triggers) ∙ ap (λ (ts : List TriggerRecord). length ts) (sym h.triggers) ∙ length_map_is trigger_of b.triggers.items ∙ many in
+          =
+          sym (length_map_is trigger_by m.triggers) ∙ ap (λ (ts : List TriggerRecord). length ts) (sym h.triggers)
+          ∙ length_map_is trigger_of b.triggers.items ∙ many in
           ap (λ (ts : List Trigger). entries_at ts trigger) (triggers_are s m (Polled trigger t))
-          ∙ entries_placed (polled_by (machine_of m) trigger t) (λ es. poll_made (bench_entries 0 trigger t (machine_of m).stations) es) (λ x. refl) trigger m.triggers (λ past. absurd (omega (arith, past, long, within)))
+          ∙ entries_placed (polled_by (machine_of m) trigger t) (λ es. poll_made (bench_entries 0 trigger t (machine_of m).stations) es) (λ x. refl) trigger
+          m.triggers (λ past. absurd (omega (arith, past, long, within)))
 
       in_order : InOrder 0 (length (bench_front b').devices) (bench_entries 0 trigger t (machine_of m).stations)
       in_order =
           let whole : 0 + length (machine_of m).stations ≡ length (machine_of m).stations = omega arith in
           let long : 0 + length (machine_of m).stations ≡ length (bench_front b').devices
-          = whole ∙ ap (λ (x : Machine). length x.stations) (sym (machine_told driver s m b cs h)) ∙ length_map_is (any_station driver) b.devices.items ∙ sym (length_map_is any_front b.devices.items) ∙ ap (λ (f : Front). length f.devices) (sym front) in
+          =
+          whole ∙ ap (λ (x : Machine). length x.stations) (sym (machine_told driver s m b cs h)) ∙ length_map_is (any_station driver) b.devices.items
+          ∙ sym (length_map_is any_front b.devices.items) ∙ ap (λ (f : Front). length f.devices) (sym front) in
           subst (λ (n : ℕ). InOrder 0 n (bench_entries 0 trigger t (machine_of m).stations)) long (bench_order 0 trigger t (machine_of m).stations)
 
-      pub fire_accepted : (b'' : Bench X V) (before mid after name : List ℕ) (answer : Answer) (n : ℕ) → answer ≡ Accepted n → name ≡ trigger_name (bench_front b') trigger
-          → answer ≡ poll_answer (entries_from 0 trigger t (bench_machine driver b).stations) (trigger_in (triggers_of b) trigger).entries (trigger_in (triggers_of b) trigger).missed
-          → mid ≡ before ++ printed (codes "poll" ∷ name ∷ polled_words answer) → HandlesAll driver trigger (length (bench_front b').devices) b' b'' cs mid after
+      pub fire_accepted : (b'' : Bench X V) (before mid after name : List ℕ) (answer : Answer) (n : ℕ) → answer ≡ Accepted n
+          → name ≡ trigger_name (bench_front b') trigger
+          → answer ≡ poll_answer (entries_from 0 trigger t (bench_machine driver b).stations) (trigger_in (triggers_of b) trigger).entries
+          (trigger_in (triggers_of b) trigger).missed
+          → mid ≡ before ++ printed (codes "poll" ∷ name ∷ polled_words answer)
+          → HandlesAll driver trigger (length (bench_front b').devices) b' b'' cs mid after
           → (after ≡ before ++ step_lines s m (Fire trigger t)) × Holds driver s (state_after s m (Fire trigger t)) b'' cs
       fire_accepted b'' before mid after name answer n is named answered line all =
-          let idle = accepts (entries_from 0 trigger t (bench_machine driver b).stations) (entries_at m.triggers trigger) n (trigger_in (triggers_of b) trigger).missed (outstanding_told (Accepted n) (sym is ∙ answered)) in
+          let idle =
+          accepts (entries_from 0 trigger t (bench_machine driver b).stations) (entries_at m.triggers trigger) n (trigger_in (triggers_of b) trigger).missed
+          (outstanding_told (Accepted n) (sym is ∙ answered)) in
           let made : entries_at (step s m (Polled trigger t)).triggers trigger ≡ bench_entries 0 trigger t (machine_of m).stations
           = polled_entries ∙ ap (λ (es : List Entry). poll_made (bench_entries 0 trigger t (machine_of m).stations) es) idle in
           let entries : entries_at (step s m (Polled trigger t)).triggers trigger ≡ poll_entries m trigger t
-          = made ∙ sym (poll_is s m trigger t).1 ∙ ap (λ (es : List Entry). cond (is_empty es) (told_entries 0 trigger t (outlines_of (registry_of m))) []) (sym idle) in
+          =
+          made ∙ sym (poll_is s m trigger t).1
+          ∙ ap (λ (es : List Entry). cond (is_empty es) (told_entries 0 trigger t (outlines_of (registry_of m))) []) (sym idle) in
           let ev = event_text s m (Polled trigger t) in
           let rest = texts s (step s m (Polled trigger t)) (handlings trigger (poll_entries m trigger t)) in
           let played =
-          subst (λ (es : List Entry). (after ≡ mid ++ texts s (step s m (Polled trigger t)) (handlings trigger es)) × Holds driver s (steps s (step s m (Polled trigger t)) (handlings trigger es)) b'' cs) entries
-          (all s (step s m (Polled trigger t)) (poll_holds driver trigger t b b' cs front told triggers s m h) (subst (λ (es : List Entry). InOrder 0 (length (bench_front b').devices) es) (sym made) in_order)) in (
+          subst (λ (es : List Entry). (after ≡ mid ++ texts s (step s m (Polled trigger t)) (handlings trigger es))
+          × Holds driver s (steps s (step s m (Polled trigger t)) (handlings trigger es)) b'' cs) entries
+          (all s (step s m (Polled trigger t)) (poll_holds driver trigger t b b' cs front told triggers s m h)
+          (subst (λ (es : List Entry). InOrder 0 (length (bench_front b').devices) es) (sym made) in_order)) in (
             played.0
-                ∙ ap (λ (text : List ℕ). text ++ rest) (poll_line driver trigger t b b' cs front told triggers s m h before mid name answer named answered line ∙ ap (λ (text : List ℕ). before ++ text) (append-nil ev))
+                ∙ ap (λ (text : List ℕ). text ++ rest)
+                (poll_line driver trigger t b b' cs front told triggers s m h before mid name answer named answered line
+                ∙ ap (λ (text : List ℕ). before ++ text) (append-nil ev))
                 ∙ append_assoc before ev rest,
             played.1,
           )

@@ -23,7 +23,8 @@ use Rattle.iio_system.proofs.TriggerLemmas.{off_sound, off_told, poll_answers, p
 use Rattle.iio_system.proofs.ToldLemmas.{machine_by, told_changed, told_same}
 
 -- one trigger has changed
-pub bench_triggered : (triggers : List TriggerDesc) (states : List State) (sts : List Station) (t : ℕ) (s s' : State) → IsBench triggers states sts → slice_get states t ≡ Some s → s'.places ≡ s.places → IsTrigger t sts s'
+pub bench_triggered : (triggers : List TriggerDesc) (states : List State) (sts : List Station) (t : ℕ) (s s' : State) → IsBench triggers states sts
+    → slice_get states t ≡ Some s → s'.places ≡ s.places → IsTrigger t sts s'
     → IsBench triggers (set states t s') sts
 bench_triggered triggers states sts t s s' bench there places sound = record {
   few = bench.few;
@@ -37,17 +38,23 @@ bench_triggered triggers states sts t s s' bench there places sound = record {
     by u x (inl p) = rw (p.0, p.1) sound
     by u x (inr p) = bench.each u x p.1
 
-module _ (triggers : List TriggerDesc) (states : List State) (sts : List Station) (t : ℕ) (moment : ℤ) (s s' : State) (answer : Polled) (bench : IsBench triggers states sts) (there : slice_get states t ≡ Some s) (p : Polls s moment answer s') where
+module _ (triggers : List TriggerDesc) (states : List State) (sts : List Station) (t : ℕ) (moment : ℤ) (s s' : State) (answer : Polled)
+    (bench : IsBench triggers states sts) (there : slice_get states t ≡ Some s) (p : Polls s moment answer s') where
   pub poll_bench : IsBench triggers (set states t s') sts
-  poll_bench = bench_triggered triggers states sts t s s' bench there (poll_places t sts moment s (bench.each t s there) answer s' p) (poll_sound t sts moment s (bench.each t s there) answer s' p)
+  poll_bench =
+      bench_triggered triggers states sts t s s' bench there (poll_places t sts moment s (bench.each t s there) answer s' p)
+      (poll_sound t sts moment s (bench.each t s there) answer s' p)
 
   pub poll_triggers : map trigger_of (set states t s') ≡ at_place t (polled sts t moment) (map trigger_of states)
   poll_triggers = map_changed trigger_of states t s s' (polled sts t moment) there (poll_told t sts moment s (bench.each t s there) answer s' p)
 
-  pub poll_answer_is : answer ≡ poll_answer (entries_from 0 t moment sts) (trigger_in (map trigger_of states) t).entries (trigger_in (map trigger_of states) t).missed
+  pub poll_answer_is : answer
+      ≡ poll_answer (entries_from 0 t moment sts) (trigger_in (map trigger_of states) t).entries (trigger_in (map trigger_of states) t).missed
   poll_answer_is =
-      let at : trigger_in (map trigger_of states) t ≡ trigger_of s = ap (λ (o : Option TriggerRecord). unwrap_or o first_trigger) (map_at trigger_of states t s there) in
-      poll_answers t sts moment s (bench.each t s there) answer s' p ∙ ap (λ (x : TriggerRecord). poll_answer (entries_from 0 t moment sts) x.entries x.missed) (sym at)
+      let at : trigger_in (map trigger_of states) t ≡ trigger_of s =
+      ap (λ (o : Option TriggerRecord). unwrap_or o first_trigger) (map_at trigger_of states t s there) in
+      poll_answers t sts moment s (bench.each t s there) answer s' p
+      ∙ ap (λ (x : TriggerRecord). poll_answer (entries_from 0 t moment sts) x.entries x.missed) (sym at)
 
 -- ---- thresholds
 
@@ -58,14 +65,28 @@ sense_by false v v' w e = ap station_of e
 pub sense_station : (t : ℤ) (v v' : DeviceView Queue) → v' ≡ after_sense t v → station_of v' ≡ sensed_station v.standing.shape t (station_of v)
 sense_station t v v' e = sense_by v.site.plugged v v' _ e
 
-sense_keeps_by : (b : Bool) (v v' w : DeviceView Queue) → w.name ≡ v.name → w.number ≡ v.number → w.standing.shape ≡ v.standing.shape → v' ≡ cond b w v → Keeps v v'
-sense_keeps_by true v v' w name number shape e = record { name = ap (λ (x : DeviceView Queue). x.name) e ∙ name; number = ap (λ (x : DeviceView Queue). x.number) e ∙ number; shape = ap (λ (x : DeviceView Queue). x.standing.shape) e ∙ shape }
-sense_keeps_by false v v' w name number shape e = record { name = ap (λ (x : DeviceView Queue). x.name) e; number = ap (λ (x : DeviceView Queue). x.number) e; shape = ap (λ (x : DeviceView Queue). x.standing.shape) e }
+sense_keeps_by : (b : Bool) (v v' w : DeviceView Queue) → w.name ≡ v.name → w.number ≡ v.number → w.standing.shape ≡ v.standing.shape → v' ≡ cond b w v
+    → Keeps v v'
+sense_keeps_by true v v' w name number shape e =
+    record {
+      name = ap (λ (x : DeviceView Queue). x.name) e ∙ name;
+      number = ap (λ (x : DeviceView Queue). x.number) e ∙ number;
+      shape =
+          ap (λ (x : DeviceView Queue). x.standing.shape) e ∙ shape;
+    }
+sense_keeps_by false v v' w name number shape e =
+    record {
+      name = ap (λ (x : DeviceView Queue). x.name) e;
+      number = ap (λ (x : DeviceView Queue). x.number) e;
+      shape =
+          ap (λ (x : DeviceView Queue). x.standing.shape) e;
+    }
 
 pub sense_keeps : (t : ℤ) (v v' : DeviceView Queue) → v' ≡ after_sense t v → Keeps v v'
 sense_keeps t v v' e = sense_keeps_by v.site.plugged v v' _ refl refl refl e
 
-sense_captures_by : (b : Bool) (v v' w : DeviceView Queue) → w.standing.captures ≡ v.standing.captures → v' ≡ cond b w v → v'.standing.captures ≡ v.standing.captures
+sense_captures_by : (b : Bool) (v v' w : DeviceView Queue) → w.standing.captures ≡ v.standing.captures → v' ≡ cond b w v
+    → v'.standing.captures ≡ v.standing.captures
 sense_captures_by true v v' w same e = ap (λ (x : DeviceView Queue). x.standing.captures) e ∙ same
 sense_captures_by false v v' w same e = ap (λ (x : DeviceView Queue). x.standing.captures) e
 
@@ -77,12 +98,20 @@ sensed_kept_by true shape t st w k = k
 sensed_kept_by false shape t st w k = record { attached = λ u. refl; attachment = refl; hosted = λ n h. h }
 
 pub sense_kept : (shape : ShapeRecord) (t : ℤ) (st st' : Station) → st' ≡ sensed_station shape t st → KeepsPlace st st'
-sense_kept shape t st st' e = kept_along st (sensed_station shape t st) st' (sensed_kept_by st.site.plugged shape t st _ (record { attached = λ u. refl; attachment = refl; hosted = λ n h. h })) e
+sense_kept shape t st st' e =
+    kept_along st (sensed_station shape t st) st'
+    (sensed_kept_by st.site.plugged shape t st _ (record { attached = λ u. refl; attachment = refl; hosted = λ n h. h })) e
 
 -- ---- unplugging
 
 pub unplug_keeps : (v v' : DeviceView Queue) → v' ≡ at_site (unplugged v.site) v → Keeps v v'
-unplug_keeps v v' e = record { name = ap (λ (x : DeviceView Queue). x.name) e; number = ap (λ (x : DeviceView Queue). x.number) e; shape = ap (λ (x : DeviceView Queue). x.standing.shape) e }
+unplug_keeps v v' e =
+    record {
+      name = ap (λ (x : DeviceView Queue). x.name) e;
+      number = ap (λ (x : DeviceView Queue). x.number) e;
+      shape =
+          ap (λ (x : DeviceView Queue). x.standing.shape) e;
+    }
 
 pub sense_keeps_all : (t : ℤ) (v v' : DeviceView Queue) → v' ≡ after_sense t v → KeepsCaptures v v'
 sense_keeps_all t v v' e = record { device = sense_keeps t v v' e; captures = sense_captures t v v' e }
@@ -95,27 +124,34 @@ unplug_kept st st' e = kept_along st (unplugged_station st) st' (record { attach
 
 -- ---- entries
 
-module _ (triggers : List TriggerDesc) (states : List State) (sts : List Station) (t dev : ℕ) (s s' : State) (bench : IsBench triggers states sts) (there : slice_get states t ≡ Some s) where
+module _ (triggers : List TriggerDesc) (states : List State) (sts : List Station) (t dev : ℕ) (s s' : State) (bench : IsBench triggers states sts)
+    (there : slice_get states t ≡ Some s) where
   pub entry_bench : s' ≡ without dev s → IsBench triggers (set states t s') sts
-  entry_bench off = bench_triggered triggers states sts t s s' bench there (ap (λ (x : State). x.places) off) (off_sound t dev sts s s' (bench.each t s there) off)
+  entry_bench off =
+      bench_triggered triggers states sts t s s' bench there (ap (λ (x : State). x.places) off) (off_sound t dev sts s s' (bench.each t s there) off)
 
-pub entry_triggers : (states : List State) (t dev : ℕ) (s s' : State) → slice_get states t ≡ Some s → s' ≡ without dev s → map trigger_of (set states t s') ≡ at_place t (handled dev) (map trigger_of states)
+pub entry_triggers : (states : List State) (t dev : ℕ) (s s' : State) → slice_get states t ≡ Some s → s' ≡ without dev s
+    → map trigger_of (set states t s') ≡ at_place t (handled dev) (map trigger_of states)
 entry_triggers states t dev s s' there off = map_changed trigger_of states t s s' (handled dev) there (off_told dev s s' off)
 
-pub entry_here : (states : List State) (t dev : ℕ) (s : State) → slice_get states t ≡ Some s → entry_of dev (trigger_in (map trigger_of states) t).entries ≡ entry_of dev (trigger_of s).entries
+pub entry_here : (states : List State) (t dev : ℕ) (s : State) → slice_get states t ≡ Some s
+    → entry_of dev (trigger_in (map trigger_of states) t).entries ≡ entry_of dev (trigger_of s).entries
 entry_here states t dev s there = ap (λ (o : Option TriggerRecord). entry_of dev (unwrap_or o first_trigger).entries) (map_at trigger_of states t s there)
 
 module _ {D : Type 0} (f : D → Station) (clock : ℤ) (ds : List D) (k : ℕ) (d d' : D) (at : slice_get ds k ≡ Some d) where
-  entry_by : (kind : Kind) (o : Option Handed) (ended : Bool) (shape : ShapeRecord) → f d' ≡ entry_station kind o ended shape (f d) → machine_by f clock (set ds k d') ≡ entry_machine kind o ended shape k (machine_by f clock ds)
+  entry_by : (kind : Kind) (o : Option Handed) (ended : Bool) (shape : ShapeRecord) → f d' ≡ entry_station kind o ended shape (f d)
+      → machine_by f clock (set ds k d') ≡ entry_machine kind o ended shape k (machine_by f clock ds)
   entry_by kind None ended shape e = told_same f clock ds k d d' at e
   entry_by kind (Some h) true shape e = told_same f clock ds k d d' at e
   entry_by kind (Some h) false shape e = told_changed f clock ds k d d' at (kind_handled kind shape h) e
 
-  pub entry_told : (kind kind' : Kind) (o o' : Option Handed) (ended ended' : Bool) (shape shape' : ShapeRecord) → kind' ≡ kind → o' ≡ o → ended' ≡ ended → shape' ≡ shape → f d' ≡ entry_station kind o ended shape (f d)
+  pub entry_told : (kind kind' : Kind) (o o' : Option Handed) (ended ended' : Bool) (shape shape' : ShapeRecord) → kind' ≡ kind → o' ≡ o → ended' ≡ ended
+      → shape' ≡ shape → f d' ≡ entry_station kind o ended shape (f d)
       → machine_by f clock (set ds k d') ≡ entry_machine kind' o' ended' shape' k (machine_by f clock ds)
   entry_told kind kind' o o' ended ended' shape shape' sameK same sameE sameS e = rw (sameK, same, sameE, sameS) (entry_by kind o ended shape e)
 
-pub entry_answer_is : (kind kind' : Kind) (o o' : Option Handed) (ended ended' : Bool) (st st' : Station) (r : Option Became) → kind' ≡ kind → o' ≡ o → ended' ≡ ended → st' ≡ st → r ≡ entry_answer kind o ended st
+pub entry_answer_is : (kind kind' : Kind) (o o' : Option Handed) (ended ended' : Bool) (st st' : Station) (r : Option Became) → kind' ≡ kind → o' ≡ o
+    → ended' ≡ ended → st' ≡ st → r ≡ entry_answer kind o ended st
     → r ≡ entry_answer kind' o' ended' st'
 entry_answer_is kind kind' o o' ended ended' st st' r sameK same sameE sameS e = rw (sameK, same, sameE, sameS) e
 
@@ -125,5 +161,6 @@ room_is f [] k d d' at = absurd (cc)
 room_is f (x ∷ xs) zero d d' at = refl
 room_is f (x ∷ xs) (suc k) d d' at = room_is f xs k d d' at
 
-pub ended_here : {D : Type 0} (f : D → ℕ) (ds : List D) (k : ℕ) (d : D) → slice_get ds k ≡ Some d → option_map_or is_last (slice_get (map f ds) k) false ≡ is_last (f d)
+pub ended_here : {D : Type 0} (f : D → ℕ) (ds : List D) (k : ℕ) (d : D) → slice_get ds k ≡ Some d
+    → option_map_or is_last (slice_get (map f ds) k) false ≡ is_last (f d)
 ended_here f ds k d at = ap (λ (o : Option ℕ). option_map_or is_last o false) (map_at f ds k d at)

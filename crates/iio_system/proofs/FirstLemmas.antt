@@ -27,30 +27,35 @@ abbrev front_in : DeviceView Queue → DeviceHead
 front_in v = record { name = v.name; kind = Input; shape = v.standing.shape }
 
 module _ {D : Type 0} (view : D → DeviceView Queue) (drivers : List Driver) where
-  stations_made : (n : ℕ) (ds : List D) (descs : List DeviceRecord) → map view ds ≡ first_devices drivers n descs → map (λ (d : D). station_of (view d)) ds ≡ map (first_station drivers) descs
+  stations_made : (n : ℕ) (ds : List D) (descs : List DeviceRecord) → map view ds ≡ first_devices drivers n descs
+      → map (λ (d : D). station_of (view d)) ds ≡ map (first_station drivers) descs
   stations_made n [] [] e = refl
   stations_made n [] (x ∷ xs) e = absurd (cc)
   stations_made n (d ∷ ds) [] e = absurd (cc)
   stations_made n (d ∷ ds) (x ∷ xs) e =
       let head : view d ≡ new_view x n (first_driver drivers x) = cc in
       let tail : map view ds ≡ first_devices drivers (suc n) xs = cc in
-      ap (λ (v : DeviceView Queue). station_of v ∷ map (λ (d : D). station_of (view d)) ds) head ∙ ap (λ (sts : List Station). first_station drivers x ∷ sts) (stations_made (suc n) ds xs tail)
+      ap (λ (v : DeviceView Queue). station_of v ∷ map (λ (d : D). station_of (view d)) ds) head
+      ∙ ap (λ (sts : List Station). first_station drivers x ∷ sts) (stations_made (suc n) ds xs tail)
 
-  fronts_made : (n : ℕ) (ds : List D) (descs : List DeviceRecord) → map view ds ≡ first_devices drivers n descs → map (λ (d : D). front_in (view d)) ds ≡ map input_head descs
+  fronts_made : (n : ℕ) (ds : List D) (descs : List DeviceRecord) → map view ds ≡ first_devices drivers n descs
+      → map (λ (d : D). front_in (view d)) ds ≡ map input_head descs
   fronts_made n [] [] e = refl
   fronts_made n [] (x ∷ xs) e = absurd (cc)
   fronts_made n (d ∷ ds) [] e = absurd (cc)
   fronts_made n (d ∷ ds) (x ∷ xs) e =
       let head : view d ≡ new_view x n (first_driver drivers x) = cc in
       let tail : map view ds ≡ first_devices drivers (suc n) xs = cc in
-      ap (λ (v : DeviceView Queue). front_in v ∷ map (λ (d : D). front_in (view d)) ds) head ∙ ap (λ (fs : List DeviceHead). input_head x ∷ fs) (fronts_made (suc n) ds xs tail)
+      ap (λ (v : DeviceView Queue). front_in v ∷ map (λ (d : D). front_in (view d)) ds) head
+      ∙ ap (λ (fs : List DeviceHead). input_head x ∷ fs) (fronts_made (suc n) ds xs tail)
 
   module _ {A : Type 0} (wrap : D → A) where
     map_wrapped : {B : Type 0} (f : A → B) (h : D → B) → ((d : D) → f (wrap d) ≡ h d) → (ds : List D) → map f (map wrap ds) ≡ map h ds
     map_wrapped f h same [] = refl
     map_wrapped {B = B} f h same (d ∷ ds) = ap (λ (x : B). x ∷ map f (map wrap ds)) (same d) ∙ ap (λ (xs : List B). h d ∷ xs) (map_wrapped f h same ds)
 
-    numbered_made : (f : A → ℕ) → ((d : D) → f (wrap d) ≡ (view d).number) → (n : ℕ) (ds : List D) (descs : List DeviceRecord) → map view ds ≡ first_devices drivers n descs
+    numbered_made : (f : A → ℕ) → ((d : D) → f (wrap d) ≡ (view d).number) → (n : ℕ) (ds : List D) (descs : List DeviceRecord)
+        → map view ds ≡ first_devices drivers n descs
         → (k : ℕ) (a : A) → slice_get (map wrap ds) k ≡ Some a → f a ≡ n + k
     numbered_made f seen n [] descs e k a at = absurd (cc)
     numbered_made f seen n (c ∷ ds) [] e k a at = absurd (cc)
@@ -64,7 +69,8 @@ module _ {D : Type 0} (view : D → DeviceView Queue) (drivers : List Driver) wh
         let number : f a ≡ suc n + k = numbered_made f seen (suc n) ds xs tail k a at in
         omega (arith, number)
 
-    captures_made : (f : A → ℕ) → ((d : D) → f (wrap d) ≡ (view d).standing.captures) → (n : ℕ) (ds : List D) (descs : List DeviceRecord) → map view ds ≡ first_devices drivers n descs → All (λ (a : A). f a ≡ 0) (map wrap ds)
+    captures_made : (f : A → ℕ) → ((d : D) → f (wrap d) ≡ (view d).standing.captures) → (n : ℕ) (ds : List D) (descs : List DeviceRecord)
+        → map view ds ≡ first_devices drivers n descs → All (λ (a : A). f a ≡ 0) (map wrap ds)
     captures_made f seen n [] descs e i a within = absurd (omega arith)
     captures_made f seen n (c ∷ ds) [] e i a within = absurd (cc)
     captures_made f seen n (c ∷ ds) (x ∷ xs) e zero a within =
@@ -75,7 +81,8 @@ module _ {D : Type 0} (view : D → DeviceView Queue) (drivers : List Driver) wh
         captures_made f seen (suc n) ds xs tail i a (omega arith)
 
     -- the input devices that were made, each as a device of a bench
-    module _ (descs : List DeviceRecord) (made : List D) (ds : List A) (views : map view made ≡ first_devices drivers 0 descs) (wrapped : ds ≡ map wrap made) where
+    module _ (descs : List DeviceRecord) (made : List D) (ds : List A) (views : map view made ≡ first_devices drivers 0 descs)
+        (wrapped : ds ≡ map wrap made) where
       pub inputs_stations : (f : A → Station) → ((d : D) → f (wrap d) ≡ station_of (view d)) → map f ds ≡ map (first_station drivers) descs
       inputs_stations f seen = ap (λ (xs : List A). map f xs) wrapped ∙ map_wrapped f (λ d. station_of (view d)) seen made ∙ stations_made 0 made descs views
 
@@ -83,7 +90,9 @@ module _ {D : Type 0} (view : D → DeviceView Queue) (drivers : List Driver) wh
       inputs_fronts f seen = ap (λ (xs : List A). map f xs) wrapped ∙ map_wrapped f (λ d. front_in (view d)) seen made ∙ fronts_made 0 made descs views
 
       pub inputs_numbered : (f : A → ℕ) → ((d : D) → f (wrap d) ≡ (view d).number) → IsNumbered f ds
-      inputs_numbered f seen = subst (λ (xs : List A). IsNumbered f xs) (sym wrapped) (λ k a at. (let number : f a ≡ 0 + k = numbered_made f seen 0 made descs views k a at in omega (arith, number)))
+      inputs_numbered f seen =
+          subst (λ (xs : List A). IsNumbered f xs) (sym wrapped)
+          (λ k a at. (let number : f a ≡ 0 + k = numbered_made f seen 0 made descs views k a at in omega (arith, number)))
 
       pub inputs_captures : (f : A → ℕ) → ((d : D) → f (wrap d) ≡ (view d).standing.captures) → All (λ (a : A). f a ≡ 0) ds
       inputs_captures f seen = subst (λ (xs : List A). All (λ (a : A). f a ≡ 0) xs) (sym wrapped) (captures_made f seen 0 made descs views)
@@ -117,7 +126,8 @@ module _ {A : Type 0} where
   numbered_more f n [] a each own (suc k) x at = absurd (cc)
   numbered_more f n (y ∷ ys) a each own zero x at = each zero x at
   numbered_more f n (y ∷ ys) a each own (suc k) x at =
-      let number : f x ≡ suc n + k = numbered_more f (suc n) ys a (λ i z e. (let h : f z ≡ n + suc i = each (suc i) z e in omega (arith, h))) (omega (arith, own)) k x at in
+      let number : f x ≡ suc n + k =
+      numbered_more f (suc n) ys a (λ i z e. (let h : f z ≡ n + suc i = each (suc i) z e in omega (arith, h))) (omega (arith, own)) k x at in
       omega (arith, number)
 
   unmoved_more : (f : A → ℕ) (xs : List A) (a : A) → All (λ (x : A). f x ≡ 0) xs → f a ≡ 0 → All (λ (x : A). f x ≡ 0) (xs ++ a ∷ [])
@@ -127,7 +137,8 @@ module _ {A : Type 0} where
   unmoved_more f (y ∷ ys) a all own (suc i) d within = unmoved_more f ys a (λ j e inside. all (suc j) e (omega (arith, inside))) own i d (omega (arith, within))
 
   -- that many are there beside those before
-  pub record Adding (f : A → Station) (face : A → DeviceHead) (number captures : A → ℕ) (descs : List OutputRecord) (before : List A) (done left : List OutputRecord) (devices : List A) : Type 0 where
+  pub record Adding (f : A → Station) (face : A → DeviceHead) (number captures : A → ℕ) (descs : List OutputRecord) (before : List A)
+      (done left : List OutputRecord) (devices : List A) : Type 0 where
     pub whole : done ++ left ≡ descs
     pub many : length devices ≡ length before + length done
     pub stations : map f devices ≡ map f before ++ map first_out_station done
@@ -137,43 +148,63 @@ module _ {A : Type 0} where
 
   module _ (f : A → Station) (face : A → DeviceHead) (number captures : A → ℕ) (descs : List OutputRecord) (before : List A) where
     pub none_added : IsNumbered number before → All (λ (d : A). captures d ≡ 0) before → Adding f face number captures descs before [] descs before
-    none_added numbered unmoved = record { whole = refl; many = omega arith; stations = nothing_more (map f before); fronts = nothing_more (map face before); numbered = numbered; unmoved = unmoved }
+    none_added numbered unmoved =
+        record {
+          whole = refl;
+          many = omega arith;
+          stations = nothing_more (map f before);
+          fronts = nothing_more (map face before);
+          numbered = numbered;
+          unmoved = unmoved;
+        }
 
     -- where none is left, all were added
     pub all_added : (done rest : List OutputRecord) (devices : List A) → Adding f face number captures descs before done rest devices → rest ≡ [] → done ≡ descs
     all_added done rest devices adding none = nothing_more done ∙ ap (λ (xs : List OutputRecord). done ++ xs) (sym none) ∙ adding.whole
 
-    module _ (done rest left : List OutputRecord) (devices devices' : List A) (x : OutputRecord) (next : rest ≡ x ∷ left) (adding : Adding f face number captures descs before done rest devices) where
+    module _ (done rest left : List OutputRecord) (devices devices' : List A) (x : OutputRecord) (next : rest ≡ x ∷ left)
+        (adding : Adding f face number captures descs before done rest devices) where
       there : done ++ x ∷ left ≡ descs
       there = ap (λ (xs : List OutputRecord). done ++ xs) (sym next) ∙ adding.whole
 
       -- it is one of the description's, and there is a number for it
       pub unlisted_next : All (λ (d : OutputRecord). d.shape.listed ≡ []) descs → x.shape.listed ≡ []
-      unlisted_next all = left_of (λ (d : OutputRecord). d.shape.listed ≡ []) done (x ∷ left) (subst (λ (xs : List OutputRecord). All (λ (d : OutputRecord). d.shape.listed ≡ []) xs) (sym there) all) 0 x (omega arith)
+      unlisted_next all =
+          left_of (λ (d : OutputRecord). d.shape.listed ≡ []) done (x ∷ left)
+          (subst (λ (xs : List OutputRecord). All (λ (d : OutputRecord). d.shape.listed ≡ []) xs) (sym there) all) 0 x (omega arith)
 
       pub few_next : (n : ℕ) → length before + length descs ≤ n → length devices < n
       few_next n few =
           let all : length done + length (x ∷ left) ≡ length descs = sym (length-append done (x ∷ left)) ∙ ap (λ (xs : List OutputRecord). length xs) there in
           omega (arith, few, all, adding.many)
 
-      pub added : (d : A) → devices' ≡ devices ++ d ∷ [] → f d ≡ first_out_station x → face d ≡ output_head x → number d ≡ length devices → captures d ≡ 0 → Adding f face number captures descs before (done ++ x ∷ []) left devices'
+      pub added : (d : A) → devices' ≡ devices ++ d ∷ [] → f d ≡ first_out_station x → face d ≡ output_head x → number d ≡ length devices → captures d ≡ 0
+          → Adding f face number captures descs before (done ++ x ∷ []) left devices'
       added d pushed station head own still =
           subst (λ (ds : List A). Adding f face number captures descs before (done ++ x ∷ []) left ds) (sym pushed)
           (record {
             whole = append_one done left x ∙ there;
             many = (let a = longer devices d in let b = longer done x in omega (arith, a, b, adding.many));
             stations =
-                map_append f devices (d ∷ []) ∙ ap (λ (sts : List Station). sts ++ f d ∷ []) adding.stations ∙ appended (map f before) (map first_out_station done) (f d ∷ [])
-                ∙ ap (λ (st : Station). map f before ++ (map first_out_station done ++ st ∷ [])) station ∙ ap (λ (sts : List Station). map f before ++ sts) (sym (map_append first_out_station done (x ∷ [])));
+                map_append f devices (d ∷ []) ∙ ap (λ (sts : List Station). sts ++ f d ∷ []) adding.stations
+                ∙ appended (map f before) (map first_out_station done) (f d ∷ [])
+                ∙ ap (λ (st : Station). map f before ++ (map first_out_station done ++ st ∷ [])) station
+                ∙ ap (λ (sts : List Station). map f before ++ sts) (sym (map_append first_out_station done (x ∷ [])));
             fronts =
-                map_append face devices (d ∷ []) ∙ ap (λ (hs : List DeviceHead). hs ++ face d ∷ []) adding.fronts ∙ appended (map face before) (map output_head done) (face d ∷ [])
-                ∙ ap (λ (h : DeviceHead). map face before ++ (map output_head done ++ h ∷ [])) head ∙ ap (λ (hs : List DeviceHead). map face before ++ hs) (sym (map_append output_head done (x ∷ [])));
-            numbered = λ k a at. (let h : number a ≡ 0 + k = numbered_more number 0 devices d (λ i z e. (let n : number z ≡ i = adding.numbered i z e in omega (arith, n))) (omega (arith, own)) k a at in omega (arith, h));
+                map_append face devices (d ∷ []) ∙ ap (λ (hs : List DeviceHead). hs ++ face d ∷ []) adding.fronts
+                ∙ appended (map face before) (map output_head done) (face d ∷ [])
+                ∙ ap (λ (h : DeviceHead). map face before ++ (map output_head done ++ h ∷ [])) head
+                ∙ ap (λ (hs : List DeviceHead). map face before ++ hs) (sym (map_append output_head done (x ∷ [])));
+            numbered =
+                λ k a at. (let h : number a ≡ 0 + k =
+                numbered_more number 0 devices d (λ i z e. (let n : number z ≡ i = adding.numbered i z e in omega (arith, n))) (omega (arith, own)) k a at in
+                omega (arith, h));
             unmoved = unmoved_more captures devices d adding.unmoved still;
           })
 
 -- the heads of a description without averaging devices
-pub heads_are : (ds : List DeviceRecord) (xs : List OutputRecord) (means : List AverageRecord) → means ≡ [] → map input_head ds ++ map output_head xs ≡ map input_head ds ++ (map output_head xs ++ map (average_head ds) means)
+pub heads_are : (ds : List DeviceRecord) (xs : List OutputRecord) (means : List AverageRecord) → means ≡ []
+    → map input_head ds ++ map output_head xs ≡ map input_head ds ++ (map output_head xs ++ map (average_head ds) means)
 heads_are ds xs means none =
     ap (λ (hs : List DeviceHead). map input_head ds ++ hs) (nothing_more (map output_head xs))
     ∙ ap (λ (ys : List AverageRecord). map input_head ds ++ (map output_head xs ++ map (average_head ds) ys)) (sym none)
@@ -189,7 +220,8 @@ outputs_bare : (descs : List OutputRecord) → AreBare (map first_out_station de
 outputs_bare [] = tt
 outputs_bare (x ∷ xs) = (refl, outputs_bare xs)
 
-pub first_bare : (drivers : List Driver) (inputs : List DeviceRecord) (outputs : List OutputRecord) → AreBare (map (first_station drivers) inputs ++ map first_out_station outputs)
+pub first_bare : (drivers : List Driver) (inputs : List DeviceRecord) (outputs : List OutputRecord)
+    → AreBare (map (first_station drivers) inputs ++ map first_out_station outputs)
 first_bare drivers [] outputs = outputs_bare outputs
 first_bare drivers (x ∷ xs) outputs = (refl, first_bare drivers xs outputs)
 
@@ -215,7 +247,8 @@ module _ {D : Type 0} (f h : D → Station) (same : (d : D) → is_empty (h d).m
   same_places [] = refl
   same_places (t ∷ ts) = ap (λ (ns : List ℕ). t.places ∷ ns) (same_places ts)
 
-  pub first_bench : (ts : List TriggerDesc) (states : List State) (ds : List D) (sts : List Station) → length ts ≤ MAX_TRIGGERS → length sts ≤ MAX_DEVICES → states ≡ map first_state ts → map f ds ≡ sts → AreBare sts
+  pub first_bench : (ts : List TriggerDesc) (states : List State) (ds : List D) (sts : List Station) → length ts ≤ MAX_TRIGGERS → length sts ≤ MAX_DEVICES
+      → states ≡ map first_state ts → map f ds ≡ sts → AreBare sts
       → IsBench ts states (map h ds)
   first_bench ts states ds sts few most made e none =
       let bare : AreBare (map f ds) = subst (λ (xs : List Station). AreBare xs) (sym e) none in
@@ -230,7 +263,8 @@ module _ {D : Type 0} (f h : D → Station) (same : (d : D) → is_empty (h d).m
         hosted = λ k st at. all_hosted (length ts) ds bare k st at;
       }
 
-pub firsts_few : (drivers : List Driver) (inputs : List DeviceRecord) (outputs : List OutputRecord) (n : ℕ) → length inputs + length outputs ≤ n → length (map (first_station drivers) inputs ++ map first_out_station outputs) ≤ n
+pub firsts_few : (drivers : List Driver) (inputs : List DeviceRecord) (outputs : List OutputRecord) (n : ℕ) → length inputs + length outputs ≤ n
+    → length (map (first_station drivers) inputs ++ map first_out_station outputs) ≤ n
 firsts_few drivers inputs outputs n few =
     let a = length-append (map (first_station drivers) inputs) (map first_out_station outputs) in
     let b = length_map_is (first_station drivers) inputs in

@@ -51,7 +51,8 @@ item_same x y false item same = say_same x.own y.own item (same.own refl)
 
 pub items_same : (x y : Opens) (mine : Bool) (items : List Item) → Asks mine x y → items_meet x mine items ≡ items_meet y mine items
 items_same x y mine [] same = refl
-items_same x y mine (item ∷ items) same = ap (λ b. b && items_meet x mine items) (item_same x y mine item same) ∙ ap (λ b. item_meets y mine item && b) (items_same x y mine items same)
+items_same x y mine (item ∷ items) same =
+    ap (λ b. b && items_meet x mine items) (item_same x y mine item same) ∙ ap (λ b. item_meets y mine item && b) (items_same x y mine items same)
 
 by_same : (o : Option ℕ) (f g : ℕ → Bool) → ((k : ℕ) → f k ≡ g k) → by_number o f ≡ by_number o g
 by_same None f g same = refl
@@ -76,7 +77,8 @@ others_all : (w : List ℕ) (ns : List (List ℕ)) → is_in ns w ≡ false → 
 others_all w [] absent = tt
 others_all w (n ∷ ns) absent = by (bytes_eq n w) refl absent (λ h. others_all w ns h)
   where
-    by : (b : Bool) → bytes_eq n w ≡ b → (b || is_in ns w) ≡ false → (is_in ns w ≡ false → Every (λ x. bytes_eq w x ≡ false) ns) → Every (λ x. bytes_eq w x ≡ false) (n ∷ ns)
+    by : (b : Bool) → bytes_eq n w ≡ b → (b || is_in ns w) ≡ false → (is_in ns w ≡ false → Every (λ x. bytes_eq w x ≡ false) ns)
+        → Every (λ x. bytes_eq w x ≡ false) (n ∷ ns)
     by true is h rest = cc
     by false is h rest = (turned n w is, rest h)
 
@@ -98,7 +100,8 @@ module _ {S : Type 0} (seen : S → SeatRecord) (front : Front) (m : Told) where
   desk_at (l ∷ ls) (c ∷ cs) are name = cond (bytes_eq l.user.who name) (desk_of_line l c.session are.0.served) (desk_at ls cs are.1 name)
   desk_at ls cs are name = bare_desk
 
-  desks_are : (ls : List Line) (cs : List (Connection S)) (are : AreLines seen front m ls cs) → Every (λ name. IsDeskOf m name (desk_at ls cs are name)) (map name_of ls)
+  desks_are : (ls : List Line) (cs : List (Connection S)) (are : AreLines seen front m ls cs)
+      → Every (λ name. IsDeskOf m name (desk_at ls cs are name)) (map name_of ls)
   desks_are [] cs are = tt
   desks_are (l ∷ ls) [] are = absurd are
   desks_are (l ∷ ls) (c ∷ cs) are =
@@ -120,17 +123,20 @@ module _ {S : Type 0} (seen : S → SeatRecord) (front : Front) (m : Told) where
   but_same f g a [] same = refl
   but_same f g a (n ∷ ns) same = by (bytes_eq n a) (but_same f g a ns same.1)
     where
-      by : (b : Bool) → desks_but f a ns ≡ desks_but g a ns → cond b (desks_but f a ns) (f n ∷ desks_but f a ns) ≡ cond b (desks_but g a ns) (g n ∷ desks_but g a ns)
+      by : (b : Bool) → desks_but f a ns ≡ desks_but g a ns
+          → cond b (desks_but f a ns) (f n ∷ desks_but f a ns) ≡ cond b (desks_but g a ns) (g n ∷ desks_but g a ns)
       by true rest = rest
       by false rest = ap (λ d. d ∷ desks_but f a ns) same.0 ∙ ap (λ ds. g n ∷ ds) rest
 
   -- past the first line
-  past : (l : Line) (ls : List Line) (c : Connection S) (cs : List (Connection S)) (are : AreLines seen front m (l ∷ ls) (c ∷ cs)) (a : List ℕ) → is_in (map name_of ls) l.user.who ≡ false
+  past : (l : Line) (ls : List Line) (c : Connection S) (cs : List (Connection S)) (are : AreLines seen front m (l ∷ ls) (c ∷ cs)) (a : List ℕ)
+      → is_in (map name_of ls) l.user.who ≡ false
       → desks_but (desk_at (l ∷ ls) (c ∷ cs) are) a (map name_of ls) ≡ desks_but (desk_at ls cs are.1) a (map name_of ls)
   past l ls c cs are a absent =
       but_same (desk_at (l ∷ ls) (c ∷ cs) are) (desk_at ls cs are.1) a (map name_of ls)
       (every_map (λ n. bytes_eq l.user.who n ≡ false) (λ n. desk_at (l ∷ ls) (c ∷ cs) are n ≡ desk_at ls cs are.1 n) (map name_of ls)
-      (λ n other. ap (λ (b : Bool). cond b (desk_of_line l c.session are.0.served) (desk_at ls cs are.1 n)) other) (others_all l.user.who (map name_of ls) absent))
+      (λ n other. ap (λ (b : Bool). cond b (desk_of_line l c.session are.0.served) (desk_at ls cs are.1 n)) other)
+      (others_all l.user.who (map name_of ls) absent))
 
   seated_more : (l : Line) (o : Option (SessionRecord S)) (p : IsServed seen front m l o) (k : ℕ) (ds es : List DeskRecord) → one_seated ds k ≡ one_seated es k
       → one_seated (desk_of_line l o p ∷ ds) k ≡ one_seated (with_desk seen o es) k
@@ -143,7 +149,9 @@ module _ {S : Type 0} (seen : S → SeatRecord) (front : Front) (m : Told) where
   none_more l (Some x) live ds es rest = ap (λ b. is_empty (desk_of seen x.desk).seats && b) rest
 
   -- the same of a list of desks by any test that a desk of nothing doesn't change
-  others_are : {B : Type 0} (f : List DeskRecord → B) → ((l : Line) (o : Option (SessionRecord S)) (p : IsServed seen front m l o) (ds es : List DeskRecord) → f ds ≡ f es → f (desk_of_line l o p ∷ ds) ≡ f (with_desk seen o es))
+  others_are : {B : Type 0} (f : List DeskRecord → B)
+      → ((l : Line) (o : Option (SessionRecord S)) (p : IsServed seen front m l o) (ds es : List DeskRecord) → f ds ≡ f es
+      → f (desk_of_line l o p ∷ ds) ≡ f (with_desk seen o es))
       → (ls : List Line) (cs : List (Connection S)) (are : AreLines seen front m ls cs) (a : List ℕ) → AreDistinct (map name_of ls)
       → f (desks_but (desk_at ls cs are) a (map name_of ls)) ≡ f (desks_besides seen a cs)
   others_are f more [] [] are a apart = refl
@@ -178,7 +186,8 @@ module _ {S : Type 0} (seen : S → SeatRecord) (front : Front) (m : Told) where
 
   -- ---- the watched connection's own
 
-  own_line : (l : Line) (o : Option (SessionRecord S)) (p : IsServed seen front m l o) (k : ℕ) → own_has (Some (desk_of_line l o p)) k ≡ own_has (option_map (λ (x : SessionRecord S). desk_of seen x.desk) o) k
+  own_line : (l : Line) (o : Option (SessionRecord S)) (p : IsServed seen front m l o) (k : ℕ)
+      → own_has (Some (desk_of_line l o p)) k ≡ own_has (option_map (λ (x : SessionRecord S). desk_of seen x.desk) o) k
   own_line l None gone k = ap (λ (ss : List Bare). is_some (seat_at k ss)) gone.bare.0
   own_line l (Some x) live k = refl
 
@@ -202,12 +211,15 @@ module _ {S : Type 0} (seen : S → SeatRecord) (front : Front) (m : Told) where
   -- ---- what is open, by the connections that aren't fed
 
   -- of the watched one's own feed the others are asked, of another's the watched one
-  pub asks_those : (s : Setup) (a : List ℕ) (mine : Bool) (ls : List Line) (cs others : List (Connection S)) (are : AreLines seen front m ls cs) → AreDistinct (map name_of ls) → front ≡ front_of s
+  pub asks_those : (s : Setup) (a : List ℕ) (mine : Bool) (ls : List Line) (cs others : List (Connection S)) (are : AreLines seen front m ls cs)
+      → AreDistinct (map name_of ls) → front ≡ front_of s
       → (mine ≡ false → desk_named seen a others ≡ desk_named seen a cs) → (mine ≡ true → desks_besides seen a others ≡ desks_besides seen a cs)
-      → Asks mine (opens_by front (desk_named seen a others) (desks_besides seen a others)) (opens_by (front_of s) (desk_there (desk_at ls cs are) a (map name_of ls)) (desks_but (desk_at ls cs are) a (map name_of ls)))
+      → Asks mine (opens_by front (desk_named seen a others) (desks_besides seen a others))
+      (opens_by (front_of s) (desk_there (desk_at ls cs are) a (map name_of ls)) (desks_but (desk_at ls cs are) a (map name_of ls)))
   asks_those s a mine ls cs others are apart same own besides = record {
     own = λ other device. ap (λ (f : Front). by_number (find_device f device) (own_input f (desk_named seen a others))) same
-        ∙ by_same (find_device (front_of s) device) (own_input (front_of s) (desk_named seen a others)) (own_input (front_of s) (desk_there (desk_at ls cs are) a (map name_of ls)))
+        ∙ by_same (find_device (front_of s) device) (own_input (front_of s) (desk_named seen a others))
+        (own_input (front_of s) (desk_there (desk_at ls cs are) a (map name_of ls)))
         (λ k. ap (λ (b : Bool). is_input (kind_at (front_of s) k) && b) (ap (λ o. own_has o k) (own other) ∙ sym (own_named ls cs are a k)));
     others = λ is device. ap (λ (f : Front). by_number (find_device f device) (one_seated (desks_besides seen a others))) same
         ∙ by_same (find_device (front_of s) device) (one_seated (desks_besides seen a others)) (one_seated (desks_but (desk_at ls cs are) a (map name_of ls)))
@@ -219,9 +231,12 @@ module _ {S : Type 0} (seen : S → SeatRecord) where
   -- ---- the whole
 
   -- what is said, by what is open
-  pub meets_those : DesksDecide → (s : Setup) (m : Told) (front : Front) (told : Option Machine) (cs others : List (Connection S)) (a name bytes : List ℕ) (begun : Scanner) (meets : Bool)
+  pub meets_those : DesksDecide
+      → (s : Setup) (m : Told) (front : Front) (told : Option Machine) (cs others : List (Connection S)) (a name bytes : List ℕ) (begun : Scanner)
+      (meets : Bool)
       → Stands seen s m front told cs → has_ended name (registry_of m).users ≡ false → begun_by name m.lines ≡ begun
-      → (bytes_eq name a ≡ false → desk_named seen a others ≡ desk_named seen a cs) → (bytes_eq name a ≡ true → desks_besides seen a others ≡ desks_besides seen a cs)
+      → (bytes_eq name a ≡ false → desk_named seen a others ≡ desk_named seen a cs)
+      → (bytes_eq name a ≡ true → desks_besides seen a others ≡ desks_besides seen a cs)
       → meets ≡ items_meet (opens_by front (desk_named seen a others) (desks_besides seen a others)) (bytes_eq name a) (items_from begun bytes)
       → meets ≡ step_meets s a m (Feed name bytes)
   meets_those decide s m front told cs others a name bytes begun meets stands live was own besides is =
@@ -229,16 +244,21 @@ module _ {S : Type 0} (seen : S → SeatRecord) where
       let by_desks = decide s m a desks (Feed name bytes) stands.bench (desks_are seen front m m.lines cs stands.lines) in
       let asks = asks_those seen front m s a (bytes_eq name a) m.lines cs others stands.lines stands.bench.names stands.front_is own besides in
       is ∙ items_same _ _ (bytes_eq name a) (items_from begun bytes) asks
-      ∙ ap (λ b. items_meet (opens_by (front_of s) (desk_there desks a (names_of m)) (desks_but desks a (names_of m))) (bytes_eq name a) (items_from b bytes)) (sym was)
-      ∙ ap (λ b. b || items_meet (opens_by (front_of s) (desk_there desks a (names_of m)) (desks_but desks a (names_of m))) (bytes_eq name a) (items_from (begun_by name m.lines) bytes)) (sym live)
+      ∙ ap (λ b. items_meet (opens_by (front_of s) (desk_there desks a (names_of m)) (desks_but desks a (names_of m))) (bytes_eq name a) (items_from b bytes))
+      (sym was)
+      ∙ ap (λ b. b || items_meet (opens_by (front_of s) (desk_there desks a (names_of m)) (desks_but desks a (names_of m))) (bytes_eq name a)
+      (items_from (begun_by name m.lines) bytes)) (sym live)
       ∙ sym by_desks
 
   -- a connection that has ended says nothing
   pub meets_ended : (s : Setup) (m : Told) (a name bytes : List ℕ) → has_ended name (registry_of m).users ≡ true → true ≡ step_meets s a m (Feed name bytes)
-  meets_ended s m a name bytes ended = ap (λ (b : Bool). b || items_meet (opens_of s.desc (stance_of a (registry_of m))) (bytes_eq name a) (items_from (begun_by name m.lines) bytes)) (sym ended)
+  meets_ended s m a name bytes ended =
+      ap (λ (b : Bool). b || items_meet (opens_of s.desc (stance_of a (registry_of m))) (bytes_eq name a) (items_from (begun_by name m.lines) bytes))
+      (sym ended)
 
   -- a loss
-  pub meets_lost : DesksDecide → (s : Setup) (m : Told) (front : Front) (told : Option Machine) (cs : List (Connection S)) (a name : List ℕ) (meets : Bool) → Stands seen s m front told cs
+  pub meets_lost : DesksDecide → (s : Setup) (m : Told) (front : Front) (told : Option Machine) (cs : List (Connection S)) (a name : List ℕ) (meets : Bool)
+      → Stands seen s m front told cs
       → meets ≡ (not (bytes_eq name a) || none_seated (desks_besides seen a cs)) → meets ≡ step_meets s a m (Drop name)
   meets_lost decide s m front told cs a name meets stands is =
       let desks = desk_at seen front m m.lines cs stands.lines in

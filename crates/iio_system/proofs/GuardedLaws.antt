@@ -43,7 +43,8 @@ module _ {X : Type 0} {V : X → Type 0} (driver : Plug X V → Driver) where
   -- of one that is there
   meets_there : DesksDecide → (b : Bench X V) (cs others : List (Connection Seat)) (i : ℕ) (c : Connection Seat) (a name bytes : List ℕ) (r : Result Bool Mem)
       → position (is_named name) cs ≡ Some i → c ≡ get_or cs i c
-      → (bytes_eq name a ≡ false → desk_named seen_of a others ≡ desk_named seen_of a cs) → (bytes_eq name a ≡ true → desks_besides seen_of a others ≡ desks_besides seen_of a cs)
+      → (bytes_eq name a ≡ false → desk_named seen_of a others ≡ desk_named seen_of a cs)
+      → (bytes_eq name a ≡ true → desks_besides seen_of a others ≡ desks_besides seen_of a cs)
       → IfOk r (MeetsBeside seen_of a name bytes (front_of b) (Some (machine_of driver b)) c.session others)
       → IfOk r (MeetsFeed driver a name bytes b cs)
   meets_there decides b cs others i c a name bytes (Err e) at is own besides fed = tt
@@ -58,14 +59,17 @@ module _ {X : Type 0} {V : X → Type 0} (driver : Plug X V → Driver) where
           → MeetsBeside seen_of a name bytes (front_of b) (Some (machine_of driver b)) o others meets → meets ≡ step_meets s a m (Feed name bytes)
       by s m room holds l here None served fed = fed ∙ meets_ended seen_of s m a name bytes (live_user m name l true here served.ended)
       by s m room holds l here (Some x) served fed =
-          meets_those seen_of decides s m (front_of b) (Some (machine_of driver b)) cs others a name bytes l.begun meets holds.stands (live_user m name l false here served.live) (begun_line m name l here) own besides
+          meets_those seen_of decides s m (front_of b) (Some (machine_of driver b)) cs others a name bytes l.begun meets holds.stands
+          (live_user m name l false here served.live) (begun_line m name l here) own besides
           (fed s _ l.begun
           (is_hearing seen_of s m (front_of b) (Some (machine_of driver b)) cs name bytes l x holds.stands here served (line_there name m.lines l here)
           (room_less _ _ m.stations (omega (arith, items_few l.begun bytes)) room)))
 
   -- the same, where the others are those before it and those after it: one of the watched name counts as nobody, and one of
   -- another name isn't the watched one
-  pub meets_between : DesksDecide → (b : Bench X V) (cs before : List (Connection Seat)) (c : Connection Seat) (after : List (Connection Seat)) (a name bytes : List ℕ) (r : Result Bool Mem)
+  pub meets_between : DesksDecide
+      → (b : Bench X V) (cs before : List (Connection Seat)) (c : Connection Seat) (after : List (Connection Seat)) (a name bytes : List ℕ)
+      (r : Result Bool Mem)
       → StandsAt name cs before c after
       → IfOk r (MeetsBeside seen_of a c.name bytes (front_of b) (Some (machine_of driver b)) c.session (before ++ after))
       → IfOk r (MeetsFeed driver a name bytes b cs)
@@ -87,25 +91,31 @@ module _ {X : Type 0} {V : X → Type 0} (driver : Plug X V → Driver) where
       let nobody = no_line name seen_of (front_of b) m m.lines cs holds.stands.lines (none_named name cs at) in
       let said : MeetsBeside seen_of a name bytes (front_of b) (Some (machine_of driver b)) (Some is.fresh) cs meets =
       subst (λ (n : List ℕ). MeetsBeside seen_of a n bytes (front_of b) (Some (machine_of driver b)) (Some is.fresh) cs meets) is.name_is
-      (subst (λ (o : Option (SessionRecord Seat)). MeetsBeside seen_of a c.name bytes (front_of b) (Some (machine_of driver b)) o cs meets) is.session_is fed) in
-      meets_those seen_of decides s m (front_of b) (Some (machine_of driver b)) cs cs a name bytes (InLine []) meets holds.stands (new_live m name nobody) (new_begun m name nobody) (λ e. refl) (λ e. refl)
+      (subst (λ (o : Option (SessionRecord Seat)). MeetsBeside seen_of a c.name bytes (front_of b) (Some (machine_of driver b)) o cs meets) is.session_is fed)
+      in
+      meets_those seen_of decides s m (front_of b) (Some (machine_of driver b)) cs cs a name bytes (InLine []) meets holds.stands (new_live m name nobody)
+      (new_begun m name nobody) (λ e. refl) (λ e. refl)
       (said s _ (InLine [])
-      (new_hearing seen_of s m (front_of b) (Some (machine_of driver b)) cs name bytes is.fresh holds.stands nobody is.is_fresh (room_less _ _ m.stations (omega (arith, items_few (InLine []) bytes)) room)))
+      (new_hearing seen_of s m (front_of b) (Some (machine_of driver b)) cs name bytes is.fresh holds.stands nobody is.is_fresh
+      (room_less _ _ m.stations (omega (arith, items_few (InLine []) bytes)) room)))
 
   -- ---- a loss
 
   pub meets_drop : DesksDecide → (b : Bench X V) (cs : List (Connection Seat)) (a name : List ℕ) (meets : Bool)
       → meets ≡ (not (bytes_eq name a) || none_seated (desks_besides seen_of a cs)) → Meets driver a (Drop name) b cs meets
-  meets_drop decides b cs a name meets is = λ s m holds. meets_lost seen_of decides s m (front_of b) (Some (machine_of driver b)) cs a name meets holds.stands is
+  meets_drop decides b cs a name meets is =
+      λ s m holds. meets_lost seen_of decides s m (front_of b) (Some (machine_of driver b)) cs a name meets holds.stands is
 
   -- ---- any step
 
-  pub met_feed : (a name bytes given : List ℕ) (t : CodeStep) (b : Bench X V) (cs : List (Connection Seat)) (r : Result Bool Mem) → t ≡ code.Feed name bytes → given ≡ bytes
+  pub met_feed : (a name bytes given : List ℕ) (t : CodeStep) (b : Bench X V) (cs : List (Connection Seat)) (r : Result Bool Mem) → t ≡ code.Feed name bytes
+      → given ≡ bytes
       → IfOk r (MeetsFeed driver a name given b cs) → IfOk r (MeetsStep driver a t b cs)
   met_feed a name bytes given t b cs (Err e) is same fed = tt
   met_feed a name bytes given t b cs (Ok meets) is same fed =
       let those : MeetsFeed driver a name bytes b cs meets = subst (λ (bs : List ℕ). MeetsFeed driver a name bs b cs meets) same fed in
-      let met : MeetsStep driver a (code.Feed name bytes) b cs meets = λ s m room holds. those s m (room_less (suc (length bytes)) (1 + length bytes) m.stations (omega arith) room) holds in
+      let met : MeetsStep driver a (code.Feed name bytes) b cs meets =
+      λ s m room holds. those s m (room_less (suc (length bytes)) (1 + length bytes) m.stations (omega arith) room) holds in
       subst (λ (x : CodeStep). MeetsStep driver a x b cs meets) (sym is) met
 
   pub met_drop : (a name : List ℕ) (t : CodeStep) (b : Bench X V) (cs : List (Connection Seat)) (r : Result Bool Mem) → t ≡ code.Drop name
@@ -116,7 +126,8 @@ module _ {X : Type 0} {V : X → Type 0} (driver : Plug X V → Driver) where
       subst (λ (x : CodeStep). MeetsStep driver a x b cs meets) (sym is) met
 
   -- every other step keeps to them
-  pub met_other : (a : List ℕ) (t : CodeStep) (b : Bench X V) (cs : List (Connection Seat)) → ((name bytes : List ℕ) → t ≡ code.Feed name bytes → ⊥) → ((name : List ℕ) → t ≡ code.Drop name → ⊥)
+  pub met_other : (a : List ℕ) (t : CodeStep) (b : Bench X V) (cs : List (Connection Seat)) → ((name bytes : List ℕ) → t ≡ code.Feed name bytes → ⊥)
+      → ((name : List ℕ) → t ≡ code.Drop name → ⊥)
       → MeetsStep driver a t b cs true
   met_other a (code.Feed name bytes) b cs feed drop = absurd (feed name bytes refl)
   met_other a (code.Drop name) b cs feed drop = absurd (drop name refl)
@@ -126,7 +137,9 @@ module _ {X : Type 0} {V : X → Type 0} (driver : Plug X V → Driver) where
 
   pub meets_ok : StepDecides → (x : System X V) (t : CodeStep) (a : List ℕ) (r : Result Bool Mem) → x.used + cost_of t < 2 ^ 56
       → IfOk r (MeetsStep driver a t x.bench x.connections.items)
-      → IfOk r (λ meets. (s : Setup) (h : List Event) → StandsFor driver s h x → only_bystanders s a h ≡ true → meets ≡ only_bystanders s a (with_step s h (step_view t)))
+      → IfOk r (λ meets. (s : Setup) (h : List Event) → StandsFor driver s h x → only_bystanders s a h ≡ true
+      → meets ≡ only_bystanders s a (with_step s h (step_view t)))
   meets_ok decides x t a (Err e) few met = tt
   meets_ok decides x t a (Ok meets) few met = λ s h stands so_far.
-      met s (told s h) (room_less (cost_of t) (2 ^ 64 - 1 - 32 * x.used) (told s h).stations (omega (arith, few)) stands.room) stands.holds ∙ sym (decides s a h (step_view t) so_far)
+      met s (told s h) (room_less (cost_of t) (2 ^ 64 - 1 - 32 * x.used) (told s h).stations (omega (arith, few)) stands.room) stands.holds
+      ∙ sym (decides s a h (step_view t) so_far)

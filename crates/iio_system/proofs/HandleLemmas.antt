@@ -27,12 +27,14 @@ use Rattle.iio_system.proofs.ListLemmas.{is_empty-map}
 use Rattle.iio_system.proofs.BenchLemmas.{KeepsPlace, kept_along, kept_same}
 
 -- over queues in one hand the device that a handling met is the one that stood
-pub handled_is : (e : Handed) (r : Handled) (v v' : DeviceView Queue) → Handles (λ (q : Queue). q.taken) (λ q. q.lost) (λ q. q.size) (λ q. q.capacity) Offers e r v v' → e.dev ≡ v.number
+pub handled_is : (e : Handed) (r : Handled) (v v' : DeviceView Queue)
+    → Handles (λ (q : Queue). q.taken) (λ q. q.lost) (λ q. q.size) (λ q. q.capacity) Offers e r v v' → e.dev ≡ v.number
     → (v.standing.captures == 2 ^ 64 - 1) ≡ false → v.standing.active ≡ active_for v.standing.shape (masks_of_memberships v.standing.members)
     → (r ≡ handled_answer e (station_of v)) × (station_of v' ≡ kind_handled Input v.standing.shape e (station_of v))
 handled_is e r v v' h own fewer ruled =
     let stood = queues_stand e r v v' h in
-    let is = plain_handled (λ (q : Queue). q.taken) (λ q. q.lost) (λ q. q.size) (λ q. q.capacity) Offers queue_waits queue_waited e r v v' h own fewer ruled stood.1 in (
+    let is =
+    plain_handled (λ (q : Queue). q.taken) (λ q. q.lost) (λ q. q.size) (λ q. q.capacity) Offers queue_waits queue_waited e r v v' h own fewer ruled stood.1 in (
       is.0 ∙ ap (λ (st : Station). handled_answer e st) stood.0,
       sym is.1 ∙ ap (λ (st : Station). kind_handled Input v.standing.shape e st) stood.0,
     )
@@ -46,37 +48,64 @@ and_none false = refl
 last_is : (e : Handed) (v : DeviceView Queue) → is_last v.standing.captures ≡ true → is_due_for e v ≡ false
 last_is e v last = rw last (and_none (e.dev == v.number && is_current e.attachment v.site.attachment v.standing.members v.site.plugged))
 
-last_idle : (e : Handed) (r : Handled) (v v' : DeviceView Queue) → Handles (λ (q : Queue). q.taken) (λ q. q.lost) (λ q. q.size) (λ q. q.capacity) Offers e r v v' → is_last v.standing.captures ≡ true → (r ≡ Idle) × (v' ≡ v)
+last_idle : (e : Handed) (r : Handled) (v v' : DeviceView Queue)
+    → Handles (λ (q : Queue). q.taken) (λ q. q.lost) (λ q. q.size) (λ q. q.capacity) Offers e r v v' → is_last v.standing.captures ≡ true → (r ≡ Idle)
+    × (v' ≡ v)
 last_idle e Idle v v' h last = (refl, h.1)
 last_idle e Fault v v' h last = absurd (let idle = last_is e v last in let due = h.0 in cc)
 last_idle e (Captured n) v v' h last = absurd (let idle = last_is e v last in let due = h.0 in cc)
 
-handled_by : (b : Bool) (e : Handed) (r : Handled) (v v' : DeviceView Queue) → is_last v.standing.captures ≡ b → Handles (λ (q : Queue). q.taken) (λ q. q.lost) (λ q. q.size) (λ q. q.capacity) Offers e r v v' → e.dev ≡ v.number
+handled_by : (b : Bool) (e : Handed) (r : Handled) (v v' : DeviceView Queue) → is_last v.standing.captures ≡ b
+    → Handles (λ (q : Queue). q.taken) (λ q. q.lost) (λ q. q.size) (λ q. q.capacity) Offers e r v v' → e.dev ≡ v.number
     → v.standing.active ≡ active_for v.standing.shape (masks_of_memberships v.standing.members)
     → (Some (Asked r) ≡ entry_answer Input (Some e) b (station_of v)) × (station_of v' ≡ entry_station Input (Some e) b v.standing.shape (station_of v))
 handled_by true e r v v' last h own ruled = let idle = last_idle e r v v' h last in (ap (λ (x : Handled). Some (Asked x)) idle.0, ap station_of idle.1)
 handled_by false e r v v' last h own ruled = let is = handled_is e r v v' h own last ruled in (ap (λ (x : Handled). Some (Asked x)) is.0, is.1)
 
-pub handled_any : (e : Handed) (r : Handled) (v v' : DeviceView Queue) → Handles (λ (q : Queue). q.taken) (λ q. q.lost) (λ q. q.size) (λ q. q.capacity) Offers e r v v' → e.dev ≡ v.number
+pub handled_any : (e : Handed) (r : Handled) (v v' : DeviceView Queue)
+    → Handles (λ (q : Queue). q.taken) (λ q. q.lost) (λ q. q.size) (λ q. q.capacity) Offers e r v v' → e.dev ≡ v.number
     → v.standing.active ≡ active_for v.standing.shape (masks_of_memberships v.standing.members)
-    → (Some (Asked r) ≡ entry_answer Input (Some e) (is_last v.standing.captures) (station_of v)) × (station_of v' ≡ entry_station Input (Some e) (is_last v.standing.captures) v.standing.shape (station_of v))
+    → (Some (Asked r) ≡ entry_answer Input (Some e) (is_last v.standing.captures) (station_of v))
+    × (station_of v' ≡ entry_station Input (Some e) (is_last v.standing.captures) v.standing.shape (station_of v))
 handled_any e r v v' h own ruled = handled_by (is_last v.standing.captures) e r v v' refl h own ruled
 
 -- ---- what handling keeps
 
-pub handles_keep : (e : Handed) (r : Handled) (v v' : DeviceView Queue) → Handles (λ (q : Queue). q.taken) (λ q. q.lost) (λ q. q.size) (λ q. q.capacity) Offers e r v v' → Keeps v v'
-handles_keep e Idle v v' h = record { name = ap (λ (x : DeviceView Queue). x.name) h.1; number = ap (λ (x : DeviceView Queue). x.number) h.1; shape = ap (λ (x : DeviceView Queue). x.standing.shape) h.1 }
-handles_keep e Fault v v' h = record { name = ap (λ (x : DeviceView Queue). x.name) h.2; number = ap (λ (x : DeviceView Queue). x.number) h.2; shape = ap (λ (x : DeviceView Queue). x.standing.shape) h.2 }
-handles_keep e (Captured n) v v' h = record { name = ap (λ (x : DeviceView Queue). x.name) h.3; number = ap (λ (x : DeviceView Queue). x.number) h.3; shape = ap (λ (s : Standing Queue). s.shape) h.2.1 }
+pub handles_keep : (e : Handed) (r : Handled) (v v' : DeviceView Queue)
+    → Handles (λ (q : Queue). q.taken) (λ q. q.lost) (λ q. q.size) (λ q. q.capacity) Offers e r v v' → Keeps v v'
+handles_keep e Idle v v' h =
+    record {
+      name = ap (λ (x : DeviceView Queue). x.name) h.1;
+      number = ap (λ (x : DeviceView Queue). x.number) h.1;
+      shape =
+          ap (λ (x : DeviceView Queue). x.standing.shape) h.1;
+    }
+handles_keep e Fault v v' h =
+    record {
+      name = ap (λ (x : DeviceView Queue). x.name) h.2;
+      number = ap (λ (x : DeviceView Queue). x.number) h.2;
+      shape =
+          ap (λ (x : DeviceView Queue). x.standing.shape) h.2;
+    }
+handles_keep e (Captured n) v v' h =
+    record {
+      name = ap (λ (x : DeviceView Queue). x.name) h.3;
+      number = ap (λ (x : DeviceView Queue). x.number) h.3;
+      shape =
+          ap (λ (s : Standing Queue). s.shape) h.2.1;
+    }
 
 -- how many captures are made with it
-pub captures_are : (e : Handed) (r : Handled) (v v' : DeviceView Queue) → Handles (λ (q : Queue). q.taken) (λ q. q.lost) (λ q. q.size) (λ q. q.capacity) Offers e r v v' → v'.standing.captures ≡ counted (Some (Asked r)) v.standing.captures
+pub captures_are : (e : Handed) (r : Handled) (v v' : DeviceView Queue)
+    → Handles (λ (q : Queue). q.taken) (λ q. q.lost) (λ q. q.size) (λ q. q.capacity) Offers e r v v'
+    → v'.standing.captures ≡ counted (Some (Asked r)) v.standing.captures
 captures_are e Idle v v' h = ap (λ (x : DeviceView Queue). x.standing.captures) h.1
 captures_are e Fault v v' h = ap (λ (x : DeviceView Queue). x.standing.captures) h.2
 captures_are e (Captured n) v v' h = ap (λ (s : Standing Queue). s.captures) h.2.1
 
 place_kept : (shape : ShapeRecord) (c : Capture) (t : ℤ) (st : Station) (b : Bool)
-    → KeepsPlace st (cond b (asked_once shape t st) (record (asked_once shape t st) { captures = st.captures + 1; members = map (offered_to shape c) st.members; window = no_window }))
+    → KeepsPlace st (cond b (asked_once shape t st)
+    (record (asked_once shape t st) { captures = st.captures + 1; members = map (offered_to shape c) st.members; window = no_window }))
 place_kept shape c t st true = record { attached = λ u. refl; attachment = refl; hosted = λ n h. h }
 place_kept shape c t st false =
     let same = is_empty-map (offered_to shape c) st.members in
@@ -96,7 +125,9 @@ current_kept : (b : Bool) (st w : Station) → KeepsPlace st w → KeepsPlace st
 current_kept true st w kept = kept
 current_kept false st w kept = record { attached = λ u. refl; attachment = refl; hosted = λ n h. h }
 
-pub entry_kept : (kind : Kind) (o : Option Handed) (ended : Bool) (shape : ShapeRecord) (st st' : Station) → st' ≡ entry_station kind o ended shape st → KeepsPlace st st'
+pub entry_kept : (kind : Kind) (o : Option Handed) (ended : Bool) (shape : ShapeRecord) (st st' : Station) → st' ≡ entry_station kind o ended shape st
+    → KeepsPlace st st'
 entry_kept kind None ended shape st st' e = kept_same st st' e
 entry_kept kind (Some h) true shape st st' e = kept_same st st' e
-entry_kept kind (Some h) false shape st st' e = kept_along st (kind_handled kind shape h st) st' (current_kept (is_due h st) st (capture_made kind shape h.t st) (capture_kept kind shape h.t st)) e
+entry_kept kind (Some h) false shape st st' e =
+    kept_along st (kind_handled kind shape h st) st' (current_kept (is_due h st) st (capture_made kind shape h.t st) (capture_kept kind shape h.t st)) e

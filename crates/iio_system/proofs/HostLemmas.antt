@@ -37,10 +37,12 @@ module _ (states : List State) (d : DeviceView Queue) (mask t : ℕ) (own : d.si
   pub host_there : (s : State) → slice_get states t ≡ Some s → first_refusal (faults_at states d mask) ≡ first_refusal (join_faults d mask (Some s))
   host_there s there = rw (lacks_is (Some s) there) refl
 
-  pub host_err : (s : State) (f : JoinFault) → slice_get states t ≡ Some s → Err f ≡ joining_of (first_refusal (join_faults d mask (Some s))) → first_refusal (faults_at states d mask) ≡ Some f
+  pub host_err : (s : State) (f : JoinFault) → slice_get states t ≡ Some s → Err f ≡ joining_of (first_refusal (join_faults d mask (Some s)))
+      → first_refusal (faults_at states d mask) ≡ Some f
   host_err s f there e = host_there s there ∙ err_is _ f e
 
-  pub host_ok : (s : State) (u : ⊤) → slice_get states t ≡ Some s → Ok u ≡ joining_of (first_refusal (join_faults d mask (Some s))) → first_refusal (faults_at states d mask) ≡ None
+  pub host_ok : (s : State) (u : ⊤) → slice_get states t ≡ Some s → Ok u ≡ joining_of (first_refusal (join_faults d mask (Some s)))
+      → first_refusal (faults_at states d mask) ≡ None
   host_ok s u there e = host_there s there ∙ ok_is _ u e
 
   pub host_may : (s : State) → slice_get states t ≡ Some s → first_refusal (faults_at states d mask) ≡ None → first_refusal (join_faults d mask (Some s)) ≡ None
@@ -84,9 +86,11 @@ module _ (states : List State) (d : DeviceView Queue) (mask t : ℕ) (own : d.si
   pub nowhere_err : (s : State) (f : JoinFault) → length states ≤ t → is_hosted (length states) (station_of d) ≡ true
       → Err f ≡ joining_of (first_refusal (join_faults d mask (Some s))) → first_refusal (faults_at states d mask) ≡ Some f
   nowhere_err s f past h e =
-      err_by (not d.site.plugged) (is_bad_mask d.standing.shape mask) (is_none d.site.trigger) (is_without_union d.standing.shape (masks_of d.standing.members) mask) _ (is_full states d) f (full_is past h) (err_is _ f e)
+      err_by (not d.site.plugged) (is_bad_mask d.standing.shape mask) (is_none d.site.trigger)
+      (is_without_union d.standing.shape (masks_of d.standing.members) mask) _ (is_full states d) f (full_is past h) (err_is _ f e)
 
   pub nowhere_ok : (s : State) (u : ⊤) → length states ≤ t → is_hosted (length states) (station_of d) ≡ true
       → Ok u ≡ joining_of (first_refusal (join_faults d mask (Some s))) → first_refusal (faults_at states d mask) ≡ Some fault.NoPlace
   nowhere_ok s u past h e =
-      ok_by (not d.site.plugged) (is_bad_mask d.standing.shape mask) (is_none d.site.trigger) (is_without_union d.standing.shape (masks_of d.standing.members) mask) _ (is_full states d) (full_is past h) (ok_is _ u e)
+      ok_by (not d.site.plugged) (is_bad_mask d.standing.shape mask) (is_none d.site.trigger)
+      (is_without_union d.standing.shape (masks_of d.standing.members) mask) _ (is_full states d) (full_is past h) (ok_is _ u e)

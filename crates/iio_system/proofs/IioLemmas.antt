@@ -51,7 +51,8 @@ pub keeps_along : (d x d' : DeviceView Queue) → KeepsCaptures d x → d' ≡ x
 keeps_along d x d' k e = rw e k
 
 site_keeps : (site : Site ℕ) (b : Bool) (d d' : DeviceView Queue) → d' ≡ cond b (record d { site = site }) d → KeepsCaptures d d'
-site_keeps site true d d' e = keeps_along d (record d { site = site }) d' (record { device = record { name = refl; number = refl; shape = refl }; captures = refl }) e
+site_keeps site true d d' e =
+    keeps_along d (record d { site = site }) d' (record { device = record { name = refl; number = refl; shape = refl }; captures = refl }) e
 site_keeps site false d d' e = keeps_along d d d' (record { device = record { name = refl; number = refl; shape = refl }; captures = refl }) e
 
 pub trigger_keeps : (trigger : Option ℕ) (d d' : DeviceView Queue) → d' ≡ after_trigger trigger d → KeepsCaptures d d'
@@ -73,10 +74,12 @@ prefix_map f p (x ∷ xs) = rw (prefix_map f p xs) refl
 pub position_map : {A B : Type 0} (f : A → B) (p : B → Bool) (xs : List A) → position p (map f xs) ≡ position (λ x. p (f x)) xs
 position_map f p xs = rw (prefix_map f (λ x. not (p x)) xs, length_map_is f xs) refl
 
-pub position_seen : {A B : Type 0} (f : A → B) (p : B → Bool) (xs ys : List A) (r : Option ℕ) → ys ≡ xs → r ≡ position (λ x. p (f x)) ys → r ≡ position p (map f xs)
+pub position_seen : {A B : Type 0} (f : A → B) (p : B → Bool) (xs ys : List A) (r : Option ℕ) → ys ≡ xs → r ≡ position (λ x. p (f x)) ys
+    → r ≡ position p (map f xs)
 position_seen f p xs ys r same e = e ∙ ap (λ zs. position (λ x. p (f x)) zs) same ∙ sym (position_map f p xs)
 
-pub position_at : {A : Type 0} (p : A → Bool) (xs : List A) (i : ℕ) (x : A) → i < length xs → x ≡ get_or xs i x → p x ≡ true → ((k : ℕ) (d : A) → k < i → p (get_or xs k d) ≡ false) → Some i ≡ position p xs
+pub position_at : {A : Type 0} (p : A → Bool) (xs : List A) (i : ℕ) (x : A) → i < length xs → x ≡ get_or xs i x → p x ≡ true
+    → ((k : ℕ) (d : A) → k < i → p (get_or xs k d) ≡ false) → Some i ≡ position p xs
 position_at p xs i x within e passes before =
     let first : position_or_len p xs ≡ i = position_or_len_is p xs i x (omega arith) (λ k h. before k x h) (λ h. ap p (sym e) ∙ passes) in
     let inside : nat_lt i (length xs) ≡ true = grind (arith, nat_tests) in
@@ -85,7 +88,8 @@ position_at p xs i x within e passes before =
 pub position_none : {A : Type 0} (p : A → Bool) (xs : List A) → ((k : ℕ) (d : A) → k < length xs → p (get_or xs k d) ≡ false) → None ≡ position p xs
 position_none p [] before = refl
 position_none p (x ∷ xs) before =
-    let first : position_or_len p (x ∷ xs) ≡ length (x ∷ xs) = position_or_len_is p (x ∷ xs) (length (x ∷ xs)) x (omega arith) (λ k h. before k x h) (λ h. absurd (omega arith)) in
+    let first : position_or_len p (x ∷ xs) ≡ length (x ∷ xs) =
+    position_or_len_is p (x ∷ xs) (length (x ∷ xs)) x (omega arith) (λ k h. before k x h) (λ h. absurd (omega arith)) in
     let outside : nat_lt (length (x ∷ xs)) (length (x ∷ xs)) ≡ false = grind (arith, nat_tests) in
     rw (first, outside) refl
 
@@ -98,18 +102,23 @@ IsUnder id o = IfSome o (λ m. (m.mask.bits == id.mask) ≡ true)
 -- what is told of a member that is there
 module _ {A : Type 0} (field : Member → A) (none : A) where
   pub told_found : (id : MemberId) (ms : List (Membership Queue)) → IsUnder id (membership_of id.number ms)
-      → option_map_or field (member_in id (map member_of ms)) none ≡ option_map_or (λ (m : Membership Queue). field (member_of m)) (membership_of id.number ms) none
+      → option_map_or field (member_in id (map member_of ms)) none
+      ≡ option_map_or (λ (m : Membership Queue). field (member_of m)) (membership_of id.number ms) none
   told_found id [] under = refl
   told_found id (m ∷ ms) under = by (m.number == id.number) under (told_found id ms)
     where
       by : (b : Bool) → IsUnder id (cond b (Some m) (membership_of id.number ms))
-          → (IsUnder id (membership_of id.number ms) → option_map_or field (member_in id (map member_of ms)) none ≡ option_map_or (λ (m : Membership Queue). field (member_of m)) (membership_of id.number ms) none)
-          → option_map_or field (cond (b && (m.mask.bits == id.mask)) (Some (member_of m)) (member_in id (map member_of ms))) none ≡ option_map_or (λ (m : Membership Queue). field (member_of m)) (cond b (Some m) (membership_of id.number ms)) none
+          → (IsUnder id (membership_of id.number ms)
+          → option_map_or field (member_in id (map member_of ms)) none
+          ≡ option_map_or (λ (m : Membership Queue). field (member_of m)) (membership_of id.number ms) none)
+          → option_map_or field (cond (b && (m.mask.bits == id.mask)) (Some (member_of m)) (member_in id (map member_of ms))) none
+          ≡ option_map_or (λ (m : Membership Queue). field (member_of m)) (cond b (Some m) (membership_of id.number ms)) none
       by true under h = rw under refl
       by false under h = h under
 
   -- nothing of one that isn't
-  pub told_absent : (id : MemberId) (ms : List (Membership Queue)) → has_member id ms ≡ false → option_map_or field (member_in id (map member_of ms)) none ≡ none
+  pub told_absent : (id : MemberId) (ms : List (Membership Queue)) → has_member id ms ≡ false
+      → option_map_or field (member_in id (map member_of ms)) none ≡ none
   told_absent id [] e = refl
   told_absent id (m ∷ ms) e = by (is_member id m) e (told_absent id ms)
     where
@@ -128,7 +137,8 @@ scans_told id (x ∷ xs) = by (is_id_of id x) (scans_told id xs)
     by true h = refl
     by false h = h
 
-pub scans_found : (id : MemberId) (ms : List (Membership Queue)) → IsUnder id (membership_of id.number ms) → scans_in id (map member_of ms) ≡ option_map_or (λ (m : Membership Queue). m.tail.scans) (membership_of id.number ms) []
+pub scans_found : (id : MemberId) (ms : List (Membership Queue)) → IsUnder id (membership_of id.number ms)
+    → scans_in id (map member_of ms) ≡ option_map_or (λ (m : Membership Queue). m.tail.scans) (membership_of id.number ms) []
 scans_found id ms under = scans_told id (map member_of ms) ∙ told_found (λ (x : Member). x.scans) [] id ms under
 
 pub scans_absent : (id : MemberId) (ms : List (Membership Queue)) → has_member id ms ≡ false → scans_in id (map member_of ms) ≡ []
@@ -138,13 +148,15 @@ pub lost_absent : (id : MemberId) (ms : List (Membership Queue)) → has_member 
 lost_absent id ms e = told_absent (λ (x : Member). x.lost) 0 id ms e
 
 -- members' numbers differ, so the one that is there is the one of its number
-passed_on : (id : MemberId) (m : Membership Queue) (ms : List (Membership Queue)) → AllByRecursion (λ y. (m.number == y) ≡ false) (map (λ (m : Membership Queue). m.number) ms) → (m.number == id.number) ≡ true → has_member id ms ≡ false
+passed_on : (id : MemberId) (m : Membership Queue) (ms : List (Membership Queue))
+    → AllByRecursion (λ y. (m.number == y) ≡ false) (map (λ (m : Membership Queue). m.number) ms) → (m.number == id.number) ≡ true → has_member id ms ≡ false
 passed_on id m [] apart own = refl
 passed_on id m (x ∷ xs) apart own =
     let other : (x.number == id.number) ≡ false = (let differ = apart.0 in grind (arith, nat_tests)) in
     rw (other, passed_on id m xs apart.1 own) refl
 
-pub under_is : (id : MemberId) (ms : List (Membership Queue)) → IsDistinct (λ a b. a == b) (map (λ (m : Membership Queue). m.number) ms) → has_member id ms ≡ true → IsUnder id (membership_of id.number ms)
+pub under_is : (id : MemberId) (ms : List (Membership Queue)) → IsDistinct (λ a b. a == b) (map (λ (m : Membership Queue). m.number) ms)
+    → has_member id ms ≡ true → IsUnder id (membership_of id.number ms)
 unfolding IsDistinct
 under_is id [] distinct e = tt
 under_is id (m ∷ ms) distinct e = by (m.number == id.number) refl e (under_is id ms distinct.1)
@@ -153,25 +165,33 @@ under_is id (m ∷ ms) distinct e = by (m.number == id.number) refl e (under_is 
     own_mask true e none = refl
     own_mask false e none = absurd (cc)
 
-    by : (b : Bool) → (m.number == id.number) ≡ b → ((b && (m.mask.bits == id.mask)) || has_member id ms) ≡ true → (has_member id ms ≡ true → IsUnder id (membership_of id.number ms))
+    by : (b : Bool) → (m.number == id.number) ≡ b → ((b && (m.mask.bits == id.mask)) || has_member id ms) ≡ true
+        → (has_member id ms ≡ true → IsUnder id (membership_of id.number ms))
         → IsUnder id (cond b (Some m) (membership_of id.number ms))
     by true own e h = own_mask (m.mask.bits == id.mask) e (passed_on id m ms distinct.0 own)
     by false own e h = h e
 
-waiting_by : (o : Option (Membership Queue)) → unwrap_or (option_map (λ (m : Membership Queue). length m.tail.scans) o) 0 ≡ length (option_map_or (λ (m : Membership Queue). m.tail.scans) o [])
+waiting_by : (o : Option (Membership Queue))
+    → unwrap_or (option_map (λ (m : Membership Queue). length m.tail.scans) o) 0 ≡ length (option_map_or (λ (m : Membership Queue). m.tail.scans) o [])
 waiting_by None = refl
 waiting_by (Some m) = refl
 
-lost_by : (o : Option (Membership Queue)) → unwrap_or (option_map (λ (m : Membership Queue). m.tail.lost) o) 0 ≡ option_map_or (λ (m : Membership Queue). m.tail.lost) o 0
+lost_by : (o : Option (Membership Queue))
+    → unwrap_or (option_map (λ (m : Membership Queue). m.tail.lost) o) 0 ≡ option_map_or (λ (m : Membership Queue). m.tail.lost) o 0
 lost_by None = refl
 lost_by (Some m) = refl
 
-pub waiting_is : (id : MemberId) (w r : ℕ) (o : Option ℕ) (ms : List (Membership Queue)) → IsUnder id (membership_of id.number ms) → o ≡ option_map (λ (m : Membership Queue). length m.tail.scans) (membership_of id.number ms) → w ≡ unwrap_or o 0 → r ≡ w
+pub waiting_is : (id : MemberId) (w r : ℕ) (o : Option ℕ) (ms : List (Membership Queue)) → IsUnder id (membership_of id.number ms)
+    → o ≡ option_map (λ (m : Membership Queue). length m.tail.scans) (membership_of id.number ms) → w ≡ unwrap_or o 0 → r ≡ w
     → r ≡ length (scans_in id (map member_of ms))
-waiting_is id w r o ms under e u s = s ∙ u ∙ ap (λ (x : Option ℕ). unwrap_or x 0) e ∙ waiting_by (membership_of id.number ms) ∙ ap (λ (q : List (List ℕ)). length q) (sym (scans_found id ms under))
+waiting_is id w r o ms under e u s =
+    s ∙ u ∙ ap (λ (x : Option ℕ). unwrap_or x 0) e ∙ waiting_by (membership_of id.number ms)
+    ∙ ap (λ (q : List (List ℕ)). length q) (sym (scans_found id ms under))
 
-pub lost_is : (id : MemberId) (r : ℕ) (o : Option ℕ) (ms : List (Membership Queue)) → IsUnder id (membership_of id.number ms) → o ≡ option_map (λ (m : Membership Queue). m.tail.lost) (membership_of id.number ms) → r ≡ unwrap_or o 0 → r ≡ lost_in id (map member_of ms)
-lost_is id r o ms under e u = u ∙ ap (λ (x : Option ℕ). unwrap_or x 0) e ∙ lost_by (membership_of id.number ms) ∙ sym (told_found (λ (x : Member). x.lost) 0 id ms under)
+pub lost_is : (id : MemberId) (r : ℕ) (o : Option ℕ) (ms : List (Membership Queue)) → IsUnder id (membership_of id.number ms)
+    → o ≡ option_map (λ (m : Membership Queue). m.tail.lost) (membership_of id.number ms) → r ≡ unwrap_or o 0 → r ≡ lost_in id (map member_of ms)
+lost_is id r o ms under e u =
+    u ∙ ap (λ (x : Option ℕ). unwrap_or x 0) e ∙ lost_by (membership_of id.number ms) ∙ sym (told_found (λ (x : Member). x.lost) 0 id ms under)
 
 -- ---- what holds after each call
 
@@ -197,12 +217,14 @@ members_mapped f st =
     }
 
 -- an attribute that may be read is one of the device's
-pub may_read : (front : Front) (k : ℕ) (channel : Option ℕ) (a : Attr) (d : DeviceHead) → kind_at front k ≡ d.kind → shape_at front k ≡ d.shape → MayRead front k channel a → MayReadOf d channel a
+pub may_read : (front : Front) (k : ℕ) (channel : Option ℕ) (a : Attr) (d : DeviceHead) → kind_at front k ≡ d.kind → shape_at front k ≡ d.shape
+    → MayRead front k channel a → MayReadOf d channel a
 may_read front k None a d kind shape may = (may.0, rw kind at may.1)
 may_read front k (Some c) a d kind shape may = (rw shape at may.0, may.1, rw kind at may.2)
 
 -- and one that may be written is one of an input device's
-pub is_written : (front : Front) (k : ℕ) (channel : Option ℕ) (a : Attr) (v : Fixed) (d : DeviceHead) → kind_at front k ≡ d.kind → shape_at front k ≡ d.shape → MayWrite front k channel a v
+pub is_written : (front : Front) (k : ℕ) (channel : Option ℕ) (a : Attr) (v : Fixed) (d : DeviceHead) → kind_at front k ≡ d.kind → shape_at front k ≡ d.shape
+    → MayWrite front k channel a v
     → is_average d.kind ≡ false → (is_input d.kind ≡ true) × IfSome channel (λ c. c < length d.shape.channels)
 is_written front k channel a v d kind shape may plain = by channel (may_read front k channel a d kind shape may.named)
   where
@@ -211,7 +233,8 @@ is_written front k channel a v d kind shape may plain = by channel (may_read fro
     by (Some c) named = (written_by d.kind a named.2 may.writable plain, named.0)
 
 module _ {X : Type 0} {V : X → Type 0} (drive : Plug X V → Driver) where
-  plain_kept : (d d' : AnyDevice X V) → KeepsPlace (any_station drive d) (any_station drive d') → KeepsPlace (any_station (λ p. no_driver) d) (any_station (λ p. no_driver) d')
+  plain_kept : (d d' : AnyDevice X V) → KeepsPlace (any_station drive d) (any_station drive d')
+      → KeepsPlace (any_station (λ p. no_driver) d) (any_station (λ p. no_driver) d')
   plain_kept d d' k = record {
     attached = λ t. attached_as (λ p. no_driver) drive t d' ∙ k.attached t ∙ attached_as drive (λ p. no_driver) t d;
     attachment = attachment_as (λ p. no_driver) drive d' ∙ k.attachment ∙ attachment_as drive (λ p. no_driver) d;
@@ -223,63 +246,90 @@ module _ {X : Type 0} {V : X → Type 0} (drive : Plug X V → Driver) where
     pub sound_kept : KeepsPlace (any_station drive d) (any_station drive d') → IsBench triggers states (stations_by (λ p. no_driver) (set ds k d'))
     sound_kept kept =
         bench_by (any_station (λ p. no_driver)) triggers states ds k d'
-        (bench_kept triggers states (map (any_station (λ p. no_driver)) ds) k (any_station (λ p. no_driver) d) (any_station (λ p. no_driver) d') sound (map_at (any_station (λ p. no_driver)) ds k d at) (plain_kept d d' kept))
+        (bench_kept triggers states (map (any_station (λ p. no_driver)) ds) k (any_station (λ p. no_driver) d) (any_station (λ p. no_driver) d') sound
+        (map_at (any_station (λ p. no_driver)) ds k d at) (plain_kept d d' kept))
 
-    pub sound_write : (channel : Option ℕ) (a : Attr) (v : Fixed) (r : Result ⊤ No) → Acts (with_site (site_written channel a v)) (ensure (any_station drive d).site.plugged ENODEV) r (any_station drive d) (any_station drive d')
+    pub sound_write : (channel : Option ℕ) (a : Attr) (v : Fixed) (r : Result ⊤ No)
+        → Acts (with_site (site_written channel a v)) (ensure (any_station drive d).site.plugged ENODEV) r (any_station drive d) (any_station drive d')
         → IsBench triggers states (stations_by (λ p. no_driver) (set ds k d'))
     sound_write channel a v r t =
-        sound_kept (acts_kept (with_site (site_written channel a v)) (any_station drive d) (any_station drive d') (ensure (any_station drive d).site.plugged ENODEV) r (λ x e. written_kept channel a v (any_station drive d)) t)
+        sound_kept (acts_kept (with_site (site_written channel a v)) (any_station drive d) (any_station drive d')
+        (ensure (any_station drive d).site.plugged ENODEV) r (λ x e. written_kept channel a v (any_station drive d)) t)
 
-    pub sound_trigger : (trigger : Option ℕ) (r : Result ⊤ No) → Acts (with_site (λ site. record site { trigger = trigger })) (trigger_answer (any_station drive d)) r (any_station drive d) (any_station drive d')
+    pub sound_trigger : (trigger : Option ℕ) (r : Result ⊤ No)
+        → Acts (with_site (λ site. record site { trigger = trigger })) (trigger_answer (any_station drive d)) r (any_station drive d) (any_station drive d')
         → IsBench triggers states (stations_by (λ p. no_driver) (set ds k d'))
     sound_trigger trigger r t =
-        sound_kept (acts_kept (with_site (λ site. record site { trigger = trigger })) (any_station drive d) (any_station drive d') (trigger_answer (any_station drive d)) r (λ x e. trigger_kept trigger (any_station drive d) x e) t)
+        sound_kept (acts_kept (with_site (λ site. record site { trigger = trigger })) (any_station drive d) (any_station drive d')
+        (trigger_answer (any_station drive d)) r (λ x e. trigger_kept trigger (any_station drive d) x e) t)
 
-    pub sound_ev_open : (who : ℕ) (r : Result ⊤ No) → Acts (with_site (with_monitor (after_open who))) (ev_open_answer (any_station drive d)) r (any_station drive d) (any_station drive d')
+    pub sound_ev_open : (who : ℕ) (r : Result ⊤ No)
+        → Acts (with_site (with_monitor (after_open who))) (ev_open_answer (any_station drive d)) r (any_station drive d) (any_station drive d')
         → IsBench triggers states (stations_by (λ p. no_driver) (set ds k d'))
     sound_ev_open who r t =
-        sound_kept (acts_kept (with_site (with_monitor (after_open who))) (any_station drive d) (any_station drive d') (ev_open_answer (any_station drive d)) r (λ x e. monitor_kept (after_open who) (any_station drive d)) t)
+        sound_kept (acts_kept (with_site (with_monitor (after_open who))) (any_station drive d) (any_station drive d') (ev_open_answer (any_station drive d)) r
+        (λ x e. monitor_kept (after_open who) (any_station drive d)) t)
 
-    pub sound_ev_read : (who : ℕ) (r : Result (Option EventData) No) → Acts (with_site (with_monitor (after_read (λ a b. a == b) who))) (ev_read_answer who (any_station drive d)) r (any_station drive d) (any_station drive d')
+    pub sound_ev_read : (who : ℕ) (r : Result (Option EventData) No)
+        → Acts (with_site (with_monitor (after_read (λ a b. a == b) who))) (ev_read_answer who (any_station drive d)) r (any_station drive d)
+        (any_station drive d')
         → IsBench triggers states (stations_by (λ p. no_driver) (set ds k d'))
     sound_ev_read who r t =
-        sound_kept (acts_kept (with_site (with_monitor (after_read (λ a b. a == b) who))) (any_station drive d) (any_station drive d') (ev_read_answer who (any_station drive d)) r (λ x e. monitor_kept (after_read (λ a b. a == b) who) (any_station drive d)) t)
+        sound_kept (acts_kept (with_site (with_monitor (after_read (λ a b. a == b) who))) (any_station drive d) (any_station drive d')
+        (ev_read_answer who (any_station drive d)) r (λ x e. monitor_kept (after_read (λ a b. a == b) who) (any_station drive d)) t)
 
-    pub sound_ev_close : (who : ℕ) (r : Result ⊤ No) → Acts (with_site (with_monitor (after_close (λ a b. a == b) who))) (ensure (holds_events who (any_station drive d)) EBADF) r (any_station drive d) (any_station drive d')
+    pub sound_ev_close : (who : ℕ) (r : Result ⊤ No)
+        → Acts (with_site (with_monitor (after_close (λ a b. a == b) who))) (ensure (holds_events who (any_station drive d)) EBADF) r (any_station drive d)
+        (any_station drive d')
         → IsBench triggers states (stations_by (λ p. no_driver) (set ds k d'))
     sound_ev_close who r t =
-        sound_kept (acts_kept (with_site (with_monitor (after_close (λ a b. a == b) who))) (any_station drive d) (any_station drive d') (ensure (holds_events who (any_station drive d)) EBADF) r (λ x e. monitor_kept (after_close (λ a b. a == b) who) (any_station drive d)) t)
+        sound_kept (acts_kept (with_site (with_monitor (after_close (λ a b. a == b) who))) (any_station drive d) (any_station drive d')
+        (ensure (holds_events who (any_station drive d)) EBADF) r (λ x e. monitor_kept (after_close (λ a b. a == b) who) (any_station drive d)) t)
 
-    read_kept_by : (b : Bool) (r : Result Value No) (answer : Result Value Errno) → Turns answer (cond b (with_site sampled (any_station drive d)) (any_station drive d)) r (any_station drive d) (any_station drive d') → KeepsPlace (any_station drive d) (any_station drive d')
-    read_kept_by true (Ok x) answer t = kept_along (any_station drive d) (with_site sampled (any_station drive d)) (any_station drive d') (record { attached = λ u. refl; attachment = refl; hosted = λ n h. h }) t.1
-    read_kept_by true (Err (NoErrno e)) answer t = kept_along (any_station drive d) (with_site sampled (any_station drive d)) (any_station drive d') (record { attached = λ u. refl; attachment = refl; hosted = λ n h. h }) t.1
+    read_kept_by : (b : Bool) (r : Result Value No) (answer : Result Value Errno)
+        → Turns answer (cond b (with_site sampled (any_station drive d)) (any_station drive d)) r (any_station drive d) (any_station drive d')
+        → KeepsPlace (any_station drive d) (any_station drive d')
+    read_kept_by true (Ok x) answer t =
+        kept_along (any_station drive d) (with_site sampled (any_station drive d)) (any_station drive d')
+        (record { attached = λ u. refl; attachment = refl; hosted = λ n h. h }) t.1
+    read_kept_by true (Err (NoErrno e)) answer t =
+        kept_along (any_station drive d) (with_site sampled (any_station drive d)) (any_station drive d')
+        (record { attached = λ u. refl; attachment = refl; hosted = λ n h. h }) t.1
     read_kept_by true (Err NoMem) answer t = kept_same (any_station drive d) (any_station drive d') t
     read_kept_by false (Ok x) answer t = kept_same (any_station drive d) (any_station drive d') t.1
     read_kept_by false (Err (NoErrno e)) answer t = kept_same (any_station drive d) (any_station drive d') t.1
     read_kept_by false (Err NoMem) answer t = kept_same (any_station drive d) (any_station drive d') t
 
-    pub sound_read : (t : ℤ) (channel : Option ℕ) (a : Attr) (r : Result Value No) → Reads (any_front d) t channel a (any_station drive d) r (any_station drive d') → IsBench triggers states (stations_by (λ p. no_driver) (set ds k d'))
+    pub sound_read : (t : ℤ) (channel : Option ℕ) (a : Attr) (r : Result Value No)
+        → Reads (any_front d) t channel a (any_station drive d) r (any_station drive d') → IsBench triggers states (stations_by (λ p. no_driver) (set ds k d'))
     sound_read t channel a r reads =
-        sound_kept (read_kept_by (is_asking (any_front d).kind channel a (any_station drive d)) r (read_answer (any_front d).name (any_front d).kind (any_front d).shape t channel a (any_station drive d)) reads)
+        sound_kept (read_kept_by (is_asking (any_front d).kind channel a (any_station drive d)) r
+        (read_answer (any_front d).name (any_front d).kind (any_front d).shape t channel a (any_station drive d)) reads)
 
     pub sound_writes : (size : ℕ) (id : MemberId) (bytes : List ℕ) (r : Result ℕ No)
-        → Acts (λ st. record st { members = map (writes id (scans_of size bytes)) st.members }) (write_scans_at (any_station drive d) id size bytes) r (any_station drive d) (any_station drive d')
+        → Acts (λ st. record st { members = map (writes id (scans_of size bytes)) st.members }) (write_scans_at (any_station drive d) id size bytes) r
+        (any_station drive d) (any_station drive d')
         → IsBench triggers states (stations_by (λ p. no_driver) (set ds k d'))
     sound_writes size id bytes r t =
-        sound_kept (acts_kept (λ st. record st { members = map (writes id (scans_of size bytes)) st.members }) (any_station drive d) (any_station drive d') (write_scans_at (any_station drive d) id size bytes) r
+        sound_kept (acts_kept (λ st. record st { members = map (writes id (scans_of size bytes)) st.members }) (any_station drive d) (any_station drive d')
+        (write_scans_at (any_station drive d) id size bytes) r
         (λ x e. members_mapped (writes id (scans_of size bytes)) (any_station drive d)) t)
 
-    pub sound_take : (id : MemberId) (took : Took) (scan : List ℕ) → TakesAt id took scan (any_station drive d) (any_station drive d') → IsBench triggers states (stations_by (λ p. no_driver) (set ds k d'))
+    pub sound_take : (id : MemberId) (took : Took) (scan : List ℕ) → TakesAt id took scan (any_station drive d) (any_station drive d')
+        → IsBench triggers states (stations_by (λ p. no_driver) (set ds k d'))
     sound_take id took scan t = sound_kept (take_kept id took scan (any_station drive d) (any_station drive d') t)
 
-    pub sound_take_scans : (id : MemberId) (most : ℕ) (took : Took) (before after : List ℕ) → TakesScansAt id most took before after (any_station drive d) (any_station drive d') → IsBench triggers states (stations_by (λ p. no_driver) (set ds k d'))
+    pub sound_take_scans : (id : MemberId) (most : ℕ) (took : Took) (before after : List ℕ)
+        → TakesScansAt id most took before after (any_station drive d) (any_station drive d')
+        → IsBench triggers states (stations_by (λ p. no_driver) (set ds k d'))
     sound_take_scans id most took before after t = sound_kept (take_scans_kept id most took before after (any_station drive d) (any_station drive d') t)
 
 -- the whole front
 pub fronts_keep : {X : Type 0} {V : X → Type 0} (context : List ℕ) (triggers : List TriggerDesc) (ds : List (AnyDevice X V)) (k : ℕ) (d d' : AnyDevice X V)
     → slice_get ds k ≡ Some d → KeepsHead d d' → fronts_by any_front context triggers (set ds k d') ≡ fronts_by any_front context triggers ds
 fronts_keep context triggers ds k d d' at keeps =
-    ap (λ (devices : List DeviceHead). (let x : Front = record { context = context; triggers = triggers; devices = devices } in x)) (map_same any_front ds k d d' at keeps.front)
+    ap (λ (devices : List DeviceHead). (let x : Front = record { context = context; triggers = triggers; devices = devices } in x))
+    (map_same any_front ds k d d' at keeps.front)
 
 -- all that no connection's call changes
 pub kept_equal : (x y : Kept) → x.front ≡ y.front → x.triggers ≡ y.triggers → x.captures ≡ y.captures → x ≡ y
@@ -290,7 +340,8 @@ kept_equal x y front triggers captures =
 
 module _ {X : Type 0} {V : X → Type 0} where
   abbrev pub kept_by : List ℕ → List TriggerDesc → List State → List (AnyDevice X V) → Kept
-  kept_by context triggers states ds = record { front = fronts_by any_front context triggers ds; triggers = map trigger_of states; captures = map captures_by ds }
+  kept_by context triggers states ds =
+      record { front = fronts_by any_front context triggers ds; triggers = map trigger_of states; captures = map captures_by ds }
 
   module _ (context : List ℕ) (triggers : List TriggerDesc) (states : List State) (ds : List (AnyDevice X V)) (k : ℕ) (d d' : AnyDevice X V)
       (at : slice_get ds k ≡ Some d) (keeps : KeepsFront d d') where

@@ -36,7 +36,8 @@ said_one said = omega arith
 byte_one : (s : Scanner) (b : ℕ) → AtMostOne (after_byte s b)
 byte_one (InLine begun) b = by (b == 10) (nat_lt (length begun) MAX_LINE) (said_one (command_of begun))
   where
-    by : (lf fits : Bool) → AtMostOne (after_line begun) → AtMostOne (cond lf (after_line begun) (cond fits (no_item (InLine (begun ++ b ∷ []))) (ended_by (Some E2BIG))))
+    by : (lf fits : Bool) → AtMostOne (after_line begun)
+        → AtMostOne (cond lf (after_line begun) (cond fits (no_item (InLine (begun ++ b ∷ []))) (ended_by (Some E2BIG))))
     by true fits h = h
     by false true h = omega arith
     by false false h = omega arith

@@ -58,16 +58,20 @@ places_by (d ∷ ds) [] t e = absurd (cc)
 places_by (d ∷ ds) (s ∷ ss) zero e = cc
 places_by (d ∷ ds) (s ∷ ss) (suc t) e = places_by ds ss t (cc)
 
-module _ (front : Front) (states : List State) (sts : List Station) (k : ℕ) (st : Station) (bench : IsBench front.triggers states sts) (at : slice_get sts k ≡ Some st) (empty : is_empty st.members ≡ true) where
+module _ (front : Front) (states : List State) (sts : List Station) (k : ℕ) (st : Station) (bench : IsBench front.triggers states sts)
+    (at : slice_get sts k ≡ Some st) (empty : is_empty st.members ≡ true) where
   lacks_at : (t : ℕ) (o : Option State) → slice_get states t ≡ o → has_no_place front sts (Some t) ≡ option_map_or (has_no_place_for k) o true
   lacks_at t (Some s) e =
       let trigger = bench.each t s e in
-      let none : holds_place k s.attached ≡ false = ap (λ ps. holds_place k ps) trigger.attached ∙ holds_place-places_from t 0 sts k k st at (omega arith) (none_attached t st empty) in
+      let none : holds_place k s.attached ≡ false =
+      ap (λ ps. holds_place k ps) trigger.attached ∙ holds_place-places_from t 0 sts k k st at (omega arith) (none_attached t st empty) in
       let many : length s.attached ≡ attached_count t sts = ap (λ ps. length ps) trigger.attached ∙ length-places_from t 0 sts in
-      let room : place_count front t ≡ s.places = places_by front.triggers states t bench.places ∙ ap (λ (o : Option State). option_map_or (λ (s : State). s.places) o 0) e in
+      let room : place_count front t ≡ s.places =
+      places_by front.triggers states t bench.places ∙ ap (λ (o : Option State). option_map_or (λ (s : State). s.places) o 0) e in
       rw (none, many, room) refl
   lacks_at t None e =
-      let room : place_count front t ≡ 0 = places_by front.triggers states t bench.places ∙ ap (λ (o : Option State). option_map_or (λ (s : State). s.places) o 0) e in
+      let room : place_count front t ≡ 0 =
+      places_by front.triggers states t bench.places ∙ ap (λ (o : Option State). option_map_or (λ (s : State). s.places) o 0) e in
       let nowhere : nat_lt (attached_count t sts) 0 ≡ false = grind (arith, nat_tests) in
       rw (room, nowhere) refl
 
@@ -85,11 +89,16 @@ full_same true x y z same = rw (same refl) (or_twice x z)
 full_same false x y z same = or_twice false z
 
 -- the refusals over the machine are those beside the triggers
-pub refusals_any : (front : Front) (states : List State) (sts : List Station) (k : ℕ) (kind : Kind) (shape : ShapeRecord) (st : Station) (mask : ℕ) → IsBench front.triggers states sts → slice_get sts k ≡ Some st
-    → first_refusal (open_refusals front sts kind (own_host st shape mask) st) ≡ first_refusal (any_refusals (lacks_place k states st.site.trigger) kind shape st mask)
+pub refusals_any : (front : Front) (states : List State) (sts : List Station) (k : ℕ) (kind : Kind) (shape : ShapeRecord) (st : Station) (mask : ℕ)
+    → IsBench front.triggers states sts → slice_get sts k ≡ Some st
+    → first_refusal (open_refusals front sts kind (own_host st shape mask) st)
+    ≡ first_refusal (any_refusals (lacks_place k states st.site.trigger) kind shape st mask)
 refusals_any front states sts k kind shape st mask bench at =
-    ap (λ (b : Bool). first_refusal ((not st.site.plugged, ENODEV) ∷ (is_output kind && not (is_empty st.members), EBUSY) ∷ join_refusals (is_none st.site.trigger) (is_without_union shape (masks_of st.members) mask) b))
-    (full_same (is_empty st.members) (lacks_place k states st.site.trigger) (has_no_place front sts st.site.trigger) (st.next == 2 ^ 64 - 1) (λ empty. lacks_is front states sts k st bench at empty st.site.trigger))
+    ap (λ (b : Bool). first_refusal
+    ((not st.site.plugged, ENODEV) ∷ (is_output kind && not (is_empty st.members), EBUSY)
+    ∷ join_refusals (is_none st.site.trigger) (is_without_union shape (masks_of st.members) mask) b))
+    (full_same (is_empty st.members) (lacks_place k states st.site.trigger) (has_no_place front sts st.site.trigger) (st.next == 2 ^ 64 - 1)
+    (λ empty. lacks_is front states sts k st bench at empty st.site.trigger))
 
 -- ---- an input device
 
@@ -101,9 +110,11 @@ module _ (states : List State) (d : DeviceView Queue) (mask : ℕ) (good : is_ba
       ∷ member_faults (is_none d.site.trigger) (is_without_union d.standing.shape (masks_of_memberships d.standing.members) mask) (is_full_at states d)) ≡ r
       = rw good at e in
       rw (masks_are d.standing.members, is_empty-map member_of d.standing.members)
-      (agree (not d.site.plugged) (is_none d.site.trigger) (is_without_union d.standing.shape (masks_of_memberships d.standing.members) mask) (is_full_at states d) r same)
+      (agree (not d.site.plugged) (is_none d.site.trigger) (is_without_union d.standing.shape (masks_of_memberships d.standing.members) mask)
+      (is_full_at states d) r same)
 
-  refused_by : (f : JoinFault) → first_refusal (faults_at states d mask) ≡ Some f → HostsAny states Input d.number d.standing.shape (station_of d) mask (Err (no_of f))
+  refused_by : (f : JoinFault) → first_refusal (faults_at states d mask) ≡ Some f
+      → HostsAny states Input d.number d.standing.shape (station_of d) mask (Err (no_of f))
   refused_by fault.Gone e = input_refusals (Some fault.Gone) e
   refused_by fault.BadMask e = input_refusals (Some fault.BadMask) e
   refused_by fault.NoTrigger e = input_refusals (Some fault.NoTrigger) e
@@ -111,14 +122,16 @@ module _ (states : List State) (d : DeviceView Queue) (mask : ℕ) (good : is_ba
   refused_by fault.NoPlace e = input_refusals (Some fault.NoPlace) e
   refused_by fault.Mem e = tt
 
-  pub hosts_err : (f : JoinFault) (x : No) → x ≡ no_of f → Hosts states d mask (Err f) → HostsAny states Input d.number d.standing.shape (station_of d) mask (Err x)
+  pub hosts_err : (f : JoinFault) (x : No) → x ≡ no_of f → Hosts states d mask (Err f)
+      → HostsAny states Input d.number d.standing.shape (station_of d) mask (Err x)
   hosts_err f x is e = subst (λ (y : No). HostsAny states Input d.number d.standing.shape (station_of d) mask (Err y)) (sym is) (refused_by f e)
 
   pub hosts_ok : (trigger : ℕ) → Hosts states d mask (Ok trigger) → HostsAny states Input d.number d.standing.shape (station_of d) mask (Ok trigger)
   hosts_ok trigger h = (h.0, h.1, input_refusals None h.2)
 
 -- where there is no refusal there is no fault
-none_back : (gone a b c : Bool) → first_refusal ((gone, ENODEV) ∷ (false, EBUSY) ∷ join_refusals a b c) ≡ None → first_refusal ((gone, fault.Gone) ∷ (false, fault.BadMask) ∷ member_faults a b c) ≡ None
+none_back : (gone a b c : Bool) → first_refusal ((gone, ENODEV) ∷ (false, EBUSY) ∷ join_refusals a b c) ≡ None
+    → first_refusal ((gone, fault.Gone) ∷ (false, fault.BadMask) ∷ member_faults a b c) ≡ None
 none_back true a b c e = absurd (cc)
 none_back false true b c e = absurd (cc)
 none_back false false true c e = absurd (cc)
@@ -126,26 +139,33 @@ none_back false false false true e = absurd (cc)
 none_back false false false false e = refl
 
 pub may_join : (d : DeviceView Queue) (mask : ℕ) (s : State) → is_bad_mask d.standing.shape mask ≡ false
-    → first_refusal (any_refusals (has_no_place_for d.number s) Input d.standing.shape (station_of d) mask) ≡ None → first_refusal (join_faults d mask (Some s)) ≡ None
+    → first_refusal (any_refusals (has_no_place_for d.number s) Input d.standing.shape (station_of d) mask) ≡ None
+    → first_refusal (join_faults d mask (Some s)) ≡ None
 may_join d mask s good e =
     rw good
-    (none_back (not d.site.plugged) (is_none d.site.trigger) (is_without_union d.standing.shape (masks_of_memberships d.standing.members) mask) (is_full_view d (Some s))
+    (none_back (not d.site.plugged) (is_none d.site.trigger) (is_without_union d.standing.shape (masks_of_memberships d.standing.members) mask)
+    (is_full_view d (Some s))
     (rw (masks_are d.standing.members, is_empty-map member_of d.standing.members) at e))
 
 -- the device with a member more
-pub joined_is : (mask : Mask) (capacity : ℕ) (d : DeviceView Queue) → station_of (device_joined mask (first_queue d.standing.shape mask capacity) d) ≡ joined mask.bits capacity false None (station_of d)
+pub joined_is : (mask : Mask) (capacity : ℕ) (d : DeviceView Queue)
+    → station_of (device_joined mask (first_queue d.standing.shape mask capacity) d) ≡ joined mask.bits capacity false None (station_of d)
 joined_is mask capacity d =
-    sym (plain_joined (λ (q : Queue). q.lost) (λ q. q.capacity) queue_waits mask (first_queue d.standing.shape mask capacity) d (record { none = refl; unlost = refl }))
+    sym (plain_joined (λ (q : Queue). q.lost) (λ q. q.capacity) queue_waits mask (first_queue d.standing.shape mask capacity) d
+    (record { none = refl; unlost = refl }))
 
 pub joins_any : (mask : Mask) (capacity : ℕ) (r : Result Seat No) (d d' : DeviceView Queue) (s s' : State) → JoinsBy mask capacity r d d' s s'
     → JoinsAny mask capacity false d.number d.standing.shape r (station_of d) (station_of d') s s'
 joins_any mask capacity (Ok seat) d d' s s' j = (
   j.0,
   ap station_of j.1 ∙ joined_is mask capacity d,
-  j.2 ∙ ap (λ (b : Bool). cond b (record s { attached = with_place d.number (d.site.attachment + 1) s.attached }) s) (sym (is_empty-map member_of d.standing.members)),
+  j.2 ∙ ap (λ (b : Bool). cond b (record s { attached = with_place d.number (d.site.attachment + 1) s.attached }) s)
+      (sym (is_empty-map member_of d.standing.members)),
 )
 joins_any mask capacity (Err x) d d' s s' j = (j.0, ap station_of j.1, j.2)
 
-pub joins_keep : (mask : Mask) (capacity : ℕ) (r : Result Seat No) (v v' : DeviceView Queue) (s s' : State) → JoinsBy mask capacity r v v' s s' → KeepsCaptures v v'
-joins_keep mask capacity (Ok seat) v v' s s' j = keeps_along v _ v' (record { device = record { name = refl; number = refl; shape = refl }; captures = refl }) j.1
+pub joins_keep : (mask : Mask) (capacity : ℕ) (r : Result Seat No) (v v' : DeviceView Queue) (s s' : State) → JoinsBy mask capacity r v v' s s'
+    → KeepsCaptures v v'
+joins_keep mask capacity (Ok seat) v v' s s' j =
+    keeps_along v _ v' (record { device = record { name = refl; number = refl; shape = refl }; captures = refl }) j.1
 joins_keep mask capacity (Err x) v v' s s' j = keeps_along v _ v' (record { device = record { name = refl; number = refl; shape = refl }; captures = refl }) j.1

@@ -36,11 +36,13 @@ pub record SameLine (l l' : Line) : Type 0 where
   pub begun : l'.begun ≡ l.begun
 
 -- what is said of another connection changes nothing of a line
-pub other_heard : (s : Setup) (r : Registry) (name : List ℕ) (item : Item) (l : Line) → bytes_eq l.user.who name ≡ false → SameLine l (line_after s r (Heard name item) l)
+pub other_heard : (s : Setup) (r : Registry) (name : List ℕ) (item : Item) (l : Line) → bytes_eq l.user.who name ≡ false
+    → SameLine l (line_after s r (Heard name item) l)
 other_heard s r name (End error) l apart = record { who = refl; ended = ap (λ (b : Bool). l.user.ended || b) apart ∙ or_false l.user.ended; begun = refl }
 other_heard s r name item l apart = record { who = refl; ended = refl; begun = refl }
 
-pub other_arrived : (s : Setup) (r : Registry) (name bytes : List ℕ) (l : Line) → bytes_eq l.user.who name ≡ false → SameLine l (line_after s r (Arrived name bytes) l)
+pub other_arrived : (s : Setup) (r : Registry) (name bytes : List ℕ) (l : Line) → bytes_eq l.user.who name ≡ false
+    → SameLine l (line_after s r (Arrived name bytes) l)
 other_arrived s r name bytes l apart = record {
   who = refl;
   ended = refl;
@@ -70,10 +72,12 @@ module _ {S : Type 0} (seen : S → SeatRecord) where
   -- the lines but for the one of that name
   abbrev pub OthersAre : Front → Told → List ℕ → List Line → List (Connection S) → Type 0
   OthersAre front m name [] [] = Unit {0}
-  OthersAre front m name (l ∷ ls) (c ∷ cs) = (c.name ≡ l.user.who) × (bytes_eq l.user.who name ≡ false → IsServed seen front m l c.session) × OthersAre front m name ls cs
+  OthersAre front m name (l ∷ ls) (c ∷ cs) =
+      (c.name ≡ l.user.who) × (bytes_eq l.user.who name ≡ false → IsServed seen front m l c.session) × OthersAre front m name ls cs
   OthersAre front m name ls cs = ⊥
 
-  pub others_are : (front : Front) (m : Told) (name : List ℕ) (ls : List Line) (cs : List (Connection S)) → AreLines seen front m ls cs → OthersAre front m name ls cs
+  pub others_are : (front : Front) (m : Told) (name : List ℕ) (ls : List Line) (cs : List (Connection S)) → AreLines seen front m ls cs
+      → OthersAre front m name ls cs
   others_are front m name [] [] are = tt
   others_are front m name [] (c ∷ cs) are = absurd are
   others_are front m name (l ∷ ls) [] are = absurd are
@@ -96,7 +100,8 @@ module _ {S : Type 0} (seen : S → SeatRecord) where
   )
 
 -- each line's name is there
-every_there : (names : List (List ℕ)) (ls : List Line) → ((w : List ℕ) → is_in (map name_of ls) w ≡ true → is_in names w ≡ true) → Every (λ (l : Line). is_in names l.user.who ≡ true) ls
+every_there : (names : List (List ℕ)) (ls : List Line) → ((w : List ℕ) → is_in (map name_of ls) w ≡ true → is_in names w ≡ true)
+    → Every (λ (l : Line). is_in names l.user.who ≡ true) ls
 every_there names [] all = tt
 every_there names (l ∷ ls) all = (
   all l.user.who (ap (λ (b : Bool). b || is_in (map name_of ls) l.user.who) (name_itself l.user.who)),
@@ -122,18 +127,23 @@ module _ {S : Type 0} (seen : S → SeatRecord) where
   pub others_after_item : (s : Setup) (m : Told) (front : Front) (name : List ℕ) (item : Item) (cs : List (Connection S))
       → OthersAre seen front m name m.lines cs → OthersAre seen front (step s m (Heard name item)) name (step s m (Heard name item)).lines cs
   others_after_item s m front name item cs are =
-      subst (λ (ls : List Line). OthersAre seen front (step s m (Heard name item)) name ls cs) (sym (append-nil (map (line_after s (registry_of m) (Heard name item)) m.lines)))
-      (others_move seen front m (step s m (Heard name item)) name (line_after s (registry_of m) (Heard name item)) m.lines cs (λ l. refl) (λ l apart. other_heard s (registry_of m) name item l apart)
+      subst (λ (ls : List Line). OthersAre seen front (step s m (Heard name item)) name ls cs)
+      (sym (append-nil (map (line_after s (registry_of m) (Heard name item)) m.lines)))
+      (others_move seen front m (step s m (Heard name item)) name (line_after s (registry_of m) (Heard name item)) m.lines cs (λ l. refl)
+      (λ l apart. other_heard s (registry_of m) name item l apart)
       (desks_kept s m (Heard name item) name m.lines (λ l apart. apart_sym l.user.who name apart) (every_line_there m)) are)
 
   pub others_after_items : (s : Setup) (m : Told) (front : Front) (name : List ℕ) (items : List Item) (cs : List (Connection S))
       → OthersAre seen front m name m.lines cs → OthersAre seen front (steps s m (heard name items)) name (steps s m (heard name items)).lines cs
   others_after_items s m front name [] cs are = are
-  others_after_items s m front name (item ∷ items) cs are = others_after_items s (step s m (Heard name item)) front name items cs (others_after_item s m front name item cs are)
+  others_after_items s m front name (item ∷ items) cs are =
+      others_after_items s (step s m (Heard name item)) front name items cs (others_after_item s m front name item cs are)
 
-  pub others_arrived : (s : Setup) (m : Told) (front : Front) (name bytes : List ℕ) (cs : List (Connection S)) → (step s m (Arrived name bytes)).lines ≡ map (line_after s (registry_of m) (Arrived name bytes)) m.lines
+  pub others_arrived : (s : Setup) (m : Told) (front : Front) (name bytes : List ℕ) (cs : List (Connection S))
+      → (step s m (Arrived name bytes)).lines ≡ map (line_after s (registry_of m) (Arrived name bytes)) m.lines
       → OthersAre seen front m name m.lines cs → OthersAre seen front (step s m (Arrived name bytes)) name (step s m (Arrived name bytes)).lines cs
   others_arrived s m front name bytes cs lines are =
       subst (λ (ls : List Line). OthersAre seen front (step s m (Arrived name bytes)) name ls cs) (sym lines)
-      (others_move seen front m (step s m (Arrived name bytes)) name (line_after s (registry_of m) (Arrived name bytes)) m.lines cs (λ l. refl) (λ l apart. other_arrived s (registry_of m) name bytes l apart)
+      (others_move seen front m (step s m (Arrived name bytes)) name (line_after s (registry_of m) (Arrived name bytes)) m.lines cs (λ l. refl)
+      (λ l apart. other_arrived s (registry_of m) name bytes l apart)
       (desks_kept s m (Arrived name bytes) name m.lines (λ l apart. tt) (every_line_there m)) are)

@@ -50,7 +50,8 @@ module _ {A : Type 0} where
   pub same_element : (xs : List A) (i : ℕ) (x y : A) → slice_get xs i ≡ Some x → slice_get xs i ≡ Some y → x ≡ y
   same_element xs i x y e d = cc
 
-  pub numbered_after : (number : A → ℕ) (xs : List A) (i : ℕ) (x x' : A) → IsNumbered number xs → slice_get xs i ≡ Some x → number x' ≡ number x → IsNumbered number (set xs i x')
+  pub numbered_after : (number : A → ℕ) (xs : List A) (i : ℕ) (x x' : A) → IsNumbered number xs → slice_get xs i ≡ Some x → number x' ≡ number x
+      → IsNumbered number (set xs i x')
   numbered_after number xs i x x' numbered at same = λ j y e. by j y (after_set xs i j x' y e)
     where
       by : (j : ℕ) (y : A) → ((j ≡ i) × (y ≡ x')) ⊎ ((j ≡ i → ⊥) × (slice_get xs j ≡ Some y)) → number y ≡ j
@@ -59,7 +60,8 @@ module _ {A : Type 0} where
 
   module _ {B : Type 0} (f : A → B) where
     -- a changed element, as it is seen
-    pub map_changed : (xs : List A) (i : ℕ) (x x' : A) (change : B → B) → slice_get xs i ≡ Some x → f x' ≡ change (f x) → map f (set xs i x') ≡ at_place i change (map f xs)
+    pub map_changed : (xs : List A) (i : ℕ) (x x' : A) (change : B → B) → slice_get xs i ≡ Some x → f x' ≡ change (f x)
+        → map f (set xs i x') ≡ at_place i change (map f xs)
     map_changed [] i x x' change at h = absurd (cc)
     map_changed (y ∷ ys) zero x x' change at h = let same : x ≡ y = cc in ap (λ (b : B). b ∷ map f ys) (h ∙ ap (λ (z : A). change (f z)) same)
     map_changed (y ∷ ys) (suc i) x x' change at h = ap (λ (bs : List B). f y ∷ bs) (map_changed ys i x x' change at h)
@@ -94,7 +96,8 @@ module _ {A : Type 0} where
     filter_map_is p q same [] = refl
     filter_map_is p q same (x ∷ xs) = by (p x) (same x) (filter_map_is p q same xs)
       where
-        by : (b : Bool) → q (f x) ≡ b → filter q (map f xs) ≡ map f (filter p xs) → cond (q (f x)) (f x ∷ filter q (map f xs)) (filter q (map f xs)) ≡ map f (cond b (x ∷ filter p xs) (filter p xs))
+        by : (b : Bool) → q (f x) ≡ b → filter q (map f xs) ≡ map f (filter p xs)
+            → cond (q (f x)) (f x ∷ filter q (map f xs)) (filter q (map f xs)) ≡ map f (cond b (x ∷ filter p xs) (filter p xs))
         by true e h = rw (e, h) refl
         by false e h = rw (e, h) refl
 

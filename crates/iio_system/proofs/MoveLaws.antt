@@ -108,12 +108,16 @@ module _ {S : Type 0} (seen : S → SeatRecord) where
     all_move front m m' f ls cs same desks.1 are.1,
   )
 
-  pub lines_move : (s : Setup) (m : Told) (front : Front) (e : Event) (cs : List (Connection S)) → IsOfBench e → AreLines seen front m m.lines cs → AreLines seen front (step s m e) (step s m e).lines cs
+  pub lines_move : (s : Setup) (m : Told) (front : Front) (e : Event) (cs : List (Connection S)) → IsOfBench e → AreLines seen front m m.lines cs
+      → AreLines seen front (step s m e) (step s m e).lines cs
   lines_move s m front e cs is are =
       let lines : (step s m e).lines ≡ map (line_after s (registry_of m) e) m.lines
-      = ap (λ (us : List User). map (line_after s (registry_of m) e) m.lines ++ map (new_line e) us) (none_new s e (registry_of m).users is) ∙ append-nil (map (line_after s (registry_of m) e) m.lines) in
+      =
+      ap (λ (us : List User). map (line_after s (registry_of m) e) m.lines ++ map (new_line e) us) (none_new s e (registry_of m).users is)
+      ∙ append-nil (map (line_after s (registry_of m) e) m.lines) in
       subst (λ (ls : List Line). AreLines seen front (step s m e) ls cs) (sym lines)
-      (all_move front m (step s m e) (line_after s (registry_of m) e) m.lines cs (λ l. same_line s (registry_of m) e l is) (desks_stay s m e m.lines is (every_line_there m)) are)
+      (all_move front m (step s m e) (line_after s (registry_of m) e) m.lines cs (λ l. same_line s (registry_of m) e l is)
+      (desks_stay s m e m.lines is (every_line_there m)) are)
 
 -- ---- lists
 
@@ -132,7 +136,8 @@ place_as {A = A} k f g [] same = refl
 place_as {A = A} zero f g (x ∷ xs) same = ap (λ (y : A). y ∷ xs) (same x)
 place_as {A = A} (suc k) f g (x ∷ xs) same = ap (λ (ys : List A). x ∷ ys) (place_as k f g xs same)
 
-pub place_map : {A B : Type 0} (v : A → B) (k : ℕ) (f : A → A) (g : B → B) (xs : List A) → ((x : A) → v (f x) ≡ g (v x)) → map v (at_place k f xs) ≡ at_place k g (map v xs)
+pub place_map : {A B : Type 0} (v : A → B) (k : ℕ) (f : A → A) (g : B → B) (xs : List A) → ((x : A) → v (f x) ≡ g (v x))
+    → map v (at_place k f xs) ≡ at_place k g (map v xs)
 place_map {A = A} {B = B} v k f g [] same = refl
 place_map {A = A} {B = B} v zero f g (x ∷ xs) same = ap (λ (y : B). y ∷ map v xs) (same x)
 place_map {A = A} {B = B} v (suc k) f g (x ∷ xs) same = ap (λ (ys : List B). v x ∷ ys) (place_map v k f g xs same)
@@ -150,10 +155,13 @@ device_told s front dev same = ap (λ (x : Front). device_name x dev) same
 -- ---- words
 
 -- of a look
-look_word : (kind : Kind) (shape : ShapeRecord) (t : ℤ) (st : Station) → is_average kind ≡ false → sensed_words (sensed_answer shape t st) ≡ look_words kind shape t (Some st)
+look_word : (kind : Kind) (shape : ShapeRecord) (t : ℤ) (st : Station) → is_average kind ≡ false
+    → sensed_words (sensed_answer shape t st) ≡ look_words kind shape t (Some st)
 look_word kind shape t st plain = plainly kind plain
   where
-    by : (p f : Bool) (n : ℕ) → sensed_words (cond (not p) sense.Gone (cond f sense.Fault (sense.Fired n))) ≡ cond p (cond f (codes "fault" ∷ []) (codes "sensed" ∷ decimal n ∷ [])) (codes "gone" ∷ [])
+    by : (p f : Bool) (n : ℕ)
+        → sensed_words (cond (not p) sense.Gone (cond f sense.Fault (sense.Fired n)))
+        ≡ cond p (cond f (codes "fault" ∷ []) (codes "sensed" ∷ decimal n ∷ [])) (codes "gone" ∷ [])
     by false f n = refl
     by true true n = refl
     by true false n = refl
@@ -165,7 +173,8 @@ look_word kind shape t st plain = plainly kind plain
 
 -- of a poll
 poll_word_at : (made : List Handed) (n : ℕ) (es : List Entry) (missed : ℕ) → length made ≡ n
-    → polled_words (poll_answer made (map handed_by es) missed) ≡ cond (is_empty es) (codes "accepted" ∷ decimal n ∷ []) (codes "missed" ∷ decimal (next_count missed) ∷ [])
+    → polled_words (poll_answer made (map handed_by es) missed)
+    ≡ cond (is_empty es) (codes "accepted" ∷ decimal n ∷ []) (codes "missed" ∷ decimal (next_count missed) ∷ [])
 poll_word_at made n [] missed many = ap (λ (k : ℕ). codes "accepted" ∷ decimal k ∷ []) many
 poll_word_at made n (e ∷ es) missed many = refl
 
@@ -173,10 +182,13 @@ poll_word : (made : List Handed) (n : ℕ) (ts : List Trigger) (trigger : ℕ) �
     → polled_words (poll_answer made (trigger_in (map trigger_by ts) trigger).entries (trigger_in (map trigger_by ts) trigger).missed)
     ≡ cond (is_empty (entries_at ts trigger)) (codes "accepted" ∷ decimal n ∷ []) (codes "missed" ∷ decimal (next_count (missed_at ts trigger)) ∷ [])
 poll_word made n ts trigger many =
-    ap (λ (o : Option TriggerRecord). polled_words (poll_answer made (unwrap_or o first_trigger).entries (unwrap_or o first_trigger).missed)) (slice_get-map trigger_by ts trigger) ∙ by (slice_get ts trigger)
+    ap (λ (o : Option TriggerRecord). polled_words (poll_answer made (unwrap_or o first_trigger).entries (unwrap_or o first_trigger).missed))
+    (slice_get-map trigger_by ts trigger) ∙ by (slice_get ts trigger)
   where
-    by : (o : Option Trigger) → polled_words (poll_answer made (unwrap_or (option_map trigger_by o) first_trigger).entries (unwrap_or (option_map trigger_by o) first_trigger).missed)
-        ≡ cond (is_empty (elim o [ None ↦ [] | Some t ↦ t.entries ])) (codes "accepted" ∷ decimal n ∷ []) (codes "missed" ∷ decimal (next_count (elim o [ None ↦ 0 | Some t ↦ t.missed ])) ∷ [])
+    by : (o : Option Trigger)
+        → polled_words (poll_answer made (unwrap_or (option_map trigger_by o) first_trigger).entries (unwrap_or (option_map trigger_by o) first_trigger).missed)
+        ≡ cond (is_empty (elim o [ None ↦ [] | Some t ↦ t.entries ])) (codes "accepted" ∷ decimal n ∷ [])
+        (codes "missed" ∷ decimal (next_count (elim o [ None ↦ 0 | Some t ↦ t.missed ])) ∷ [])
     by None = poll_word_at made n [] 0 many
     by (Some t) = poll_word_at made n t.entries t.missed many
 
@@ -184,15 +196,18 @@ poll_word made n ts trigger many =
 asked_words : (e : Entry) (st : Station) → became_word (Some (kind_became Input (handed_by e) st)) [] ≡ entry_word Input (Some st) (Some e)
 asked_words e st = by (is_current e.attachment st.site.attachment st.members st.site.plugged) (ask_fails st.site.driver) (length st.members)
   where
-    by : (a b : Bool) (n : ℕ) → handled_word (Some (cond (not a) Idle (cond b Fault (Captured n)))) ≡ cond a (cond b (codes "fault") (codes "captured")) (codes "idle")
+    by : (a b : Bool) (n : ℕ)
+        → handled_word (Some (cond (not a) Idle (cond b Fault (Captured n)))) ≡ cond a (cond b (codes "fault") (codes "captured")) (codes "idle")
     by false b n = refl
     by true true n = refl
     by true false n = refl
 
-given_words : (e : Entry) (st : Station) (room : List ℕ) → IsGiven (gave_answer (handed_by e) st) st.members room → gave_word (gave_answer (handed_by e) st) room ≡ entry_word Output (Some st) (Some e)
+given_words : (e : Entry) (st : Station) (room : List ℕ) → IsGiven (gave_answer (handed_by e) st) st.members room
+    → gave_word (gave_answer (handed_by e) st) room ≡ entry_word Output (Some st) (Some e)
 given_words e st room given = by (is_current e.attachment st.site.attachment st.members st.site.plugged) (next_of st.members) refl given
   where
-    by : (a : Bool) (o : Option GivenScan) → next_of st.members ≡ o → IsGiven (cond a (gave_by o) gave.Idle) st.members room → gave_word (cond a (gave_by o) gave.Idle) room ≡ cond a (given_word o) (codes "idle")
+    by : (a : Bool) (o : Option GivenScan) → next_of st.members ≡ o → IsGiven (cond a (gave_by o) gave.Idle) st.members room
+        → gave_word (cond a (gave_by o) gave.Idle) room ≡ cond a (given_word o) (codes "idle")
     by false o is given = refl
     by true None is given = refl
     by true (Some scan) is given =
@@ -220,7 +235,8 @@ entries_told dev trigger t [] = refl
 entries_told dev trigger t (st ∷ sts) = by (is_attached trigger st) (entries_told (suc dev) trigger t sts)
   where
     by : (b : Bool) → map handed_by (bench_entries (suc dev) trigger t sts) ≡ entries_from (suc dev) trigger t sts
-        → map handed_by (cond b (record { device = dev; attachment = st.site.attachment; moment = t } ∷ bench_entries (suc dev) trigger t sts) (bench_entries (suc dev) trigger t sts))
+        → map handed_by (cond b (record { device = dev; attachment = st.site.attachment; moment = t } ∷ bench_entries (suc dev) trigger t sts)
+        (bench_entries (suc dev) trigger t sts))
         ≡ cond b (record { dev = dev; attachment = st.site.attachment; t = t } ∷ entries_from (suc dev) trigger t sts) (entries_from (suc dev) trigger t sts)
     by true rest = ap (λ (es : List Handed). record { dev = dev; attachment = st.site.attachment; t = t } ∷ es) rest
     by false rest = rest
@@ -239,15 +255,20 @@ without_told dev [] = refl
 without_told dev (e ∷ es) = by (e.device == dev) (without_told dev es)
   where
     by : (b : Bool) → map handed_by (told_without dev es) ≡ without_entry dev (map handed_by es)
-        → map handed_by (cond b (told_without dev es) (e ∷ told_without dev es)) ≡ cond (not b) (handed_by e ∷ without_entry dev (map handed_by es)) (without_entry dev (map handed_by es))
+        → map handed_by (cond b (told_without dev es) (e ∷ told_without dev es))
+        ≡ cond (not b) (handed_by e ∷ without_entry dev (map handed_by es)) (without_entry dev (map handed_by es))
     by true rest = rest
     by false rest = ap (λ (hs : List Handed). handed_by e ∷ hs) rest
 
 -- the entry that a bench has
-entry_at : (ts : List Trigger) (trigger dev : ℕ) → entry_of dev (trigger_in (map trigger_by ts) trigger).entries ≡ option_map handed_by (told_entry dev (entries_at ts trigger))
-entry_at ts trigger dev = ap (λ (o : Option TriggerRecord). entry_of dev (unwrap_or o first_trigger).entries) (slice_get-map trigger_by ts trigger) ∙ by (slice_get ts trigger)
+entry_at : (ts : List Trigger) (trigger dev : ℕ)
+    → entry_of dev (trigger_in (map trigger_by ts) trigger).entries ≡ option_map handed_by (told_entry dev (entries_at ts trigger))
+entry_at ts trigger dev =
+    ap (λ (o : Option TriggerRecord). entry_of dev (unwrap_or o first_trigger).entries) (slice_get-map trigger_by ts trigger) ∙ by (slice_get ts trigger)
   where
-    by : (o : Option Trigger) → entry_of dev (unwrap_or (option_map trigger_by o) first_trigger).entries ≡ option_map handed_by (told_entry dev (elim o [ None ↦ [] | Some t ↦ t.entries ]))
+    by : (o : Option Trigger)
+        → entry_of dev (unwrap_or (option_map trigger_by o) first_trigger).entries
+        ≡ option_map handed_by (told_entry dev (elim o [ None ↦ [] | Some t ↦ t.entries ]))
     by None = refl
     by (Some t) = entry_told dev t.entries
 
@@ -257,7 +278,8 @@ polled_told : (m : Machine) (trigger : ℕ) (t : ℤ) (x : Trigger) → trigger_
 polled_told m trigger t x = by x.entries
   where
     by : (es : List Entry) → trigger_by (record { entries = poll_made (bench_entries 0 trigger t m.stations) es; missed = missed_after es x.missed })
-        ≡ (let r : TriggerRecord = record { entries = poll_made (entries_from 0 trigger t m.stations) (map handed_by es); missed = missed_after (map handed_by es) x.missed } in r)
+        ≡ (let r : TriggerRecord =
+        record { entries = poll_made (entries_from 0 trigger t m.stations) (map handed_by es); missed = missed_after (map handed_by es) x.missed } in r)
     by [] = ap (λ (hs : List Handed). (let r : TriggerRecord = record { entries = hs; missed = x.missed } in r)) (entries_told 0 trigger t m.stations)
     by (e ∷ es) = refl
 
@@ -266,9 +288,11 @@ handled_told dev x = ap (λ (hs : List Handed). (let r : TriggerRecord = record 
 
 -- ---- devices
 
-entry_machine_told : (kind : Kind) (o : Option Entry) (shape : ShapeRecord) (dev : ℕ) (m : Machine) → entry_machine kind (option_map handed_by o) false shape dev m ≡ with_station (entry_made kind shape o) dev m
+entry_machine_told : (kind : Kind) (o : Option Entry) (shape : ShapeRecord) (dev : ℕ) (m : Machine)
+    → entry_machine kind (option_map handed_by o) false shape dev m ≡ with_station (entry_made kind shape o) dev m
 unfolding with_station
-entry_machine_told kind None shape dev m = ap (λ (sts : List Station). record m { stations = sts }) (sym (place_same dev (entry_made kind shape None) m.stations (λ x. refl)))
+entry_machine_told kind None shape dev m =
+    ap (λ (sts : List Station). record m { stations = sts }) (sym (place_same dev (entry_made kind shape None) m.stations (λ x. refl)))
 entry_machine_told kind (Some e) shape dev m = refl
 
 -- where no device makes means, a handling and an unplugging change the device alone
@@ -284,24 +308,31 @@ unplugs_plain Output device k plain = refl
 unplugs_plain (Average base window) device k plain = absurd (cc)
 
 module _ (front : Front) (none : (k : ℕ) → is_average (kind_at front k) ≡ false) where
-  handles_one : (m : Machine) (k : ℕ) (es : List Entry) (j : ℕ) (b : Station) → handles front m k es j b ≡ cond (k == j) (entry_made (kind_at front k) (shape_at front k) (told_entry k es) b) b
+  handles_one : (m : Machine) (k : ℕ) (es : List Entry) (j : ℕ) (b : Station)
+      → handles front m k es j b ≡ cond (k == j) (entry_made (kind_at front k) (shape_at front k) (told_entry k es) b) b
   handles_one m k es j b = handles_plain front m k es (kind_at front j) j b (none j) ∙ by (k == j) refl
     where
-      by : (c : Bool) → (k == j) ≡ c → cond c (entry_made (kind_at front j) (shape_at front j) (told_entry j es) b) b ≡ cond c (entry_made (kind_at front k) (shape_at front k) (told_entry k es) b) b
+      by : (c : Bool) → (k == j) ≡ c
+          → cond c (entry_made (kind_at front j) (shape_at front j) (told_entry j es) b) b
+          ≡ cond c (entry_made (kind_at front k) (shape_at front k) (told_entry k es) b) b
       by true is = ap (λ (n : ℕ). entry_made (kind_at front n) (shape_at front n) (told_entry n es) b) (sym (same_number k j is))
       by false is = refl
 
-  handled_alone : (m : Machine) (k : ℕ) (es : List Entry) → with_station (entry_made (kind_at front k) (shape_at front k) (told_entry k es)) k m ≡ (let x : Machine = record m { stations = map_from (handles front m k es) 0 m.stations } in x)
+  handled_alone : (m : Machine) (k : ℕ) (es : List Entry)
+      → with_station (entry_made (kind_at front k) (shape_at front k) (told_entry k es)) k m
+      ≡ (let x : Machine = record m { stations = map_from (handles front m k es) 0 m.stations } in x)
   unfolding with_station
   handled_alone m k es =
       ap (λ (sts : List Station). (let x : Machine = record m { stations = sts } in x))
       (sym (placed (handles front m k es) (entry_made (kind_at front k) (shape_at front k) (told_entry k es)) k m.stations (handles_one m k es)))
 
-  unplugged_alone : (m : Machine) (k : ℕ) → with_station unplugged_station k m ≡ (let x : Machine = record m { stations = map_from (unplugs front k) 0 m.stations } in x)
+  unplugged_alone : (m : Machine) (k : ℕ)
+      → with_station unplugged_station k m ≡ (let x : Machine = record m { stations = map_from (unplugs front k) 0 m.stations } in x)
   unfolding with_station
   unplugged_alone m k =
       ap (λ (sts : List Station). (let x : Machine = record m { stations = sts } in x))
-      (sym (placed (unplugs front k) unplugged_station k m.stations (λ j b. ap (λ (c : Bool). cond c (with_site unplugged b) b) (unplugs_plain (kind_at front j) k j (none j)))))
+      (sym (placed (unplugs front k) unplugged_station k m.stations
+      (λ j b. ap (λ (c : Bool). cond c (with_site unplugged b) b) (unplugs_plain (kind_at front j) k j (none j)))))
 
 -- ---- captures
 
@@ -324,7 +355,8 @@ counted_most (Some (Asked Fault)) n = omega arith
 counted_most (Some (Asked Idle)) n = omega arith
 counted_most (Some (Gave answer)) n = omega arith
 
-place_most : (f : ℕ → ℕ) (dev n : ℕ) (ns : List ℕ) → ((c : ℕ) → f c ≤ c + 1) → All (λ c. c ≤ n) ns → (i d : ℕ) → i < length (at_place dev f ns) → slice_index_or (at_place dev f ns) i d ≤ n + 1
+place_most : (f : ℕ → ℕ) (dev n : ℕ) (ns : List ℕ) → ((c : ℕ) → f c ≤ c + 1) → All (λ c. c ≤ n) ns → (i d : ℕ) → i < length (at_place dev f ns)
+    → slice_index_or (at_place dev f ns) i d ≤ n + 1
 place_most f dev n [] most all i d less = absurd (omega (arith, less))
 place_most f zero n (c ∷ ns) most all zero d less = let h = all 0 d (omega arith) in let k = most c in omega (arith, h, k)
 place_most f zero n (c ∷ ns) most all (suc i) d less = let h = all (suc i) d less in omega (arith, h)
@@ -332,7 +364,8 @@ place_most f (suc dev) n (c ∷ ns) most all zero d less = let h = all 0 d (omeg
 place_most f (suc dev) n (c ∷ ns) most all (suc i) d less = place_most f dev n ns most (λ j e l. all (suc j) e (omega (arith, l))) i d (omega (arith, less))
 
 pub rise_counted : (o : Option Became) (dev : ℕ) (old new : List ℕ) → new ≡ at_place dev (counted o) old → RiseBy 1 old new
-rise_counted o dev old new same = λ n all i d less. rw same (place_most (counted o) dev n old (counted_most o) all i d (subst (λ (ns : List ℕ). i < length ns) same less))
+rise_counted o dev old new same =
+    λ n all i d less. rw same (place_most (counted o) dev n old (counted_most o) all i d (subst (λ (ns : List ℕ). i < length ns) same less))
 
 pub rise_more : (j k : ℕ) (old new : List ℕ) → j ≤ k → RiseBy j old new → RiseBy k old new
 rise_more j k old new less rise = λ n all i d within. let h = rise n all i d within in omega (arith, h, less)
@@ -341,7 +374,8 @@ rise_more j k old new less rise = λ n all i d within. let h = rise n all i d wi
 
 module _ (s : Setup) (m : Told) (e : Event) where
   -- its line
-  one_line : (text before after : List ℕ) → IsBench s m → IsOfBench e → text ≡ moved_text s m.triggers (machine_of m) e → after ≡ before ++ text → after ≡ before ++ (event_text s m e ++ [])
+  one_line : (text before after : List ℕ) → IsBench s m → IsOfBench e → text ≡ moved_text s m.triggers (machine_of m) e → after ≡ before ++ text
+      → after ≡ before ++ (event_text s m e ++ [])
   one_line text before after bench is words line =
       line ∙ ap (λ (t : List ℕ). before ++ t) (words ∙ sym (moves_print s m e bench (is_move e is)) ∙ sym (append-nil (event_text s m e)))
 
@@ -350,14 +384,18 @@ module _ {X : Type 0} {V : X → Type 0} (driver : Plug X V → Driver) where
   pub machine_told : (s : Setup) (m : Told) (b : Bench X V) (cs : List (Connection Seat)) → Holds driver s m b cs → bench_machine driver b ≡ machine_of m
   machine_told s m b cs h = let same : Some (bench_machine driver b) ≡ Some (machine_of m) = h.stands.told_is in cc
 
-  pub holds_then : (s : Setup) (m : Told) (e : Event) (b b' : Bench X V) (cs : List (Connection Seat)) → IsOfBench e → Holds driver s m b cs → bench_front b' ≡ bench_front b
-      → bench_machine driver b' ≡ machine_of (step s m e) → triggers_of b' ≡ map trigger_by (triggers_made (machine_of m) e m.triggers) → Holds driver s (step s m e) b' cs
+  pub holds_then : (s : Setup) (m : Told) (e : Event) (b b' : Bench X V) (cs : List (Connection Seat)) → IsOfBench e → Holds driver s m b cs
+      → bench_front b' ≡ bench_front b
+      → bench_machine driver b' ≡ machine_of (step s m e) → triggers_of b' ≡ map trigger_by (triggers_made (machine_of m) e m.triggers)
+      → Holds driver s (step s m e) b' cs
   holds_then s m e b b' cs is h front told triggers = record {
     stands = record {
       front_is = front ∙ h.stands.front_is;
       told_is = ap (λ (x : Machine). Some x) told;
       bench = bench_kept s m e (is_step (names_of m) e is) h.stands.bench;
-      lines = subst (λ (f : Front). AreLines seen_of f (step s m e) (step s m e).lines cs) (sym front) (lines_move seen_of s m (bench_front b) e cs is h.stands.lines);
+      lines =
+          subst (λ (f : Front). AreLines seen_of f (step s m e) (step s m e).lines cs) (sym front)
+          (lines_move seen_of s m (bench_front b) e cs is h.stands.lines);
     };
     triggers = triggers ∙ ap (λ (ts : List Trigger). map trigger_by ts) (sym (triggers_are s m e));
   }
@@ -369,29 +407,37 @@ module _ {X : Type 0} {V : X → Type 0} (driver : Plug X V → Driver) where
       → after ≡ before ++ printed (codes "clock" ∷ signed_decimal t ∷ []) → Makes driver (SetClock t) b b' cs cs before after
   clock_makes t b b' cs before after front told triggers line = λ s m h. (
     one_line s m (Clock t) _ before after h.stands.bench tt refl line,
-    holds_then s m (Clock t) b b' cs tt h front (told ∙ ap (λ (x : Machine). record x { clock = t }) (machine_told s m b cs h) ∙ sym (clock_is s m t)) (triggers ∙ h.triggers),
+    holds_then s m (Clock t) b b' cs tt h front (told ∙ ap (λ (x : Machine). record x { clock = t }) (machine_told s m b cs h) ∙ sym (clock_is s m t))
+        (triggers ∙ h.triggers),
   )
 
   -- ---- one device
 
   -- no device makes means
-  pub none_averages : (s : Setup) (m : Told) (b : Bench X V) (cs : List (Connection Seat)) → Holds driver s m b cs → (k : ℕ) → is_average (kind_at (front_of s) k) ≡ false
-  none_averages s m b cs h k = ap (λ (f : Front). is_average (kind_at f k)) (sym h.stands.front_is) ∙ no_average b.context.items b.described.items b.devices.items k
+  pub none_averages : (s : Setup) (m : Told) (b : Bench X V) (cs : List (Connection Seat)) → Holds driver s m b cs → (k : ℕ)
+      → is_average (kind_at (front_of s) k) ≡ false
+  none_averages s m b cs h k =
+      ap (λ (f : Front). is_average (kind_at f k)) (sym h.stands.front_is) ∙ no_average b.context.items b.described.items b.devices.items k
 
-  here : (b : Bench X V) (dev : ℕ) → dev < length (bench_front b).devices → slice_get (bench_machine driver b).stations dev ≡ Some (station_at (bench_machine driver b) dev)
+  here : (b : Bench X V) (dev : ℕ) → dev < length (bench_front b).devices
+      → slice_get (bench_machine driver b).stations dev ≡ Some (station_at (bench_machine driver b) dev)
   unfolding station_at
   here b dev less =
-      there_is (bench_machine driver b).stations dev no_station (subst (λ (n : ℕ). dev < n) (length_map_is any_front b.devices.items ∙ sym (length_map_is (any_station driver) b.devices.items)) less)
+      there_is (bench_machine driver b).stations dev no_station
+      (subst (λ (n : ℕ). dev < n) (length_map_is any_front b.devices.items ∙ sym (length_map_is (any_station driver) b.devices.items)) less)
 
   -- what is said of a device by its number is said of it as it stands in the told state
-  told_here : {A : Type 0} (word : Option Station → A) (s : Setup) (m : Told) (b : Bench X V) (cs : List (Connection Seat)) (dev : ℕ) → dev < length (bench_front b).devices → Holds driver s m b cs
+  told_here : {A : Type 0} (word : Option Station → A) (s : Setup) (m : Told) (b : Bench X V) (cs : List (Connection Seat)) (dev : ℕ)
+      → dev < length (bench_front b).devices → Holds driver s m b cs
       → word (Some (station_at (bench_machine driver b) dev)) ≡ word (slice_get (machine_of m).stations dev)
   told_here word s m b cs dev less h = ap word (sym (here b dev less)) ∙ ap (λ (x : Machine). word (slice_get x.stations dev)) (machine_told s m b cs h)
 
-  named_here : (s : Setup) (m : Told) (b b' : Bench X V) (cs : List (Connection Seat)) (dev : ℕ) → bench_front b' ≡ bench_front b → Holds driver s m b cs → device_name (bench_front b') dev ≡ desc_device_name s.desc dev
+  named_here : (s : Setup) (m : Told) (b b' : Bench X V) (cs : List (Connection Seat)) (dev : ℕ) → bench_front b' ≡ bench_front b → Holds driver s m b cs
+      → device_name (bench_front b') dev ≡ desc_device_name s.desc dev
   named_here s m b b' cs dev front h = device_told s (bench_front b') dev (front ∙ h.stands.front_is)
 
-  trigger_named : (s : Setup) (m : Told) (b b' : Bench X V) (cs : List (Connection Seat)) (trigger : ℕ) → bench_front b' ≡ bench_front b → Holds driver s m b cs → trigger_name (bench_front b') trigger ≡ desc_trigger_name s.desc trigger
+  trigger_named : (s : Setup) (m : Told) (b b' : Bench X V) (cs : List (Connection Seat)) (trigger : ℕ) → bench_front b' ≡ bench_front b → Holds driver s m b cs
+      → trigger_name (bench_front b') trigger ≡ desc_trigger_name s.desc trigger
   trigger_named s m b b' cs trigger front h = trigger_told s (bench_front b') trigger (front ∙ h.stands.front_is)
 
   -- ---- unplugging
@@ -410,7 +456,8 @@ module _ {X : Type 0} {V : X → Type 0} (driver : Plug X V → Driver) where
       plugged_by (kind_at (front_of s) dev) (station_at (bench_machine driver b) dev) (none_averages s m b cs h dev)
       ∙ told_here (λ (o : Option Station). plug_word (kind_at (front_of s) dev) o) s m b cs dev less h
 
-  pub unplug_makes : (dev : ℕ) (b b' : Bench X V) (cs : List (Connection Seat)) (before after name : List ℕ) (was : Bool) → dev < length (bench_front b).devices → bench_front b' ≡ bench_front b
+  pub unplug_makes : (dev : ℕ) (b b' : Bench X V) (cs : List (Connection Seat)) (before after name : List ℕ) (was : Bool) → dev < length (bench_front b).devices
+      → bench_front b' ≡ bench_front b
       → bench_machine driver b' ≡ with_station unplugged_station dev (bench_machine driver b) → triggers_of b' ≡ triggers_of b
       → name ≡ device_name (bench_front b') dev → was ≡ is_plugged (bench_machine driver b) dev
       → after ≡ before ++ printed (name ∷ unplugged_word was ∷ []) → Makes driver (Unplug dev) b b' cs cs before after
@@ -424,14 +471,17 @@ module _ {X : Type 0} {V : X → Type 0} (driver : Plug X V → Driver) where
 
   -- ---- looks at thresholds
 
-  sensed_told : (dev : ℕ) (t : ℤ) (s : Setup) (m : Told) (b : Bench X V) (cs : List (Connection Seat)) → dev < length (bench_front b).devices → Holds driver s m b cs
-      → sensed_words (sensed_answer (shape_at (bench_front b) dev) t (station_at (bench_machine driver b) dev)) ≡ look_words (kind_at (front_of s) dev) (shape_at (front_of s) dev) t (slice_get (machine_of m).stations dev)
+  sensed_told : (dev : ℕ) (t : ℤ) (s : Setup) (m : Told) (b : Bench X V) (cs : List (Connection Seat)) → dev < length (bench_front b).devices
+      → Holds driver s m b cs
+      → sensed_words (sensed_answer (shape_at (bench_front b) dev) t (station_at (bench_machine driver b) dev))
+      ≡ look_words (kind_at (front_of s) dev) (shape_at (front_of s) dev) t (slice_get (machine_of m).stations dev)
   sensed_told dev t s m b cs less h =
       ap (λ (f : Front). sensed_words (sensed_answer (shape_at f dev) t (station_at (bench_machine driver b) dev))) h.stands.front_is
       ∙ look_word (kind_at (front_of s) dev) (shape_at (front_of s) dev) t (station_at (bench_machine driver b) dev) (none_averages s m b cs h dev)
       ∙ told_here (look_words (kind_at (front_of s) dev) (shape_at (front_of s) dev) t) s m b cs dev less h
 
-  pub sense_makes : (dev : ℕ) (t : ℤ) (b b' : Bench X V) (cs : List (Connection Seat)) (before after name : List ℕ) (answer : Look) → dev < length (bench_front b).devices → bench_front b' ≡ bench_front b
+  pub sense_makes : (dev : ℕ) (t : ℤ) (b b' : Bench X V) (cs : List (Connection Seat)) (before after name : List ℕ) (answer : Look)
+      → dev < length (bench_front b).devices → bench_front b' ≡ bench_front b
       → bench_machine driver b' ≡ with_station (sensed_station (shape_at (bench_front b) dev) t) dev (bench_machine driver b) → triggers_of b' ≡ triggers_of b
       → name ≡ device_name (bench_front b') dev → answer ≡ sensed_answer (shape_at (bench_front b) dev) t (station_at (bench_machine driver b) dev)
       → after ≡ before ++ printed (name ∷ sensed_words answer) → Makes driver (Sense dev t) b b' cs cs before after
@@ -441,28 +491,37 @@ module _ {X : Type 0} {V : X → Type 0} (driver : Plug X V → Driver) where
         ∙ ap (λ (ws : List (List ℕ)). printed (desc_device_name s.desc dev ∷ ws)) (ap sensed_words answered ∙ sensed_told dev t s m b cs less h)) line,
     holds_then s m (Sensed dev t) b b' cs tt h front
         (told ∙ ap (λ (f : Front). with_station (sensed_station (shape_at f dev) t) dev (bench_machine driver b)) h.stands.front_is
-        ∙ ap (λ (x : Machine). with_station (sensed_station (shape_at (front_of s) dev) t) dev x) (machine_told s m b cs h) ∙ sym (look_is s m dev t h.stands.bench)) (triggers ∙ h.triggers),
+        ∙ ap (λ (x : Machine). with_station (sensed_station (shape_at (front_of s) dev) t) dev x) (machine_told s m b cs h)
+        ∙ sym (look_is s m dev t h.stands.bench)) (triggers ∙ h.triggers),
   )
 
   -- ---- polls
 
-  module _ (trigger : ℕ) (t : ℤ) (b b' : Bench X V) (cs : List (Connection Seat)) (front : bench_front b' ≡ bench_front b) (told : bench_machine driver b' ≡ bench_machine driver b)
-      (triggers : triggers_of b' ≡ at_place trigger (polled (bench_machine driver b).stations trigger t) (triggers_of b)) (s : Setup) (m : Told) (h : Holds driver s m b cs) where
+  module _ (trigger : ℕ) (t : ℤ) (b b' : Bench X V) (cs : List (Connection Seat)) (front : bench_front b' ≡ bench_front b)
+      (told : bench_machine driver b' ≡ bench_machine driver b)
+      (triggers : triggers_of b' ≡ at_place trigger (polled (bench_machine driver b).stations trigger t) (triggers_of b)) (s : Setup) (m : Told)
+      (h : Holds driver s m b cs) where
     pub poll_holds : Holds driver s (step s m (Polled trigger t)) b' cs
     poll_holds =
         holds_then s m (Polled trigger t) b b' cs tt h front (told ∙ machine_told s m b cs h ∙ sym (poll_is s m trigger t).0)
         (triggers ∙ ap (λ (ts : List TriggerRecord). at_place trigger (polled (bench_machine driver b).stations trigger t) ts) h.triggers
         ∙ ap (λ (x : Machine). at_place trigger (polled x.stations trigger t) (map trigger_by m.triggers)) (machine_told s m b cs h)
-        ∙ sym (place_map trigger_by trigger (polled_by (machine_of m) trigger t) (polled (machine_of m).stations trigger t) m.triggers (polled_told (machine_of m) trigger t)))
+        ∙ sym (place_map trigger_by trigger (polled_by (machine_of m) trigger t) (polled (machine_of m).stations trigger t) m.triggers
+        (polled_told (machine_of m) trigger t)))
 
-    answer_told : poll_answer (entries_from 0 trigger t (bench_machine driver b).stations) (trigger_in (triggers_of b) trigger).entries (trigger_in (triggers_of b) trigger).missed
-        ≡ poll_answer (entries_from 0 trigger t (machine_of m).stations) (trigger_in (map trigger_by m.triggers) trigger).entries (trigger_in (map trigger_by m.triggers) trigger).missed
+    answer_told : poll_answer (entries_from 0 trigger t (bench_machine driver b).stations) (trigger_in (triggers_of b) trigger).entries
+        (trigger_in (triggers_of b) trigger).missed
+        ≡ poll_answer (entries_from 0 trigger t (machine_of m).stations) (trigger_in (map trigger_by m.triggers) trigger).entries
+        (trigger_in (map trigger_by m.triggers) trigger).missed
     answer_told =
-        ap (λ (ts : List TriggerRecord). poll_answer (entries_from 0 trigger t (bench_machine driver b).stations) (trigger_in ts trigger).entries (trigger_in ts trigger).missed) h.triggers
-        ∙ ap (λ (x : Machine). poll_answer (entries_from 0 trigger t x.stations) (trigger_in (map trigger_by m.triggers) trigger).entries (trigger_in (map trigger_by m.triggers) trigger).missed) (machine_told s m b cs h)
+        ap (λ (ts : List TriggerRecord). poll_answer (entries_from 0 trigger t (bench_machine driver b).stations) (trigger_in ts trigger).entries
+        (trigger_in ts trigger).missed) h.triggers
+        ∙ ap (λ (x : Machine). poll_answer (entries_from 0 trigger t x.stations) (trigger_in (map trigger_by m.triggers) trigger).entries
+        (trigger_in (map trigger_by m.triggers) trigger).missed) (machine_told s m b cs h)
 
     pub poll_line : (before after name : List ℕ) (answer : Answer) → name ≡ trigger_name (bench_front b') trigger
-        → answer ≡ poll_answer (entries_from 0 trigger t (bench_machine driver b).stations) (trigger_in (triggers_of b) trigger).entries (trigger_in (triggers_of b) trigger).missed
+        → answer ≡ poll_answer (entries_from 0 trigger t (bench_machine driver b).stations) (trigger_in (triggers_of b) trigger).entries
+        (trigger_in (triggers_of b) trigger).missed
         → after ≡ before ++ printed (codes "poll" ∷ name ∷ polled_words answer) → after ≡ before ++ (event_text s m (Polled trigger t) ++ [])
     poll_line before after name answer named answered line =
         one_line s m (Polled trigger t) _ before after h.stands.bench tt
@@ -470,12 +529,16 @@ module _ {X : Type 0} {V : X → Type 0} (driver : Plug X V → Driver) where
         ∙ ap (λ (ws : List (List ℕ)). printed (codes "poll" ∷ desc_trigger_name s.desc trigger ∷ ws))
         (ap polled_words (answered ∙ answer_told)
         ∙ poll_word (entries_from 0 trigger t (machine_of m).stations) (length (bench_entries 0 trigger t (machine_of m).stations)) m.triggers trigger
-        (ap (λ (hs : List Handed). length hs) (sym (entries_told 0 trigger t (machine_of m).stations)) ∙ length_map_is handed_by (bench_entries 0 trigger t (machine_of m).stations)))) line
+        (ap (λ (hs : List Handed). length hs) (sym (entries_told 0 trigger t (machine_of m).stations))
+        ∙ length_map_is handed_by (bench_entries 0 trigger t (machine_of m).stations)))) line
 
   -- ---- handlings
 
-  module _ (trigger dev : ℕ) (b b' : Bench X V) (cs : List (Connection Seat)) (less : dev < length (bench_front b).devices) (front : bench_front b' ≡ bench_front b)
-      (told : bench_machine driver b' ≡ entry_machine (kind_at (bench_front b) dev) (entry_of dev (trigger_in (triggers_of b) trigger).entries) false (shape_at (bench_front b) dev) dev (bench_machine driver b))
+  module _ (trigger dev : ℕ) (b b' : Bench X V) (cs : List (Connection Seat)) (less : dev < length (bench_front b).devices)
+      (front : bench_front b' ≡ bench_front b)
+      (told : bench_machine driver b'
+      ≡ entry_machine (kind_at (bench_front b) dev) (entry_of dev (trigger_in (triggers_of b) trigger).entries) false (shape_at (bench_front b) dev) dev
+      (bench_machine driver b))
       (triggers : triggers_of b' ≡ at_place trigger (handled dev) (triggers_of b)) (s : Setup) (m : Told) (h : Holds driver s m b cs) where
     pub entry_here : entry_of dev (trigger_in (triggers_of b) trigger).entries ≡ option_map handed_by (told_entry dev (entries_at m.triggers trigger))
     entry_here = ap (λ (ts : List TriggerRecord). entry_of dev (trigger_in ts trigger).entries) h.triggers ∙ entry_at m.triggers trigger dev
@@ -483,22 +546,33 @@ module _ {X : Type 0} {V : X → Type 0} (driver : Plug X V → Driver) where
     pub handle_holds : Holds driver s (step s m (Handled trigger dev)) b' cs
     handle_holds =
         holds_then s m (Handled trigger dev) b b' cs tt h front
-        (told ∙ ap (λ (o : Option Handed). entry_machine (kind_at (bench_front b) dev) o false (shape_at (bench_front b) dev) dev (bench_machine driver b)) entry_here
-        ∙ ap (λ (f : Front). entry_machine (kind_at f dev) (option_map handed_by (told_entry dev (entries_at m.triggers trigger))) false (shape_at f dev) dev (bench_machine driver b)) h.stands.front_is
-        ∙ ap (λ (x : Machine). entry_machine (kind_at (front_of s) dev) (option_map handed_by (told_entry dev (entries_at m.triggers trigger))) false (shape_at (front_of s) dev) dev x) (machine_told s m b cs h)
+        (told ∙ ap (λ (o : Option Handed). entry_machine (kind_at (bench_front b) dev) o false (shape_at (bench_front b) dev) dev (bench_machine driver b))
+        entry_here
+        ∙ ap (λ (f : Front). entry_machine (kind_at f dev) (option_map handed_by (told_entry dev (entries_at m.triggers trigger))) false (shape_at f dev) dev
+        (bench_machine driver b)) h.stands.front_is
+        ∙ ap (λ (x : Machine). entry_machine (kind_at (front_of s) dev) (option_map handed_by (told_entry dev (entries_at m.triggers trigger))) false
+        (shape_at (front_of s) dev) dev x) (machine_told s m b cs h)
         ∙ entry_machine_told (kind_at (front_of s) dev) (told_entry dev (entries_at m.triggers trigger)) (shape_at (front_of s) dev) dev (machine_of m)
-        ∙ handled_alone (front_of s) (none_averages s m b cs h) (machine_of m) dev (entries_at m.triggers trigger) ∙ sym (handling_is s m trigger dev h.stands.bench))
-        (triggers ∙ ap (λ (ts : List TriggerRecord). at_place trigger (handled dev) ts) h.triggers ∙ sym (place_map trigger_by trigger (told_handled dev) (handled dev) m.triggers (handled_told dev)))
+        ∙ handled_alone (front_of s) (none_averages s m b cs h) (machine_of m) dev (entries_at m.triggers trigger)
+        ∙ sym (handling_is s m trigger dev h.stands.bench))
+        (triggers ∙ ap (λ (ts : List TriggerRecord). at_place trigger (handled dev) ts) h.triggers
+        ∙ sym (place_map trigger_by trigger (told_handled dev) (handled dev) m.triggers (handled_told dev)))
 
-    answer_here : entry_answer (kind_at (bench_front b) dev) (entry_of dev (trigger_in (triggers_of b) trigger).entries) false (station_at (bench_machine driver b) dev)
-        ≡ entry_answer (kind_at (front_of s) dev) (option_map handed_by (told_entry dev (entries_at m.triggers trigger))) false (station_at (bench_machine driver b) dev)
+    answer_here : entry_answer (kind_at (bench_front b) dev) (entry_of dev (trigger_in (triggers_of b) trigger).entries) false
+        (station_at (bench_machine driver b) dev)
+        ≡ entry_answer (kind_at (front_of s) dev) (option_map handed_by (told_entry dev (entries_at m.triggers trigger))) false
+        (station_at (bench_machine driver b) dev)
     answer_here =
-        ap (λ (f : Front). entry_answer (kind_at f dev) (entry_of dev (trigger_in (triggers_of b) trigger).entries) false (station_at (bench_machine driver b) dev)) h.stands.front_is
+        ap (λ (f : Front). entry_answer (kind_at f dev) (entry_of dev (trigger_in (triggers_of b) trigger).entries) false
+        (station_at (bench_machine driver b) dev)) h.stands.front_is
         ∙ ap (λ (o : Option Handed). entry_answer (kind_at (front_of s) dev) o false (station_at (bench_machine driver b) dev)) entry_here
 
-    word_told : (answer : Option Became) (room : List ℕ) → answer ≡ entry_answer (kind_at (bench_front b) dev) (entry_of dev (trigger_in (triggers_of b) trigger).entries) false (station_at (bench_machine driver b) dev)
+    word_told : (answer : Option Became) (room : List ℕ)
+        → answer ≡ entry_answer (kind_at (bench_front b) dev) (entry_of dev (trigger_in (triggers_of b) trigger).entries) false
+        (station_at (bench_machine driver b) dev)
         → IsRoom answer (station_at (bench_machine driver b) dev).members room
-        → became_word answer room ≡ entry_word (kind_at (front_of s) dev) (slice_get (machine_of m).stations dev) (told_entry dev (entries_at m.triggers trigger))
+        → became_word answer room
+        ≡ entry_word (kind_at (front_of s) dev) (slice_get (machine_of m).stations dev) (told_entry dev (entries_at m.triggers trigger))
     word_told answer room answered roomy =
         let is = answered ∙ answer_here in
         ap (λ (o : Option Became). became_word o room) is
@@ -506,12 +580,17 @@ module _ {X : Type 0} {V : X → Type 0} (driver : Plug X V → Driver) where
         (subst (λ (o : Option Became). IsRoom o (station_at (bench_machine driver b) dev).members room) is roomy)
         ∙ told_here (λ (o : Option Station). entry_word (kind_at (front_of s) dev) o (told_entry dev (entries_at m.triggers trigger))) s m b cs dev less h
 
-    pub handle_line : (before after name device room : List ℕ) (answer : Option Became) → name ≡ trigger_name (bench_front b') trigger → device ≡ device_name (bench_front b') dev
-        → answer ≡ entry_answer (kind_at (bench_front b) dev) (entry_of dev (trigger_in (triggers_of b) trigger).entries) false (station_at (bench_machine driver b) dev)
+    pub handle_line : (before after name device room : List ℕ) (answer : Option Became) → name ≡ trigger_name (bench_front b') trigger
+        → device ≡ device_name (bench_front b') dev
+        → answer ≡ entry_answer (kind_at (bench_front b) dev) (entry_of dev (trigger_in (triggers_of b) trigger).entries) false
+        (station_at (bench_machine driver b) dev)
         → IsRoom answer (station_at (bench_machine driver b) dev).members room
-        → after ≡ before ++ printed (codes "handle" ∷ name ∷ device ∷ became_word answer room ∷ []) → after ≡ before ++ (event_text s m (Handled trigger dev) ++ [])
+        → after ≡ before ++ printed (codes "handle" ∷ name ∷ device ∷ became_word answer room ∷ [])
+        → after ≡ before ++ (event_text s m (Handled trigger dev) ++ [])
     handle_line before after name device room answer named called answered roomy line =
         one_line s m (Handled trigger dev) _ before after h.stands.bench tt
         (ap (λ (n : List ℕ). printed (codes "handle" ∷ n ∷ device ∷ became_word answer room ∷ [])) (named ∙ trigger_named s m b b' cs trigger front h)
-        ∙ ap (λ (n : List ℕ). printed (codes "handle" ∷ desc_trigger_name s.desc trigger ∷ n ∷ became_word answer room ∷ [])) (called ∙ named_here s m b b' cs dev front h)
-        ∙ ap (λ (w : List ℕ). printed (codes "handle" ∷ desc_trigger_name s.desc trigger ∷ desc_device_name s.desc dev ∷ w ∷ [])) (word_told answer room answered roomy)) line
+        ∙ ap (λ (n : List ℕ). printed (codes "handle" ∷ desc_trigger_name s.desc trigger ∷ n ∷ became_word answer room ∷ []))
+        (called ∙ named_here s m b b' cs dev front h)
+        ∙ ap (λ (w : List ℕ). printed (codes "handle" ∷ desc_trigger_name s.desc trigger ∷ desc_device_name s.desc dev ∷ w ∷ []))
+        (word_told answer room answered roomy)) line

@@ -46,7 +46,8 @@ module _ {S : Type 0} (name : List ℕ) where
   unknown cs none = known_as cs ∙ list_any_none is_named cs (λ i d within. none_named cs none i d within)
 
   -- the line of the connection at a place
-  pub line_at : (seen : S → SeatRecord) (front : Front) (m : Told) (ls : List Line) (cs : List (Connection S)) (i : ℕ) (d : Connection S) → AreLines seen front m ls cs
+  pub line_at : (seen : S → SeatRecord) (front : Front) (m : Told) (ls : List Line) (cs : List (Connection S)) (i : ℕ) (d : Connection S)
+      → AreLines seen front m ls cs
       → i < length cs → is_named (get_or cs i d) ≡ true → ((k : ℕ) → k < i → is_named (get_or cs k d) ≡ false)
       → (l : Line) × (line_named name ls ≡ Some l) × IsServed seen front m l (get_or cs i d).session
   line_at seen front m [] [] i d are within here before = absurd (omega (arith, within))
@@ -76,7 +77,8 @@ module _ {S : Type 0} (name : List ℕ) where
   length_names (c ∷ cs) = ap (λ (n : ℕ). suc n) (length_names cs)
 
   room_by : (cs : List (Connection S)) (b : Bool) → nat_lt (length cs) max_names ≡ b → has_room (map name_by cs) name ≡ is_known (map name_by cs) name || b
-  room_by cs b room = ap (λ (n : ℕ). is_known (map name_by cs) name || nat_lt n max_names) (length_names cs) ∙ ap (λ (b : Bool). is_known (map name_by cs) name || b) room
+  room_by cs b room =
+      ap (λ (n : ℕ). is_known (map name_by cs) name || nat_lt n max_names) (length_names cs) ∙ ap (λ (b : Bool). is_known (map name_by cs) name || b) room
 
   -- while there are few names, there is room for each
   pub room_short : (cs : List (Connection S)) → length cs < max_names → has_room (map name_by cs) name ≡ true

@@ -30,7 +30,8 @@ pub none_in : (name : List ℕ) (ls : List Line) → line_named name ls ≡ None
 none_in name [] none = refl
 none_in name (l ∷ ls) none = by (bytes_eq l.user.who name) none (none_in name ls)
   where
-    by : (b : Bool) → cond b (Some l) (line_named name ls) ≡ None → (line_named name ls ≡ None → is_in (map name_of ls) name ≡ false) → (b || is_in (map name_of ls) name) ≡ false
+    by : (b : Bool) → cond b (Some l) (line_named name ls) ≡ None → (line_named name ls ≡ None → is_in (map name_of ls) name ≡ false)
+        → (b || is_in (map name_of ls) name) ≡ false
     by true none rest = cc
     by false none rest = rest none
 
@@ -44,15 +45,19 @@ pub new_begun : (m : Told) (name : List ℕ) → line_named name m.lines ≡ Non
 new_begun m name none = ap (λ (o : Option Line). elim o [ None ↦ InLine [] | Some x ↦ x.begun ]) none
 
 new_lines : (s : Setup) (m : Told) (name bytes : List ℕ) → line_named name m.lines ≡ None
-    → (step s m (Arrived name bytes)).lines ≡ map (line_after s (registry_of m) (Arrived name bytes)) m.lines ++ new_line (Arrived name bytes) (new_user s name) ∷ []
+    → (step s m (Arrived name bytes)).lines ≡ map (line_after s (registry_of m) (Arrived name bytes)) m.lines ++ new_line (Arrived name bytes) (new_user s name)
+    ∷ []
 new_lines s m name bytes none =
-    ap (λ (o : Option User). map (line_after s (registry_of m) (Arrived name bytes)) m.lines ++ map (new_line (Arrived name bytes)) (cond (is_some o) [] (new_user s name ∷ []))) (user_none m name none)
+    ap (λ (o : Option User). map (line_after s (registry_of m) (Arrived name bytes)) m.lines
+    ++ map (new_line (Arrived name bytes)) (cond (is_some o) [] (new_user s name ∷ []))) (user_none m name none)
 
 -- the line at the end
-last_named : (name : List ℕ) (f : Line → Line) (x : Line) (ls : List Line) → ((l : Line) → (f l).user.who ≡ l.user.who) → line_named name ls ≡ None → bytes_eq x.user.who name ≡ true → line_named name (map f ls ++ x ∷ []) ≡ Some x
+last_named : (name : List ℕ) (f : Line → Line) (x : Line) (ls : List Line) → ((l : Line) → (f l).user.who ≡ l.user.who) → line_named name ls ≡ None
+    → bytes_eq x.user.who name ≡ true → line_named name (map f ls ++ x ∷ []) ≡ Some x
 last_named name f x [] who none own = ap (λ (b : Bool). cond b (Some x) None) own
 last_named name f x (l ∷ ls) who none own =
-    ap (λ (w : List ℕ). cond (bytes_eq w name) (Some (f l)) (line_named name (map f ls ++ x ∷ []))) (who l) ∙ by (bytes_eq l.user.who name) none (λ h. last_named name f x ls who h own)
+    ap (λ (w : List ℕ). cond (bytes_eq w name) (Some (f l)) (line_named name (map f ls ++ x ∷ []))) (who l)
+    ∙ by (bytes_eq l.user.who name) none (λ h. last_named name f x ls who h own)
   where
     by : (b : Bool) → cond b (Some l) (line_named name ls) ≡ None → (line_named name ls ≡ None → line_named name (map f ls ++ x ∷ []) ≡ Some x)
         → cond b (Some (f l)) (line_named name (map f ls ++ x ∷ [])) ≡ Some x
@@ -61,7 +66,8 @@ last_named name f x (l ∷ ls) who none own =
 
 module _ {S : Type 0} (seen : S → SeatRecord) where
   -- one more at the end of both
-  others_more : (front : Front) (m : Told) (name : List ℕ) (ls : List Line) (cs : List (Connection S)) (x : Line) (c : Connection S) → c.name ≡ x.user.who → bytes_eq x.user.who name ≡ true
+  others_more : (front : Front) (m : Told) (name : List ℕ) (ls : List Line) (cs : List (Connection S)) (x : Line) (c : Connection S) → c.name ≡ x.user.who
+      → bytes_eq x.user.who name ≡ true
       → OthersAre seen front m name ls cs → OthersAre seen front m name (ls ++ x ∷ []) (cs ++ c ∷ [])
   others_more front m name [] [] x c same own are = (same, λ apart. absurd (true≢false (sym own ∙ apart)), tt)
   others_more front m name [] (d ∷ cs) x c same own are = absurd are
@@ -84,7 +90,8 @@ module _ {S : Type 0} (seen : S → SeatRecord) where
         others =
             subst (λ (ls : List Line). OthersAre seen front (step s m (Arrived name bytes)) name ls (cs ++ c ∷ [])) (sym lines)
             (others_more front (step s m (Arrived name bytes)) name (map f m.lines) cs x c same (name_itself name)
-            (others_move seen front m (step s m (Arrived name bytes)) name f m.lines cs (λ l. refl) (λ l apart. other_arrived s (registry_of m) name bytes l apart)
+            (others_move seen front m (step s m (Arrived name bytes)) name f m.lines cs (λ l. refl)
+            (λ l apart. other_arrived s (registry_of m) name bytes l apart)
             (desks_kept s m (Arrived name bytes) name m.lines (λ l apart. tt) (every_line_there m)) (others_are seen front m name m.lines cs stands.lines)));
       }
 
@@ -111,7 +118,8 @@ module _ {S : Type 0} (seen : S → SeatRecord) where
       manner = fresh.served;
       stream = fresh.stream;
       desk =
-          subst (λ (k : DeskRecord). IsDeskOf (step s m (Arrived name bytes)) name k) (sym (fresh_desk (length cs) x fresh ∙ ap (λ (n : ℕ). new_desk n) (length_lines front m m.lines cs stands.lines)))
+          subst (λ (k : DeskRecord). IsDeskOf (step s m (Arrived name bytes)) name k)
+          (sym (fresh_desk (length cs) x fresh ∙ ap (λ (n : ℕ). new_desk n) (length_lines front m m.lines cs stands.lines)))
           (new_is_desk s m name bytes stands.bench (none_in name m.lines none));
     };
     room = room_after s m (Arrived name bytes) (length (items_from (InLine []) bytes)) room;

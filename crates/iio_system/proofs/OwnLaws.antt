@@ -19,12 +19,14 @@ use Rattle.iio_system.specs.System.{AreLines, IsServed}
 use Rattle.iio_system.proofs.EndLaws.{has_end, is_end}
 use Rattle.iio_system.proofs.LineLaws.{OthersAre}
 
-pub line_mapped : (name : List ℕ) (f : Line → Line) → ((l : Line) → (f l).user.who ≡ l.user.who) → (ls : List Line) → line_named name (map f ls) ≡ option_map f (line_named name ls)
+pub line_mapped : (name : List ℕ) (f : Line → Line) → ((l : Line) → (f l).user.who ≡ l.user.who) → (ls : List Line)
+    → line_named name (map f ls) ≡ option_map f (line_named name ls)
 line_mapped name f who [] = refl
 line_mapped name f who (l ∷ ls) =
     ap (λ (w : List ℕ). cond (bytes_eq w name) (Some (f l)) (line_named name (map f ls))) (who l) ∙ by (bytes_eq l.user.who name) (line_mapped name f who ls)
   where
-    by : (b : Bool) → line_named name (map f ls) ≡ option_map f (line_named name ls) → cond b (Some (f l)) (line_named name (map f ls)) ≡ option_map f (cond b (Some l) (line_named name ls))
+    by : (b : Bool) → line_named name (map f ls) ≡ option_map f (line_named name ls)
+        → cond b (Some (f l)) (line_named name (map f ls)) ≡ option_map f (cond b (Some l) (line_named name ls))
     by true h = refl
     by false h = h
 
@@ -32,7 +34,8 @@ pub line_found : (name : List ℕ) (ls : List Line) (l : Line) → line_named na
 line_found name [] l is = cc
 line_found name (x ∷ ls) l is = by (bytes_eq x.user.who name) refl is (line_found name ls l)
   where
-    by : (b : Bool) → bytes_eq x.user.who name ≡ b → cond b (Some x) (line_named name ls) ≡ Some l → (line_named name ls ≡ Some l → bytes_eq l.user.who name ≡ true) → bytes_eq l.user.who name ≡ true
+    by : (b : Bool) → bytes_eq x.user.who name ≡ b → cond b (Some x) (line_named name ls) ≡ Some l
+        → (line_named name ls ≡ Some l → bytes_eq l.user.who name ≡ true) → bytes_eq l.user.who name ≡ true
     by true own h rest = let one : x ≡ l = cc in ap (λ (y : Line). bytes_eq y.user.who name) (sym one) ∙ own
     by false other h rest = rest h
 
@@ -56,11 +59,13 @@ own_items s m name [] l is = (l, is, sym (or_false l.user.ended), refl)
 own_items s m name (item ∷ items) l is =
     let f : Line → Line = line_after s (registry_of m) (Heard name item) in
     let next : line_named name (step s m (Heard name item)).lines ≡ Some (f l) =
-    ap (λ (ls : List Line). line_named name ls) (append-nil (map f m.lines)) ∙ line_mapped name f (λ x. refl) m.lines ∙ ap (λ (o : Option Line). option_map f o) is in
+    ap (λ (ls : List Line). line_named name ls) (append-nil (map f m.lines)) ∙ line_mapped name f (λ x. refl) m.lines
+    ∙ ap (λ (o : Option Line). option_map f o) is in
     let rest = own_items s (step s m (Heard name item)) name items (f l) next in (
       rest.0,
       rest.1,
-      rest.2 ∙ ap (λ (b : Bool). b || has_end items) (own_ended s m name item l (line_found name m.lines l is)) ∙ regroup l.user.ended (is_end item) (has_end items),
+      rest.2 ∙ ap (λ (b : Bool). b || has_end items) (own_ended s m name item l (line_found name m.lines l is))
+          ∙ regroup l.user.ended (is_end item) (has_end items),
       rest.3,
     )
   where
@@ -73,7 +78,8 @@ module _ {S : Type 0} (seen : S → SeatRecord) where
   abbrev pub with_session : Option (SessionRecord S) → Connection S → Connection S
   with_session o c = record c { session = o }
 
-  pub all_others : (front : Front) (m : Told) (name : List ℕ) (ls : List Line) (cs : List (Connection S)) → is_in (map name_of ls) name ≡ false → OthersAre seen front m name ls cs → AreLines seen front m ls cs
+  pub all_others : (front : Front) (m : Told) (name : List ℕ) (ls : List Line) (cs : List (Connection S)) → is_in (map name_of ls) name ≡ false
+      → OthersAre seen front m name ls cs → AreLines seen front m ls cs
   all_others front m name [] [] absent are = tt
   all_others front m name [] (c ∷ cs) absent are = absurd are
   all_others front m name (l ∷ ls) [] absent are = absurd are
@@ -86,7 +92,8 @@ module _ {S : Type 0} (seen : S → SeatRecord) where
       either false b h = (refl, h)
 
   -- the others, and the one that was heard
-  pub rejoined : (front : Front) (m : Told) (name : List ℕ) (o : Option (SessionRecord S)) (i : ℕ) (d : Connection S) (ls : List Line) (cs : List (Connection S)) (l : Line)
+  pub rejoined : (front : Front) (m : Told) (name : List ℕ) (o : Option (SessionRecord S)) (i : ℕ) (d : Connection S) (ls : List Line)
+      (cs : List (Connection S)) (l : Line)
       → AreDistinct (map name_of ls) → OthersAre seen front m name ls cs → line_named name ls ≡ Some l
       → i < length cs → ((k : ℕ) → k < i → bytes_eq (get_or cs k d).name name ≡ false) → bytes_eq (get_or cs i d).name name ≡ true
       → IsServed seen front m l o → AreLines seen front m ls (set cs i (with_session o (get_or cs i d)))
@@ -100,5 +107,8 @@ module _ {S : Type 0} (seen : S → SeatRecord) where
         all_others front m name ls cs (ap (λ (w : List ℕ). is_in (map name_of ls) w) (sym (name_same x.user.who name own)) ∙ distinct.0) are.2,
       )
   rejoined front m name o (suc i) d (x ∷ ls) (c ∷ cs) l distinct are is less before here served =
-      let other : bytes_eq x.user.who name ≡ false = ap (λ (w : List ℕ). bytes_eq w name) (sym are.0) ∙ before 0 (omega arith) in
-      (record { name = are.0; served = are.1 other }, rejoined front m name o i d ls cs l distinct.1 are.2 (rw other at is) (omega (arith, less)) (λ k h. before (suc k) (omega (arith, h))) here served)
+      let other : bytes_eq x.user.who name ≡ false = ap (λ (w : List ℕ). bytes_eq w name) (sym are.0) ∙ before 0 (omega arith) in (
+        record { name = are.0; served = are.1 other },
+        rejoined front m name o i d ls cs l distinct.1 are.2 (rw other at is) (omega (arith, less))
+            (λ k h. before (suc k) (omega (arith, h))) here served,
+      )

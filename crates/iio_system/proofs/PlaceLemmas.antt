@@ -13,22 +13,30 @@ module _ (trigger : ℕ) where
   pub places_kept : (dev : ℕ) (sts : List Station) (k : ℕ) (st st' : Station) → slice_get sts k ≡ Some st → is_attached trigger st' ≡ is_attached trigger st
       → st'.site.attachment ≡ st.site.attachment → places_from dev trigger (set sts k st') ≡ places_from dev trigger sts
   places_kept dev [] k st st' at e a = refl
-  places_kept dev (y ∷ ys) zero st st' at e a = let same : st ≡ y = cc in by y.site.attachment (is_attached trigger y) (a ∙ ap (λ (x : Station). x.site.attachment) same) (e ∙ ap (λ (x : Station). is_attached trigger x) same)
+  places_kept dev (y ∷ ys) zero st st' at e a =
+      let same : st ≡ y =
+      cc in by y.site.attachment (is_attached trigger y) (a ∙ ap (λ (x : Station). x.site.attachment) same)
+      (e ∙ ap (λ (x : Station). is_attached trigger x) same)
     where
       by : (n : ℕ) (b : Bool) → st'.site.attachment ≡ n → is_attached trigger st' ≡ b
-          → cond (is_attached trigger st') (record { dev = dev; attachment = st'.site.attachment } ∷ places_from (suc dev) trigger ys) (places_from (suc dev) trigger ys)
+          → cond (is_attached trigger st') (record { dev = dev; attachment = st'.site.attachment } ∷ places_from (suc dev) trigger ys)
+          (places_from (suc dev) trigger ys)
           ≡ cond b (record { dev = dev; attachment = n } ∷ places_from (suc dev) trigger ys) (places_from (suc dev) trigger ys)
       by n b e f = rw (e, f) refl
   places_kept dev (y ∷ ys) (suc k) st st' at e a =
-      ap (λ (rest : List Place). cond (is_attached trigger y) (record { dev = dev; attachment = y.site.attachment } ∷ rest) rest) (places_kept (suc dev) ys k st st' at e a)
+      ap (λ (rest : List Place). cond (is_attached trigger y) (record { dev = dev; attachment = y.site.attachment } ∷ rest) rest)
+      (places_kept (suc dev) ys k st st' at e a)
 
   -- one that has none
-  pub places_none : (dev : ℕ) (sts : List Station) (k : ℕ) (st st' : Station) → slice_get sts k ≡ Some st → is_attached trigger st ≡ false → is_attached trigger st' ≡ false
+  pub places_none : (dev : ℕ) (sts : List Station) (k : ℕ) (st st' : Station) → slice_get sts k ≡ Some st → is_attached trigger st ≡ false
+      → is_attached trigger st' ≡ false
       → places_from dev trigger (set sts k st') ≡ places_from dev trigger sts
   places_none dev [] k st st' at e a = refl
-  places_none dev (y ∷ ys) zero st st' at e a = let same : is_attached trigger y ≡ false = ap (λ (x : Station). is_attached trigger x) (let s : y ≡ st = cc in s) ∙ e in rw (a, same) refl
+  places_none dev (y ∷ ys) zero st st' at e a =
+      let same : is_attached trigger y ≡ false = ap (λ (x : Station). is_attached trigger x) (let s : y ≡ st = cc in s) ∙ e in rw (a, same) refl
   places_none dev (y ∷ ys) (suc k) st st' at e a =
-      ap (λ (rest : List Place). cond (is_attached trigger y) (record { dev = dev; attachment = y.site.attachment } ∷ rest) rest) (places_none (suc dev) ys k st st' at e a)
+      ap (λ (rest : List Place). cond (is_attached trigger y) (record { dev = dev; attachment = y.site.attachment } ∷ rest) rest)
+      (places_none (suc dev) ys k st st' at e a)
 
   pub length-places_from : (dev : ℕ) (sts : List Station) → length (places_from dev trigger sts) ≡ attached_count trigger sts
   length-places_from dev [] = refl
@@ -46,11 +54,13 @@ module _ (trigger : ℕ) where
   held_later n dev (y ∷ ys) h = by (is_attached trigger y) (held_later n (suc dev) ys (omega arith))
     where
       by : (b : Bool) → holds_place n (places_from (suc dev) trigger ys) ≡ false
-          → holds_place n (cond b (record { dev = dev; attachment = y.site.attachment } ∷ places_from (suc dev) trigger ys) (places_from (suc dev) trigger ys)) ≡ false
+          → holds_place n (cond b (record { dev = dev; attachment = y.site.attachment } ∷ places_from (suc dev) trigger ys) (places_from (suc dev) trigger ys))
+          ≡ false
       by true i = let other : (dev == n) ≡ false = grind (arith, nat_tests) in rw other i
       by false i = i
 
-  pub holds_place-places_from : (dev : ℕ) (sts : List Station) (k n : ℕ) (st : Station) → slice_get sts k ≡ Some st → n ≡ dev + k → is_attached trigger st ≡ false → holds_place n (places_from dev trigger sts) ≡ false
+  pub holds_place-places_from : (dev : ℕ) (sts : List Station) (k n : ℕ) (st : Station) → slice_get sts k ≡ Some st → n ≡ dev + k
+      → is_attached trigger st ≡ false → holds_place n (places_from dev trigger sts) ≡ false
   holds_place-places_from dev [] k n st at e off = refl
   holds_place-places_from dev (y ∷ ys) zero n st at e off =
       let same : is_attached trigger y ≡ false = ap (λ (x : Station). is_attached trigger x) (let s : y ≡ st = cc in s) ∙ off in
@@ -58,18 +68,21 @@ module _ (trigger : ℕ) where
   holds_place-places_from dev (y ∷ ys) (suc k) n st at e off = by (is_attached trigger y) (holds_place-places_from (suc dev) ys k n st at (omega arith) off)
     where
       by : (b : Bool) → holds_place n (places_from (suc dev) trigger ys) ≡ false
-          → holds_place n (cond b (record { dev = dev; attachment = y.site.attachment } ∷ places_from (suc dev) trigger ys) (places_from (suc dev) trigger ys)) ≡ false
+          → holds_place n (cond b (record { dev = dev; attachment = y.site.attachment } ∷ places_from (suc dev) trigger ys) (places_from (suc dev) trigger ys))
+          ≡ false
       by true i = let other : (dev == n) ≡ false = grind (arith, nat_tests) in rw other i
       by false i = i
 
   -- a place more, before those of the devices after it
-  placed_first : (n a dev : ℕ) (sts : List Station) → n < dev → with_place n a (places_from dev trigger sts) ≡ record { dev = n; attachment = a } ∷ places_from dev trigger sts
+  placed_first : (n a dev : ℕ) (sts : List Station) → n < dev
+      → with_place n a (places_from dev trigger sts) ≡ record { dev = n; attachment = a } ∷ places_from dev trigger sts
   placed_first n a dev [] h = refl
   placed_first n a dev (y ∷ ys) h = by (is_attached trigger y) (placed_first n a (suc dev) ys (omega arith))
     where
       by : (b : Bool) → with_place n a (places_from (suc dev) trigger ys) ≡ record { dev = n; attachment = a } ∷ places_from (suc dev) trigger ys
           → with_place n a (cond b (record { dev = dev; attachment = y.site.attachment } ∷ places_from (suc dev) trigger ys) (places_from (suc dev) trigger ys))
-          ≡ record { dev = n; attachment = a } ∷ cond b (record { dev = dev; attachment = y.site.attachment } ∷ places_from (suc dev) trigger ys) (places_from (suc dev) trigger ys)
+          ≡ record { dev = n; attachment = a }
+          ∷ cond b (record { dev = dev; attachment = y.site.attachment } ∷ places_from (suc dev) trigger ys) (places_from (suc dev) trigger ys)
       by true i =
           let later : nat_lt dev n ≡ false = grind (arith, nat_tests) in
           let other : (dev == n) ≡ false = grind (arith, nat_tests) in
@@ -83,13 +96,19 @@ module _ (trigger : ℕ) where
   places_attached dev (y ∷ ys) zero n a st st' at e off on same =
       let none : is_attached trigger y ≡ false = ap (λ (x : Station). is_attached trigger x) (let s : y ≡ st = cc in s) ∙ off in
       let here : n ≡ dev = omega arith in
-      rw (none, on, same) (placed_first n a (suc dev) ys (omega arith) ∙ ap (λ (d : ℕ). (let p : Place = record { dev = d; attachment = a } in p) ∷ places_from (suc dev) trigger ys) here)
-  places_attached dev (y ∷ ys) (suc k) n a st st' at e off on same = by (is_attached trigger y) (places_attached (suc dev) ys k n a st st' at (omega arith) off on same)
+      rw (none, on, same) (placed_first n a (suc dev) ys (omega arith)
+      ∙ ap (λ (d : ℕ). (let p : Place = record { dev = d; attachment = a } in p) ∷ places_from (suc dev) trigger ys) here)
+  places_attached dev (y ∷ ys) (suc k) n a st st' at e off on same =
+      by (is_attached trigger y) (places_attached (suc dev) ys k n a st st' at (omega arith) off on same)
     where
       by : (b : Bool) → with_place n a (places_from (suc dev) trigger ys) ≡ places_from (suc dev) trigger (set ys k st')
           → with_place n a (cond b (record { dev = dev; attachment = y.site.attachment } ∷ places_from (suc dev) trigger ys) (places_from (suc dev) trigger ys))
-          ≡ cond b (record { dev = dev; attachment = y.site.attachment } ∷ places_from (suc dev) trigger (set ys k st')) (places_from (suc dev) trigger (set ys k st'))
-      by true i = let before : nat_lt dev n ≡ true = grind (arith, nat_tests) in rw before (ap (λ (rest : List Place). (let p : Place = record { dev = dev; attachment = y.site.attachment } in p) ∷ rest) i)
+          ≡ cond b (record { dev = dev; attachment = y.site.attachment } ∷ places_from (suc dev) trigger (set ys k st'))
+          (places_from (suc dev) trigger (set ys k st'))
+      by true i =
+          let before : nat_lt dev n ≡ true =
+          grind (arith, nat_tests) in
+          rw before (ap (λ (rest : List Place). (let p : Place = record { dev = dev; attachment = y.site.attachment } in p) ∷ rest) i)
       by false i = i
 
   -- devices after this one keep their places
@@ -98,9 +117,13 @@ module _ (trigger : ℕ) where
   left_later n dev (y ∷ ys) h = by (is_attached trigger y) (left_later n (suc dev) ys (omega arith))
     where
       by : (b : Bool) → without_place n (places_from (suc dev) trigger ys) ≡ places_from (suc dev) trigger ys
-          → without_place n (cond b (record { dev = dev; attachment = y.site.attachment } ∷ places_from (suc dev) trigger ys) (places_from (suc dev) trigger ys))
+          → without_place n (cond b (record { dev = dev; attachment = y.site.attachment } ∷ places_from (suc dev) trigger ys)
+          (places_from (suc dev) trigger ys))
           ≡ cond b (record { dev = dev; attachment = y.site.attachment } ∷ places_from (suc dev) trigger ys) (places_from (suc dev) trigger ys)
-      by true i = let other : (dev == n) ≡ false = grind (arith, nat_tests) in rw other (ap (λ (rest : List Place). (let p : Place = record { dev = dev; attachment = y.site.attachment } in p) ∷ rest) i)
+      by true i =
+          let other : (dev == n) ≡ false =
+          grind (arith, nat_tests) in
+          rw other (ap (λ (rest : List Place). (let p : Place = record { dev = dev; attachment = y.site.attachment } in p) ∷ rest) i)
       by false i = i
 
   -- a device that leaves its place
@@ -110,25 +133,34 @@ module _ (trigger : ℕ) where
   places_detached dev (y ∷ ys) zero n st st' at e off = rw off (by (is_attached trigger y) (left_later n (suc dev) ys (omega arith)))
     where
       by : (b : Bool) → without_place n (places_from (suc dev) trigger ys) ≡ places_from (suc dev) trigger ys
-          → without_place n (cond b (record { dev = dev; attachment = y.site.attachment } ∷ places_from (suc dev) trigger ys) (places_from (suc dev) trigger ys))
+          → without_place n (cond b (record { dev = dev; attachment = y.site.attachment } ∷ places_from (suc dev) trigger ys)
+          (places_from (suc dev) trigger ys))
           ≡ places_from (suc dev) trigger ys
       by true i = let own : (dev == n) ≡ true = grind (arith, nat_tests) in rw own i
       by false i = i
   places_detached dev (y ∷ ys) (suc k) n st st' at e off = by (is_attached trigger y) (places_detached (suc dev) ys k n st st' at (omega arith) off)
     where
       by : (b : Bool) → without_place n (places_from (suc dev) trigger ys) ≡ places_from (suc dev) trigger (set ys k st')
-          → without_place n (cond b (record { dev = dev; attachment = y.site.attachment } ∷ places_from (suc dev) trigger ys) (places_from (suc dev) trigger ys))
-          ≡ cond b (record { dev = dev; attachment = y.site.attachment } ∷ places_from (suc dev) trigger (set ys k st')) (places_from (suc dev) trigger (set ys k st'))
-      by true i = let other : (dev == n) ≡ false = grind (arith, nat_tests) in rw other (ap (λ (rest : List Place). (let p : Place = record { dev = dev; attachment = y.site.attachment } in p) ∷ rest) i)
+          → without_place n (cond b (record { dev = dev; attachment = y.site.attachment } ∷ places_from (suc dev) trigger ys)
+          (places_from (suc dev) trigger ys))
+          ≡ cond b (record { dev = dev; attachment = y.site.attachment } ∷ places_from (suc dev) trigger (set ys k st'))
+          (places_from (suc dev) trigger (set ys k st'))
+      by true i =
+          let other : (dev == n) ≡ false =
+          grind (arith, nat_tests) in
+          rw other (ap (λ (rest : List Place). (let p : Place = record { dev = dev; attachment = y.site.attachment } in p) ∷ rest) i)
       by false i = i
 
   -- the entries of a poll
-  pub entries_of_places : (dev : ℕ) (moment : ℤ) (sts : List Station) → map handed_of (entries_at moment (places_from dev trigger sts)) ≡ entries_from dev trigger moment sts
+  pub entries_of_places : (dev : ℕ) (moment : ℤ) (sts : List Station)
+      → map handed_of (entries_at moment (places_from dev trigger sts)) ≡ entries_from dev trigger moment sts
   entries_of_places dev moment [] = refl
   entries_of_places dev moment (y ∷ ys) = by (is_attached trigger y) (entries_of_places (suc dev) moment ys)
     where
       by : (b : Bool) → map handed_of (entries_at moment (places_from (suc dev) trigger ys)) ≡ entries_from (suc dev) trigger moment ys
-          → map handed_of (entries_at moment (cond b (record { dev = dev; attachment = y.site.attachment } ∷ places_from (suc dev) trigger ys) (places_from (suc dev) trigger ys)))
-          ≡ cond b (record { dev = dev; attachment = y.site.attachment; t = moment } ∷ entries_from (suc dev) trigger moment ys) (entries_from (suc dev) trigger moment ys)
+          → map handed_of (entries_at moment
+          (cond b (record { dev = dev; attachment = y.site.attachment } ∷ places_from (suc dev) trigger ys) (places_from (suc dev) trigger ys)))
+          ≡ cond b (record { dev = dev; attachment = y.site.attachment; t = moment } ∷ entries_from (suc dev) trigger moment ys)
+          (entries_from (suc dev) trigger moment ys)
       by true i = ap (λ (rest : List Handed). (let e : Handed = record { dev = dev; attachment = y.site.attachment; t = moment } in e) ∷ rest) i
       by false i = i

@@ -56,26 +56,31 @@ on_ok (Err e) p = tt
 
 -- ---- names
 
-names_set : (cs : List (Connection Seat)) (i : ℕ) (d c : Connection Seat) → i < length cs → c.name ≡ (get_or cs i d).name → map name_by (set cs i c) ≡ map name_by cs
+names_set : (cs : List (Connection Seat)) (i : ℕ) (d c : Connection Seat) → i < length cs → c.name ≡ (get_or cs i d).name
+    → map name_by (set cs i c) ≡ map name_by cs
 names_set [] i d c within same = refl
 names_set (x ∷ cs) zero d c within same = ap (λ (n : List ℕ). n ∷ map name_by cs) same
 names_set (x ∷ cs) (suc i) d c within same = ap (λ (ns : List (List ℕ)). x.name ∷ ns) (names_set cs i d c (omega (arith, within)) same)
 
 -- a connection that is there keeps its name, and has it already
-pub names_there : (cs : List (Connection Seat)) (i : ℕ) (c c' : Connection Seat) (name bytes : List ℕ) → Some i ≡ position (is_named name) cs → c ≡ get_or cs i c → c'.name ≡ c.name
+pub names_there : (cs : List (Connection Seat)) (i : ℕ) (c c' : Connection Seat) (name bytes : List ℕ) → Some i ≡ position (is_named name) cs
+    → c ≡ get_or cs i c → c'.name ≡ c.name
     → map name_by (set cs i c') ≡ names_with (map name_by cs) (Feed name bytes)
 names_there cs i c c' name bytes at is same =
     let place = position-Some (is_named name) cs i c (sym at) in
-    names_set cs i c c' place.0 (same ∙ ap name_by is) ∙ ap (λ (b : Bool). cond b (map name_by cs) (map name_by cs ++ name ∷ [])) (sym (known_at name cs i (sym at)))
+    names_set cs i c c' place.0 (same ∙ ap name_by is)
+    ∙ ap (λ (b : Bool). cond b (map name_by cs) (map name_by cs ++ name ∷ [])) (sym (known_at name cs i (sym at)))
 
-pub names_kept : (cs : List (Connection Seat)) (i : ℕ) (c c' : Connection Seat) (name : List ℕ) → Some i ≡ position (is_named name) cs → c ≡ get_or cs i c → c'.name ≡ c.name → map name_by (set cs i c') ≡ map name_by cs
+pub names_kept : (cs : List (Connection Seat)) (i : ℕ) (c c' : Connection Seat) (name : List ℕ) → Some i ≡ position (is_named name) cs → c ≡ get_or cs i c
+    → c'.name ≡ c.name → map name_by (set cs i c') ≡ map name_by cs
 names_kept cs i c c' name at is same = names_set cs i c c' (position-Some (is_named name) cs i c (sym at)).0 (same ∙ ap name_by is)
 
 -- one that comes is the last
 pub names_new : (cs : List (Connection Seat)) (c' : Connection Seat) (name bytes : List ℕ) → None ≡ position (is_named name) cs → c'.name ≡ name
     → map name_by (cs ++ c' ∷ []) ≡ names_with (map name_by cs) (Feed name bytes)
 names_new cs c' name bytes at same =
-    last cs ∙ ap (λ (n : List ℕ). map name_by cs ++ n ∷ []) same ∙ ap (λ (b : Bool). cond b (map name_by cs) (map name_by cs ++ name ∷ [])) (sym (unknown name cs (sym at)))
+    last cs ∙ ap (λ (n : List ℕ). map name_by cs ++ n ∷ []) same
+    ∙ ap (λ (b : Bool). cond b (map name_by cs) (map name_by cs ++ name ∷ [])) (sym (unknown name cs (sym at)))
   where
     last : (cs : List (Connection Seat)) → map name_by (cs ++ c' ∷ []) ≡ map name_by cs ++ c'.name ∷ []
     last [] = refl
@@ -83,14 +88,17 @@ names_new cs c' name bytes at same =
 
 -- ---- room, and what is owned
 
-pub more_fit : (cs : List (Connection Seat)) (c : Connection Seat) (name : List ℕ) → None ≡ position (is_named name) cs → has_room (map name_by cs) name ≡ true → length (cs ++ c ∷ []) ≤ max_names
+pub more_fit : (cs : List (Connection Seat)) (c : Connection Seat) (name : List ℕ) → None ≡ position (is_named name) cs → has_room (map name_by cs) name ≡ true
+    → length (cs ++ c ∷ []) ≤ max_names
 more_fit cs c name at room =
     let less : nat_lt (length cs) max_names ≡ true = sym (room_left name cs at) ∙ room in
     let more : length (cs ++ c ∷ []) ≡ length cs + 1 = length-append cs (c ∷ []) in
     grind (arith, nat_tests, less, more)
 
-pub more_owned : (front front' : Front) (cs : List (Connection Seat)) (c : Connection Seat) → front' ≡ front → AreOwning seen_of front cs → IsOwning seen_of front' c.session → AreOwning seen_of front' (cs ++ c ∷ [])
-more_owned front front' cs c same owned own = All-push (λ (e : Connection Seat). IsOwning seen_of front' e.session) cs c (subst (λ (f : Front). AreOwning seen_of f cs) (sym same) owned) own
+pub more_owned : (front front' : Front) (cs : List (Connection Seat)) (c : Connection Seat) → front' ≡ front → AreOwning seen_of front cs
+    → IsOwning seen_of front' c.session → AreOwning seen_of front' (cs ++ c ∷ [])
+more_owned front front' cs c same owned own =
+    All-push (λ (e : Connection Seat). IsOwning seen_of front' e.session) cs c (subst (λ (f : Front). AreOwning seen_of f cs) (sym same) owned) own
 
 -- ---- the whole
 
@@ -99,14 +107,16 @@ front_kept b b' kept = ap (λ (k : Kept). k.front) kept
 
 module _ {X : Type 0} {V : X → Type 0} (driver : Plug X V → Driver) where
   -- what stands, with triggers as they were
-  holds_then : (s : Setup) (m n : Told) (b b' : Bench X V) (cs cs' : List (Connection Seat)) → kept_of b' ≡ kept_of b → n.triggers ≡ m.triggers → Holds driver s m b cs
+  holds_then : (s : Setup) (m n : Told) (b b' : Bench X V) (cs cs' : List (Connection Seat)) → kept_of b' ≡ kept_of b → n.triggers ≡ m.triggers
+      → Holds driver s m b cs
       → Stands seen_of s n (front_of b) (Some (machine_of driver b')) cs' → Holds driver s n b' cs'
   holds_then s m n b b' cs cs' kept same holds stands = record {
     stands = subst (λ (f : Front). Stands seen_of s n f (Some (machine_of driver b')) cs') (sym (front_kept b b' kept)) stands;
     triggers = ap (λ (k : Kept). k.triggers) kept ∙ holds.triggers ∙ ap (λ (ts : List Trigger). map trigger_by ts) (sym same);
   }
 
-  pub feeds_there : {A : Type 0} (b b' : Bench X V) (cs : List (Connection Seat)) (i : ℕ) (c c' : Connection Seat) (name bytes before after : List ℕ) (r : Result A Mem)
+  pub feeds_there : {A : Type 0} (b b' : Bench X V) (cs : List (Connection Seat)) (i : ℕ) (c c' : Connection Seat) (name bytes before after : List ℕ)
+      (r : Result A Mem)
       → Some i ≡ position (is_named name) cs → c ≡ get_or cs i c → c'.name ≡ c.name → kept_of b' ≡ kept_of b → IsOwning seen_of (front_of b') c'.session
       → OnOk r (Feeds seen_of c.name bytes (front_of b) (Some (machine_of driver b)) (Some (machine_of driver b')) before after c.session c'.session)
       → OnOk r (MakesFeed driver name bytes b b' cs (set cs i c') before after)
@@ -114,14 +124,20 @@ module _ {X : Type 0} {V : X → Type 0} (driver : Plug X V → Driver) where
   feeds_there b b' cs i c c' name bytes before after (Ok x) at is same kept owns feeds = λ s m room holds.
       let place = position-Some (is_named name) cs i c (sym at) in
       let own : c.name ≡ name = name_same c.name name (ap (λ (e : Connection Seat). is_named name e) is ∙ place.1) in
-      let fed = fed_there seen_of s m (front_of b) (Some (machine_of driver b)) (Some (machine_of driver b')) cs name bytes before after i c c'.session holds.stands room place.0 place.1 place.2
-      (subst (λ (e : Connection Seat). Feeds seen_of name bytes (front_of b) (Some (machine_of driver b)) (Some (machine_of driver b')) before after e.session c'.session) is
-      (subst (λ (n : List ℕ). Feeds seen_of n bytes (front_of b) (Some (machine_of driver b)) (Some (machine_of driver b')) before after c.session c'.session) own feeds))
+      let fed =
+      fed_there seen_of s m (front_of b) (Some (machine_of driver b)) (Some (machine_of driver b')) cs name bytes before after i c c'.session holds.stands room
+      place.0 place.1 place.2
+      (subst (λ (e : Connection Seat). Feeds seen_of name bytes (front_of b) (Some (machine_of driver b)) (Some (machine_of driver b')) before after e.session
+      c'.session) is
+      (subst (λ (n : List ℕ). Feeds seen_of n bytes (front_of b) (Some (machine_of driver b)) (Some (machine_of driver b')) before after c.session c'.session)
+      own feeds))
       (subst (λ (f : Front). IsOwning seen_of f c'.session) (front_kept b b' kept) owns) in
-      let whole : with_session seen_of c'.session (get_or cs i c) ≡ c' = ap (λ (n : List ℕ). (let e : Connection Seat = record { name = n; session = c'.session } in e)) (ap name_by (sym is) ∙ sym same) in (
+      let whole : with_session seen_of c'.session (get_or cs i c) ≡ c' =
+      ap (λ (n : List ℕ). (let e : Connection Seat = record { name = n; session = c'.session } in e)) (ap name_by (sym is) ∙ sym same) in (
         fed.0,
         holds_then s m (state_after s m (Feed name bytes)) b b' cs (set cs i c') kept (feed_triggers s m name bytes) holds
-            (subst (λ (e : Connection Seat). Stands seen_of s (state_after s m (Feed name bytes)) (front_of b) (Some (machine_of driver b')) (set cs i e)) whole fed.1),
+            (subst (λ (e : Connection Seat). Stands seen_of s (state_after s m (Feed name bytes)) (front_of b) (Some (machine_of driver b')) (set cs i e)) whole
+            fed.1),
       )
 
   pub feeds_new : {A : Type 0} (b b' : Bench X V) (cs : List (Connection Seat)) (c c' : Connection Seat) (name bytes before after : List ℕ) (r : Result A Mem)
@@ -130,17 +146,24 @@ module _ {X : Type 0} {V : X → Type 0} (driver : Plug X V → Driver) where
       → OnOk r (MakesFeed driver name bytes b b' cs (cs ++ c' ∷ []) before after)
   feeds_new b b' cs c c' name bytes before after (Err e) at is same kept owns feeds = tt
   feeds_new b b' cs c c' name bytes before after (Ok x) at is same kept owns feeds = λ s m room holds.
-      let fed = fed_new seen_of s m (front_of b) (Some (machine_of driver b)) (Some (machine_of driver b')) cs name bytes before after is.fresh c'.session holds.stands room (none_named name cs (sym at)) is.is_fresh
-      (subst (λ (o : Option (SessionRecord Seat)). Feeds seen_of name bytes (front_of b) (Some (machine_of driver b)) (Some (machine_of driver b')) before after o c'.session) is.session_is
-      (subst (λ (n : List ℕ). Feeds seen_of n bytes (front_of b) (Some (machine_of driver b)) (Some (machine_of driver b')) before after c.session c'.session) is.name_is feeds))
+      let fed =
+      fed_new seen_of s m (front_of b) (Some (machine_of driver b)) (Some (machine_of driver b')) cs name bytes before after is.fresh c'.session holds.stands
+      room (none_named name cs (sym at)) is.is_fresh
+      (subst (λ (o : Option (SessionRecord Seat)). Feeds seen_of name bytes (front_of b) (Some (machine_of driver b)) (Some (machine_of driver b')) before after
+      o c'.session) is.session_is
+      (subst (λ (n : List ℕ). Feeds seen_of n bytes (front_of b) (Some (machine_of driver b)) (Some (machine_of driver b')) before after c.session c'.session)
+      is.name_is feeds))
       (subst (λ (f : Front). IsOwning seen_of f c'.session) (front_kept b b' kept) owns) in
-      let whole : record { name = name; session = c'.session } ≡ c' = ap (λ (n : List ℕ). (let e : Connection Seat = record { name = n; session = c'.session } in e)) (sym (same ∙ is.name_is)) in (
+      let whole : record { name = name; session = c'.session } ≡ c' =
+      ap (λ (n : List ℕ). (let e : Connection Seat = record { name = n; session = c'.session } in e)) (sym (same ∙ is.name_is)) in (
         fed.0,
         holds_then s m (state_after s m (Feed name bytes)) b b' cs (cs ++ c' ∷ []) kept (feed_triggers s m name bytes) holds
-            (subst (λ (e : Connection Seat). Stands seen_of s (state_after s m (Feed name bytes)) (front_of b) (Some (machine_of driver b')) (cs ++ e ∷ [])) whole fed.1),
+            (subst (λ (e : Connection Seat). Stands seen_of s (state_after s m (Feed name bytes)) (front_of b) (Some (machine_of driver b')) (cs ++ e ∷ []))
+            whole fed.1),
       )
 
-  pub drops_there : (b b' : Bench X V) (cs : List (Connection Seat)) (i : ℕ) (c c' : Connection Seat) (name before after : List ℕ) (live : Bool) (r : Result (Unit {0}) Mem)
+  pub drops_there : (b b' : Bench X V) (cs : List (Connection Seat)) (i : ℕ) (c c' : Connection Seat) (name before after : List ℕ) (live : Bool)
+      (r : Result (Unit {0}) Mem)
       → Some i ≡ position (is_named name) cs → c ≡ get_or cs i c → c'.name ≡ c.name → c'.session ≡ None → live ≡ is_some c.session
       → kept_of b' ≡ kept_of b → machine_of driver b' ≡ left_by seen_of (front_of b) (machine_of driver b) c.session
       → OnOk r (after ≡ before ++ printed (name ∷ dropped_word live ∷ []))
@@ -148,13 +171,17 @@ module _ {X : Type 0} {V : X → Type 0} (driver : Plug X V → Driver) where
   drops_there b b' cs i c c' name before after live (Err e) at is same none was kept left lines = tt
   drops_there b b' cs i c c' name before after live (Ok x) at is same none was kept left lines = λ s m holds.
       let place = position-Some (is_named name) cs i c (sym at) in
-      let dropped = dropped_there seen_of s m (front_of b) (machine_of driver b) (machine_of driver b') cs name i c holds.stands place.0 place.1 place.2 (left ∙ ap (λ (e : Connection Seat). left_by seen_of (front_of b) (machine_of driver b) e.session) is) in
+      let dropped =
+      dropped_there seen_of s m (front_of b) (machine_of driver b) (machine_of driver b') cs name i c holds.stands place.0 place.1 place.2
+      (left ∙ ap (λ (e : Connection Seat). left_by seen_of (front_of b) (machine_of driver b) e.session) is) in
       let whole : with_session seen_of None (get_or cs i c) ≡ c' =
       ap (λ (n : List ℕ). (let e : Connection Seat = record { name = n; session = None } in e)) (ap name_by (sym is) ∙ sym same)
       ∙ ap (λ (o : Option (SessionRecord Seat)). (let e : Connection Seat = record { name = c'.name; session = o } in e)) (sym none) in (
-        lines ∙ ap (λ (b : Bool). before ++ printed (name ∷ dropped_word b ∷ [])) (was ∙ ap (λ (e : Connection Seat). is_some e.session) is) ∙ ap (λ (ls : List ℕ). before ++ ls) (sym dropped.0),
+        lines ∙ ap (λ (b : Bool). before ++ printed (name ∷ dropped_word b ∷ [])) (was ∙ ap (λ (e : Connection Seat). is_some e.session) is)
+            ∙ ap (λ (ls : List ℕ). before ++ ls) (sym dropped.0),
         holds_then s m (state_after s m (Drop name)) b b' cs (set cs i c') kept refl holds
-            (subst (λ (e : Connection Seat). Stands seen_of s (state_after s m (Drop name)) (front_of b) (Some (machine_of driver b')) (set cs i e)) whole dropped.1),
+            (subst (λ (e : Connection Seat). Stands seen_of s (state_after s m (Drop name)) (front_of b) (Some (machine_of driver b')) (set cs i e)) whole
+            dropped.1),
       )
 
   pub drops_nowhere : (b : Bench X V) (cs : List (Connection Seat)) (name before after : List ℕ) (r : Result (Unit {0}) Mem)
@@ -182,10 +209,14 @@ module _ {X : Type 0} {V : X → Type 0} (driver : Plug X V → Driver) where
   pub made_feed : {A : Type 0} (name bytes : List ℕ) (b b' : Bench X V) (cs cs' : List (Connection Seat)) (before after : List ℕ) (r : Result A Mem)
       → OnOk r (MakesFeed driver name bytes b b' cs cs' before after) → OnOk r (MakesStep driver (code.Feed name bytes) b b' cs cs' before after)
   made_feed name bytes b b' cs cs' before after (Err e) makes = tt
-  made_feed name bytes b b' cs cs' before after (Ok x) makes = λ s m room holds. makes s m (room_less (suc (length bytes)) (1 + length bytes) m.stations (omega arith) room) holds
+  made_feed name bytes b b' cs cs' before after (Ok x) makes =
+      λ s m room holds. makes s m (room_less (suc (length bytes)) (1 + length bytes) m.stations (omega arith) room) holds
 
 pub rise_none : {X : Type 0} {V : X → Type 0} (b b' : Bench X V) → kept_of b' ≡ kept_of b → RiseBy 32 (captures_of b) (captures_of b')
-rise_none b b' kept n all = subst (λ (cs : List ℕ). All (λ (c : ℕ). c ≤ n + 32) cs) (sym (ap (λ (k : Kept). k.captures) kept)) (λ i c within. let less = all i c within in omega (arith, less))
+rise_none b b' kept n all =
+    subst (λ (cs : List ℕ). All (λ (c : ℕ). c ≤ n + 32) cs) (sym (ap (λ (k : Kept). k.captures) kept))
+    (λ i c within. let less = all i c within in omega (arith, less))
 
-pub kept_owned : {X : Type 0} {V : X → Type 0} (b b' : Bench X V) (cs : List (Connection Seat)) → front_of b' ≡ front_of b → AreOwning seen_of (front_of b) cs → AreOwning seen_of (front_of b') cs
+pub kept_owned : {X : Type 0} {V : X → Type 0} (b b' : Bench X V) (cs : List (Connection Seat)) → front_of b' ≡ front_of b → AreOwning seen_of (front_of b) cs
+    → AreOwning seen_of (front_of b') cs
 kept_owned b b' cs same owned = subst (λ (f : Front). AreOwning seen_of f cs) (sym same) owned

@@ -44,7 +44,8 @@ bound_of q = q.capacity
 
 -- ---- what it keeps
 
-pub remasks_keep : (n : ℕ) (mask : Mask) (tail : Queue) (r : Result Queue (RemaskRefused Queue)) (v v' : DeviceView Queue) → RemasksDevice lost_of n mask tail r v v' → KeepsCaptures v v'
+pub remasks_keep : (n : ℕ) (mask : Mask) (tail : Queue) (r : Result Queue (RemaskRefused Queue)) (v v' : DeviceView Queue)
+    → RemasksDevice lost_of n mask tail r v v' → KeepsCaptures v v'
 remasks_keep n mask tail (Ok q) v v' j = keeps_along v _ v' (record { device = record { name = refl; number = refl; shape = refl }; captures = refl }) j.2
 remasks_keep n mask tail (Err x) v v' j = keeps_along v _ v' (record { device = record { name = refl; number = refl; shape = refl }; captures = refl }) j.2
 
@@ -67,15 +68,18 @@ module _ (id : MemberId) (mask : Mask) (scans : ℕ) (v v' : DeviceView Queue) w
   abbrev answer : Result ℕ Errno
   answer = remask_answer v.standing.shape (station_of v) id mask.bits
 
-  refused_by : (e : Errno) → answer ≡ Err e → station_of v' ≡ station_of v → Acts (remasked id.number mask.bits scans) answer (Err (NoErrno e)) (station_of v) (station_of v')
+  refused_by : (e : Errno) → answer ≡ Err e → station_of v' ≡ station_of v
+      → Acts (remasked id.number mask.bits scans) answer (Err (NoErrno e)) (station_of v) (station_of v')
   refused_by e is same = rw is (refl, same)
 
   pub gone : v.site.plugged ≡ false → v' ≡ v → Acts (remasked id.number mask.bits scans) answer (Err (NoErrno ENODEV)) (station_of v) (station_of v')
   gone e same = refused_by ENODEV (rw e refl) (ap station_of same)
 
-  pub dead : v.site.plugged ≡ true → has_member id v.standing.members ≡ false → v' ≡ v → Acts (remasked id.number mask.bits scans) answer (Err (NoErrno EBADF)) (station_of v) (station_of v')
+  pub dead : v.site.plugged ≡ true → has_member id v.standing.members ≡ false → v' ≡ v
+      → Acts (remasked id.number mask.bits scans) answer (Err (NoErrno EBADF)) (station_of v) (station_of v')
   dead e none same =
-      let absent : is_none (member_in id (map member_of v.standing.members)) ≡ true = none_by (member_in id (map member_of v.standing.members)) (told_absent (λ (x : Member). true) false id v.standing.members none) in
+      let absent : is_none (member_in id (map member_of v.standing.members)) ≡ true =
+      none_by (member_in id (map member_of v.standing.members)) (told_absent (λ (x : Member). true) false id v.standing.members none) in
       refused_by EBADF (rw (e, absent) refl) (ap station_of same)
     where
       none_by : (o : Option Member) → option_map_or (λ (x : Member). true) o false ≡ false → is_none o ≡ true
@@ -96,10 +100,12 @@ module _ (id : MemberId) (mask : Mask) (scans : ℕ) (v v' : DeviceView Queue) w
       → first_refusal (remask_refusals v.standing.shape (station_of v) id mask.bits) ≡ option_and_then remask_errno r
   refusals r good knows e = refusals_are lost_of bound_of queue_waits id mask.bits v r good knows e
 
-  pub faulty : (f : RemaskFault) (said : No) → is_bad_mask v.standing.shape mask.bits ≡ false → Knows → Err f ≡ unless_refused (tt {0}) (first_refusal (remask_faults v id.number mask.bits)) → said ≡ remask_no f → v' ≡ v
+  pub faulty : (f : RemaskFault) (said : No) → is_bad_mask v.standing.shape mask.bits ≡ false → Knows
+      → Err f ≡ unless_refused (tt {0}) (first_refusal (remask_faults v id.number mask.bits)) → said ≡ remask_no f → v' ≡ v
       → Acts (remasked id.number mask.bits scans) answer (Err said) (station_of v) (station_of v')
   faulty f said good knows e is same =
-      subst (λ (x : No). Acts (remasked id.number mask.bits scans) answer (Err x) (station_of v) (station_of v')) (sym is) (by f (refusals (Some f) good knows (stated (first_refusal (remask_faults v id.number mask.bits)) f e)))
+      subst (λ (x : No). Acts (remasked id.number mask.bits scans) answer (Err x) (station_of v) (station_of v')) (sym is)
+      (by f (refusals (Some f) good knows (stated (first_refusal (remask_faults v id.number mask.bits)) f e)))
     where
       stated : (o : Option RemaskFault) (f : RemaskFault) → Err f ≡ unless_refused (tt {0}) o → o ≡ Some f
       stated None f e = absurd (cc)
@@ -114,7 +120,8 @@ module _ (id : MemberId) (mask : Mask) (scans : ℕ) (v v' : DeviceView Queue) w
       by fault.Mem r = ap station_of same
 
   -- it is done
-  pub done : (tail before : Queue) (n : ℕ) → is_bad_mask v.standing.shape mask.bits ≡ false → Knows → tail.scans ≡ [] → tail.lost ≡ 0 → tail.capacity ≡ scans → n ≡ length before.scans
+  pub done : (tail before : Queue) (n : ℕ) → is_bad_mask v.standing.shape mask.bits ≡ false → Knows → tail.scans ≡ [] → tail.lost ≡ 0 → tail.capacity ≡ scans
+      → n ≡ length before.scans
       → RemasksDevice lost_of id.number mask tail (Ok before) v v' → Acts (remasked id.number mask.bits scans) answer (Ok n) (station_of v) (station_of v')
   done tail before n good knows none unlost bounded is j =
       let passed : answer ≡ Ok (length (scans_in id (station_of v).members))
@@ -129,15 +136,19 @@ module _ (id : MemberId) (mask : Mask) (scans : ℕ) (v v' : DeviceView Queue) w
 
 -- ---- the bench
 
-module _ {X : Type 0} {V : X → Type 0} (drive : Plug X V → Driver) (context : List ℕ) (triggers : List TriggerDesc) (states : List State) (ds : List (AnyDevice X V)) (clock : ℤ) (k : ℕ) (d d' : AnyDevice X V)
+module _ {X : Type 0} {V : X → Type 0} (drive : Plug X V → Driver) (context : List ℕ) (triggers : List TriggerDesc) (states : List State)
+    (ds : List (AnyDevice X V)) (clock : ℤ) (k : ℕ) (d d' : AnyDevice X V)
     (sound : IsBench triggers states (stations_by (λ p. no_driver) ds)) (at : slice_get ds k ≡ Some d) (id : MemberId) (mask scans : ℕ) (r : Result ℕ No)
-    (acts : Acts (remasked id.number mask scans) (remask_answer (any_front d).shape (any_station drive d) id mask) r (any_station drive d) (any_station drive d')) where
+    (acts : Acts (remasked id.number mask scans) (remask_answer (any_front d).shape (any_station drive d) id mask) r (any_station drive d)
+    (any_station drive d')) where
   pub sound_remask : IsBench triggers states (stations_by (λ p. no_driver) (set ds k d'))
   sound_remask =
       sound_kept drive triggers states ds k d d' sound at
-      (acts_kept (remasked id.number mask scans) (any_station drive d) (any_station drive d') (remask_answer (any_front d).shape (any_station drive d) id mask) r (λ x e. remasked_kept id.number mask scans (any_station drive d)) acts)
+      (acts_kept (remasked id.number mask scans) (any_station drive d) (any_station drive d') (remask_answer (any_front d).shape (any_station drive d) id mask)
+      r (λ x e. remasked_kept id.number mask scans (any_station drive d)) acts)
 
-  pub told_remask : Answers (remask_of (fronts_by any_front context triggers ds) (machine_by (any_station drive) clock ds) k id mask scans) (machine_by (any_station drive) clock ds) r (Some (machine_by (any_station drive) clock (set ds k d')))
+  pub told_remask : Answers (remask_of (fronts_by any_front context triggers ds) (machine_by (any_station drive) clock ds) k id mask scans)
+      (machine_by (any_station drive) clock ds) r (Some (machine_by (any_station drive) clock (set ds k d')))
   unfolding remask_of queue_of
   told_remask =
       rw (shape_is any_front context triggers ds k d at)

@@ -7,7 +7,8 @@ use Rattle.std.proofs.lemmas.List.{append_assoc, length-append, length-drop, len
 use Rattle.std.proofs.lemmas.Simd.{put_chunk_is}
 
 -- of a text that was put after the first bytes, its first bytes
-pub shorter : (before after text name : List ℕ) (at end : ℕ) → at ≤ length before → end ≤ length after → at + length name ≤ end → take end after ≡ take at before ++ text → take (length name) text ≡ name
+pub shorter : (before after text name : List ℕ) (at end : ℕ) → at ≤ length before → end ≤ length after → at + length name ≤ end
+    → take end after ≡ take at before ++ text → take (length name) text ≡ name
     → take (at + length name) after ≡ take at before ++ name
 shorter before after text name at end fits there most put is =
     let front = take at before in
@@ -21,14 +22,17 @@ shorter before after text name at end fits there most put is =
     ∙ ap (λ xs. front ++ xs) is
 
 -- what was printed stands, and the line after it
-pub line_stands : (old more room after final line : List ℕ) (start n end : ℕ) → start ≡ length old → room ≡ take (start + n) old ++ more → take end after ≡ take start room ++ line → final ≡ take end after → final ≡ old ++ line
+pub line_stands : (old more room after final line : List ℕ) (start n end : ℕ) → start ≡ length old → room ≡ take (start + n) old ++ more
+    → take end after ≡ take start room ++ line → final ≡ take end after → final ≡ old ++ line
 line_stands old more room after final line start n end long is put cut =
     let all : take (start + n) old ≡ old = take_all (start + n) old (omega (arith, long)) in
-    let kept : take start room ≡ old = ap (λ xs. take start xs) (is ∙ ap (λ xs. xs ++ more) all) ∙ ap (λ k. take k (old ++ more)) long ∙ take-append_seam old more in
+    let kept : take start room ≡ old =
+    ap (λ xs. take start xs) (is ∙ ap (λ xs. xs ++ more) all) ∙ ap (λ k. take k (old ++ more)) long ∙ take-append_seam old more in
     cut ∙ put ∙ ap (λ xs. xs ++ line) kept
 
 -- the first bytes of a block that stands at the begin of a room, whatever comes after it
-block_first : (room block after tail : List ℕ) (n k : ℕ) → n ≤ length room → n ≤ length block → k ≤ n → take k ((put_chunk 0 room (chunk 0 n block) ++ after) ++ tail) ≡ take k block
+block_first : (room block after tail : List ℕ) (n k : ℕ) → n ≤ length room → n ≤ length block → k ≤ n
+    → take k ((put_chunk 0 room (chunk 0 n block) ++ after) ++ tail) ≡ take k block
 block_first room block after tail n k fits whole most =
     let lanes = take n block in
     let rest = drop (length lanes) room in
@@ -43,7 +47,8 @@ block_first room block after tail n k fits whole most =
 
 -- what stands before a place, and the first bytes of a block that was put there
 pub block_stands : (items room block tail : List ℕ) (at n k len : ℕ) → room ≡ items → len ≡ length items → at + n ≤ length items → n ≤ length block → k ≤ n
-    → take (at + k) (take len (put_mid at (length room - at) room (put_chunk 0 (mid_of at (length room - at) room) (chunk 0 n block)) ++ tail)) ≡ take at items ++ take k block
+    → take (at + k) (take len (put_mid at (length room - at) room (put_chunk 0 (mid_of at (length room - at) room) (chunk 0 n block)) ++ tail)) ≡ take at items
+    ++ take k block
 block_stands items room block tail at n k len same whole fits filled most =
     let front = take at room in
     let behind = mid_of at (length room - at) room in

@@ -48,7 +48,8 @@ large_said f (Write device target count) large = refl
 large_said f (WriteBuf device count) large = refl
 large_said f said large = absurd large
 
-pub command_said : (f : List ℕ → Bool) (x : Item) (command : CodeCommand) → IsSeen x (Command command) → may_say f (Said (Ok (command_view command))) ≡ may_say f x
+pub command_said : (f : List ℕ → Bool) (x : Item) (command : CodeCommand) → IsSeen x (Command command)
+    → may_say f (Said (Ok (command_view command))) ≡ may_say f x
 command_said f (Said (Ok said)) command told = ap (λ (y : SaidCommand). may_say f (Said (Ok y))) told.1
 command_said f (Said (Err why)) command told = absurd told
 command_said f (Written device target payload) command told = ap (λ (y : SaidCommand). may_say f (Said (Ok y))) told
@@ -85,7 +86,8 @@ payload_item : (o : Opens) (item : Item) (b : Bool) → may_part o item ≡ true
 payload_item o item true may = refl
 payload_item o item false may = sym may
 
-pub write_parts : (o : Opens) (device : List ℕ) (target : Option Target) (count : ℕ) → (not (nat_lt MAX_PAYLOAD count) || o.none) ≡ may_part o (item_by (Write device target count))
+pub write_parts : (o : Opens) (device : List ℕ) (target : Option Target) (count : ℕ)
+    → (not (nat_lt MAX_PAYLOAD count) || o.none) ≡ may_part o (item_by (Write device target count))
 write_parts o device target count = payload_item o (Written device target []) (nat_lt MAX_PAYLOAD count) refl
 
 pub stream_parts : (o : Opens) (device : List ℕ) (count : ℕ) → (not (nat_lt MAX_PAYLOAD count) || o.none) ≡ may_part o (item_by (WriteBuf device count))
@@ -104,7 +106,8 @@ plain_parts o (WriteBuf device count) plain = absurd plain
 plain_parts o said plain = refl
 
 large_parts : (o : Opens) (said : SaidCommand) → IsTooLarge said → may_part o (item_by said) ≡ may_part o (End (Some EFBIG))
-large_parts o (Write device target count) large = ap (λ (b : Bool). may_part o (cond b (End (Some EFBIG)) (Written device target []))) (beyond count MAX_PAYLOAD large)
+large_parts o (Write device target count) large =
+    ap (λ (b : Bool). may_part o (cond b (End (Some EFBIG)) (Written device target []))) (beyond count MAX_PAYLOAD large)
 large_parts o (WriteBuf device count) large = ap (λ (b : Bool). may_part o (cond b (End (Some EFBIG)) (Streamed device []))) (beyond count MAX_PAYLOAD large)
 large_parts o said large = absurd large
 
@@ -112,9 +115,11 @@ pub command_parts : (o : Opens) (x : Item) (command : CodeCommand) → IsSeen x 
 command_parts o (Said (Ok said)) command told = ap (λ (y : SaidCommand). may_part o (item_by y)) told.1 ∙ plain_parts o said told.0
 command_parts o (Said (Err why)) command told = absurd told
 command_parts o (Written device target payload) command told =
-    ap (λ (y : SaidCommand). may_part o (item_by y)) told ∙ ap (λ (b : Bool). may_part o (cond b (End (Some EFBIG)) (Written device target []))) (within (length payload) MAX_PAYLOAD)
+    ap (λ (y : SaidCommand). may_part o (item_by y)) told
+    ∙ ap (λ (b : Bool). may_part o (cond b (End (Some EFBIG)) (Written device target []))) (within (length payload) MAX_PAYLOAD)
 command_parts o (Streamed device payload) command told =
-    ap (λ (y : SaidCommand). may_part o (item_by y)) told ∙ ap (λ (b : Bool). may_part o (cond b (End (Some EFBIG)) (Streamed device []))) (within (length payload) MAX_PAYLOAD)
+    ap (λ (y : SaidCommand). may_part o (item_by y)) told
+    ∙ ap (λ (b : Bool). may_part o (cond b (End (Some EFBIG)) (Streamed device []))) (within (length payload) MAX_PAYLOAD)
 command_parts o (End None) command told = ap (λ (y : SaidCommand). may_part o (item_by y)) told
 command_parts o (End (Some EFBIG)) command told = large_parts o (command_view command) told
 command_parts o (End (Some E2BIG)) command told = absurd told
@@ -133,15 +138,18 @@ and_more false b c = refl
 abbrev meeting : Guard → Bool → Guard
 meeting x b = record x { meets = b }
 
-told_all : (front : Front) (items : List Item) (x y : Guard) → TellsAll guards front items x y → y ≡ meeting x (x.meets && items_meet (opens_at front x) x.mine items)
+told_all : (front : Front) (items : List Item) (x y : Guard) → TellsAll guards front items x y
+    → y ≡ meeting x (x.meets && items_meet (opens_at front x) x.mine items)
 told_all front [] x y told = told ∙ ap (λ (b : Bool). meeting x b) (sym (and_true x.meets))
 told_all front (item ∷ items) x y told =
     told_all front items told.0 y told.4 ∙ ap (λ (u : Guard). meeting u (u.meets && items_meet (opens_at front u) u.mine items)) told.3
     ∙ ap (λ (b : Bool). meeting x b) (and_more x.meets (item_meets (opens_at front x) x.mine item) (items_meet (opens_at front x) x.mine items))
 
 -- a guard that was told a feed tells whether it keeps to the rules
-pub beside_meets : (name bytes : List ℕ) (front : Front) (machine : Option Machine) (session : Option (SessionRecord Seat)) (watched : List ℕ) (others : List (Connection Seat)) (x y : Guard)
-    → x.meets ≡ true → x.mine ≡ bytes_eq name watched → x.watched.now ≡ watched → desk_by seen_of x.own ≡ desk_named seen_of watched others → connections_of x.others ≡ others
+pub beside_meets : (name bytes : List ℕ) (front : Front) (machine : Option Machine) (session : Option (SessionRecord Seat)) (watched : List ℕ)
+    (others : List (Connection Seat)) (x y : Guard)
+    → x.meets ≡ true → x.mine ≡ bytes_eq name watched → x.watched.now ≡ watched → desk_by seen_of x.own ≡ desk_named seen_of watched others
+    → connections_of x.others ≡ others
     → Watches seen_of guards name bytes front machine session x y
     → MeetsBeside seen_of watched name bytes front machine session others y.meets
 beside_meets name bytes front machine None watched others x y first mine named own beside told = ap (λ (g : Guard). g.meets) told ∙ first
@@ -151,5 +159,7 @@ beside_meets name bytes front machine (Some spoken) watched others x y first min
     ∙ ap (λ (b : Bool). b && items_meet (opens_at front x) x.mine items) first
     ∙ ap (λ (b : Bool). items_meet (opens_at front x) b items) mine
     ∙ ap (λ desk. items_meet (opens_by front desk (desks_besides seen_of x.watched.now (connections_of x.others))) (bytes_eq name watched) items) own
-    ∙ ap (λ (w : List ℕ). items_meet (opens_by front (desk_named seen_of watched others) (desks_besides seen_of w (connections_of x.others))) (bytes_eq name watched) items) named
-    ∙ ap (λ (cs : List (Connection Seat)). items_meet (opens_by front (desk_named seen_of watched others) (desks_besides seen_of watched cs)) (bytes_eq name watched) items) beside
+    ∙ ap (λ (w : List ℕ). items_meet (opens_by front (desk_named seen_of watched others) (desks_besides seen_of w (connections_of x.others)))
+    (bytes_eq name watched) items) named
+    ∙ ap (λ (cs : List (Connection Seat)). items_meet (opens_by front (desk_named seen_of watched others) (desks_besides seen_of watched cs))
+    (bytes_eq name watched) items) beside

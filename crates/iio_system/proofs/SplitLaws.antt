@@ -24,7 +24,8 @@ pub record StandsAt (name : List ℕ) (cs before : List (Connection Seat)) (c : 
   pub parts : cs ≡ before ++ c ∷ after
   pub place : Some (length before) ≡ position (is_named name) cs
 
-pub stands_at : (name : List ℕ) (cs before rest : List (Connection Seat)) (c : Connection Seat) (after : List (Connection Seat)) (i : ℕ) → cs ≡ before ++ rest → rest ≡ c ∷ after → length before ≡ i
+pub stands_at : (name : List ℕ) (cs before rest : List (Connection Seat)) (c : Connection Seat) (after : List (Connection Seat)) (i : ℕ) → cs ≡ before ++ rest
+    → rest ≡ c ∷ after → length before ≡ i
     → Some i ≡ position (is_named name) cs → StandsAt name cs before c after
 stands_at name cs before rest c after i two one many place = record {
   parts = two ∙ ap (λ (ds : List (Connection Seat)). before ++ ds) one;
@@ -35,11 +36,13 @@ there_or : (before : List (Connection Seat)) (c : Connection Seat) (after : List
 there_or [] c after = refl
 there_or (d ∷ before) c after = there_or before c after
 
-set_there : (before : List (Connection Seat)) (c c' : Connection Seat) (after : List (Connection Seat)) → set (before ++ c ∷ after) (length before) c' ≡ before ++ c' ∷ after
+set_there : (before : List (Connection Seat)) (c c' : Connection Seat) (after : List (Connection Seat))
+    → set (before ++ c ∷ after) (length before) c' ≡ before ++ c' ∷ after
 set_there [] c c' after = refl
 set_there (d ∷ before) c c' after = ap (λ (cs : List (Connection Seat)). d ∷ cs) (set_there before c c' after)
 
-module _ (name : List ℕ) (cs before : List (Connection Seat)) (c : Connection Seat) (after : List (Connection Seat)) (at : StandsAt name cs before c after) where
+module _ (name : List ℕ) (cs before : List (Connection Seat)) (c : Connection Seat) (after : List (Connection Seat))
+    (at : StandsAt name cs before c after) where
   pub there : c ≡ get_or cs (length before) c
   there = there_or before c after ∙ ap (λ (ds : List (Connection Seat)). get_or ds (length before) c) (sym at.parts)
 
@@ -47,24 +50,32 @@ module _ (name : List ℕ) (cs before : List (Connection Seat)) (c : Connection 
   put c' = ap (λ (ds : List (Connection Seat)). set ds (length before) c') at.parts ∙ set_there before c c' after
 
   -- the list of a vector of so many that was written there
-  pub written : (n : ℕ) (c' : Connection Seat) → length cs ≡ n → take n ((before ++ c' ∷ after) ++ drop (length (before ++ c' ∷ after)) cs) ≡ before ++ c' ∷ after
+  pub written : (n : ℕ) (c' : Connection Seat) → length cs ≡ n
+      → take n ((before ++ c' ∷ after) ++ drop (length (before ++ c' ∷ after)) cs) ≡ before ++ c' ∷ after
   written n c' many =
-      take_at (before ++ c' ∷ after) (drop (length (before ++ c' ∷ after)) cs) n (ap (λ (ds : List (Connection Seat)). length ds) (sym (put c')) ∙ length-set cs (length before) c' ∙ many)
+      take_at (before ++ c' ∷ after) (drop (length (before ++ c' ∷ after)) cs) n
+      (ap (λ (ds : List (Connection Seat)). length ds) (sym (put c')) ∙ length-set cs (length before) c' ∙ many)
 
   -- it has that name
   pub named_there : c.name ≡ name
-  named_there = name_same c.name name (ap (λ (e : Connection Seat). is_named name e) there ∙ (position-Some (is_named name) cs (length before) c (sym at.place)).1)
+  named_there =
+      name_same c.name name (ap (λ (e : Connection Seat). is_named name e) there ∙ (position-Some (is_named name) cs (length before) c (sym at.place)).1)
 
-  pub names_between : (c' : Connection Seat) (cs' : List (Connection Seat)) (bytes : List ℕ) → cs' ≡ before ++ c' ∷ after → c'.name ≡ c.name → map name_by cs' ≡ names_with (map name_by cs) (Feed name bytes)
-  names_between c' cs' bytes is same = ap (λ (ds : List (Connection Seat)). map name_by ds) (is ∙ sym (put c')) ∙ names_there cs (length before) c c' name bytes at.place there same
+  pub names_between : (c' : Connection Seat) (cs' : List (Connection Seat)) (bytes : List ℕ) → cs' ≡ before ++ c' ∷ after → c'.name ≡ c.name
+      → map name_by cs' ≡ names_with (map name_by cs) (Feed name bytes)
+  names_between c' cs' bytes is same =
+      ap (λ (ds : List (Connection Seat)). map name_by ds) (is ∙ sym (put c')) ∙ names_there cs (length before) c c' name bytes at.place there same
 
-  pub owned_between : (front front' : Front) (c' : Connection Seat) (cs' : List (Connection Seat)) → cs' ≡ before ++ c' ∷ after → front' ≡ front → AreOwning seen_of front cs → IsOwning seen_of front' c'.session
+  pub owned_between : (front front' : Front) (c' : Connection Seat) (cs' : List (Connection Seat)) → cs' ≡ before ++ c' ∷ after → front' ≡ front
+      → AreOwning seen_of front cs → IsOwning seen_of front' c'.session
       → AreOwning seen_of front' cs'
   owned_between front front' c' cs' is same owned own =
       subst (λ (ds : List (Connection Seat)). AreOwning seen_of front' ds) (put c' ∙ sym is)
-      (All-set (λ (e : Connection Seat). IsOwning seen_of front' e.session) cs (length before) c' own (subst (λ (f : Front). AreOwning seen_of f cs) (sym same) owned))
+      (All-set (λ (e : Connection Seat). IsOwning seen_of front' e.session) cs (length before) c' own
+      (subst (λ (f : Front). AreOwning seen_of f cs) (sym same) owned))
 
-  pub feeds_between : {X : Type 0} {V : X → Type 0} {A : Type 0} (driver : Plug X V → Driver) (b b' : Bench X V) (c' : Connection Seat) (cs' : List (Connection Seat)) (bytes text text' : List ℕ) (r : Result A Mem)
+  pub feeds_between : {X : Type 0} {V : X → Type 0} {A : Type 0} (driver : Plug X V → Driver) (b b' : Bench X V) (c' : Connection Seat)
+      (cs' : List (Connection Seat)) (bytes text text' : List ℕ) (r : Result A Mem)
       → cs' ≡ before ++ c' ∷ after → c'.name ≡ c.name → kept_of b' ≡ kept_of b → IsOwning seen_of (front_of b') c'.session
       → OnOk r (Feeds seen_of c.name bytes (front_of b) (Some (machine_of driver b)) (Some (machine_of driver b')) text text' c.session c'.session)
       → OnOk r (MakesFeed driver name bytes b b' cs cs' text text')

@@ -51,7 +51,8 @@ full_has shape some = by (length shape.channels) refl
         let has_it : has (full_mask shape) n ≡ true = ap (λ (b : ℕ). b == 1) (bit_at_ones (count_of shape) n (omega (arith, e, many, types))) in
         ap (λ (b : Bool). b || has_below (full_mask shape) n) has_it
 
-pub every_size : (hs : List DeviceHead) → All (λ (d : DeviceHead). 0 < length d.shape.channels) hs → All (λ (d : DeviceHead). All (λ (channel : Channel). 1 ≤ size_of channel.ty) d.shape.channels) hs → Every HasDeviceSizes hs
+pub every_size : (hs : List DeviceHead) → All (λ (d : DeviceHead). 0 < length d.shape.channels) hs
+    → All (λ (d : DeviceHead). All (λ (channel : Channel). 1 ≤ size_of channel.ty) d.shape.channels) hs → Every HasDeviceSizes hs
 every_size [] some all = tt
 every_size (d ∷ ds) some all = (
   record { sizes = sizes_from d.shape (all 0 d (omega arith)); full = full_has d.shape (some 0 d (omega arith)) },
@@ -59,17 +60,20 @@ every_size (d ∷ ds) some all = (
 )
 
 -- the devices of a description that is well formed have channels
-some_in : {A : Type 0} (P : A → Type 0) (head : A → DeviceHead) → ((x : A) → P x → 0 < length (head x).shape.channels) → (xs : List A) → All P xs → (rest : List DeviceHead)
+some_in : {A : Type 0} (P : A → Type 0) (head : A → DeviceHead) → ((x : A) → P x → 0 < length (head x).shape.channels) → (xs : List A) → All P xs
+    → (rest : List DeviceHead)
     → All (λ (d : DeviceHead). 0 < length d.shape.channels) rest → All (λ (d : DeviceHead). 0 < length d.shape.channels) (map head xs ++ rest)
 some_in P head each [] all rest more i d within = more i d within
 some_in P head each (x ∷ xs) all rest more zero d within = each x (all 0 x (omega arith))
-some_in P head each (x ∷ xs) all rest more (suc i) d within = some_in P head each xs (λ j e inside. all (suc j) e (omega (arith, inside))) rest more i d (omega (arith, within))
+some_in P head each (x ∷ xs) all rest more (suc i) d within =
+    some_in P head each xs (λ j e inside. all (suc j) e (omega (arith, inside))) rest more i d (omega (arith, within))
 
 pub some_channels : (drivers : ℕ) (desc : Description) → IsWellFormed drivers desc → All (λ (d : DeviceHead). 0 < length d.shape.channels) (heads_of desc)
 some_channels drivers desc formed =
     some_in (IsWellFormedDevice (length desc.triggers) drivers) input_head (λ x is. is.some) desc.devices formed.sound _
     (some_in (IsWellFormedOutput (length desc.triggers)) output_head (λ x is. is.some) desc.outputs formed.outputs _
-    (subst (λ (xs : List AverageRecord). All (λ (d : DeviceHead). 0 < length d.shape.channels) (map (average_head desc.devices) xs)) (sym formed.unaveraged) (λ i d within. absurd (omega (arith, within)))))
+    (subst (λ (xs : List AverageRecord). All (λ (d : DeviceHead). 0 < length d.shape.channels) (map (average_head desc.devices) xs)) (sym formed.unaveraged)
+    (λ i d within. absurd (omega (arith, within)))))
 
 -- ---- devices
 
@@ -105,20 +109,30 @@ are_outputs : (s : Setup) (xs : List OutputRecord) → AreFirst s (map first_out
 are_outputs s [] = tt
 are_outputs s (x ∷ xs) = (output_first s x, are_outputs s xs)
 
-are_first : (s : Setup) (ds : List DeviceRecord) (xs : List OutputRecord) → AreFirst s (map (first_device s) ds ++ map first_output xs) (map (first_station s.drivers) ds ++ map first_out_station xs)
+are_first : (s : Setup) (ds : List DeviceRecord) (xs : List OutputRecord)
+    → AreFirst s (map (first_device s) ds ++ map first_output xs) (map (first_station s.drivers) ds ++ map first_out_station xs)
 are_first s [] xs = are_outputs s xs
 are_first s (d ∷ ds) xs = (input_first s d, are_first s ds xs)
 
-station_first : (s : Setup) (k : ℕ) (d : Device) (st : MachineStation) → slice_get (first_devices s) k ≡ Some d → IsFirst s d st → bench_by [] (station_told s [] k d) ≡ st
+station_first : (s : Setup) (k : ℕ) (d : Device) (st : MachineStation) → slice_get (first_devices s) k ≡ Some d → IsFirst s d st
+    → bench_by [] (station_told s [] k d) ≡ st
 station_first s k d st at is =
     let seats : map (seat_told s [] k d.shape) d.members ≡ [] = ap (λ (ms : List ToldMember). map (seat_told s [] k d.shape) ms) is.members in
-    ap (λ (xs : List Seat). (let x : MachineStation = record { next = 0; captures = 0; totals = no_totals; members = map numbered xs; site = site_by [] d.site; last = last_of s k []; window = d.window } in x)) seats
-    ∙ ap (λ (site : Site ℕ). (let x : MachineStation = record { next = 0; captures = 0; totals = no_totals; members = []; site = site; last = last_of s k []; window = d.window } in x)) is.site
-    ∙ ap (λ (last : List ℤ). (let x : MachineStation = record { next = 0; captures = 0; totals = no_totals; members = []; site = st.site; last = last; window = d.window } in x)) (last_at s k d at ∙ is.last)
-    ∙ ap (λ (w : Window). (let x : MachineStation = record { next = 0; captures = 0; totals = no_totals; members = []; site = st.site; last = st.last; window = w } in x)) is.window
+    ap (λ (xs : List Seat). (let x : MachineStation =
+    record { next = 0; captures = 0; totals = no_totals; members = map numbered xs; site = site_by [] d.site; last = last_of s k []; window = d.window } in x))
+    seats
+    ∙ ap (λ (site : Site ℕ).
+    (let x : MachineStation = record { next = 0; captures = 0; totals = no_totals; members = []; site = site; last = last_of s k []; window = d.window } in x))
+    is.site
+    ∙ ap (λ (last : List ℤ).
+    (let x : MachineStation = record { next = 0; captures = 0; totals = no_totals; members = []; site = st.site; last = last; window = d.window } in x))
+    (last_at s k d at ∙ is.last)
+    ∙ ap (λ (w : Window). (let x : MachineStation =
+    record { next = 0; captures = 0; totals = no_totals; members = []; site = st.site; last = st.last; window = w } in x)) is.window
     ∙ sym is.rest
 
-stations_first : (s : Setup) (n : ℕ) (ds : List Device) (sts : List MachineStation) → ((k : ℕ) → slice_get (first_devices s) (n + k) ≡ slice_get ds k) → AreFirst s ds sts → map (bench_by []) (map_from (station_told s []) n ds) ≡ sts
+stations_first : (s : Setup) (n : ℕ) (ds : List Device) (sts : List MachineStation) → ((k : ℕ) → slice_get (first_devices s) (n + k) ≡ slice_get ds k)
+    → AreFirst s ds sts → map (bench_by []) (map_from (station_told s []) n ds) ≡ sts
 stations_first s n [] [] at are = refl
 stations_first s n [] (st ∷ sts) at are = absurd are
 stations_first s n (d ∷ ds) [] at are = absurd are
@@ -135,15 +149,19 @@ nothing_more {A} (x ∷ xs) = ap (λ (ys : List A). x ∷ ys) (nothing_more xs)
 devices_are : (s : Setup) → s.desc.averages ≡ [] → map (first_device s) s.desc.devices ++ map first_output s.desc.outputs ≡ first_devices s
 devices_are s none =
     ap (λ (ds : List Device). map (first_device s) s.desc.devices ++ ds) (nothing_more (map first_output s.desc.outputs))
-    ∙ ap (λ (xs : List AverageRecord). map (first_device s) s.desc.devices ++ (map first_output s.desc.outputs ++ map (first_average s.desc.devices) xs)) (sym none)
+    ∙ ap (λ (xs : List AverageRecord). map (first_device s) s.desc.devices ++ (map first_output s.desc.outputs ++ map (first_average s.desc.devices) xs))
+    (sym none)
 
 machine_first : (s : Setup) → s.desc.averages ≡ [] → first_machine s.drivers s.desc ≡ machine_told (told s [])
 machine_first s none =
     sym (ap (λ (sts : List MachineStation). (let m : Machine = record { clock = pos 0; stations = sts } in m))
-    (stations_first s 0 (first_devices s) (map (first_station s.drivers) s.desc.devices ++ map first_out_station s.desc.outputs) (λ k. ap (λ (i : ℕ). slice_get (first_devices s) i) (let e : 0 + k ≡ k = omega arith in e))
-    (subst (λ (ds : List Device). AreFirst s ds (map (first_station s.drivers) s.desc.devices ++ map first_out_station s.desc.outputs)) (devices_are s none) (are_first s s.desc.devices s.desc.outputs))))
+    (stations_first s 0 (first_devices s) (map (first_station s.drivers) s.desc.devices ++ map first_out_station s.desc.outputs)
+    (λ k. ap (λ (i : ℕ). slice_get (first_devices s) i) (let e : 0 + k ≡ k = omega arith in e))
+    (subst (λ (ds : List Device). AreFirst s ds (map (first_station s.drivers) s.desc.devices ++ map first_out_station s.desc.outputs)) (devices_are s none)
+    (are_first s s.desc.devices s.desc.outputs))))
 
-triggers_first : (ts : List TriggerDesc) → map (λ (t : TriggerDesc). first_trigger) ts ≡ map trigger_by (map (λ (t : TriggerDesc). (let x : Trigger = record { entries = []; missed = 0 } in x)) ts)
+triggers_first : (ts : List TriggerDesc)
+    → map (λ (t : TriggerDesc). first_trigger) ts ≡ map trigger_by (map (λ (t : TriggerDesc). (let x : Trigger = record { entries = []; missed = 0 } in x)) ts)
 triggers_first [] = refl
 triggers_first (t ∷ ts) = ap (λ (xs : List TriggerRecord). first_trigger ∷ xs) (triggers_first ts)
 
@@ -151,7 +169,8 @@ pub room_first : (s : Setup) (used : ℕ) → used ≡ 0 → Every (CanJoinMore 
 room_first s used none = subst (λ (n : ℕ). Every (CanJoinMore (2 ^ 64 - 1 - 32 * n)) (told s []).stations) (sym none) (room_lasts s).0
 
 module _ {X : Type 0} {V : X → Type 0} (driver : Plug X V → Driver) where
-  pub holds_first : (s : Setup) (b : Bench X V) → front_of b ≡ first_front s.desc → machine_of driver b ≡ first_machine s.drivers s.desc → triggers_of b ≡ first_triggers s.desc → s.desc.averages ≡ [] → Every HasDeviceSizes (heads_of s.desc)
+  pub holds_first : (s : Setup) (b : Bench X V) → front_of b ≡ first_front s.desc → machine_of driver b ≡ first_machine s.drivers s.desc
+      → triggers_of b ≡ first_triggers s.desc → s.desc.averages ≡ [] → Every HasDeviceSizes (heads_of s.desc)
       → Holds driver s (told s []) b []
   holds_first s b front machine triggers none sizes = record {
     stands = record {
@@ -169,7 +188,8 @@ none_within f n (d ∷ ds) none zero c within = let e = none 0 d (omega arith) i
 none_within f n (d ∷ ds) none (suc i) c within = none_within f n ds (λ k e h. none (suc k) e (omega (arith, h))) i c (omega (arith, within))
 
 -- what is seen of an element at its place
-pub front_at : {A B : Type 0} (f : A → B) (xs : List A) (i : ℕ) (x : A) (d : B) → x ≡ slice_index_or xs i x → i < length xs → slice_index_or (map f xs) i d ≡ f x
+pub front_at : {A B : Type 0} (f : A → B) (xs : List A) (i : ℕ) (x : A) (d : B) → x ≡ slice_index_or xs i x → i < length xs
+    → slice_index_or (map f xs) i d ≡ f x
 front_at f [] i x d is within = absurd (omega arith)
 front_at f (y ∷ ys) zero x d is within = ap f (sym is)
 front_at f (y ∷ ys) (suc i) x d is within = front_at f ys i x d is (omega (arith, within))

@@ -37,14 +37,17 @@ entries_few k trigger t [] = omega arith
 entries_few k trigger t (o ∷ os) = by (is_attached trigger o) (entries_few (suc k) trigger t os)
   where
     by : (b : Bool) → length (entries_from (suc k) trigger t os) ≤ length os
-        → length (cond b (record { device = k; attachment = o.site.attachment; moment = t } ∷ entries_from (suc k) trigger t os) (entries_from (suc k) trigger t os)) ≤ suc (length os)
+        → length (cond b (record { device = k; attachment = o.site.attachment; moment = t } ∷ entries_from (suc k) trigger t os)
+        (entries_from (suc k) trigger t os)) ≤ suc (length os)
     by true rest = omega (arith, rest)
     by false rest = omega (arith, rest)
 
-room_steps : (s : Setup) (es : List Event) (m : Told) (a b : ℕ) → length es + b ≤ a → Every (CanJoinMore a) m.stations → Every (CanJoinMore b) (steps s m es).stations
+room_steps : (s : Setup) (es : List Event) (m : Told) (a b : ℕ) → length es + b ≤ a → Every (CanJoinMore a) m.stations
+    → Every (CanJoinMore b) (steps s m es).stations
 room_steps s [] m a b less room = room_less b a m.stations (omega (arith, less)) room
 room_steps s (e ∷ es) m a b less room =
-    room_steps s es (step s m e) (length es + b) b (omega arith) (room_after s m e (length es + b) (room_less (suc (length es + b)) a m.stations (omega (arith, less)) room))
+    room_steps s es (step s m e) (length es + b) b (omega arith)
+    (room_after s m e (length es + b) (room_less (suc (length es + b)) a m.stations (omega (arith, less)) room))
 
 heard_few : (m : Told) (name bytes : List ℕ) → length (map (λ (item : Item). Heard name item) (items_from (begun_by name m.lines) bytes)) ≤ length bytes
 heard_few m name bytes =
@@ -64,7 +67,8 @@ events_few m (code.Fire trigger t) devices = by (is_empty (entries_at m.triggers
     outlines : length (outlines_of (registry_of m)) ≡ length m.stations
     outlines = length-map (registry_of m).devices outline_of ∙ length-map m.stations device_of
 
-    by : (b : Bool) → length (Polled trigger t ∷ map (λ (e : Entry). Handled trigger e.device) (cond b (entries_from 0 trigger t (outlines_of (registry_of m))) [])) ≤ 32 * 1
+    by : (b : Bool) → length
+        (Polled trigger t ∷ map (λ (e : Entry). Handled trigger e.device) (cond b (entries_from 0 trigger t (outlines_of (registry_of m))) [])) ≤ 32 * 1
     by true =
         let same = length-map (entries_from 0 trigger t (outlines_of (registry_of m))) (λ (e : Entry). Handled trigger e.device) in
         let few = entries_few 0 trigger t (outlines_of (registry_of m)) in
@@ -84,7 +88,8 @@ module _ {X : Type 0} {V : X → Type 0} (driver : Plug X V → Driver) where
       let few = b.sound.devices in
       omega (arith, there, counted, told, same, few)
 
-  pub stands_step : (s : Setup) (h : List Event) (x x' : System X V) (t : CodeStep) (before after : List ℕ) → x.used + cost_of t < 2 ^ 56 → x'.used ≡ x.used + cost_of t
+  pub stands_step : (s : Setup) (h : List Event) (x x' : System X V) (t : CodeStep) (before after : List ℕ) → x.used + cost_of t < 2 ^ 56
+      → x'.used ≡ x.used + cost_of t
       → MakesStep driver t x.bench x'.bench x.connections.items x'.connections.items before after → StandsFor driver s h x
       → (after ≡ before ++ lines_of_step s h (step_view t)) × StandsFor driver s (with_step s h (step_view t)) x'
   stands_step s h x x' t before after few used makes stands =
@@ -100,9 +105,11 @@ module _ {X : Type 0} {V : X → Type 0} (driver : Plug X V → Driver) where
         },
       )
 
-  pub steps_ok : {A : Type 0} (x x' : System X V) (t : CodeStep) (before after : List ℕ) (r : Result A Mem) → x.used + cost_of t < 2 ^ 56 → x'.used ≡ x.used + cost_of t
+  pub steps_ok : {A : Type 0} (x x' : System X V) (t : CodeStep) (before after : List ℕ) (r : Result A Mem) → x.used + cost_of t < 2 ^ 56
+      → x'.used ≡ x.used + cost_of t
       → OnOk r (MakesStep driver t x.bench x'.bench x.connections.items x'.connections.items before after)
-      → OnOk r ((s : Setup) (h : List Event) → StandsFor driver s h x → (after ≡ before ++ lines_of_step s h (step_view t)) × StandsFor driver s (with_step s h (step_view t)) x')
+      → OnOk r ((s : Setup) (h : List Event) → StandsFor driver s h x → (after ≡ before ++ lines_of_step s h (step_view t))
+      × StandsFor driver s (with_step s h (step_view t)) x')
   steps_ok x x' t before after (Err e) few used makes = tt
   steps_ok x x' t before after (Ok u) few used makes = λ s h stands. stands_step s h x x' t before after few used makes stands
 
@@ -111,7 +118,8 @@ cost_some : (t : CodeStep) → 1 ≤ cost_of t
 cost_some (code.Feed name bytes) = omega arith
 cost_some t = omega arith
 
-pub counted_more : (t : CodeStep) (used cost : ℕ) (old new : List ℕ) → cost ≡ cost_of t → RiseBy 32 old new → All (λ (n : ℕ). n ≤ 32 * used) old → All (λ (n : ℕ). n ≤ 32 * (used + cost)) new
+pub counted_more : (t : CodeStep) (used cost : ℕ) (old new : List ℕ) → cost ≡ cost_of t → RiseBy 32 old new → All (λ (n : ℕ). n ≤ 32 * used) old
+    → All (λ (n : ℕ). n ≤ 32 * (used + cost)) new
 counted_more t used cost old new is rise all i d within =
     let less = rise (32 * used) all i d within in
     let some = cost_some t in

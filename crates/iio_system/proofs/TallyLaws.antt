@@ -44,12 +44,14 @@ module _ {X : Type 0} {V : X → Type 0} where
   more f ds i d within at = ap (λ x. sum_by f (take i ds) + f x) at ∙ sym (sum_by_more f ds i d within)
 
   pub device_more : (ds : List (AnyDevice X V)) (i : ℕ) (d : AnyDevice X V) (t t' : Tally) → i < length ds → d ≡ get_or ds i d → t ≡ devices_tally (take i ds)
-      → t'.captures ≡ shown (t.captures + captures_by d) → t'.scans ≡ shown (t.scans + shown (scans_by d)) → t'.overruns ≡ shown (t.overruns + shown (overruns_by d))
+      → t'.captures ≡ shown (t.captures + captures_by d) → t'.scans ≡ shown (t.scans + shown (scans_by d))
+      → t'.overruns ≡ shown (t.overruns + shown (overruns_by d))
       → t'.bytes ≡ (t.bytes + bytes_by d % 2 ^ 64) % 2 ^ 64 → t' ≡ devices_tally (take (i + 1) ds)
   device_more ds i d t t' within at so_far captures scans overruns bytes =
       ap (λ (n : ℕ). (let x : Tally = record t' { captures = n } in x)) captures_are
       ∙ ap (λ (n : ℕ). (let x : Tally = record t' { captures = shown (sum_by captures_by (take (i + 1) ds)); scans = n } in x)) scans_are
-      ∙ ap (λ (n : ℕ). (let x : Tally = record t' { captures = shown (sum_by captures_by (take (i + 1) ds)); scans = shown (sum_by scans_by (take (i + 1) ds)); overruns = n } in x)) overruns_are
+      ∙ ap (λ (n : ℕ). (let x : Tally =
+      record t' { captures = shown (sum_by captures_by (take (i + 1) ds)); scans = shown (sum_by scans_by (take (i + 1) ds)); overruns = n } in x)) overruns_are
       ∙ ap (λ (n : ℕ). (let x : Tally = record (devices_tally (take (i + 1) ds)) { bytes = n } in x)) bytes_are
     where
       captures_are : t'.captures ≡ shown (sum_by captures_by (take (i + 1) ds))
@@ -64,7 +66,8 @@ module _ {X : Type 0} {V : X → Type 0} where
 
       overruns_are : t'.overruns ≡ shown (sum_by overruns_by (take (i + 1) ds))
       overruns_are =
-          overruns ∙ ap (λ (x : Tally). shown (x.overruns + shown (overruns_by d))) so_far ∙ most_both (2 ^ 64 - 1) (sum_by overruns_by (take i ds)) (overruns_by d)
+          overruns ∙ ap (λ (x : Tally). shown (x.overruns + shown (overruns_by d))) so_far
+          ∙ most_both (2 ^ 64 - 1) (sum_by overruns_by (take i ds)) (overruns_by d)
           ∙ ap shown (more overruns_by ds i d within at)
 
       bytes_are : t'.bytes ≡ sum_by bytes_by (take (i + 1) ds) % 2 ^ 64
@@ -80,7 +83,8 @@ module _ {X : Type 0} {V : X → Type 0} where
   -- devices and stations that are told alike, of one kind each, count alike
   sum_told : (driver : Plug X V → Driver) (names : List (List ℕ)) (f : AnyDevice X V → ℕ) (g : ToldStation → ℕ)
       → ((d : AnyDevice X V) (st : ToldStation) → any_station driver d ≡ bench_by names st → kind_by d ≡ st.kind → f d ≡ g st)
-      → (ds : List (AnyDevice X V)) (sts : List ToldStation) → map (any_station driver) ds ≡ map (bench_by names) sts → map kind_of_head (map any_front ds) ≡ map kind_of_station sts → sum_by f ds ≡ sum_by g sts
+      → (ds : List (AnyDevice X V)) (sts : List ToldStation) → map (any_station driver) ds ≡ map (bench_by names) sts
+      → map kind_of_head (map any_front ds) ≡ map kind_of_station sts → sum_by f ds ≡ sum_by g sts
   sum_told driver names f g alike [] [] same kinds = refl
   sum_told driver names f g alike [] (st ∷ sts) same kinds = absurd (cc)
   sum_told driver names f g alike (d ∷ ds) [] same kinds = absurd (cc)
@@ -89,36 +93,46 @@ module _ {X : Type 0} {V : X → Type 0} where
       let rest : map (any_station driver) ds ≡ map (bench_by names) sts = cc in
       let kind : kind_by d ≡ st.kind = cc in
       let others : map kind_of_head (map any_front ds) ≡ map kind_of_station sts = cc in
-      sum_by-cons f d ds ∙ ap (λ (n : ℕ). n + sum_by f ds) (alike d st here kind) ∙ ap (λ (n : ℕ). g st + n) (sum_told driver names f g alike ds sts rest others) ∙ sym (sum_by-cons g st sts)
+      sum_by-cons f d ds ∙ ap (λ (n : ℕ). n + sum_by f ds) (alike d st here kind)
+      ∙ ap (λ (n : ℕ). g st + n) (sum_told driver names f g alike ds sts rest others) ∙ sym (sum_by-cons g st sts)
 
-  captures_told : (driver : Plug X V → Driver) (names : List (List ℕ)) (d : AnyDevice X V) (st : ToldStation) → any_station driver d ≡ bench_by names st → kind_by d ≡ st.kind → captures_by d ≡ captures_at st
+  captures_told : (driver : Plug X V → Driver) (names : List (List ℕ)) (d : AnyDevice X V) (st : ToldStation) → any_station driver d ≡ bench_by names st
+      → kind_by d ≡ st.kind → captures_by d ≡ captures_at st
   captures_told driver names (any.Input d) st same kind = ap (λ (x : Station). x.captures) same ∙ ap (λ (k : Kind). cond (is_input k) st.captures 0) kind
   captures_told driver names (any.Output x) st same kind = ap (λ (k : Kind). cond (is_input k) st.captures 0) kind
 
-  scans_told : (driver : Plug X V → Driver) (names : List (List ℕ)) (d : AnyDevice X V) (st : ToldStation) → any_station driver d ≡ bench_by names st → kind_by d ≡ st.kind → scans_by d ≡ st.totals.scans
+  scans_told : (driver : Plug X V → Driver) (names : List (List ℕ)) (d : AnyDevice X V) (st : ToldStation) → any_station driver d ≡ bench_by names st
+      → kind_by d ≡ st.kind → scans_by d ≡ st.totals.scans
   scans_told driver names (any.Input d) st same kind = ap (λ (x : Station). x.totals.scans) same
   scans_told driver names (any.Output x) st same kind = ap (λ (x : Station). x.totals.scans) same
 
-  bytes_told : (driver : Plug X V → Driver) (names : List (List ℕ)) (d : AnyDevice X V) (st : ToldStation) → any_station driver d ≡ bench_by names st → kind_by d ≡ st.kind → bytes_by d ≡ st.totals.bytes
+  bytes_told : (driver : Plug X V → Driver) (names : List (List ℕ)) (d : AnyDevice X V) (st : ToldStation) → any_station driver d ≡ bench_by names st
+      → kind_by d ≡ st.kind → bytes_by d ≡ st.totals.bytes
   bytes_told driver names (any.Input d) st same kind = ap (λ (x : Station). x.totals.bytes) same
   bytes_told driver names (any.Output x) st same kind = ap (λ (x : Station). x.totals.bytes) same
 
-  overruns_told : (driver : Plug X V → Driver) (names : List (List ℕ)) (d : AnyDevice X V) (st : ToldStation) → any_station driver d ≡ bench_by names st → kind_by d ≡ st.kind → overruns_by d ≡ overruns_at st
+  overruns_told : (driver : Plug X V → Driver) (names : List (List ℕ)) (d : AnyDevice X V) (st : ToldStation) → any_station driver d ≡ bench_by names st
+      → kind_by d ≡ st.kind → overruns_by d ≡ overruns_at st
   overruns_told driver names (any.Input d) st same kind =
       ap (λ (n : ℕ). d.core.totals.lost + n) (sym (sum_map (λ (m : Member). m.lost) member_of d.core.roster.members.items))
       ∙ ap overruns_of same
       ∙ ap (λ (n : ℕ). st.totals.lost + n) (sum_map (λ (m : Member). m.lost) numbered st.seats)
       ∙ ap (λ (k : Kind). cond (is_output k) 0 (st.totals.lost + sum_by (λ (x : Seat). x.queue.lost) st.seats)) kind
-  overruns_told driver names (any.Output x) st same kind = ap (λ (k : Kind). cond (is_output k) 0 (st.totals.lost + sum_by (λ (x : Seat). x.queue.lost) st.seats)) kind
+  overruns_told driver names (any.Output x) st same kind =
+      ap (λ (k : Kind). cond (is_output k) 0 (st.totals.lost + sum_by (λ (x : Seat). x.queue.lost) st.seats)) kind
 
-  seen_tally : (driver : Plug X V → Driver) (names : List (List ℕ)) (ds : List (AnyDevice X V)) (sts : List ToldStation) → map (any_station driver) ds ≡ map (bench_by names) sts → map kind_of_head (map any_front ds) ≡ map kind_of_station sts
+  seen_tally : (driver : Plug X V → Driver) (names : List (List ℕ)) (ds : List (AnyDevice X V)) (sts : List ToldStation)
+      → map (any_station driver) ds ≡ map (bench_by names) sts → map kind_of_head (map any_front ds) ≡ map kind_of_station sts
       → devices_tally ds ≡ tally_of (summary_in sts)
   seen_tally driver names ds sts same kinds =
-      ap (λ (n : ℕ). (let t : Tally = record (devices_tally ds) { captures = shown n } in t)) (sum_told driver names captures_by captures_at (captures_told driver names) ds sts same kinds)
+      ap (λ (n : ℕ). (let t : Tally = record (devices_tally ds) { captures = shown n } in t))
+      (sum_told driver names captures_by captures_at (captures_told driver names) ds sts same kinds)
       ∙ ap (λ (n : ℕ). (let t : Tally = record (devices_tally ds) { captures = shown (sum_by captures_at sts); scans = shown n } in t))
       (sum_told driver names scans_by (λ (st : ToldStation). st.totals.scans) (scans_told driver names) ds sts same kinds)
-      ∙ ap (λ (n : ℕ). (let t : Tally = record (tally_of (summary_in sts)) { overruns = shown n; bytes = sum_by bytes_by ds % 2 ^ 64 } in t)) (sum_told driver names overruns_by overruns_at (overruns_told driver names) ds sts same kinds)
-      ∙ ap (λ (n : ℕ). (let t : Tally = record (tally_of (summary_in sts)) { bytes = n % 2 ^ 64 } in t)) (sum_told driver names bytes_by (λ (st : ToldStation). st.totals.bytes) (bytes_told driver names) ds sts same kinds)
+      ∙ ap (λ (n : ℕ). (let t : Tally = record (tally_of (summary_in sts)) { overruns = shown n; bytes = sum_by bytes_by ds % 2 ^ 64 } in t))
+      (sum_told driver names overruns_by overruns_at (overruns_told driver names) ds sts same kinds)
+      ∙ ap (λ (n : ℕ). (let t : Tally = record (tally_of (summary_in sts)) { bytes = n % 2 ^ 64 } in t))
+      (sum_told driver names bytes_by (λ (st : ToldStation). st.totals.bytes) (bytes_told driver names) ds sts same kinds)
 
 pub tally_told : {X : Type 0} {V : X → Type 0} (driver : Plug X V → Driver) (s : Setup) (h : List Event) (x : System X V) → StandsFor driver s h x
     → devices_tally x.bench.devices.items ≡ tally_of (summary_of s h)

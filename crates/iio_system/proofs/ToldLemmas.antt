@@ -69,7 +69,8 @@ module _ {D : Type 0} (f : D → Station) (clock : ℤ) (ds : List D) (k : ℕ) 
   some_same : f d' ≡ f d → Some (machine_by f clock (set ds k d')) ≡ Some (machine_by f clock ds)
   some_same e = ap (λ (m : Machine). Some m) (told_same e)
 
-  some_changed : (change : Station → Station) → f d' ≡ change (f d) → Some (machine_by f clock (set ds k d')) ≡ Some (with_station change k (machine_by f clock ds))
+  some_changed : (change : Station → Station) → f d' ≡ change (f d)
+      → Some (machine_by f clock (set ds k d')) ≡ Some (with_station change k (machine_by f clock ds))
   some_changed change e = ap (λ (m : Machine). Some m) (told_changed change e)
 
   module _ {A : Type 0} (change : Station → Station) where
@@ -84,12 +85,14 @@ module _ {D : Type 0} (f : D → Station) (clock : ℤ) (ds : List D) (k : ℕ) 
 
     -- a call that can be refused
     pub told_acts : (answer : Station → Result A Errno) (r : Result A No) → Acts change (answer (f d)) r (f d) (f d')
-        → Answers (unless change k (machine_by f clock ds) (answer (station_at (machine_by f clock ds) k))) (machine_by f clock ds) r (Some (machine_by f clock (set ds k d')))
+        → Answers (unless change k (machine_by f clock ds) (answer (station_at (machine_by f clock ds) k))) (machine_by f clock ds) r
+        (Some (machine_by f clock (set ds k d')))
     told_acts answer r t =
         subst (λ (x : Result A Errno). Answers (unless change k (machine_by f clock ds) x) (machine_by f clock ds) r (Some (machine_by f clock (set ds k d'))))
         (ap answer (sym here)) (by_answer (answer (f d)) r t)
 
-  pub told_write : (channel : Option ℕ) (a : Attr) (v : Fixed) (r : Result ⊤ No) → Acts (with_site (site_written channel a v)) (ensure (f d).site.plugged ENODEV) r (f d) (f d')
+  pub told_write : (channel : Option ℕ) (a : Attr) (v : Fixed) (r : Result ⊤ No)
+      → Acts (with_site (site_written channel a v)) (ensure (f d).site.plugged ENODEV) r (f d) (f d')
       → Answers (write_attr_of (machine_by f clock ds) k channel a v) (machine_by f clock ds) r (Some (machine_by f clock (set ds k d')))
   unfolding write_attr_of
   told_write channel a v r t = told_acts (with_site (site_written channel a v)) (λ st. ensure st.site.plugged ENODEV) r t
@@ -104,27 +107,33 @@ module _ {D : Type 0} (f : D → Station) (clock : ℤ) (ds : List D) (k : ℕ) 
   unfolding ev_open_of
   told_ev_open who r t = told_acts (with_site (with_monitor (after_open who))) ev_open_answer r t
 
-  pub told_ev_read : (who : ℕ) (r : Result (Option EventData) No) → Acts (with_site (with_monitor (after_read (λ a b. a == b) who))) (ev_read_answer who (f d)) r (f d) (f d')
+  pub told_ev_read : (who : ℕ) (r : Result (Option EventData) No)
+      → Acts (with_site (with_monitor (after_read (λ a b. a == b) who))) (ev_read_answer who (f d)) r (f d) (f d')
       → Answers (ev_read_of (machine_by f clock ds) k who) (machine_by f clock ds) r (Some (machine_by f clock (set ds k d')))
   unfolding ev_read_of
   told_ev_read who r t = told_acts (with_site (with_monitor (after_read (λ a b. a == b) who))) (ev_read_answer who) r t
 
-  pub told_ev_close : (who : ℕ) (r : Result ⊤ No) → Acts (with_site (with_monitor (after_close (λ a b. a == b) who))) (ensure (holds_events who (f d)) EBADF) r (f d) (f d')
+  pub told_ev_close : (who : ℕ) (r : Result ⊤ No)
+      → Acts (with_site (with_monitor (after_close (λ a b. a == b) who))) (ensure (holds_events who (f d)) EBADF) r (f d) (f d')
       → Answers (ev_close_of (machine_by f clock ds) k who) (machine_by f clock ds) r (Some (machine_by f clock (set ds k d')))
   unfolding ev_close_of
   told_ev_close who r t = told_acts (with_site (with_monitor (after_close (λ a b. a == b) who))) (λ st. ensure (holds_events who st) EBADF) r t
 
   pub told_writes : (size : ℕ) (id : MemberId) (bytes : List ℕ) (r : Result ℕ No)
       → Acts (λ st. record st { members = map (writes id (scans_of size bytes)) st.members }) (write_scans_at (f d) id size bytes) r (f d) (f d')
-      → Answers (unless (λ st. record st { members = map (writes id (scans_of size bytes)) st.members }) k (machine_by f clock ds) (write_scans_at (station_at (machine_by f clock ds) k) id size bytes)) (machine_by f clock ds) r (Some (machine_by f clock (set ds k d')))
-  told_writes size id bytes r t = told_acts (λ st. record st { members = map (writes id (scans_of size bytes)) st.members }) (λ st. write_scans_at st id size bytes) r t
+      → Answers (unless (λ st. record st { members = map (writes id (scans_of size bytes)) st.members }) k (machine_by f clock ds)
+      (write_scans_at (station_at (machine_by f clock ds) k) id size bytes)) (machine_by f clock ds) r (Some (machine_by f clock (set ds k d')))
+  told_writes size id bytes r t =
+      told_acts (λ st. record st { members = map (writes id (scans_of size bytes)) st.members }) (λ st. write_scans_at st id size bytes) r t
 
   -- takes
-  told_gives : (id : MemberId) (given : List (List ℕ)) (left : List (List ℕ) → List (List ℕ)) → f d' ≡ record (f d) { totals = with_given given (f d).totals; members = with_scans id (left (scans_in id (f d).members)) (f d).members }
+  told_gives : (id : MemberId) (given : List (List ℕ)) (left : List (List ℕ) → List (List ℕ))
+      → f d' ≡ record (f d) { totals = with_given given (f d).totals; members = with_scans id (left (scans_in id (f d).members)) (f d).members }
       → Some (machine_by f clock (set ds k d')) ≡ Some (with_queue (machine_by f clock ds) k id given (left (queue_of (machine_by f clock ds) k id)))
   unfolding with_queue
   told_gives id given left e =
-      rw (queue_is f clock ds k d at id) (some_changed (λ st. record st { totals = with_given given st.totals; members = with_scans id (left (scans_in id (f d).members)) st.members }) e)
+      rw (queue_is f clock ds k d at id)
+      (some_changed (λ st. record st { totals = with_given given st.totals; members = with_scans id (left (scans_in id (f d).members)) st.members }) e)
 
   pub told_take : (id : MemberId) (took : Took) (scan : List ℕ) → TakesAt id took scan (f d) (f d')
       → Takes (machine_by f clock ds) k id took scan (Some (machine_by f clock (set ds k d')))
@@ -133,7 +142,8 @@ module _ {D : Type 0} (f : D → Station) (clock : ℤ) (ds : List D) (k : ℕ) 
   told_take id Gone scan t = (queue_is f clock ds k d at id ∙ t.0, plugged_is f clock ds k d at ∙ t.1, some_same t.2)
 
   -- takes of many scans, by a seat that tells nothing
-  pub told_take_scans : (s : SeatRecord) (most : ℕ) (took : Took) (before after : List ℕ) → s.tale ≡ None → TakesScansAt (seat_id s) most took before after (f d) (f d')
+  pub told_take_scans : (s : SeatRecord) (most : ℕ) (took : Took) (before after : List ℕ) → s.tale ≡ None
+      → TakesScansAt (seat_id s) most took before after (f d) (f d')
       → TakesScans k most (Some (machine_by f clock ds)) (Some (machine_by f clock (set ds k d'))) s s before after took
   told_take_scans s most Scan before after untold t =
       let scans : List (List ℕ) = take most (scans_in (seat_id s) (f d).members) in (
@@ -156,7 +166,8 @@ module _ {D : Type 0} (f : D → Station) (clock : ℤ) (ds : List D) (k : ℕ) 
 abbrev pub fronts_by : {D : Type 0} → (D → DeviceHead) → List ℕ → List TriggerDesc → List D → Front
 fronts_by face context triggers ds = record { context = context; triggers = triggers; devices = map face ds }
 
-module _ {D : Type 0} (face : D → DeviceHead) (context : List ℕ) (triggers : List TriggerDesc) (ds : List D) (k : ℕ) (d : D) (at : slice_get ds k ≡ Some d) where
+module _ {D : Type 0} (face : D → DeviceHead) (context : List ℕ) (triggers : List TriggerDesc) (ds : List D) (k : ℕ) (d : D)
+    (at : slice_get ds k ≡ Some d) where
   pub name_is : device_name (fronts_by face context triggers ds) k ≡ (face d).name
   unfolding device_name
   name_is = ap (λ (o : Option DeviceHead). option_map_or (λ (x : DeviceHead). x.name) o []) (map_at face ds k d at)
@@ -174,7 +185,8 @@ module _ {D : Type 0} (face : D → DeviceHead) (context : List ℕ) (triggers :
 
   module _ (f : D → Station) (clock : ℤ) (d' : D) (channel : Option ℕ) (a : Attr) where
     asked_at : (b : Bool) (r : Result Value No) (answer : Result Value Errno) → Turns answer (cond b (with_site sampled (f d)) (f d)) r (f d) (f d')
-        → Answers (record { answer = answer; machine = cond b (with_station (with_site sampled) k (machine_by f clock ds)) (machine_by f clock ds) }) (machine_by f clock ds) r (Some (machine_by f clock (set ds k d')))
+        → Answers (record { answer = answer; machine = cond b (with_station (with_site sampled) k (machine_by f clock ds)) (machine_by f clock ds) })
+        (machine_by f clock ds) r (Some (machine_by f clock (set ds k d')))
     asked_at true (Ok x) answer t = (t.0, ap (λ (m : Machine). Some m) (told_changed f clock ds k d d' at (with_site sampled) t.1))
     asked_at true (Err (NoErrno e)) answer t = (t.0, ap (λ (m : Machine). Some m) (told_changed f clock ds k d d' at (with_site sampled) t.1))
     asked_at true (Err NoMem) answer t = ap (λ (m : Machine). Some m) (told_same f clock ds k d d' at t)
@@ -183,18 +195,22 @@ module _ {D : Type 0} (face : D → DeviceHead) (context : List ℕ) (triggers :
     asked_at false (Err NoMem) answer t = ap (λ (m : Machine). Some m) (told_same f clock ds k d d' at t)
 
     told_read_at : (r : Result Value No) → Reads (face d) clock channel a (f d) r (f d')
-        → Answers (read_attr_of (fronts_by face context triggers ds) (machine_by f clock ds) k channel a) (machine_by f clock ds) r (Some (machine_by f clock (set ds k d')))
+        → Answers (read_attr_of (fronts_by face context triggers ds) (machine_by f clock ds) k channel a) (machine_by f clock ds) r
+        (Some (machine_by f clock (set ds k d')))
     unfolding read_attr_of
     told_read_at r t = rw (name_is, kind_is, shape_is, station_is f clock ds k d at) (asked_at (is_asking (face d).kind channel a (f d)) r _ t)
 
     pub told_read : (t : ℤ) (r : Result Value No) → t ≡ clock → Reads (face d) t channel a (f d) r (f d')
-        → Answers (read_attr_of (fronts_by face context triggers ds) (machine_by f clock ds) k channel a) (machine_by f clock ds) r (Some (machine_by f clock (set ds k d')))
+        → Answers (read_attr_of (fronts_by face context triggers ds) (machine_by f clock ds) k channel a) (machine_by f clock ds) r
+        (Some (machine_by f clock (set ds k d')))
     told_read t r e reads = told_read_at r (subst (λ (x : ℤ). Reads (face d) x channel a (f d) r (f d')) e reads)
 
   module _ (f : D → Station) (clock : ℤ) (d' : D) where
     pub told_written : (id : MemberId) (bytes : List ℕ) (r : Result ℕ No)
-        → Acts (λ st. record st { members = map (writes id (scans_of (scan_size (face d).shape id.mask) bytes)) st.members }) (write_scans_at (f d) id (scan_size (face d).shape id.mask) bytes) r (f d) (f d')
-        → Answers (write_scans_of (fronts_by face context triggers ds) (machine_by f clock ds) k id bytes) (machine_by f clock ds) r (Some (machine_by f clock (set ds k d')))
+        → Acts (λ st. record st { members = map (writes id (scans_of (scan_size (face d).shape id.mask) bytes)) st.members })
+        (write_scans_at (f d) id (scan_size (face d).shape id.mask) bytes) r (f d) (f d')
+        → Answers (write_scans_of (fronts_by face context triggers ds) (machine_by f clock ds) k id bytes) (machine_by f clock ds) r
+        (Some (machine_by f clock (set ds k d')))
     unfolding write_scans_of
     told_written id bytes r t = rw (size_is id.mask) (told_writes f clock ds k d d' at (scan_size (face d).shape id.mask) id bytes r t)
 
@@ -204,4 +220,5 @@ name_there front t x at = ap (λ (o : Option TriggerDesc). option_map_or (λ (y 
 
 pub name_past : (front : Front) (t n : ℕ) → n ≡ length front.triggers → n ≤ t → [] ≡ trigger_name front t
 unfolding trigger_name
-name_past front t n e past = ap (λ (o : Option TriggerDesc). option_map_or (λ (y : TriggerDesc). y.name) o []) (sym (slice_get_past front.triggers t (omega arith)))
+name_past front t n e past =
+    ap (λ (o : Option TriggerDesc). option_map_or (λ (y : TriggerDesc). y.name) o []) (sym (slice_get_past front.triggers t (omega arith)))

@@ -77,7 +77,11 @@ abbrev pub TakesScansAt : MemberId → (most : ℕ) → Took → (before after :
 TakesScansAt id most Scan before after old new =
     (0 < length (take most (scans_in id old.members)))
     × (after ≡ before ++ flat_map (λ scan. scan) (take most (scans_in id old.members)))
-    × (new ≡ record old { totals = with_given (take most (scans_in id old.members)) old.totals; members = with_scans id (drop most (scans_in id old.members)) old.members })
+    × (new ≡ record old {
+      totals = with_given (take most (scans_in id old.members)) old.totals;
+      members =
+          with_scans id (drop most (scans_in id old.members)) old.members;
+    })
 TakesScansAt id most Empty before after old new = (after ≡ before) × (scans_in id old.members ≡ []) × (old.site.plugged ≡ true) × (new ≡ old)
 TakesScansAt id most Gone before after old new = (after ≡ before) × (scans_in id old.members ≡ []) × (old.site.plugged ≡ false) × (new ≡ old)
 

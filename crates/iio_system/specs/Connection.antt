@@ -21,7 +21,8 @@ module _ {S : Type 0} (seen : S → SeatRecord) where
     pub desk : IsDeskOf m name (desk_of seen x.desk)
 
   -- the devices and the connection's session as they stand, where bytes of it have arrived: it is there, and numbers last
-  pub record IsHearing (s : Setup) (m : Told) (front : Front) (told : Option Machine) (name : List ℕ) (begun : Scanner) (bytes : List ℕ) (x : SessionRecord S) : Type 0 where
+  pub record IsHearing (s : Setup) (m : Told) (front : Front) (told : Option Machine) (name : List ℕ) (begun : Scanner) (bytes : List ℕ) (x : SessionRecord S) :
+      Type 0 where
     pub front_is : front ≡ front_of s
     pub told_is : told ≡ Some (machine_of m)
     pub bench : IsBench s m
@@ -30,7 +31,8 @@ module _ {S : Type 0} (seen : S → SeatRecord) where
     pub room : Every (CanJoinMore (length (items_from begun bytes))) m.stations
 
   -- the items that bytes make whole were heard
-  pub record HasHeard (s : Setup) (m : Told) (told : Option Machine) (name : List ℕ) (begun : Scanner) (bytes : List ℕ) (before after : List ℕ) (x : SessionRecord S) : Type 0 where
+  pub record HasHeard (s : Setup) (m : Told) (told : Option Machine) (name : List ℕ) (begun : Scanner) (bytes : List ℕ) (before after : List ℕ)
+      (x : SessionRecord S) : Type 0 where
     pub said : after ≡ before ++ texts s m (heard name (items_from begun bytes))
     pub told_is : told ≡ Some (machine_of (steps s m (heard name (items_from begun bytes))))
     pub bench : IsBench s (steps s m (heard name (items_from begun bytes)))

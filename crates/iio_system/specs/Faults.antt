@@ -71,12 +71,15 @@ any_refusals lacks kind shape st mask =
 -- the number of the device's trigger, which is there, or the refusal; want of memory is free
 abbrev pub HostsAny : List State → Kind → (number : ℕ) → ShapeRecord → Station → (mask : ℕ) → Result ℕ No → Type 0
 HostsAny states kind number shape st mask (Ok trigger) =
-    (st.site.trigger ≡ Some trigger) × (trigger < length states) × (first_refusal (any_refusals (lacks_place number states st.site.trigger) kind shape st mask) ≡ None)
-HostsAny states kind number shape st mask (Err (NoErrno errno)) = first_refusal (any_refusals (lacks_place number states st.site.trigger) kind shape st mask) ≡ Some errno
+    (st.site.trigger ≡ Some trigger) × (trigger < length states)
+    × (first_refusal (any_refusals (lacks_place number states st.site.trigger) kind shape st mask) ≡ None)
+HostsAny states kind number shape st mask (Err (NoErrno errno)) =
+    first_refusal (any_refusals (lacks_place number states st.site.trigger) kind shape st mask) ≡ Some errno
 HostsAny states kind number shape st mask (Err NoMem) = Unit {0}
 
 -- a member more by a place that it has; want of memory changes nothing
-abbrev pub JoinsAny : Mask → (capacity : ℕ) → (cyclic : Bool) → (number : ℕ) → ShapeRecord → Result Seat No → (old new : Station) → (trigger trigger' : State) → Type 0
+abbrev pub JoinsAny : Mask → (capacity : ℕ) → (cyclic : Bool) → (number : ℕ) → ShapeRecord → Result Seat No → (old new : Station) → (trigger trigger' : State)
+    → Type 0
 JoinsAny mask capacity cyclic number shape (Ok seat) old new trigger trigger' =
     (seat ≡ record { number = old.next; mask = mask; size = scan_size shape mask.bits; capacity = capacity })
     × (new ≡ joined mask.bits capacity cyclic None old)

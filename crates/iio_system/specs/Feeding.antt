@@ -41,7 +41,8 @@ module _ {S : Type 0} (seen : S → SeatRecord) where
   left_by front m (Some x) = left_machine front m (desk_of seen x.desk)
 
   -- a connection that hasn't ended was fed: it is left without a session where it has ended then
-  pub record HasFed (s : Setup) (n : Told) (told : Option Machine) (name : List ℕ) (begun : Scanner) (bytes : List ℕ) (before after : List ℕ) (session : Option (SessionRecord S)) : Type 0 where
+  pub record HasFed (s : Setup) (n : Told) (told : Option Machine) (name : List ℕ) (begun : Scanner) (bytes : List ℕ) (before after : List ℕ)
+      (session : Option (SessionRecord S)) : Type 0 where
     pub spoken : SessionRecord S
     pub heard_by : HasHeard seen s n told name begun bytes [] (texts s n (heard name (items_from begun bytes))) spoken
     pub left : session ≡ (if is_at_end (scanner_after begun bytes) then None else Some spoken)

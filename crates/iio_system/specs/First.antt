@@ -15,7 +15,17 @@ use Rattle.iio_system.specs.Places.{TriggerRecord, first_trigger}
 
 -- an input device: no member yet, the trigger and the attributes of its description
 abbrev pub first_station : List Driver → DeviceRecord → Station
-first_station drivers d = record { next = 0; captures = 0; totals = no_totals; members = []; site = first_site d.shape d.trigger (first_driver drivers d) d.attrs; last = first_last d.shape; window = no_window }
+first_station drivers d =
+    record {
+      next = 0;
+      captures = 0;
+      totals = no_totals;
+      members = [];
+      site = first_site d.shape d.trigger (first_driver drivers d) d.attrs;
+      last =
+          first_last d.shape;
+      window = no_window;
+    }
 
 abbrev pub first_machine : List Driver → Description → Machine
 first_machine drivers desc = record { clock = pos 0; stations = map (first_station drivers) desc.devices ++ map first_out_station desc.outputs }

@@ -36,7 +36,8 @@ connection_named name (c ∷ cs) = if bytes_eq c.name name then Some c else conn
 
 module _ {S : Type 0} (seen : S → SeatRecord) where
   -- of a connection that is fed a watch is told the items; of one that has ended none
-  abbrev pub Watches : {W : Type 0} → (makes : Front → Option Machine → ℕ → Item → W → W → Type 0) → (name bytes : List ℕ) → Front → (told : Option Machine) → Option (SessionRecord S) → W → W → Type 0
+  abbrev pub Watches : {W : Type 0} → (makes : Front → Option Machine → ℕ → Item → W → W → Type 0) → (name bytes : List ℕ) → Front → (told : Option Machine)
+      → Option (SessionRecord S) → W → W → Type 0
   Watches makes name bytes front told None w v = v ≡ w
   Watches makes name bytes front told (Some x) w v =
       (s : Setup) (n : Told) (begun : Scanner) → IsHearing seen s n front told name begun bytes x → TellsAll makes front (items_from begun bytes) w v
@@ -60,7 +61,8 @@ module _ {S : Type 0} (seen : S → SeatRecord) where
   desk_by own = option_map (λ (x : Bor (SessionRecord S)). desk_of seen x.now.desk) own
 
   -- whether a feed keeps to the rules, where these are the others: one that has ended says nothing
-  abbrev pub MeetsBeside : (watched name bytes : List ℕ) → Front → (told : Option Machine) → Option (SessionRecord S) → (others : List (Connection S)) → Bool → Type 0
+  abbrev pub MeetsBeside : (watched name bytes : List ℕ) → Front → (told : Option Machine) → Option (SessionRecord S) → (others : List (Connection S)) → Bool
+      → Type 0
   MeetsBeside watched name bytes front told None others meets = meets ≡ true
   MeetsBeside watched name bytes front told (Some x) others meets =
       (s : Setup) (n : Told) (begun : Scanner) → IsHearing seen s n front told name begun bytes x

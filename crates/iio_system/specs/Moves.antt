@@ -30,7 +30,8 @@ InOrder low high (e ∷ es) = (low ≤ e.device) × InOrder (suc e.device) high 
 
 module _ {X : Type 0} {V : X → Type 0} (driver : Plug X V → Driver) where
   -- events of a bench, by the entries that its trigger has: their lines, and what it and the connections hold then
-  abbrev pub Plays : (events : List Entry → List Event) → Setup → Told → (trigger : ℕ) → (b' : Bench X V) (cs : List (Connection Seat)) (before after : List ℕ) → Type 0
+  abbrev pub Plays : (events : List Entry → List Event) → Setup → Told → (trigger : ℕ) → (b' : Bench X V) (cs : List (Connection Seat)) (before after : List ℕ)
+      → Type 0
   Plays events s m trigger b' cs before after =
       (after ≡ before ++ texts s m (events (entries_at m.triggers trigger))) × Holds driver s (steps s m (events (entries_at m.triggers trigger))) b' cs
 

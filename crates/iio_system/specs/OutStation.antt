@@ -39,7 +39,17 @@ out_head d = record { name = d.name; kind = Output; shape = d.out.shape }
 
 -- before the first step
 abbrev pub first_out_station : OutputRecord → Station
-first_out_station x = record { next = 0; captures = 0; totals = no_totals; members = []; site = new_site x.shape x.trigger no_driver; last = first_last x.shape; window = no_window }
+first_out_station x =
+    record {
+      next = 0;
+      captures = 0;
+      totals = no_totals;
+      members = [];
+      site = new_site x.shape x.trigger no_driver;
+      last = first_last x.shape;
+      window =
+          no_window;
+    }
 
 -- ---- for this crate's private functions alone
 

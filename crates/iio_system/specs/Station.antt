@@ -19,7 +19,8 @@ use Rattle.iio_system.specs.OutStation.{out_head, out_station}
 
 -- a member of an input device
 abbrev pub member_of : Membership Queue → Member
-member_of m = record { number = m.number; mask = m.mask.bits; capacity = m.tail.capacity; scans = m.tail.scans; lost = m.tail.lost; cyclic = false; inner = None }
+member_of m =
+    record { number = m.number; mask = m.mask.bits; capacity = m.tail.capacity; scans = m.tail.scans; lost = m.tail.lost; cyclic = false; inner = None }
 
 -- an input device: the number of the next member, what it counted, its members, and what else stands at it
 abbrev pub station_of : DeviceView Queue → Station

@@ -128,7 +128,8 @@ impl AnyDevice {
         requires hosted { is_hosted (length triggers.now) (any_station ⟦<Plug as Sensor>⟧.driver self.now) ≡ true }
         requires below { mask.bits < 2 ^ count_of (any_front self.now).shape }
         requires channel { has_data (any_front self.now).shape mask.bits ≡ true }
-        ensures { HostsAny triggers.now (any_front self.now).kind (number_by self.now) (any_front self.now).shape (any_station ⟦<Plug as Sensor>⟧.driver self.now) mask.bits result }
+        ensures { HostsAny triggers.now (any_front self.now).kind (number_by self.now) (any_front self.now).shape
+            (any_station ⟦<Plug as Sensor>⟧.driver self.now) mask.bits result }
     {
         match self {
             AnyDevice::Input(device) => host_input(device, triggers, mask),
@@ -146,13 +147,16 @@ impl AnyDevice {
         cyclic: bool,
     ) -> Result<Seat, No>
         requires trigger { is_some (any_station ⟦<Plug as Sensor>⟧.driver self.old).site.trigger ≡ true }
-        requires may { first_refusal (any_refusals (has_no_place (number_by self.old) trigger.old) (any_front self.old).kind (any_front self.old).shape (any_station ⟦<Plug as Sensor>⟧.driver self.old) mask.bits) ≡ None }
+        requires may { first_refusal
+            (any_refusals (has_no_place (number_by self.old) trigger.old) (any_front self.old).kind (any_front self.old).shape
+            (any_station ⟦<Plug as Sensor>⟧.driver self.old) mask.bits) ≡ None }
         requires cycles { (cyclic && not (is_output (any_front self.old).kind)) ≡ false }
         requires below { mask.bits < 2 ^ count_of (any_front self.old).shape }
         requires channel { has_data (any_front self.old).shape mask.bits ≡ true }
         requires some { 1 ≤ capacity }
         requires bytes { capacity * scan_size (any_front self.old).shape mask.bits ≤ MAX_BYTES }
-        ensures joins { JoinsAny mask capacity cyclic (number_by self.old) (any_front self.old).shape result (any_station ⟦<Plug as Sensor>⟧.driver self.old) (any_station ⟦<Plug as Sensor>⟧.driver self.new) trigger.old trigger.new }
+        ensures joins { JoinsAny mask capacity cyclic (number_by self.old) (any_front self.old).shape result (any_station ⟦<Plug as Sensor>⟧.driver self.old)
+            (any_station ⟦<Plug as Sensor>⟧.driver self.new) trigger.old trigger.new }
         ensures keeps { KeepsFront self.old self.new }
     {
         match self {
@@ -164,7 +168,8 @@ impl AnyDevice {
     /// Writes scans by the member of that number, under that mask, at an output device: how many of the bytes were taken.
     pub(crate) fn write(&mut self, number: u64, mask: Mask, bytes: &[u8]) -> Result<u32, No>
         requires { is_output (any_front self.old).kind ≡ true }
-        ensures acts { Acts (λ st. record st { members = map (writes (id_of number mask) (scans_of (scan_size (any_front self.old).shape mask.bits) bytes.now)) st.members })
+        ensures acts { Acts (λ st. record st
+            { members = map (writes (id_of number mask) (scans_of (scan_size (any_front self.old).shape mask.bits) bytes.now)) st.members })
             (write_scans_at (any_station ⟦<Plug as Sensor>⟧.driver self.old) (id_of number mask) (scan_size (any_front self.old).shape mask.bits) bytes.now)
             result (any_station ⟦<Plug as Sensor>⟧.driver self.old) (any_station ⟦<Plug as Sensor>⟧.driver self.new) }
         ensures within { IfOk result (λ taken. taken ≤ length bytes.now) }
@@ -179,7 +184,8 @@ impl AnyDevice {
     /// The member of that number leaves, by the device's trigger.
     pub(crate) fn leave(&mut self, number: u64, trigger: &mut Trigger)
         ensures station { any_station ⟦<Plug as Sensor>⟧.driver self.new ≡ left number (any_station ⟦<Plug as Sensor>⟧.driver self.old) }
-        ensures trigger { trigger.new ≡ place_left (number_by self.old) (any_station ⟦<Plug as Sensor>⟧.driver self.old) (any_station ⟦<Plug as Sensor>⟧.driver self.new) trigger.old }
+        ensures trigger { trigger.new
+            ≡ place_left (number_by self.old) (any_station ⟦<Plug as Sensor>⟧.driver self.old) (any_station ⟦<Plug as Sensor>⟧.driver self.new) trigger.old }
         ensures keeps { KeepsFront self.old self.new }
     {
         match self {
@@ -221,7 +227,8 @@ impl AnyDevice {
     pub(crate) fn take(&mut self, number: u64, mask: Mask, out: &mut [u8]) -> Took
         requires read { is_output (any_front self.old).kind ≡ false }
         requires size { length out.old ≡ scan_size (any_front self.old).shape mask.bits }
-        ensures takes { TakesAt (id_of number mask) result out.new (any_station ⟦<Plug as Sensor>⟧.driver self.old) (any_station ⟦<Plug as Sensor>⟧.driver self.new) }
+        ensures takes { TakesAt (id_of number mask) result out.new (any_station ⟦<Plug as Sensor>⟧.driver self.old)
+            (any_station ⟦<Plug as Sensor>⟧.driver self.new) }
         ensures keeps { KeepsFront self.old self.new }
     {
         match self {
@@ -241,7 +248,8 @@ impl AnyDevice {
         requires read { is_output (any_front self.old).kind ≡ false }
         requires some { 1 ≤ most }
         requires room { length out.old.items + most * scan_size (any_front self.old).shape mask.bits ≤ vec_capacity out.old }
-        ensures takes { TakesScansAt (id_of number mask) most result out.old.items out.new.items (any_station ⟦<Plug as Sensor>⟧.driver self.old) (any_station ⟦<Plug as Sensor>⟧.driver self.new) }
+        ensures takes { TakesScansAt (id_of number mask) most result out.old.items out.new.items (any_station ⟦<Plug as Sensor>⟧.driver self.old)
+            (any_station ⟦<Plug as Sensor>⟧.driver self.new) }
         ensures keeps { KeepsFront self.old self.new }
         ensures most { length out.new.items ≤ length out.old.items + most * scan_size (any_front self.old).shape mask.bits }
         ensures room { vec_capacity out.old ≤ vec_capacity out.new }
@@ -271,7 +279,8 @@ impl AnyDevice {
         attr: Attr,
     ) -> Result<Value, No>
         requires { MayReadOf (any_front self.old) channel attr }
-        ensures reads { Reads (any_front self.old) t channel attr (any_station ⟦<Plug as Sensor>⟧.driver self.old) result (any_station ⟦<Plug as Sensor>⟧.driver self.new) }
+        ensures reads { Reads (any_front self.old) t channel attr (any_station ⟦<Plug as Sensor>⟧.driver self.old) result
+            (any_station ⟦<Plug as Sensor>⟧.driver self.new) }
         ensures keeps { KeepsFront self.old self.new }
     {
         match self {
@@ -329,7 +338,8 @@ impl AnyDevice {
     pub(crate) fn ev_close(&mut self, who: u32) -> Result<(), No>
         requires { is_input (any_front self.old).kind ≡ true }
         ensures no_memory { result ≢ Err Mem }
-        ensures acts { Acts (with_site (with_monitor (after_close (λ a b. a == b) who))) (ensure (holds_events who (any_station ⟦<Plug as Sensor>⟧.driver self.old)) EBADF)
+        ensures acts { Acts (with_site (with_monitor (after_close (λ a b. a == b) who)))
+            (ensure (holds_events who (any_station ⟦<Plug as Sensor>⟧.driver self.old)) EBADF)
             result (any_station ⟦<Plug as Sensor>⟧.driver self.old) (any_station ⟦<Plug as Sensor>⟧.driver self.new) }
         ensures keeps { KeepsFront self.old self.new }
     {
@@ -343,8 +353,11 @@ impl AnyDevice {
     #[inline(always)]
     fn handle_due(&mut self, due: &Due) -> Became
         requires { due.now.dev ≡ number_by self.old }
-        ensures answer { Some result ≡ entry_answer (any_front self.old).kind (Some due.now) (is_last (captures_by self.old)) (any_station ⟦<Plug as Sensor>⟧.driver self.old) }
-        ensures station { any_station ⟦<Plug as Sensor>⟧.driver self.new ≡ entry_station (any_front self.old).kind (Some due.now) (is_last (captures_by self.old)) (any_front self.old).shape (any_station ⟦<Plug as Sensor>⟧.driver self.old) }
+        ensures answer { Some result
+            ≡ entry_answer (any_front self.old).kind (Some due.now) (is_last (captures_by self.old)) (any_station ⟦<Plug as Sensor>⟧.driver self.old) }
+        ensures station { any_station ⟦<Plug as Sensor>⟧.driver self.new
+            ≡ entry_station (any_front self.old).kind (Some due.now) (is_last (captures_by self.old)) (any_front self.old).shape
+            (any_station ⟦<Plug as Sensor>⟧.driver self.old) }
         ensures room { IsRoom (Some result) (any_station ⟦<Plug as Sensor>⟧.driver self.old).members (room_by self.new) }
         ensures captures { captures_by self.new ≡ counted (Some result) (captures_by self.old) }
         ensures keeps { KeepsHead self.old self.new }
@@ -361,8 +374,11 @@ impl AnyDevice {
     pub(crate) fn handle(&mut self, trigger: &mut Trigger, dev: u32) -> Option<Became>
         requires number { dev ≡ number_by self.old }
         requires idle { has_in_hand trigger.old.outstanding ≡ false }
-        ensures answer { result ≡ entry_answer (any_front self.old).kind (entry_of dev (trigger_of trigger.old).entries) (is_last (captures_by self.old)) (any_station ⟦<Plug as Sensor>⟧.driver self.old) }
-        ensures station { any_station ⟦<Plug as Sensor>⟧.driver self.new ≡ entry_station (any_front self.old).kind (entry_of dev (trigger_of trigger.old).entries) (is_last (captures_by self.old)) (any_front self.old).shape (any_station ⟦<Plug as Sensor>⟧.driver self.old) }
+        ensures answer { result ≡ entry_answer (any_front self.old).kind (entry_of dev (trigger_of trigger.old).entries) (is_last (captures_by self.old))
+            (any_station ⟦<Plug as Sensor>⟧.driver self.old) }
+        ensures station { any_station ⟦<Plug as Sensor>⟧.driver self.new
+            ≡ entry_station (any_front self.old).kind (entry_of dev (trigger_of trigger.old).entries) (is_last (captures_by self.old)) (any_front self.old).shape
+            (any_station ⟦<Plug as Sensor>⟧.driver self.old) }
         ensures room { IsRoom result (any_station ⟦<Plug as Sensor>⟧.driver self.old).members (room_by self.new) }
         ensures captures { captures_by self.new ≡ counted result (captures_by self.old) }
         ensures keeps { KeepsHead self.old self.new }
@@ -391,7 +407,8 @@ impl AnyDevice {
     /// Looks at its thresholds at a moment; an output device has none.
     pub(crate) fn sense(&mut self, t: i64) -> Sensed
         ensures answer { result ≡ sensed_answer (any_front self.old).shape t (any_station ⟦<Plug as Sensor>⟧.driver self.old) }
-        ensures station { any_station ⟦<Plug as Sensor>⟧.driver self.new ≡ sensed_station (any_front self.old).shape t (any_station ⟦<Plug as Sensor>⟧.driver self.old) }
+        ensures station { any_station ⟦<Plug as Sensor>⟧.driver self.new
+            ≡ sensed_station (any_front self.old).shape t (any_station ⟦<Plug as Sensor>⟧.driver self.old) }
         ensures keeps { KeepsFront self.old self.new }
     {
         match self {

@@ -149,7 +149,8 @@ pub(crate) fn ev_read(device: &mut Device<Kfifo>, who: u32) -> Result<Option<Eve
 pub(crate) fn ev_close(device: &mut Device<Kfifo>, who: u32) -> Result<(), No>
     requires { ⊤ }
     ensures no_memory { result ≢ Err Mem }
-    ensures acts { Acts (with_site (with_monitor (after_close (λ a b. a == b) who))) (ensure (holds_events who (station_by ⟦<Plug as Sensor>⟧.driver device.old)) EBADF)
+    ensures acts { Acts (with_site (with_monitor (after_close (λ a b. a == b) who)))
+        (ensure (holds_events who (station_by ⟦<Plug as Sensor>⟧.driver device.old)) EBADF)
         result (station_by ⟦<Plug as Sensor>⟧.driver device.old) (station_by ⟦<Plug as Sensor>⟧.driver device.new) }
     ensures keeps { KeepsCaptures (view_by ⟦<Plug as Sensor>⟧.driver device.old) (view_by ⟦<Plug as Sensor>⟧.driver device.new) }
 {
@@ -162,7 +163,8 @@ pub(crate) fn ev_close(device: &mut Device<Kfifo>, who: u32) -> Result<(), No>
 /// Takes the oldest scan of the member of that number, under that mask.
 pub(crate) fn take(device: &mut Device<Kfifo>, number: u64, mask: Mask, out: &mut [u8]) -> Took
     requires { length out.old ≡ scan_size device.old.core.roster.shape mask.bits }
-    ensures takes { TakesAt (id_of number mask) result out.new (station_by ⟦<Plug as Sensor>⟧.driver device.old) (station_by ⟦<Plug as Sensor>⟧.driver device.new) }
+    ensures takes { TakesAt (id_of number mask) result out.new (station_by ⟦<Plug as Sensor>⟧.driver device.old)
+        (station_by ⟦<Plug as Sensor>⟧.driver device.new) }
     ensures keeps { KeepsCaptures (view_by ⟦<Plug as Sensor>⟧.driver device.old) (view_by ⟦<Plug as Sensor>⟧.driver device.new) }
 {
     if device.is_live_under(&Member { number }, mask) {
@@ -176,7 +178,8 @@ pub(crate) fn take(device: &mut Device<Kfifo>, number: u64, mask: Mask, out: &mu
 fn take_from(device: &mut Device<Kfifo>, number: u64, _mask: Mask, out: &mut [u8]) -> Took
     requires there { has_member (id_of number _mask) device.old.core.roster.members.items ≡ true }
     requires size { length out.old ≡ scan_size device.old.core.roster.shape _mask.bits }
-    ensures takes { TakesAt (id_of number _mask) result out.new (station_by ⟦<Plug as Sensor>⟧.driver device.old) (station_by ⟦<Plug as Sensor>⟧.driver device.new) }
+    ensures takes { TakesAt (id_of number _mask) result out.new (station_by ⟦<Plug as Sensor>⟧.driver device.old)
+        (station_by ⟦<Plug as Sensor>⟧.driver device.new) }
     ensures keeps { KeepsCaptures (view_by ⟦<Plug as Sensor>⟧.driver device.old) (view_by ⟦<Plug as Sensor>⟧.driver device.new) }
 {
     match device.take(&Member { number }, out) {
@@ -196,7 +199,8 @@ pub(crate) fn take_scans(
 ) -> Took
     requires some { 1 ≤ most }
     requires room { length out.old.items + most * scan_size device.old.core.roster.shape mask.bits ≤ vec_capacity out.old }
-    ensures takes { TakesScansAt (id_of number mask) most result out.old.items out.new.items (station_by ⟦<Plug as Sensor>⟧.driver device.old) (station_by ⟦<Plug as Sensor>⟧.driver device.new) }
+    ensures takes { TakesScansAt (id_of number mask) most result out.old.items out.new.items (station_by ⟦<Plug as Sensor>⟧.driver device.old)
+        (station_by ⟦<Plug as Sensor>⟧.driver device.new) }
     ensures keeps { KeepsCaptures (view_by ⟦<Plug as Sensor>⟧.driver device.old) (view_by ⟦<Plug as Sensor>⟧.driver device.new) }
     ensures most { length out.new.items ≤ length out.old.items + most * scan_size device.old.core.roster.shape mask.bits }
     ensures room { vec_capacity out.old ≤ vec_capacity out.new }
@@ -240,8 +244,11 @@ pub(crate) fn counts(device: &Device<Kfifo>, number: u64, mask: Mask) -> Counts
 #[inline(always)]
 pub(crate) fn handle_due(device: &mut Device<Kfifo>, due: &Due) -> Handled
     requires { due.now.dev ≡ device.old.core.number }
-    ensures answer { Some (Asked result) ≡ entry_answer Input (Some due.now) (is_last device.old.core.roster.captures) (station_by ⟦<Plug as Sensor>⟧.driver device.old) }
-    ensures station { station_by ⟦<Plug as Sensor>⟧.driver device.new ≡ entry_station Input (Some due.now) (is_last device.old.core.roster.captures) device.old.core.roster.shape (station_by ⟦<Plug as Sensor>⟧.driver device.old) }
+    ensures answer { Some (Asked result)
+        ≡ entry_answer Input (Some due.now) (is_last device.old.core.roster.captures) (station_by ⟦<Plug as Sensor>⟧.driver device.old) }
+    ensures station { station_by ⟦<Plug as Sensor>⟧.driver device.new
+        ≡ entry_station Input (Some due.now) (is_last device.old.core.roster.captures) device.old.core.roster.shape
+        (station_by ⟦<Plug as Sensor>⟧.driver device.old) }
     ensures captures { device.new.core.roster.captures ≡ counted (Some (Asked result)) device.old.core.roster.captures }
     ensures keeps { Keeps (view_by ⟦<Plug as Sensor>⟧.driver device.old) (view_by ⟦<Plug as Sensor>⟧.driver device.new) }
 {

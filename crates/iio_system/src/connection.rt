@@ -40,7 +40,8 @@ fn hear<I: Iio, W: Watch<I>>(
         → IsHearing I.seen s m (I.front (I.kept iio.old)) (I.told iio.old) name begun bytes.now session.old
         → HasHeard I.seen s m (I.told iio.new) name begun bytes.now answers.old.items answers.new.items session.new) }
     ensures ended { IfOk result (λ ended. IsTrue ended ↔ (session.new.stream ≡ no_item AtEnd)) }
-    ensures watches { IfOk result (λ ended. (name : List ℕ) → Watches I.seen W.makes name bytes.now (I.front (I.kept iio.old)) (I.told iio.old) (Some session.old) watch.old watch.new) }
+    ensures watches { IfOk result
+        (λ ended. (name : List ℕ) → Watches I.seen W.makes name bytes.now (I.front (I.kept iio.old)) (I.told iio.old) (Some session.old) watch.old watch.new) }
 {
     session.feed_watched(alloc, iio, watch, bytes, answers)?;
     Ok(session.ended())

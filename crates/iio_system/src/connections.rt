@@ -65,7 +65,8 @@ fn feed_first(
     ensures owned { AreOwning seen_of (front_of bench.new) connections.new.items }
     ensures few { length connections.new.items ≤ max_names }
     ensures names { OnOk result (map name_by connections.new.items ≡ names_with (map name_by connections.old.items) (Feed name.now bytes.now)) }
-    ensures makes { OnOk result (MakesFeed ⟦<Plug as Sensor>⟧.driver name.now bytes.now bench.old bench.new connections.old.items connections.new.items out.old.items out.new.items) }
+    ensures makes { OnOk result
+        (MakesFeed ⟦<Plug as Sensor>⟧.driver name.now bytes.now bench.old bench.new connections.old.items connections.new.items out.old.items out.new.items) }
 {
     connections.reserve(1)?;
     let mut connection = connect(alloc, connections.len(), name)?;
@@ -100,7 +101,8 @@ pub(crate) fn feed(
     ensures owned { AreOwning seen_of (front_of bench.new) connections.new.items }
     ensures few { length connections.new.items ≤ max_names }
     ensures names { OnOk result (map name_by connections.new.items ≡ names_with (map name_by connections.old.items) (Feed name.now bytes.now)) }
-    ensures makes { OnOk result (MakesFeed ⟦<Plug as Sensor>⟧.driver name.now bytes.now bench.old bench.new connections.old.items connections.new.items out.old.items out.new.items) }
+    ensures makes { OnOk result
+        (MakesFeed ⟦<Plug as Sensor>⟧.driver name.now bytes.now bench.old bench.new connections.old.items connections.new.items out.old.items out.new.items) }
 {
     match place(connections, name) {
         Some(at) => feed_at(
@@ -165,7 +167,8 @@ fn guard_first(
     ensures owned { AreOwning seen_of (front_of bench.new) connections.new.items }
     ensures few { length connections.new.items ≤ max_names }
     ensures names { OnOk result (map name_by connections.new.items ≡ names_with (map name_by connections.old.items) (Feed name.now bytes.now)) }
-    ensures makes { OnOk result (MakesFeed ⟦<Plug as Sensor>⟧.driver name.now bytes.now bench.old bench.new connections.old.items connections.new.items out.old.items out.new.items) }
+    ensures makes { OnOk result
+        (MakesFeed ⟦<Plug as Sensor>⟧.driver name.now bytes.now bench.old bench.new connections.old.items connections.new.items out.old.items out.new.items) }
     ensures meets { IfOk result (MeetsFeed ⟦<Plug as Sensor>⟧.driver watched.now name.now bytes.now bench.old connections.old.items) }
 {
     stance_law();
@@ -205,7 +208,8 @@ pub(crate) fn feed_guarded(
     ensures owned { AreOwning seen_of (front_of bench.new) connections.new.items }
     ensures few { length connections.new.items ≤ max_names }
     ensures names { OnOk result (map name_by connections.new.items ≡ names_with (map name_by connections.old.items) (Feed name.now bytes.now)) }
-    ensures makes { OnOk result (MakesFeed ⟦<Plug as Sensor>⟧.driver name.now bytes.now bench.old bench.new connections.old.items connections.new.items out.old.items out.new.items) }
+    ensures makes { OnOk result
+        (MakesFeed ⟦<Plug as Sensor>⟧.driver name.now bytes.now bench.old bench.new connections.old.items connections.new.items out.old.items out.new.items) }
     ensures meets { IfOk result (MeetsFeed ⟦<Plug as Sensor>⟧.driver watched.now name.now bytes.now bench.old connections.old.items) }
 {
     stance_law();
@@ -234,7 +238,8 @@ pub(crate) fn feed_guarded(
 fn leave(bench: &mut Bench, session: Session<Seat>)
     requires { IsDesk seen_of (front_of bench.old) session.desk }
     ensures kept { kept_of bench.new ≡ kept_of bench.old }
-    ensures told { machine_of ⟦<Plug as Sensor>⟧.driver bench.new ≡ left_machine (front_of bench.old) (machine_of ⟦<Plug as Sensor>⟧.driver bench.old) (desk_of seen_of session.desk) }
+    ensures told { machine_of ⟦<Plug as Sensor>⟧.driver bench.new
+        ≡ left_machine (front_of bench.old) (machine_of ⟦<Plug as Sensor>⟧.driver bench.old) (desk_of seen_of session.desk) }
 {
     session.end(bench);
 }
@@ -246,7 +251,8 @@ fn lose(bench: &mut Bench, connection: &mut Connection<Seat>) -> bool
     ensures name { connection.new.name ≡ connection.old.name }
     ensures ended { connection.new.session ≡ None }
     ensures live { result ≡ is_some connection.old.session }
-    ensures told { machine_of ⟦<Plug as Sensor>⟧.driver bench.new ≡ left_by seen_of (front_of bench.old) (machine_of ⟦<Plug as Sensor>⟧.driver bench.old) connection.old.session }
+    ensures told { machine_of ⟦<Plug as Sensor>⟧.driver bench.new
+        ≡ left_by seen_of (front_of bench.old) (machine_of ⟦<Plug as Sensor>⟧.driver bench.old) connection.old.session }
 {
     match connection.session.take() {
         None => false,
@@ -269,7 +275,8 @@ pub(crate) fn drop_named(
     ensures owned { AreOwning seen_of (front_of bench.new) connections.new.items }
     ensures names { map name_by connections.new.items ≡ map name_by connections.old.items }
     ensures count { length connections.new.items ≡ length connections.old.items }
-    ensures makes { OnOk result (Makes ⟦<Plug as Sensor>⟧.driver (Drop name.now) bench.old bench.new connections.old.items connections.new.items out.old.items out.new.items) }
+    ensures makes { OnOk result
+        (Makes ⟦<Plug as Sensor>⟧.driver (Drop name.now) bench.old bench.new connections.old.items connections.new.items out.old.items out.new.items) }
 {
     match place(connections, name) {
         Some(at) => {
@@ -294,7 +301,8 @@ pub(crate) fn drop_guarded(
     ensures owned { AreOwning seen_of (front_of bench.new) connections.new.items }
     ensures names { map name_by connections.new.items ≡ map name_by connections.old.items }
     ensures count { length connections.new.items ≡ length connections.old.items }
-    ensures makes { OnOk result (Makes ⟦<Plug as Sensor>⟧.driver (Drop name.now) bench.old bench.new connections.old.items connections.new.items out.old.items out.new.items) }
+    ensures makes { OnOk result
+        (Makes ⟦<Plug as Sensor>⟧.driver (Drop name.now) bench.old bench.new connections.old.items connections.new.items out.old.items out.new.items) }
     ensures meets { IfOk result (Meets ⟦<Plug as Sensor>⟧.driver watched.now (Drop name.now) bench.old connections.old.items) }
 {
     stance_law();

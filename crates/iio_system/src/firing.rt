@@ -31,9 +31,11 @@ impl Bench {
         requires { trigger < length (front_of self.old).triggers }
         ensures front { front_of self.new ≡ front_of self.old }
         ensures told { machine_of ⟦<Plug as Sensor>⟧.driver self.new ≡ machine_of ⟦<Plug as Sensor>⟧.driver self.old }
-        ensures triggers { triggers_of self.new ≡ at_place trigger (polled (machine_of ⟦<Plug as Sensor>⟧.driver self.old).stations trigger t) (triggers_of self.old) }
+        ensures triggers { triggers_of self.new
+            ≡ at_place trigger (polled (machine_of ⟦<Plug as Sensor>⟧.driver self.old).stations trigger t) (triggers_of self.old) }
         ensures captures { captures_of self.new ≡ captures_of self.old }
-        ensures answer { result ≡ poll_answer (entries_from 0 trigger t (machine_of ⟦<Plug as Sensor>⟧.driver self.old).stations) (trigger_in (triggers_of self.old) trigger).entries (trigger_in (triggers_of self.old) trigger).missed }
+        ensures answer { result ≡ poll_answer (entries_from 0 trigger t (machine_of ⟦<Plug as Sensor>⟧.driver self.old).stations)
+            (trigger_in (triggers_of self.old) trigger).entries (trigger_in (triggers_of self.old) trigger).missed }
     {
         self.triggers[trigger as usize].poll(t)
     }
@@ -54,10 +56,13 @@ impl Bench {
         requires trigger { trigger < length (front_of self.old).triggers }
         requires dev { dev < length (front_of self.old).devices }
         ensures front { front_of self.new ≡ front_of self.old }
-        ensures told { machine_of ⟦<Plug as Sensor>⟧.driver self.new ≡ entry_machine (kind_at (front_of self.old) dev) (entry_of dev (trigger_in (triggers_of self.old) trigger).entries) (has_ended self.old dev) (shape_at (front_of self.old) dev) dev (machine_of ⟦<Plug as Sensor>⟧.driver self.old) }
+        ensures told { machine_of ⟦<Plug as Sensor>⟧.driver self.new
+            ≡ entry_machine (kind_at (front_of self.old) dev) (entry_of dev (trigger_in (triggers_of self.old) trigger).entries) (has_ended self.old dev)
+            (shape_at (front_of self.old) dev) dev (machine_of ⟦<Plug as Sensor>⟧.driver self.old) }
         ensures triggers { triggers_of self.new ≡ at_place trigger (handled dev) (triggers_of self.old) }
         ensures captures { captures_of self.new ≡ at_place dev (counted result) (captures_of self.old) }
-        ensures answer { result ≡ entry_answer (kind_at (front_of self.old) dev) (entry_of dev (trigger_in (triggers_of self.old) trigger).entries) (has_ended self.old dev) (station_at (machine_of ⟦<Plug as Sensor>⟧.driver self.old) dev) }
+        ensures answer { result ≡ entry_answer (kind_at (front_of self.old) dev) (entry_of dev (trigger_in (triggers_of self.old) trigger).entries)
+            (has_ended self.old dev) (station_at (machine_of ⟦<Plug as Sensor>⟧.driver self.old) dev) }
         ensures room { IsRoom result (station_at (machine_of ⟦<Plug as Sensor>⟧.driver self.old) dev).members (room_at self.new dev) }
     {
         self.devices[dev as usize].handle(&mut self.triggers[trigger as usize], dev)
@@ -67,7 +72,8 @@ impl Bench {
     pub fn sense(&mut self, dev: u32, t: i64) -> Sensed
         requires { dev < length (front_of self.old).devices }
         ensures front { front_of self.new ≡ front_of self.old }
-        ensures told { machine_of ⟦<Plug as Sensor>⟧.driver self.new ≡ with_station (sensed_station (shape_at (front_of self.old) dev) t) dev (machine_of ⟦<Plug as Sensor>⟧.driver self.old) }
+        ensures told { machine_of ⟦<Plug as Sensor>⟧.driver self.new
+            ≡ with_station (sensed_station (shape_at (front_of self.old) dev) t) dev (machine_of ⟦<Plug as Sensor>⟧.driver self.old) }
         ensures triggers { triggers_of self.new ≡ triggers_of self.old }
         ensures captures { captures_of self.new ≡ captures_of self.old }
         ensures answer { result ≡ sensed_answer (shape_at (front_of self.old) dev) t (station_at (machine_of ⟦<Plug as Sensor>⟧.driver self.old) dev) }

@@ -46,7 +46,8 @@ fn inputs_of(
     requires few { length descs.items ≤ MAX_DEVICES }
     requires fit { All (IsFit (length drivers.items)) descs.items }
     requires apart { AllPairs (λ a b. share_driver a b ≡ false) descs.items }
-    ensures stations { IfOk result (λ v. stations_by ⟦<Plug as Sensor>⟧.driver v.items ≡ map (first_station (map (λ d. ⟦<Plug as Sensor>⟧.driver (Given d)) drivers.items)) descs.items) }
+    ensures stations { IfOk result
+        (λ v. stations_by ⟦<Plug as Sensor>⟧.driver v.items ≡ map (first_station (map (λ d. ⟦<Plug as Sensor>⟧.driver (Given d)) drivers.items)) descs.items) }
     ensures fronts { IfOk result (λ v. map any_front v.items ≡ map input_head descs.items) }
     ensures numbered { IfOk result (λ v. IsNumbered number_by v.items) }
     ensures captures { IfOk result (λ v. All (λ d. captures_by d ≡ 0) v.items) }
@@ -62,7 +63,8 @@ fn add_outputs(alloc: Global, devices: &mut Vec<AnyDevice>, descs: Vec<OutDesc>)
     requires unlisted { All (λ d. d.shape.listed ≡ []) descs.items }
     requires numbered { IsNumbered number_by devices.old.items }
     requires captures { All (λ d. captures_by d ≡ 0) devices.old.items }
-    ensures stations { OnOk result (stations_by ⟦<Plug as Sensor>⟧.driver devices.new.items ≡ stations_by ⟦<Plug as Sensor>⟧.driver devices.old.items ++ map first_out_station descs.items) }
+    ensures stations { OnOk result
+        (stations_by ⟦<Plug as Sensor>⟧.driver devices.new.items ≡ stations_by ⟦<Plug as Sensor>⟧.driver devices.old.items ++ map first_out_station descs.items) }
     ensures fronts { OnOk result (map any_front devices.new.items ≡ map any_front devices.old.items ++ map output_head descs.items) }
     ensures numbered { OnOk result (IsNumbered number_by devices.new.items) }
     ensures captures { OnOk result (All (λ d. captures_by d ≡ 0) devices.new.items) }
@@ -97,7 +99,8 @@ impl Bench {
     ) -> Result<Bench, Mem>
         requires { IsWellFormed (length drivers.items) desc }
         ensures front { IfOk result (λ b. front_of b ≡ first_front desc) }
-        ensures told { IfOk result (λ b. machine_of ⟦<Plug as Sensor>⟧.driver b ≡ first_machine (map (λ d. ⟦<Plug as Sensor>⟧.driver (Given d)) drivers.items) desc) }
+        ensures told { IfOk result
+            (λ b. machine_of ⟦<Plug as Sensor>⟧.driver b ≡ first_machine (map (λ d. ⟦<Plug as Sensor>⟧.driver (Given d)) drivers.items) desc) }
         ensures triggers { IfOk result (λ b. triggers_of b ≡ first_triggers desc) }
         ensures captures { IfOk result (λ b. All (λ d. captures_by d ≡ 0) b.devices.items) }
     {

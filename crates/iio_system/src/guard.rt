@@ -80,7 +80,8 @@ pub(crate) fn may_end(others: &Others<'_>, watched: &[u8], ends: bool) -> bool
 
 // Whether another connection may say this command.
 fn may_ask(bench: &Bench, own: Option<&Session<Seat>>, command: &Command<'_>) -> bool
-    ensures { result ≡ may_say (λ device. by_number (find_device (front_of bench.now) device) (own_input (front_of bench.now) (desk_by seen_of own.entry))) (Said (Ok (command_view command.now))) }
+    ensures { result ≡ may_say (λ device. by_number (find_device (front_of bench.now) device) (own_input (front_of bench.now) (desk_by seen_of own.entry)))
+        (Said (Ok (command_view command.now))) }
 {
     match *command {
         Command::Help
@@ -106,7 +107,8 @@ fn may_ask(bench: &Bench, own: Option<&Session<Seat>>, command: &Command<'_>) ->
 
 // Whether another connection may say this.
 fn may_say(bench: &Bench, own: Option<&Session<Seat>>, item: &Seen<'_>) -> bool
-    ensures { (x : Item) → IsSeen x item.now → result ≡ may_say (λ device. by_number (find_device (front_of bench.now) device) (own_input (front_of bench.now) (desk_by seen_of own.entry))) x }
+    ensures { (x : Item) → IsSeen x item.now
+        → result ≡ may_say (λ device. by_number (find_device (front_of bench.now) device) (own_input (front_of bench.now) (desk_by seen_of own.entry))) x }
 {
     match *item {
         Seen::Refused | Seen::TooLong => true,
@@ -116,7 +118,8 @@ fn may_say(bench: &Bench, own: Option<&Session<Seat>>, item: &Seen<'_>) -> bool
 
 // Whether the watched connection itself may say this command.
 fn may_leave(bench: &Bench, others: &Others<'_>, watched: &[u8], command: &Command<'_>) -> bool
-    ensures { (own : Option DeskRecord) → result ≡ may_part (opens_by (front_of bench.now) own (desks_besides seen_of watched.now (connections_of others.now))) (item_by (command_view command.now)) }
+    ensures { (own : Option DeskRecord)
+        → result ≡ may_part (opens_by (front_of bench.now) own (desks_besides seen_of watched.now (connections_of others.now))) (item_by (command_view command.now)) }
 {
     match *command {
         Command::Close { dev } | Command::Remask { dev, .. } => {
@@ -143,7 +146,8 @@ fn may_leave(bench: &Bench, others: &Others<'_>, watched: &[u8], command: &Comma
 
 // Whether the watched connection itself may say this.
 fn may_part(bench: &Bench, others: &Others<'_>, watched: &[u8], item: &Seen<'_>) -> bool
-    ensures { (own : Option DeskRecord) (x : Item) → IsSeen x item.now → result ≡ may_part (opens_by (front_of bench.now) own (desks_besides seen_of watched.now (connections_of others.now))) x }
+    ensures { (own : Option DeskRecord) (x : Item) → IsSeen x item.now
+        → result ≡ may_part (opens_by (front_of bench.now) own (desks_besides seen_of watched.now (connections_of others.now))) x }
 {
     match *item {
         Seen::Refused => true,

@@ -65,7 +65,8 @@ fn open_any(
     requires cycles { (cyclic && not (is_output (kind_at (front_of bench.old) dev))) ≡ false }
     ensures kept { kept_of bench.new ≡ kept_of bench.old }
     ensures seat { IfOk result (λ s. IsNew (front_of bench.old) dev mask.bits capacity (seen_of s)) }
-    ensures told { Answers (open_of (front_of bench.old) (machine_of ⟦<Plug as Sensor>⟧.driver bench.old) dev mask.bits capacity cyclic) (machine_of ⟦<Plug as Sensor>⟧.driver bench.old)
+    ensures told { Answers (open_of (front_of bench.old) (machine_of ⟦<Plug as Sensor>⟧.driver bench.old) dev mask.bits capacity cyclic)
+        (machine_of ⟦<Plug as Sensor>⟧.driver bench.old)
         (number_by seen_of result) (Some (machine_of ⟦<Plug as Sensor>⟧.driver bench.new)) }
 {
     let at = dev as usize;

@@ -132,12 +132,15 @@ pub(crate) fn join_input(
     capacity: u32,
 ) -> Result<Seat, No>
     requires trigger { is_some device.old.core.trigger ≡ true }
-    requires may { first_refusal (any_refusals (has_no_place device.old.core.number trigger.old) Input device.old.core.roster.shape (station_by ⟦<Plug as Sensor>⟧.driver device.old) mask.bits) ≡ None }
+    requires may { first_refusal
+        (any_refusals (has_no_place device.old.core.number trigger.old) Input device.old.core.roster.shape (station_by ⟦<Plug as Sensor>⟧.driver device.old)
+        mask.bits) ≡ None }
     requires below { mask.bits < 2 ^ count_of device.old.core.roster.shape }
     requires channel { has_data device.old.core.roster.shape mask.bits ≡ true }
     requires some { 1 ≤ capacity }
     requires bytes { capacity * scan_size device.old.core.roster.shape mask.bits ≤ MAX_BYTES }
-    ensures joins { JoinsAny mask capacity false device.old.core.number device.old.core.roster.shape result (station_by ⟦<Plug as Sensor>⟧.driver device.old) (station_by ⟦<Plug as Sensor>⟧.driver device.new) trigger.old trigger.new }
+    ensures joins { JoinsAny mask capacity false device.old.core.number device.old.core.roster.shape result (station_by ⟦<Plug as Sensor>⟧.driver device.old)
+        (station_by ⟦<Plug as Sensor>⟧.driver device.new) trigger.old trigger.new }
     ensures keeps { KeepsCaptures (view_by ⟦<Plug as Sensor>⟧.driver device.old) (view_by ⟦<Plug as Sensor>⟧.driver device.new) }
 {
     join(alloc, device, trigger, mask, capacity)

@@ -48,7 +48,8 @@ fn device_count(bench: &Bench) -> u32
 /// `clock T`: sets the clock.
 pub(crate) fn set_clock(bench: &mut Bench, t: i64, out: &mut Vec<u8>) -> Result<(), Mem>
     ensures front { front_of bench.new ≡ front_of bench.old }
-    ensures makes { OnOk result ((cs : List (Connection Seat)) → Makes ⟦<Plug as Sensor>⟧.driver (SetClock t) bench.old bench.new cs cs out.old.items out.new.items) }
+    ensures makes { OnOk result
+        ((cs : List (Connection Seat)) → Makes ⟦<Plug as Sensor>⟧.driver (SetClock t) bench.old bench.new cs cs out.old.items out.new.items) }
     ensures captures { RiseBy 32 (captures_of bench.old) (captures_of bench.new) }
 {
     bench.set_clock(t);
@@ -59,7 +60,8 @@ pub(crate) fn set_clock(bench: &mut Bench, t: i64, out: &mut Vec<u8>) -> Result<
 pub(crate) fn unplug(bench: &mut Bench, dev: u32, out: &mut Vec<u8>) -> Result<(), Mem>
     requires { dev < length (front_of bench.old).devices }
     ensures front { front_of bench.new ≡ front_of bench.old }
-    ensures makes { OnOk result ((cs : List (Connection Seat)) → Makes ⟦<Plug as Sensor>⟧.driver (Unplug dev) bench.old bench.new cs cs out.old.items out.new.items) }
+    ensures makes { OnOk result
+        ((cs : List (Connection Seat)) → Makes ⟦<Plug as Sensor>⟧.driver (Unplug dev) bench.old bench.new cs cs out.old.items out.new.items) }
     ensures captures { RiseBy 32 (captures_of bench.old) (captures_of bench.new) }
 {
     let was_plugged = bench.unplug(dev);
@@ -71,7 +73,8 @@ pub(crate) fn unplug(bench: &mut Bench, dev: u32, out: &mut Vec<u8>) -> Result<(
 pub(crate) fn sense(bench: &mut Bench, dev: u32, t: i64, out: &mut Vec<u8>) -> Result<(), Mem>
     requires { dev < length (front_of bench.old).devices }
     ensures front { front_of bench.new ≡ front_of bench.old }
-    ensures makes { OnOk result ((cs : List (Connection Seat)) → Makes ⟦<Plug as Sensor>⟧.driver (Sense dev t) bench.old bench.new cs cs out.old.items out.new.items) }
+    ensures makes { OnOk result
+        ((cs : List (Connection Seat)) → Makes ⟦<Plug as Sensor>⟧.driver (Sense dev t) bench.old bench.new cs cs out.old.items out.new.items) }
     ensures captures { RiseBy 32 (captures_of bench.old) (captures_of bench.new) }
 {
     let sensed = bench.sense(dev, t);
@@ -83,7 +86,8 @@ pub(crate) fn sense(bench: &mut Bench, dev: u32, t: i64, out: &mut Vec<u8>) -> R
 pub(crate) fn poll(bench: &mut Bench, trigger: u32, t: i64, out: &mut Vec<u8>) -> Result<(), Mem>
     requires { trigger < length (front_of bench.old).triggers }
     ensures front { front_of bench.new ≡ front_of bench.old }
-    ensures makes { OnOk result ((cs : List (Connection Seat)) → Makes ⟦<Plug as Sensor>⟧.driver (Poll trigger t) bench.old bench.new cs cs out.old.items out.new.items) }
+    ensures makes { OnOk result
+        ((cs : List (Connection Seat)) → Makes ⟦<Plug as Sensor>⟧.driver (Poll trigger t) bench.old bench.new cs cs out.old.items out.new.items) }
     ensures captures { RiseBy 32 (captures_of bench.old) (captures_of bench.new) }
 {
     let polled = bench.poll(trigger, t);
@@ -132,7 +136,8 @@ pub(crate) fn handle(
     requires dev { dev < length (front_of bench.old).devices }
     requires captures { CanCapture (captures_of bench.old) }
     ensures front { front_of bench.new ≡ front_of bench.old }
-    ensures makes { OnOk result ((cs : List (Connection Seat)) → Makes ⟦<Plug as Sensor>⟧.driver (Handle trigger dev) bench.old bench.new cs cs out.old.items out.new.items) }
+    ensures makes { OnOk result
+        ((cs : List (Connection Seat)) → Makes ⟦<Plug as Sensor>⟧.driver (Handle trigger dev) bench.old bench.new cs cs out.old.items out.new.items) }
     ensures captures { RiseBy 32 (captures_of bench.old) (captures_of bench.new) }
 {
     let became = bench.handle(trigger, dev);
@@ -145,7 +150,8 @@ fn handle_one(bench: &mut Bench, trigger: u32, dev: u32, out: &mut Vec<u8>) -> R
     requires dev { dev < length (front_of bench.old).devices }
     requires captures { CanGoOn (captures_of bench.old) }
     ensures front { front_of bench.new ≡ front_of bench.old }
-    ensures makes { OnOk result ((cs : List (Connection Seat)) → HandlesOne ⟦<Plug as Sensor>⟧.driver trigger dev bench.old bench.new cs out.old.items out.new.items) }
+    ensures makes { OnOk result
+        ((cs : List (Connection Seat)) → HandlesOne ⟦<Plug as Sensor>⟧.driver trigger dev bench.old bench.new cs out.old.items out.new.items) }
     ensures captures { RiseBy 1 (captures_of bench.old) (captures_of bench.new) }
 {
     match bench.handle(trigger, dev) {
@@ -159,7 +165,9 @@ fn handle_all(bench: &mut Bench, trigger: u32, out: &mut Vec<u8>) -> Result<(), 
     requires trigger { trigger < length (front_of bench.old).triggers }
     requires captures { CanCapture (captures_of bench.old) }
     ensures front { front_of bench.new ≡ front_of bench.old }
-    ensures makes { OnOk result ((cs : List (Connection Seat)) → HandlesAll ⟦<Plug as Sensor>⟧.driver trigger (length (front_of bench.old).devices) bench.old bench.new cs out.old.items out.new.items) }
+    ensures makes { OnOk result
+        ((cs : List (Connection Seat))
+        → HandlesAll ⟦<Plug as Sensor>⟧.driver trigger (length (front_of bench.old).devices) bench.old bench.new cs out.old.items out.new.items) }
     ensures captures { RiseBy 32 (captures_of bench.old) (captures_of bench.new) }
 {
     let devices = device_count(bench);
@@ -183,7 +191,8 @@ pub(crate) fn fire(bench: &mut Bench, trigger: u32, t: i64, out: &mut Vec<u8>) -
     requires trigger { trigger < length (front_of bench.old).triggers }
     requires captures { CanCapture (captures_of bench.old) }
     ensures front { front_of bench.new ≡ front_of bench.old }
-    ensures makes { OnOk result ((cs : List (Connection Seat)) → Makes ⟦<Plug as Sensor>⟧.driver (Fire trigger t) bench.old bench.new cs cs out.old.items out.new.items) }
+    ensures makes { OnOk result
+        ((cs : List (Connection Seat)) → Makes ⟦<Plug as Sensor>⟧.driver (Fire trigger t) bench.old bench.new cs cs out.old.items out.new.items) }
     ensures captures { RiseBy 32 (captures_of bench.old) (captures_of bench.new) }
 {
     let polled = bench.poll(trigger, t);

@@ -85,7 +85,8 @@ fn perform(
     ensures few { length connections.new.items ≤ max_names }
     ensures names { OnOk result (map name_by connections.new.items ≡ names_with (map name_by connections.old.items) (step_view step.now)) }
     ensures captures { RiseBy 32 (captures_of bench.old) (captures_of bench.new) }
-    ensures makes { OnOk result (MakesStep ⟦<Plug as Sensor>⟧.driver step.now bench.old bench.new connections.old.items connections.new.items out.old.items out.new.items) }
+    ensures makes { OnOk result
+        (MakesStep ⟦<Plug as Sensor>⟧.driver step.now bench.old bench.new connections.old.items connections.new.items out.old.items out.new.items) }
 {
     match step {
         Step::Feed(name, bytes) => feed(
@@ -127,7 +128,8 @@ fn perform_guarded(
     ensures few { length connections.new.items ≤ max_names }
     ensures names { OnOk result (map name_by connections.new.items ≡ names_with (map name_by connections.old.items) (step_view step.now)) }
     ensures captures { RiseBy 32 (captures_of bench.old) (captures_of bench.new) }
-    ensures makes { OnOk result (MakesStep ⟦<Plug as Sensor>⟧.driver step.now bench.old bench.new connections.old.items connections.new.items out.old.items out.new.items) }
+    ensures makes { OnOk result
+        (MakesStep ⟦<Plug as Sensor>⟧.driver step.now bench.old bench.new connections.old.items connections.new.items out.old.items out.new.items) }
     ensures meets { IfOk result (MeetsStep ⟦<Plug as Sensor>⟧.driver watched.now step.now bench.old connections.old.items) }
 {
     match step {
@@ -157,7 +159,8 @@ impl System {
         drivers: Vec<Box<dyn Sensor + Send>>,
     ) -> Result<System, Mem>
         requires { IsWellFormed (length drivers.items) desc }
-        ensures stands { IfOk result (StandsFor ⟦<Plug as Sensor>⟧.driver (record { desc = desc; drivers = map (λ d. ⟦<Plug as Sensor>⟧.driver (Given d)) drivers.items }) []) }
+        ensures stands { IfOk result
+            (StandsFor ⟦<Plug as Sensor>⟧.driver (record { desc = desc; drivers = map (λ d. ⟦<Plug as Sensor>⟧.driver (Given d)) drivers.items }) []) }
         ensures front { IfOk result (λ x. front_of x.bench ≡ first_front desc) }
         ensures names { IfOk result (λ x. names_by x ≡ []) }
         ensures used { IfOk result (λ x. x.used ≡ 0) }
@@ -186,7 +189,8 @@ impl System {
         requires taken { IsTaken (names_by self.old) step.now }
         requires few { self.old.used + cost_of step.now < 2 ^ 56 }
         ensures lines { OnOk result ((s : Setup) (h : List Event) → StandsFor ⟦<Plug as Sensor>⟧.driver s h self.old
-            → (out.new.items ≡ out.old.items ++ lines_of_step s h (step_view step.now)) × StandsFor ⟦<Plug as Sensor>⟧.driver s (with_step s h (step_view step.now)) self.new) }
+            → (out.new.items ≡ out.old.items ++ lines_of_step s h (step_view step.now))
+            × StandsFor ⟦<Plug as Sensor>⟧.driver s (with_step s h (step_view step.now)) self.new) }
         ensures front { front_of self.new.bench ≡ front_of self.old.bench }
         ensures names { OnOk result (names_by self.new ≡ names_with (names_by self.old) (step_view step.now)) }
         ensures used { self.new.used ≡ self.old.used + cost_of step.now }
@@ -209,7 +213,8 @@ impl System {
         requires taken { IsTaken (names_by self.old) step.now }
         requires few { self.old.used + cost_of step.now < 2 ^ 56 }
         ensures lines { OnOk result ((s : Setup) (h : List Event) → StandsFor ⟦<Plug as Sensor>⟧.driver s h self.old
-            → (out.new.items ≡ out.old.items ++ lines_of_step s h (step_view step.now)) × StandsFor ⟦<Plug as Sensor>⟧.driver s (with_step s h (step_view step.now)) self.new) }
+            → (out.new.items ≡ out.old.items ++ lines_of_step s h (step_view step.now))
+            × StandsFor ⟦<Plug as Sensor>⟧.driver s (with_step s h (step_view step.now)) self.new) }
         ensures front { front_of self.new.bench ≡ front_of self.old.bench }
         ensures names { OnOk result (names_by self.new ≡ names_with (names_by self.old) (step_view step.now)) }
         ensures used { self.new.used ≡ self.old.used + cost_of step.now }

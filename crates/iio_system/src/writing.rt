@@ -118,12 +118,14 @@ impl OutDevice {
         capacity: u32,
         cyclic: bool,
     ) -> Result<Seat, No>
-        requires may { first_refusal (any_refusals (has_no_place self.old.number trigger.old) Output self.old.out.shape (out_station self.old) mask.bits) ≡ None }
+        requires may { first_refusal (any_refusals (has_no_place self.old.number trigger.old) Output self.old.out.shape (out_station self.old) mask.bits)
+            ≡ None }
         requires below { mask.bits < 2 ^ count_of self.old.out.shape }
         requires channel { has_data self.old.out.shape mask.bits ≡ true }
         requires some { 1 ≤ capacity }
         requires bytes { capacity * scan_size self.old.out.shape mask.bits ≤ MAX_BYTES }
-        ensures joins { JoinsAny mask capacity cyclic self.old.number self.old.out.shape result (out_station self.old) (out_station self.new) trigger.old trigger.new }
+        ensures joins { JoinsAny mask capacity cyclic self.old.number self.old.out.shape result (out_station self.old) (out_station self.new) trigger.old
+            trigger.new }
         ensures keeps { KeepsOut self.old self.new }
     {
         let size = scan_size(self.out.shape(), mask);
@@ -177,8 +179,10 @@ impl OutDevice {
 
     /// Writes scans by the writer of that number, under that mask.
     pub(crate) fn write(&mut self, number: u64, mask: Mask, bytes: &[u8]) -> Result<u32, No>
-        ensures acts { Acts (λ st. record st { members = map (writes (id_of number mask) (scans_of (scan_size self.old.out.shape mask.bits) bytes.now)) st.members })
-            (write_scans_at (out_station self.old) (id_of number mask) (scan_size self.old.out.shape mask.bits) bytes.now) result (out_station self.old) (out_station self.new) }
+        ensures acts { Acts (λ st. record st
+            { members = map (writes (id_of number mask) (scans_of (scan_size self.old.out.shape mask.bits) bytes.now)) st.members })
+            (write_scans_at (out_station self.old) (id_of number mask) (scan_size self.old.out.shape mask.bits) bytes.now) result (out_station self.old)
+            (out_station self.new) }
         ensures within { IfOk result (λ taken. taken ≤ length bytes.now) }
         ensures keeps { KeepsOut self.old self.new }
     {
@@ -228,7 +232,8 @@ impl OutDevice {
 
     /// Gives it another trigger, or none.
     pub(crate) fn set_trigger(&mut self, trigger: Option<u32>) -> Result<(), No>
-        ensures acts { Acts (with_site (λ site. record site { trigger = trigger })) (trigger_answer (out_station self.old)) result (out_station self.old) (out_station self.new) }
+        ensures acts { Acts (with_site (λ site. record site { trigger = trigger })) (trigger_answer (out_station self.old)) result (out_station self.old)
+            (out_station self.new) }
         ensures keeps { KeepsOut self.old self.new }
     {
         if !self.plugged {

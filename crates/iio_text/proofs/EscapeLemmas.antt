@@ -22,7 +22,8 @@ before-before xs ys (Ok more) = rw append_assoc refl
 before-before xs ys (Err place) = refl
 
 -- a piece, and then the text after it
-pub piece_step : (place byte more : ℕ) (s : List ℕ) → piece_of s ≡ Some (byte, more) → more < length s → unescaped_from place 0 s ≡ before (byte ∷ []) (unescaped_from (place + (more + 1)) 0 (drop (more + 1) s))
+pub piece_step : (place byte more : ℕ) (s : List ℕ) → piece_of s ≡ Some (byte, more) → more < length s
+    → unescaped_from place 0 s ≡ before (byte ∷ []) (unescaped_from (place + (more + 1)) 0 (drop (more + 1) s))
 piece_step place byte more [] e h = absurd (omega arith)
 piece_step place byte more (b ∷ rest) e h =
     let p : place + 1 + more ≡ place + (more + 1) = omega arith in
@@ -31,7 +32,9 @@ piece_step place byte more (b ∷ rest) e h =
     ∙ rw add-one refl
 
 -- one turn of the reading loop
-pub piece_more : (text out : List ℕ) (place byte more : ℕ) → unescaped text ≡ before out (unescaped_from place 0 (drop place text)) → piece_of (drop place text) ≡ Some (byte, more) → more < length (drop place text) → unescaped text ≡ before (out ++ byte ∷ []) (unescaped_from (place + (more + 1)) 0 (drop (place + (more + 1)) text))
+pub piece_more : (text out : List ℕ) (place byte more : ℕ) → unescaped text ≡ before out (unescaped_from place 0 (drop place text))
+    → piece_of (drop place text) ≡ Some (byte, more) → more < length (drop place text)
+    → unescaped text ≡ before (out ++ byte ∷ []) (unescaped_from (place + (more + 1)) 0 (drop (place + (more + 1)) text))
 piece_more text out place byte more so_far e h =
     so_far ∙ ap (before out) (piece_step place byte more (drop place text) e h)
     ∙ before-before out (byte ∷ []) _
@@ -81,7 +84,8 @@ piece_of-escaped_byte b t h =
 escaped_byte-some : (b : ℕ) → 0 < length (escaped_byte b)
 escaped_byte-some b = grind (arith, nat_tests)
 
-escaped_step : (place b : ℕ) (t : List ℕ) → b < 256 → unescaped_from place 0 (escaped_byte b ++ t) ≡ before (b ∷ []) (unescaped_from (place + length (escaped_byte b)) 0 t)
+escaped_step : (place b : ℕ) (t : List ℕ) → b < 256
+    → unescaped_from place 0 (escaped_byte b ++ t) ≡ before (b ∷ []) (unescaped_from (place + length (escaped_byte b)) 0 t)
 escaped_step place b t h =
     let some = escaped_byte-some b in
     let whole : length (escaped_byte b) - 1 + 1 ≡ length (escaped_byte b) = omega arith in
@@ -131,7 +135,8 @@ plain_place (b ∷ bs) = ap (λ n. cond (not (not (is_plain b))) (1 + n) 0) (pla
 abbrev Means : ℕ → List ℕ → ℕ → Type 0
 Means place s n = unescaped_from place 0 s ≡ before (take n s) (unescaped_from (place + n) 0 (drop n s))
 
-run_by : (place b : ℕ) (rest : List ℕ) → Means (place + 1) rest (prefix_len is_plain rest) → (v : Bool) → is_plain b ≡ v → Means place (b ∷ rest) (prefix_len is_plain (b ∷ rest))
+run_by : (place b : ℕ) (rest : List ℕ) → Means (place + 1) rest (prefix_len is_plain rest) → (v : Bool) → is_plain b ≡ v
+    → Means place (b ∷ rest) (prefix_len is_plain (b ∷ rest))
 run_by place b rest more true p =
     let n = prefix_len is_plain rest in
     let one : 1 + n ≡ suc n = omega arith in
@@ -154,7 +159,8 @@ plain_run place [] = refl
 plain_run place (b ∷ rest) = run_by place b rest (plain_run (place + 1) rest) (is_plain b) refl
 
 -- what is read with the bytes before the next one that doesn't stand for itself
-pub run_more : (text out items : List ℕ) (place n k : ℕ) → unescaped text ≡ before out (unescaped_from place 0 (drop place text)) → n ≡ position_or_len (λ b. not (is_plain b)) (drop place text) → k ≡ n
+pub run_more : (text out items : List ℕ) (place n k : ℕ) → unescaped text ≡ before out (unescaped_from place 0 (drop place text))
+    → n ≡ position_or_len (λ b. not (is_plain b)) (drop place text) → k ≡ n
     → items ≡ out ++ mid_of place k text → unescaped text ≡ before items (unescaped_from (place + n) 0 (drop (place + n) text))
 run_more text out items place n k so_far is same all =
     let after = drop place text in
@@ -165,7 +171,8 @@ run_more text out items place n k so_far is same all =
     ∙ ap (λ s. before (out ++ take len after) (unescaped_from (place + len) 0 s)) (drop-drop len place text))
 
 -- the same, where the bytes are copied into a room that has what was read so far
-pub copied_more : (text out grown room after : List ℕ) (place len n m k : ℕ) → unescaped text ≡ before (take len out) (unescaped_from place 0 (drop place text)) → n ≡ position_or_len (λ b. not (is_plain b)) (drop place text)
+pub copied_more : (text out grown room after : List ℕ) (place len n m k : ℕ) → unescaped text ≡ before (take len out) (unescaped_from place 0 (drop place text))
+    → n ≡ position_or_len (λ b. not (is_plain b)) (drop place text)
     → grown ≡ out → take n room ≡ take n (drop place text) → len ≤ length out → n ≤ length room → len + n ≤ m
     → unescaped text ≡ before (take (len + n) (take m (put_mid len k grown room ++ after))) (unescaped_from (place + n) 0 (drop (place + n) text))
 copied_more text out grown room after place len n m k so_far is same copied inside fits within =
@@ -174,7 +181,8 @@ copied_more text out grown room after place len n m k so_far is same copied insi
     run_more text (take len out) (take (len + n) (take m (put_mid len k grown room ++ after))) place n n so_far is refl written
 
 -- a text that is read to its end
-pub whole_read : (text out : List ℕ) (place : ℕ) → unescaped text ≡ before out (unescaped_from place 0 (drop place text)) → length text ≤ place → unescaped text ≡ Ok out
+pub whole_read : (text out : List ℕ) (place : ℕ) → unescaped text ≡ before out (unescaped_from place 0 (drop place text)) → length text ≤ place
+    → unescaped text ≡ Ok out
 whole_read text out place so_far past = so_far ∙ ap (λ s. before out (unescaped_from place 0 s)) (drop_all place text past) ∙ ap Ok (append-nil out)
 
 -- no piece stands where a text goes on
@@ -182,5 +190,6 @@ no_piece_by : (place : ℕ) (s : List ℕ) → 0 < length s → piece_of s ≡ N
 no_piece_by place [] some none = absurd (omega arith)
 no_piece_by place (b ∷ rest) some none = ap (λ o. piece_then place o (λ m. unescaped_from (place + 1) m rest)) none
 
-pub no_piece : (text out : List ℕ) (place : ℕ) → unescaped text ≡ before out (unescaped_from place 0 (drop place text)) → place < length text → piece_of (drop place text) ≡ None → unescaped text ≡ Err place
+pub no_piece : (text out : List ℕ) (place : ℕ) → unescaped text ≡ before out (unescaped_from place 0 (drop place text)) → place < length text
+    → piece_of (drop place text) ≡ None → unescaped text ≡ Err place
 no_piece text out place so_far some none = so_far ∙ ap (before out) (no_piece_by place (drop place text) (omega (arith, length-drop place text)) none)

@@ -26,15 +26,18 @@ use Rattle.iio_text.specs.Fixed.{places_of, IsFixed, without_last, body_of, is_m
 pub small_power : (i : ℕ) → i < 9 → 10 ^ i ≤ 100000000
 small_power i h = pow-le-pow_right {n = 10} (omega arith) {i = i} {j = 8} (omega arith)
 
-padded_digit : (ds : List ℕ) (places i d : ℕ) → i < places → (i < length ds → d ≡ digit_value (get_or ds i 0)) → (length ds ≤ i → d ≡ 0) → digit_value (get_or (ds ++ replicate places 48) i 0) ≡ d
+padded_digit : (ds : List ℕ) (places i d : ℕ) → i < places → (i < length ds → d ≡ digit_value (get_or ds i 0)) → (length ds ≤ i → d ≡ 0)
+    → digit_value (get_or (ds ++ replicate places 48) i 0) ≡ d
 padded_digit ds places i d h here past =
     elim (cases_lt i (length ds)) [
       | inl lt ↦ ap digit_value (get_or-append ds (replicate places 48) 0 i lt) ∙ sym (here lt)
-      | inr ge ↦ ap digit_value (get_or-append_right ds (replicate places 48) i 0 ge ∙ get_or-replicate places (i - length ds) 48 0 (omega arith)) ∙ sym (past ge)
+      | inr ge ↦ ap digit_value (get_or-append_right ds (replicate places 48) i 0 ge ∙ get_or-replicate places (i - length ds) 48 0 (omega arith))
+          ∙ sym (past ge)
     ]
 
 -- one more digit after the point
-pub part_more : (ds : List ℕ) (places i d : ℕ) → i < places → (i < length ds → d ≡ digit_value (get_or ds i 0)) → (length ds ≤ i → d ≡ 0) → digits_value 10 (take (i + 1) (ds ++ replicate places 48)) ≡ digits_value 10 (take i (ds ++ replicate places 48)) * 10 + d
+pub part_more : (ds : List ℕ) (places i d : ℕ) → i < places → (i < length ds → d ≡ digit_value (get_or ds i 0)) → (length ds ≤ i → d ≡ 0)
+    → digits_value 10 (take (i + 1) (ds ++ replicate places 48)) ≡ digits_value 10 (take i (ds ++ replicate places 48)) * 10 + d
 part_more ds places i d h here past =
     let room : i < length (ds ++ replicate places 48) = grind (arith, common_steps) in
     digits_value_more 10 (ds ++ replicate places 48) i room
@@ -77,7 +80,8 @@ ends_with_digit xs ys some h =
 digits_end : (ds : List ℕ) → list_all is_ascii_digit ds ≡ true → 0 < length ds → EndsWithDigit ds
 digits_end ds h some = digit_at ds (length ds - 1) h (omega arith)
 
-keeps_last : (b : ℕ) (text : List ℕ) (v : Bool) → eqb (get_or text (length text - 1) 0) b ≡ false → cond (v && eqb (get_or text (length text - 1) 0) b) (take (length text - 1) text) text ≡ text
+keeps_last : (b : ℕ) (text : List ℕ) (v : Bool) → eqb (get_or text (length text - 1) 0) b ≡ false
+    → cond (v && eqb (get_or text (length text - 1) 0) b) (take (length text - 1) text) text ≡ text
 keeps_last b text true h = rw h refl
 keeps_last b text false h = refl
 
@@ -109,7 +113,8 @@ whole_is Int ds part h = append-nil ds
 whole_is Micro ds part h = before_point ds (last_digits 6 part) h
 whole_is Nano ds part h = before_point ds (last_digits 9 part) h
 
-part_is : (form : Form) (ds : List ℕ) (part : ℕ) → list_all is_ascii_digit ds ≡ true → part_digits form (ds ++ part_text form part) ≡ last_digits (places_of form) part
+part_is : (form : Form) (ds : List ℕ) (part : ℕ) → list_all is_ascii_digit ds ≡ true
+    → part_digits form (ds ++ part_text form part) ≡ last_digits (places_of form) part
 part_is Int ds part h = refl
 part_is Micro ds part h = after_point ds (last_digits 6 part) h
 part_is Nano ds part h = after_point ds (last_digits 9 part) h
@@ -126,7 +131,9 @@ number_end Micro ds part h some = fraction_end 6 ds part (omega arith)
 number_end Nano ds part h some = fraction_end 9 ds part (omega arith)
 
 -- the value of right digits
-by_digits : (form : Form) (minus : Bool) (ds es : List ℕ) (whole part : ℕ) → list_all is_ascii_digit ds ≡ true → list_all is_ascii_digit es ≡ true → 0 < length ds → digits_value 10 ds ≡ whole → whole ≤ 2147483647 → part_value (places_of form) es ≡ part → fixed_by form minus ds es ≡ Ok (signed_fixed form minus whole part)
+by_digits : (form : Form) (minus : Bool) (ds es : List ℕ) (whole part : ℕ) → list_all is_ascii_digit ds ≡ true → list_all is_ascii_digit es ≡ true
+    → 0 < length ds → digits_value 10 ds ≡ whole → whole ≤ 2147483647 → part_value (places_of form) es ≡ part
+    → fixed_by form minus ds es ≡ Ok (signed_fixed form minus whole part)
 by_digits form minus ds es whole part h g some w within p =
     let counted : leb 1 (length ds + length es) ≡ true = grind (arith, nat_tests) in
     let small : leb whole 2147483647 ≡ true = grind (arith, nat_tests) in
@@ -139,7 +146,8 @@ part_value-last_digits k part h =
     ∙ digits_value-last_digits k part h
 
 -- a text is read by its parts
-by_parts : (form : Form) (text rest ds es : List ℕ) (minus : Bool) (r : Result Fixed Errno) → body_of text ≡ text → is_minus text ≡ minus → unsigned_of text ≡ rest → whole_digits form rest ≡ ds → part_digits form rest ≡ es → fixed_by form minus ds es ≡ r → fixed_of form text ≡ r
+by_parts : (form : Form) (text rest ds es : List ℕ) (minus : Bool) (r : Result Fixed Errno) → body_of text ≡ text → is_minus text ≡ minus
+    → unsigned_of text ≡ rest → whole_digits form rest ≡ ds → part_digits form rest ≡ es → fixed_by form minus ds es ≡ r → fixed_of form text ≡ r
 by_parts form text rest ds es minus r b m u w p done =
     ap (λ t. fixed_by form (is_minus t) (whole_digits form (unsigned_of t)) (part_digits form (unsigned_of t))) b
     ∙ ap (λ v. fixed_by form v (whole_digits form (unsigned_of text)) (part_digits form (unsigned_of text))) m
@@ -155,7 +163,8 @@ no_sign text h = rw (no_digit (get_or text 0 0) 43 h refl, no_digit (get_or text
 begins_with_digit : (ds es : List ℕ) → list_all is_ascii_digit ds ≡ true → 0 < length ds → is_ascii_digit (get_or (ds ++ es) 0 0) ≡ true
 begins_with_digit ds es h some = ap is_ascii_digit (get_or-append ds es 0 0 some) ∙ digit_at ds 0 h some
 
-sign_kept : (form : Form) (minus : Bool) (whole part : ℕ) → (minus ≡ true → 0 < whole + part) → signed_fixed form minus whole part ≡ record { negative = minus; whole = whole; part = part; form = form }
+sign_kept : (form : Form) (minus : Bool) (whole part : ℕ) → (minus ≡ true → 0 < whole + part)
+    → signed_fixed form minus whole part ≡ record { negative = minus; whole = whole; part = part; form = form }
 sign_kept form false whole part h = refl
 sign_kept form true whole part h =
     let some = h refl in
@@ -166,18 +175,23 @@ abbrev sign_text : Bool → List ℕ
 sign_text negative = if negative then 45 ∷ [] else []
 
 -- a sign, digits, and the digits after the point
-read_text : (form : Form) (negative : Bool) (ds : List ℕ) (whole part : ℕ) → list_all is_ascii_digit ds ≡ true → 0 < length ds → digits_value 10 ds ≡ whole → (negative ≡ true → 0 < whole + part) → whole ≤ 2147483647 → part < 10 ^ places_of form → fixed_of form (sign_text negative ++ ds ++ part_text form part) ≡ Ok (record { negative = negative; whole = whole; part = part; form = form })
+read_text : (form : Form) (negative : Bool) (ds : List ℕ) (whole part : ℕ) → list_all is_ascii_digit ds ≡ true → 0 < length ds → digits_value 10 ds ≡ whole
+    → (negative ≡ true → 0 < whole + part) → whole ≤ 2147483647 → part < 10 ^ places_of form
+    → fixed_of form (sign_text negative ++ ds ++ part_text form part) ≡ Ok (record { negative = negative; whole = whole; part = part; form = form })
 read_text form true ds whole part digits some value s w p =
     by_parts form (45 ∷ (ds ++ part_text form part)) (ds ++ part_text form part) ds (last_digits (places_of form) part) true _
-    (body_is (45 ∷ (ds ++ part_text form part)) (ends_with_digit (45 ∷ []) (ds ++ part_text form part) (omega (arith, length-append ds (part_text form part))) (number_end form ds part digits some)))
+    (body_is (45 ∷ (ds ++ part_text form part))
+    (ends_with_digit (45 ∷ []) (ds ++ part_text form part) (omega (arith, length-append ds (part_text form part))) (number_end form ds part digits some)))
     refl refl (whole_is form ds part digits) (part_is form ds part digits)
-    (by_digits form true ds (last_digits (places_of form) part) whole part digits (are_digits-last_digits (places_of form) part) some value w (part_value-last_digits (places_of form) part p) ∙ ap Ok (sign_kept form true whole part s))
+    (by_digits form true ds (last_digits (places_of form) part) whole part digits (are_digits-last_digits (places_of form) part) some value w
+    (part_value-last_digits (places_of form) part p) ∙ ap Ok (sign_kept form true whole part s))
 read_text form false ds whole part digits some value s w p =
     let begin = begins_with_digit ds (part_text form part) digits some in
     by_parts form (ds ++ part_text form part) (ds ++ part_text form part) ds (last_digits (places_of form) part) false _
     (body_is (ds ++ part_text form part) (number_end form ds part digits some))
     (no_digit _ 45 begin refl) (no_sign (ds ++ part_text form part) begin) (whole_is form ds part digits) (part_is form ds part digits)
-    (by_digits form false ds (last_digits (places_of form) part) whole part digits (are_digits-last_digits (places_of form) part) some value w (part_value-last_digits (places_of form) part p) ∙ ap Ok (sign_kept form false whole part s))
+    (by_digits form false ds (last_digits (places_of form) part) whole part digits (are_digits-last_digits (places_of form) part) some value w
+    (part_value-last_digits (places_of form) part p) ∙ ap Ok (sign_kept form false whole part s))
 
 -- a printed value is read back
 pub fixed_of-printed_fixed : (v : Fixed) → IsFixed v → fixed_of v.form (printed_fixed v) ≡ Ok v

@@ -37,7 +37,8 @@ none_before : (text : List ℕ) (n : ℕ) → Nowhere (Passes (is_byte 10) text)
 none_before text n h k below = false_from_ne_true (is_line_end (get_or text k 0)) (h k (omega arith) below)
 
 -- the first LF
-pub first_end : (text : List ℕ) (n : ℕ) → NoneBefore (Passes (is_byte 10) text) 0 (length text) n × Passes (is_byte 10) text n → n ≡ position_or_len is_line_end text
+pub first_end : (text : List ℕ) (n : ℕ) → NoneBefore (Passes (is_byte 10) text) 0 (length text) n × Passes (is_byte 10) text n
+    → n ≡ position_or_len is_line_end text
 first_end text n h = sym (position_or_len_is is_line_end text n 0 (let within = h.0.high in omega (arith, within)) (none_before text n h.0.before) (λ _. h.1))
 
 -- there is none

@@ -61,7 +61,8 @@ value_up_to-digits limit n ds digits value within =
     let small : leb n limit ≡ true = grind (arith, nat_tests) in
     rw (digits, value, small) refl
 
-plain_value-digits : (limit n : ℕ) (ds : List ℕ) → list_all is_ascii_digit ds ≡ true → digits_value 10 ds ≡ n → n ≤ limit → 48 < get_or ds 0 0 → plain_value limit ds ≡ Some n
+plain_value-digits : (limit n : ℕ) (ds : List ℕ) → list_all is_ascii_digit ds ≡ true → digits_value 10 ds ≡ n → n ≤ limit → 48 < get_or ds 0 0
+    → plain_value limit ds ≡ Some n
 plain_value-digits limit n [] digits value within first = absurd (omega arith)
 plain_value-digits limit n (d ∷ ds) digits value within first =
     let zero : eqb d 48 ≡ false = grind (arith, nat_tests) in

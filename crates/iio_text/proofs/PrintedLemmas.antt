@@ -77,13 +77,16 @@ take_into a k n xs ys h m =
     ∙ ap (λ t. take a xs ++ t) (take-append-le n ys (post_of a k xs) m)
 
 -- the same, of a vector that grew for the part, and is cut after it
-pub take_grown : (a k n m : ℕ) (xs ys after : List ℕ) → a ≤ length xs → n ≤ length ys → a + n ≤ m → take (a + n) (take m (put_mid a k xs ys ++ after)) ≡ take a xs ++ take n ys
+pub take_grown : (a k n m : ℕ) (xs ys after : List ℕ) → a ≤ length xs → n ≤ length ys → a + n ≤ m
+    → take (a + n) (take m (put_mid a k xs ys ++ after)) ≡ take a xs ++ take n ys
 take_grown a k n m xs ys after h l within =
-    let long : a + n ≤ length (put_mid a k xs ys) = omega (arith, length-append (take a xs) (ys ++ post_of a k xs), length-append ys (post_of a k xs), length-take-le a xs h) in
+    let long : a + n ≤ length (put_mid a k xs ys) =
+    omega (arith, length-append (take a xs) (ys ++ post_of a k xs), length-append ys (post_of a k xs), length-take-le a xs h) in
     take-take (a + n) m (put_mid a k xs ys ++ after) within ∙ take-append-le (a + n) (put_mid a k xs ys) after long ∙ take_into a k n xs ys h l
 
 -- a part that is written doesn't change how long a vector is
-pub length_written : (a m : ℕ) (xs ys after : List ℕ) → a ≤ length xs → length ys ≡ length xs - a → m ≡ length xs → length (take m (put_mid a (length xs - a) xs ys ++ after)) ≡ m
+pub length_written : (a m : ℕ) (xs ys after : List ℕ) → a ≤ length xs → length ys ≡ length xs - a → m ≡ length xs
+    → length (take m (put_mid a (length xs - a) xs ys ++ after)) ≡ m
 length_written a m xs ys after h same all =
     let post = post_of a (length xs - a) xs in
     length-take-le m (put_mid a (length xs - a) xs ys ++ after)
@@ -99,7 +102,8 @@ pub escaped_next : (bytes : List ℕ) (place more : ℕ) → escaped (take place
 escaped_next bytes place more = sym (flat_map-append escaped_byte (take place bytes) (chunk place more bytes)) ∙ ap escaped (sym (take-add place more bytes))
 
 -- bytes up to a place, and from there on to another one
-pub escaped_on : (bytes : List ℕ) (place end : ℕ) → place ≤ end → escaped (take place bytes) ++ escaped (mid_of place (end - place) bytes) ≡ escaped (take end bytes)
+pub escaped_on : (bytes : List ℕ) (place end : ℕ) → place ≤ end
+    → escaped (take place bytes) ++ escaped (mid_of place (end - place) bytes) ≡ escaped (take end bytes)
 escaped_on bytes place end h =
     let e : place + (end - place) ≡ end = omega arith in
     escaped_next bytes place (end - place) ∙ ap (λ n. escaped (take n bytes)) e

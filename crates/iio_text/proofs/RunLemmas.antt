@@ -21,7 +21,8 @@ pub joined : (h : ℕ → ℕ → ℕ) (f g : ℕ → ℕ) (v : List ℕ) {a b :
 joined h f g v p q = zip2_of_maps h f g v p q
 
 -- two tests that agree on bytes have one first place
-same_place : (p q : ℕ → Bool) (v : List ℕ) → agree_below p q 256 ≡ true → ((k : ℕ) → k < length v → Fits w8 (get_or v k 0)) → position_or_len p v ≡ position_or_len q v
+same_place : (p q : ℕ → Bool) (v : List ℕ) → agree_below p q 256 ≡ true → ((k : ℕ) → k < length v → Fits w8 (get_or v k 0))
+    → position_or_len p v ≡ position_or_len q v
 same_place p q [] all fits = refl
 same_place p q (x ∷ xs) all fits =
     let here : p x ≡ q x = agree_below_at p q 256 x all (fits 0 (omega arith)).fits in
@@ -35,7 +36,8 @@ lanes_place q d n i r z few room fits found f lanes all =
     let v = chunk i n d in
     let p : ℕ → Bool = λ x. top 7 (f x) in
     let long = length-chunk i n d room in
-    let mask = ap (λ l. mask_l l % 2 ^ 64) (ap (map (top 7)) lanes ∙ map-map (top 7) f v) ∙ mask_l-mod (map p v) 64 (omega (arith, length-map v p, long, few)) in
+    let mask =
+    ap (λ l. mask_l l % 2 ^ 64) (ap (map (top 7)) lanes ∙ map-map (top 7) f v) ∙ mask_l-mod (map p v) 64 (omega (arith, length-map v p, long, few)) in
     found ∙ ap (λ m. first_of m n) mask ∙ first_set_mask_l p v n long few
     ∙ same_place p q v all (λ k h. subst (Fits w8) (sym (get_or-chunk i n d k 0 (omega (arith, long)))) (fits (i + k)))
 
@@ -65,7 +67,8 @@ some_lane q [] h = absurd (omega arith)
 some_lane q (x ∷ xs) h = some_step (q x) (mask_l (map q xs)) (position_or_len q xs) (length xs) h (some_lane q xs)
 
 -- the first of sixteen bytes that passes, by their mask
-pub masked_place : (q : ℕ → Bool) (d : List ℕ) (i m r : ℕ) → i + 16 ≤ length d → m ≡ mask_l (map q (chunk i 16 d)) → r ≡ first_of m 16 → r ≡ position_or_len q (chunk i 16 d)
+pub masked_place : (q : ℕ → Bool) (d : List ℕ) (i m r : ℕ) → i + 16 ≤ length d → m ≡ mask_l (map q (chunk i 16 d)) → r ≡ first_of m 16
+    → r ≡ position_or_len q (chunk i 16 d)
 masked_place q d i m r room is found =
     let long = length-chunk i 16 d room in
     found ∙ ap (λ n. first_of n 16) is ∙ first_set_mask_l q (chunk i 16 d) 16 long (omega arith)
@@ -107,14 +110,16 @@ place_in_front q [] b h = absurd (omega arith)
 place_in_front q (x ∷ xs) b h = in_front_step (q x) (position_or_len q xs) (position_or_len q (xs ++ b)) (length xs) h (place_in_front q xs b)
 
 -- a run of n bytes after bytes none of which passes: one of the run passes,
-pub place_in_run : (q : ℕ → Bool) (d : List ℕ) (n i r : ℕ) → i + n ≤ length d → i ≤ position_or_len q d → r ≡ position_or_len q (chunk i n d) → r < n → position_or_len q d ≡ i + r
+pub place_in_run : (q : ℕ → Bool) (d : List ℕ) (n i r : ℕ) → i + n ≤ length d → i ≤ position_or_len q d → r ≡ position_or_len q (chunk i n d) → r < n
+    → position_or_len q d ≡ i + r
 place_in_run q d n i r room before is short =
     let front = place_in_front q (chunk i n d) (drop (i + n) d) (omega (arith, is, length-chunk i n d room)) in
     let whole = ap (position_or_len q) (chunk-drop i n d) ∙ front ∙ sym is in
     place_skip q d i before ∙ ap (λ m. i + m) whole
 
 -- or none does
-pub place_past_run : (q : ℕ → Bool) (d : List ℕ) (n i r : ℕ) → i ≤ position_or_len q d → r ≡ position_or_len q (chunk i n d) → n ≤ r → i + n ≤ position_or_len q d
+pub place_past_run : (q : ℕ → Bool) (d : List ℕ) (n i r : ℕ) → i ≤ position_or_len q d → r ≡ position_or_len q (chunk i n d) → n ≤ r
+    → i + n ≤ position_or_len q d
 place_past_run q d n i r before is long =
     let skip = place_skip q d i before in
     let front : position_or_len q (chunk i n d) ≤ position_or_len q (drop i d) =
@@ -127,8 +132,10 @@ pub copied_on : (text room : List ℕ) (i n : ℕ) → i + 16 ≤ length text �
 copied_on text room i n here fits part same =
     let long = length-chunk i 16 text here in
     let whole : take (i + 16) (put_chunk i room (chunk i 16 text)) ≡ take (i + 16) text =
-    take_more_put_chunk i room (chunk i 16 text) (i + 16) (omega (arith, long)) (omega arith) ∙ ap (λ t. t ++ chunk i 16 text) same ∙ sym (take-add i 16 text) in
-    sym (take-take (i + n) (i + 16) (put_chunk i room (chunk i 16 text)) (omega arith)) ∙ ap (take (i + n)) whole ∙ take-take (i + n) (i + 16) text (omega arith)
+    take_more_put_chunk i room (chunk i 16 text) (i + 16) (omega (arith, long)) (omega arith) ∙ ap (λ t. t ++ chunk i 16 text) same
+    ∙ sym (take-add i 16 text) in
+    sym (take-take (i + n) (i + 16) (put_chunk i room (chunk i 16 text)) (omega arith)) ∙ ap (take (i + n)) whole
+    ∙ take-take (i + n) (i + 16) text (omega arith)
 
 -- ---- whether all bytes pass
 
@@ -156,7 +163,8 @@ lanes_all q d i n z few room fits f lanes all =
     let v = chunk i n d in
     let p : ℕ → Bool = λ x. top 7 (f x) in
     let long = length-chunk i n d room in
-    let mask = ap (λ l. mask_l l % 2 ^ 64) (ap (map (top 7)) lanes ∙ map-map (top 7) f v) ∙ mask_l-mod (map p v) 64 (omega (arith, length-map v p, long, few)) in
+    let mask =
+    ap (λ l. mask_l l % 2 ^ 64) (ap (map (top 7)) lanes ∙ map-map (top 7) f v) ∙ mask_l-mod (map p v) 64 (omega (arith, length-map v p, long, few)) in
     ap (λ m. eqb m 0) mask ∙ no_lane p v
     ∙ same_all (λ x. not (p x)) q v all (λ k h. subst (Fits w8) (sym (get_or-chunk i n d k 0 (omega (arith, long)))) (fits (i + k)))
 
@@ -168,7 +176,9 @@ all_more q d i n a b = ap (list_all q) (take-add i n d) ∙ list_all-append q (t
 pub one_fails : (q : ℕ → Bool) (d : List ℕ) (i n : ℕ) → list_all q (chunk i n d) ≡ false → list_all q d ≡ false
 one_fails q d i n e =
     sym (ap (list_all q) (take-append-drop i d)) ∙ list_all-append q (take i d) (drop i d)
-    ∙ ap (λ b. list_all q (take i d) && b) (sym (ap (list_all q) (take-append-drop n (drop i d))) ∙ list_all-append q (chunk i n d) (drop n (drop i d)) ∙ ap (λ b. b && list_all q (drop n (drop i d))) e)
+    ∙ ap (λ b. list_all q (take i d) && b)
+    (sym (ap (list_all q) (take-append-drop n (drop i d))) ∙ list_all-append q (chunk i n d) (drop n (drop i d))
+    ∙ ap (λ b. b && list_all q (drop n (drop i d))) e)
     ∙ and-false (list_all q (take i d))
 
 -- a front and a back that together are all

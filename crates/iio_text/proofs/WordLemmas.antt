@@ -6,7 +6,8 @@ use Rattle.std.proofs.lemmas.List.{take-append-drop, nil_from_length}
 use Rattle.std.proofs.lemmas.Grind.{common_steps}
 use Rattle.iio_text.specs.Words.{begins_word, words_of, IsFirstWord}
 
-skip_byte : (blank : ℕ → Bool) (b : ℕ) (bs : List ℕ) (v : Bool) → blank b ≡ v → words_of blank (drop (prefix_len blank bs) bs) ≡ words_of blank bs → words_of blank (drop (prefix_len blank (b ∷ bs)) (b ∷ bs)) ≡ words_of blank (b ∷ bs)
+skip_byte : (blank : ℕ → Bool) (b : ℕ) (bs : List ℕ) (v : Bool) → blank b ≡ v → words_of blank (drop (prefix_len blank bs) bs) ≡ words_of blank bs
+    → words_of blank (drop (prefix_len blank (b ∷ bs)) (b ∷ bs)) ≡ words_of blank (b ∷ bs)
 skip_byte blank b bs true e ih = rw (e, one-add) ih
 skip_byte blank b bs false e ih = rw (e, e) refl
 
@@ -16,7 +17,9 @@ words_of-skip blank [] = refl
 words_of-skip blank (b ∷ bs) = skip_byte blank b bs (blank b) refl (words_of-skip blank bs)
 
 -- after the blanks a word begins, where anything stands there
-begins_byte : (blank : ℕ → Bool) (b : ℕ) (bs : List ℕ) (v : Bool) → blank b ≡ v → (0 < length (drop (prefix_len blank bs) bs) → begins_word blank (drop (prefix_len blank bs) bs) ≡ true) → 0 < length (drop (prefix_len blank (b ∷ bs)) (b ∷ bs)) → begins_word blank (drop (prefix_len blank (b ∷ bs)) (b ∷ bs)) ≡ true
+begins_byte : (blank : ℕ → Bool) (b : ℕ) (bs : List ℕ) (v : Bool) → blank b ≡ v
+    → (0 < length (drop (prefix_len blank bs) bs) → begins_word blank (drop (prefix_len blank bs) bs) ≡ true)
+    → 0 < length (drop (prefix_len blank (b ∷ bs)) (b ∷ bs)) → begins_word blank (drop (prefix_len blank (b ∷ bs)) (b ∷ bs)) ≡ true
 begins_byte blank b bs true e ih h = rw (e, one-add) (ih (rw (e, one-add) at h))
 begins_byte blank b bs false e ih h = rw e (ap not e)
 
@@ -35,7 +38,8 @@ pub record SplitsWord (blank : ℕ → Bool) (s : List ℕ) : Type 0 where
   pub no_blank : list_any blank (take (position_or_len blank s) s) ≡ false
   pub ended : begins_word blank (drop (position_or_len blank s) s) ≡ false
 
-split_byte : (blank : ℕ → Bool) (b : ℕ) (bs : List ℕ) → blank b ≡ false → (v : Bool) → begins_word blank bs ≡ v → (begins_word blank bs ≡ true → SplitsWord blank bs) → SplitsWord blank (b ∷ bs)
+split_byte : (blank : ℕ → Bool) (b : ℕ) (bs : List ℕ) → blank b ≡ false → (v : Bool) → begins_word blank bs ≡ v
+    → (begins_word blank bs ≡ true → SplitsWord blank bs) → SplitsWord blank (b ∷ bs)
 split_byte blank b bs e true f ih = let h = ih f in record {
   words = rw (e, one-add, f, h.words) refl;
   some = rw e (omega arith);
@@ -57,7 +61,8 @@ some_taken : (n : ℕ) (s : List ℕ) → 0 < n → 0 < length s → 0 < length 
 some_taken n s h k = grind (arith, common_steps)
 
 -- what stands after the blanks, cut at the next blank, is the first word and the text after it
-pub first_word_is : (blank : ℕ → Bool) (text begun word rest : List ℕ) → begun ≡ drop (prefix_len blank text) text → 0 < length begun → word ≡ take (position_or_len blank begun) begun → rest ≡ drop (position_or_len blank begun) begun → IsFirstWord blank text word rest
+pub first_word_is : (blank : ℕ → Bool) (text begun word rest : List ℕ) → begun ≡ drop (prefix_len blank text) text → 0 < length begun
+    → word ≡ take (position_or_len blank begun) begun → rest ≡ drop (position_or_len blank begun) begun → IsFirstWord blank text word rest
 first_word_is blank text begun word rest a b c d =
     let begins : begins_word blank begun ≡ true = rw a (begins_word-drop blank text (rw a at b)) in
     let h = splits_word blank begun begins in

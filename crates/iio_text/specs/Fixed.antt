@@ -68,7 +68,8 @@ signed_fixed form minus whole part = record { negative = minus && not (whole == 
 -- the value of the digits; or these aren't digits, or the whole part is too large
 abbrev pub fixed_by : Form → Bool → List ℕ → List ℕ → Result Fixed Errno
 fixed_by form minus whole part = if are_right whole part
-    then (if nat_le (digits_value 10 whole) 2147483647 then Ok (signed_fixed form minus (digits_value 10 whole) (part_value (places_of form) part)) else Err ERANGE)
+    then (if nat_le (digits_value 10 whole) 2147483647 then Ok (signed_fixed form minus (digits_value 10 whole) (part_value (places_of form) part))
+    else Err ERANGE)
     else Err EINVAL
 
 -- the value that a text says

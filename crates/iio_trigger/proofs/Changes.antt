@@ -91,11 +91,23 @@ module _ (dev : ℕ) (es : List Entry) where
     module _ (o : InOrder entry_dev 0 es) where
       pub due_of-at : (get_or es i d).in_hand ≡ false → due_of dev es ≡ Some (handed_out (get_or es i d))
       due_of-at idle =
-          rw (find-at entry_dev dev (is_waiting dev) 0 es d o ranked_within ranked_same (is_waiting-other dev), s.ranked, eq-eqb (get_or es i d).dev dev (s.same d), idle)
+          rw (
+            find-at entry_dev dev (is_waiting dev) 0 es d o ranked_within ranked_same (is_waiting-other dev),
+            s.ranked,
+            eq-eqb (get_or es i d).dev dev
+                (s.same d),
+            idle,
+          )
 
       pub due_of-in_hand : (get_or es i d).in_hand ≡ true → due_of dev es ≡ None
       due_of-in_hand busy =
-          rw (find-at entry_dev dev (is_waiting dev) 0 es d o ranked_within ranked_same (is_waiting-other dev), s.ranked, eq-eqb (get_or es i d).dev dev (s.same d), busy)
+          rw (
+            find-at entry_dev dev (is_waiting dev) 0 es d o ranked_within ranked_same (is_waiting-other dev),
+            s.ranked,
+            eq-eqb (get_or es i d).dev dev
+                (s.same d),
+            busy,
+          )
 
       pub with_in_hand-set : with_in_hand dev es ≡ set es i (record (get_or es i d) { in_hand = true })
       with_in_hand-set =

@@ -42,24 +42,28 @@ item_same x y false item same = say_same x.own y.own item same.own
 
 items_same : (x y : Opens) (mine : Bool) (items : List Item) → AsksSame x y → items_meet x mine items ≡ items_meet y mine items
 items_same x y mine [] same = refl
-items_same x y mine (item ∷ items) same = ap (λ b. b && items_meet x mine items) (item_same x y mine item same) ∙ ap (λ b. item_meets y mine item && b) (items_same x y mine items same)
+items_same x y mine (item ∷ items) same =
+    ap (λ b. b && items_meet x mine items) (item_same x y mine item same) ∙ ap (λ b. item_meets y mine item && b) (items_same x y mine items same)
 
 step_same : (x y : Opens) (a : List ℕ) (m : Told) (t : Step) → AsksSame x y → step_meets_by x a m t ≡ step_meets_by y a m t
-step_same x y a m (Feed name bytes) same = ap (λ b. has_ended name (registry_of m).users || b) (items_same x y (bytes_eq name a) (items_from (begun_by name m.lines) bytes) same)
+step_same x y a m (Feed name bytes) same =
+    ap (λ b. has_ended name (registry_of m).users || b) (items_same x y (bytes_eq name a) (items_from (begun_by name m.lines) bytes) same)
 step_same x y a m (Drop name) same = ap (λ b. not (bytes_eq name a) || b) same.none
 step_same x y a m t same = refl
 
 -- ---- at a device
 
 -- what is so of the devices of the stations
-so_is : (f : Device → Bool) (m : Told) (k : ℕ) → is_so_at (map f (registry_of m).devices) k ≡ held_in (option_map f (option_map device_of (slice_get m.stations k)))
+so_is : (f : Device → Bool) (m : Told) (k : ℕ)
+    → is_so_at (map f (registry_of m).devices) k ≡ held_in (option_map f (option_map device_of (slice_get m.stations k)))
 so_is f m k = ap held_in (get_map f (registry_of m).devices k ∙ ap (option_map f) (get_map device_of m.stations k))
 
 no_seat : (m : Told) (name : List ℕ) (desk : DeskRecord) (k : ℕ) → IsDeskOf m name desk → slice_get m.stations k ≡ None → has_seat k desk ≡ false
 no_seat m name desk k is none = ap is_some (is.seats k) ∙ ap (λ o. is_some (seat_in k (Conn name) o)) none
 
 -- the desk of a connection that is there
-desk_is : (m : Told) (a : List ℕ) (desks : List ℕ → DeskRecord) (ns : List (List ℕ)) → Every (λ name. IsDeskOf m name (desks name)) ns → is_in ns a ≡ true → IsDeskOf m a (desks a)
+desk_is : (m : Told) (a : List ℕ) (desks : List ℕ → DeskRecord) (ns : List (List ℕ)) → Every (λ name. IsDeskOf m name (desks name)) ns → is_in ns a ≡ true
+    → IsDeskOf m a (desks a)
 desk_is m a desks [] are is = cc
 desk_is m a desks (n ∷ ns) are is = by_test (bytes_eq n a) refl is (desk_is m a desks ns are.1)
   where
@@ -80,15 +84,19 @@ not_there a ns (m ∷ ms) are absent = or_from (same (Conn a) m.who) (is_member 
         by_test true h = absurd (true≢false (sym there ∙ ap (is_in ns) (sym ((bytes_eq-Decides a name).0 h)) ∙ absent))
 
 -- the connection's own
-own_has_is : (s : Setup) (m : Told) (a : List ℕ) (desks : List ℕ → DeskRecord) (k : ℕ) (st : Station) → IsBench s m → Every (λ name. IsDeskOf m name (desks name)) (names_of m) → slice_get m.stations k ≡ Some st
+own_has_is : (s : Setup) (m : Told) (a : List ℕ) (desks : List ℕ → DeskRecord) (k : ℕ) (st : Station) → IsBench s m
+    → Every (λ name. IsDeskOf m name (desks name)) (names_of m) → slice_get m.stations k ≡ Some st
     → is_member (Conn a) (device_of st).members ≡ own_has (desk_there desks a (names_of m)) k
 own_has_is s m a desks k st bench are here = by_test (is_in (names_of m) a) refl
   where
     by_test : (b : Bool) → is_in (names_of m) a ≡ b → is_member (Conn a) (device_of st).members ≡ own_has (cond b (Some (desks a)) None) k
     by_test true is = seats_tell m a (desks a) k st (desk_is m a desks (names_of m) are is) here
-    by_test false is = not_there a (names_of m) (device_of st).members (seats_there (names_of m) st st.seats (station_there (IsStation (names_of m)) m.stations k st bench.stations here).seats) is
+    by_test false is =
+        not_there a (names_of m) (device_of st).members
+        (seats_there (names_of m) st st.seats (station_there (IsStation (names_of m)) m.stations k st bench.stations here).seats) is
 
-own_has_none : (m : Told) (a : List ℕ) (desks : List ℕ → DeskRecord) (k : ℕ) → Every (λ name. IsDeskOf m name (desks name)) (names_of m) → slice_get m.stations k ≡ None → own_has (desk_there desks a (names_of m)) k ≡ false
+own_has_none : (m : Told) (a : List ℕ) (desks : List ℕ → DeskRecord) (k : ℕ) → Every (λ name. IsDeskOf m name (desks name)) (names_of m)
+    → slice_get m.stations k ≡ None → own_has (desk_there desks a (names_of m)) k ≡ false
 own_has_none m a desks k are none = by_test (is_in (names_of m) a) refl
   where
     by_test : (b : Bool) → is_in (names_of m) a ≡ b → own_has (cond b (Some (desks a)) None) k ≡ false
@@ -103,7 +111,8 @@ kind_is : (s : Setup) (m : Told) (k : ℕ) (st : Station) → IsBench s m → sl
 unfolding kind_at
 kind_is s m k st bench here =
     kind_there st.kind (slice_get (heads_of s.desc) k)
-    (ap (option_map kind_of_station) (sym here) ∙ sym (get_map kind_of_station m.stations k) ∙ ap (λ kinds. slice_get kinds k) bench.kinds ∙ get_map kind_of_head (heads_of s.desc) k)
+    (ap (option_map kind_of_station) (sym here) ∙ sym (get_map kind_of_station m.stations k) ∙ ap (λ kinds. slice_get kinds k) bench.kinds
+    ∙ get_map kind_of_head (heads_of s.desc) k)
 
 false_right : (b : Bool) → (b && false) ≡ false
 false_right true = refl
@@ -113,24 +122,29 @@ own_at : (s : Setup) (m : Told) (a : List ℕ) (desks : List ℕ → DeskRecord)
     → is_so_at (map (has_input a) (registry_of m).devices) k ≡ (is_input (kind_at (front_of s) k) && own_has (desk_there desks a (names_of m)) k)
 own_at s m a desks k bench are = so_is (has_input a) m k ∙ by_station (slice_get m.stations k) refl
   where
-    by_station : (o : Option Station) → slice_get m.stations k ≡ o → held_in (option_map (has_input a) (option_map device_of o)) ≡ (is_input (kind_at (front_of s) k) && own_has (desk_there desks a (names_of m)) k)
-    by_station None is = sym (false_right (is_input (kind_at (front_of s) k))) ∙ ap (λ b. is_input (kind_at (front_of s) k) && b) (sym (own_has_none m a desks k are is))
+    by_station : (o : Option Station) → slice_get m.stations k ≡ o
+        → held_in (option_map (has_input a) (option_map device_of o)) ≡ (is_input (kind_at (front_of s) k) && own_has (desk_there desks a (names_of m)) k)
+    by_station None is =
+        sym (false_right (is_input (kind_at (front_of s) k))) ∙ ap (λ b. is_input (kind_at (front_of s) k) && b) (sym (own_has_none m a desks k are is))
     by_station (Some st) is =
         ap (λ kind. is_input kind && is_member (Conn a) (device_of st).members) (kind_is s m k st bench is)
         ∙ ap (λ b. is_input (kind_at (front_of s) k) && b) (own_has_is s m a desks k st bench are is)
 
 -- the others'
-one_seated_is : (m : Told) (a : List ℕ) (desks : List ℕ → DeskRecord) (k : ℕ) (st : Station) (ns : List (List ℕ)) → Every (λ name. IsDeskOf m name (desks name)) ns → slice_get m.stations k ≡ Some st
+one_seated_is : (m : Told) (a : List ℕ) (desks : List ℕ → DeskRecord) (k : ℕ) (st : Station) (ns : List (List ℕ))
+    → Every (λ name. IsDeskOf m name (desks name)) ns → slice_get m.stations k ≡ Some st
     → one_has a ns (device_of st) ≡ one_seated (desks_but desks a ns) k
 one_seated_is m a desks k st [] are here = refl
 one_seated_is m a desks k st (n ∷ ns) are here = by_test (bytes_eq n a) (one_seated_is m a desks k st ns are.1 here)
   where
     by_test : (b : Bool) → one_has a ns (device_of st) ≡ one_seated (desks_but desks a ns) k
-        → ((not b && is_member (Conn n) (device_of st).members) || one_has a ns (device_of st)) ≡ one_seated (cond b (desks_but desks a ns) (desks n ∷ desks_but desks a ns)) k
+        → ((not b && is_member (Conn n) (device_of st).members) || one_has a ns (device_of st))
+        ≡ one_seated (cond b (desks_but desks a ns) (desks n ∷ desks_but desks a ns)) k
     by_test true rest = rest
     by_test false rest = ap (λ b. b || one_has a ns (device_of st)) (seats_tell m n (desks n) k st are.0 here) ∙ ap (λ b. has_seat k (desks n) || b) rest
 
-none_seated_at : (m : Told) (a : List ℕ) (desks : List ℕ → DeskRecord) (k : ℕ) (ns : List (List ℕ)) → Every (λ name. IsDeskOf m name (desks name)) ns → slice_get m.stations k ≡ None → one_seated (desks_but desks a ns) k ≡ false
+none_seated_at : (m : Told) (a : List ℕ) (desks : List ℕ → DeskRecord) (k : ℕ) (ns : List (List ℕ)) → Every (λ name. IsDeskOf m name (desks name)) ns
+    → slice_get m.stations k ≡ None → one_seated (desks_but desks a ns) k ≡ false
 none_seated_at m a desks k [] are none = refl
 none_seated_at m a desks k (n ∷ ns) are none = by_test (bytes_eq n a) (none_seated_at m a desks k ns are.1 none)
   where
@@ -142,7 +156,8 @@ others_at : (s : Setup) (m : Told) (a : List ℕ) (desks : List ℕ → DeskReco
     → is_so_at (map (has_others a) (registry_of m).devices) k ≡ one_seated (desks_but desks a (names_of m)) k
 others_at s m a desks k bench are = so_is (has_others a) m k ∙ by_station (slice_get m.stations k) refl
   where
-    by_station : (o : Option Station) → slice_get m.stations k ≡ o → held_in (option_map (has_others a) (option_map device_of o)) ≡ one_seated (desks_but desks a (names_of m)) k
+    by_station : (o : Option Station) → slice_get m.stations k ≡ o
+        → held_in (option_map (has_others a) (option_map device_of o)) ≡ one_seated (desks_but desks a (names_of m)) k
     by_station None is = sym (none_seated_at m a desks k (names_of m) are is)
     by_station (Some st) is = others_are_there s m a k st bench is ∙ one_seated_is m a desks k st (names_of m) are is
 
@@ -197,14 +212,22 @@ asks_same : (s : Setup) (m : Told) (a : List ℕ) (desks : List ℕ → DeskReco
     → AsksSame (opens_of s.desc (stance_of a (registry_of m))) (opens_by (front_of s) (desk_there desks a (names_of m)) (desks_but desks a (names_of m)))
 unfolding find_device
 asks_same s m a desks bench are = record {
-  own = λ device. by_same (desc_spec.find_device s.desc device) (is_so_at (map (has_input a) (registry_of m).devices)) (λ k. is_input (kind_at (front_of s) k) && own_has (desk_there desks a (names_of m)) k) (λ k. own_at s m a desks k bench are);
-  others = λ device. by_same (desc_spec.find_device s.desc device) (is_so_at (map (has_others a) (registry_of m).devices)) (one_seated (desks_but desks a (names_of m))) (λ k. others_at s m a desks k bench are);
+  own =
+      λ device. by_same (desc_spec.find_device s.desc device) (is_so_at (map (has_input a) (registry_of m).devices))
+      (λ k. is_input (kind_at (front_of s) k) && own_has (desk_there desks a (names_of m)) k) (λ k. own_at s m a desks k bench are);
+  others =
+      λ device. by_same (desc_spec.find_device s.desc device) (is_so_at (map (has_others a) (registry_of m).devices))
+      (one_seated (desks_but desks a (names_of m))) (λ k. others_at s m a desks k bench are);
   none = either_way (none_so (map (has_others a) (registry_of m).devices)) (none_seated (desks_but desks a (names_of m)))
-      (λ none. none_seated_where (desks_but desks a (names_of m)) (λ k. sym (others_at s m a desks k bench are) ∙ none_then (map (has_others a) (registry_of m).devices) none k))
-      (λ none. none_where (map (has_others a) (registry_of m).devices) (λ k. others_at s m a desks k bench are ∙ none_seated_then (desks_but desks a (names_of m)) none k));
+      (λ none. none_seated_where (desks_but desks a (names_of m))
+      (λ k. sym (others_at s m a desks k bench are) ∙ none_then (map (has_others a) (registry_of m).devices) none k))
+      (λ none. none_where (map (has_others a) (registry_of m).devices)
+      (λ k. others_at s m a desks k bench are ∙ none_seated_then (desks_but desks a (names_of m)) none k));
 }
 
-pub desks_decide : (s : Setup) (m : Told) (a : List ℕ) (desks : List ℕ → DeskRecord) (t : Step) → IsBench s m → Every (λ name. IsDeskOf m name (desks name)) (names_of m)
+pub desks_decide : (s : Setup) (m : Told) (a : List ℕ) (desks : List ℕ → DeskRecord) (t : Step) → IsBench s m
+    → Every (λ name. IsDeskOf m name (desks name)) (names_of m)
     → step_meets s a m t ≡ step_meets_by (opens_by (front_of s) (desk_there desks a (names_of m)) (desks_but desks a (names_of m))) a m t
 desks_decide s m a desks t bench are =
-    step_same (opens_of s.desc (stance_of a (registry_of m))) (opens_by (front_of s) (desk_there desks a (names_of m)) (desks_but desks a (names_of m))) a m t (asks_same s m a desks bench are)
+    step_same (opens_of s.desc (stance_of a (registry_of m))) (opens_by (front_of s) (desk_there desks a (names_of m)) (desks_but desks a (names_of m))) a m t
+    (asks_same s m a desks bench are)

@@ -22,21 +22,27 @@ begins s a ts (Refused line why) = refl
 begins s a ts TooLong = refl
 
 meets : (s : Setup) (a text : List ℕ) (h : List Event) (t : Numbered) (ts : List Numbered) (ending : Ending) → only_bystanders s a (with_step s h t.step) ≡ true
-    → kept_on s a None text h (t ∷ ts) ending ≡ kept_on s a None (text ++ cond (is_others a t.step) [] (lines_of_step s h t.step)) (with_step s h t.step) ts ending
+    → kept_on s a None text h (t ∷ ts) ending
+    ≡ kept_on s a None (text ++ cond (is_others a t.step) [] (lines_of_step s h t.step)) (with_step s h t.step) ts ending
 meets s a text h t ts Finished is =
-    ap (λ b. ended (cond b (first_offence_line s a (with_step s h t.step) ts) (Some t.number)) (text ++ (cond (is_others a t.step) [] (lines_of_step s h t.step) ++ transcript_kept s a (with_step s h t.step) (map step_of_numbered ts)))) is
-    ∙ ap (ended (first_offence_line s a (with_step s h t.step) ts)) (sym (append_assoc text (cond (is_others a t.step) [] (lines_of_step s h t.step)) (transcript_kept s a (with_step s h t.step) (map step_of_numbered ts))))
+    ap (λ b. ended (cond b (first_offence_line s a (with_step s h t.step) ts) (Some t.number))
+    (text ++ (cond (is_others a t.step) [] (lines_of_step s h t.step) ++ transcript_kept s a (with_step s h t.step) (map step_of_numbered ts)))) is
+    ∙ ap (ended (first_offence_line s a (with_step s h t.step) ts))
+    (sym (append_assoc text (cond (is_others a t.step) [] (lines_of_step s h t.step)) (transcript_kept s a (with_step s h t.step) (map step_of_numbered ts))))
 meets s a text h t ts (Refused line why) is = refl
 meets s a text h t ts TooLong is = refl
 
-offends : (s : Setup) (a text : List ℕ) (h : List Event) (t : Numbered) (ts : List Numbered) (ending : Ending) → only_bystanders s a (with_step s h t.step) ≡ false → (text' : List ℕ) (h' : List Event)
+offends : (s : Setup) (a text : List ℕ) (h : List Event) (t : Numbered) (ts : List Numbered) (ending : Ending)
+    → only_bystanders s a (with_step s h t.step) ≡ false → (text' : List ℕ) (h' : List Event)
     → kept_on s a None text h (t ∷ ts) ending ≡ kept_on s a (Some t.number) text' h' ts ending
 offends s a text h t ts Finished is text' h' =
-    ap (λ b. ended (cond b (first_offence_line s a (with_step s h t.step) ts) (Some t.number)) (text ++ (cond (is_others a t.step) [] (lines_of_step s h t.step) ++ transcript_kept s a (with_step s h t.step) (map step_of_numbered ts)))) is
+    ap (λ b. ended (cond b (first_offence_line s a (with_step s h t.step) ts) (Some t.number))
+    (text ++ (cond (is_others a t.step) [] (lines_of_step s h t.step) ++ transcript_kept s a (with_step s h t.step) (map step_of_numbered ts)))) is
 offends s a text h t ts (Refused line why) is text' h' = refl
 offends s a text h t ts TooLong is text' h' = refl
 
-goes : (s : Setup) (a : List ℕ) (line : ℕ) (text : List ℕ) (h : List Event) (t : Numbered) (ts : List Numbered) (text' : List ℕ) (h' : List Event) (ending : Ending)
+goes : (s : Setup) (a : List ℕ) (line : ℕ) (text : List ℕ) (h : List Event) (t : Numbered) (ts : List Numbered) (text' : List ℕ) (h' : List Event)
+    (ending : Ending)
     → kept_on s a (Some line) text h (t ∷ ts) ending ≡ kept_on s a (Some line) text' h' ts ending
 goes s a line text h t ts text' h' Finished = refl
 goes s a line text h t ts text' h' (Refused n why) = refl

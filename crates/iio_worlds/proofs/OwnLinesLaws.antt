@@ -23,9 +23,11 @@ OwnNames a names step = (keeps_names names step ≡ true) × AreOwn a (names_aft
 own_fed : (a name bytes : List ℕ) (names : List (List ℕ)) → name ≡ a → AreOwn a names → OwnNames a names (Some (Feed name bytes))
 unfolding AreOwn OwnNames
 own_fed a name bytes names is (inl none) =
-    subst (λ ns. (keeps_names ns (Some (Feed name bytes)) ≡ true) × AreOwn a (names_after ns (Some (Feed name bytes)))) (sym none) (refl, inr (ap (λ n. n ∷ []) is))
+    subst (λ ns. (keeps_names ns (Some (Feed name bytes)) ≡ true) × AreOwn a (names_after ns (Some (Feed name bytes)))) (sym none)
+    (refl, inr (ap (λ n. n ∷ []) is))
 own_fed a name bytes names is (inr one) =
-    subst (λ ns. (keeps_names ns (Some (Feed name bytes)) ≡ true) × AreOwn a (names_after ns (Some (Feed name bytes)))) (sym one) (by_test (bytes_eq a name) ((bytes_eq-Decides a name).1 (sym is)))
+    subst (λ ns. (keeps_names ns (Some (Feed name bytes)) ≡ true) × AreOwn a (names_after ns (Some (Feed name bytes)))) (sym one)
+    (by_test (bytes_eq a name) ((bytes_eq-Decides a name).1 (sym is)))
   where
     by_test : (b : Bool) → b ≡ true
         → (((b || false) || nat_lt 1 64) ≡ true) × AreOwn a (cond (b || false) (a ∷ []) (name ∷ a ∷ []))
@@ -73,50 +75,64 @@ first_ends : (step : Option Step) (script : Script) → (first_step step script)
 first_ends None script = refl
 first_ends (Some step) script = refl
 
-others_first : (a : List ℕ) (step : Option Step) (own whole : Script) → says_others a (Ok step) ≡ true → IsWithout a own whole → IsWithout a own (first_step step whole)
+others_first : (a : List ℕ) (step : Option Step) (own whole : Script) → says_others a (Ok step) ≡ true → IsWithout a own whole
+    → IsWithout a own (first_step step whole)
 others_first a None own whole is are = cc
 others_first a (Some step) own whole is are = (are.0, are.1 ∙ ap (λ b. cond b (without_others a whole.steps) (step ∷ without_others a whole.steps)) (sym is))
 
-own_first : (a : List ℕ) (step : Option Step) (own whole : Script) → says_others a (Ok step) ≡ false → IsWithout a own whole → IsWithout a (first_step step own) (first_step step whole)
+own_first : (a : List ℕ) (step : Option Step) (own whole : Script) → says_others a (Ok step) ≡ false → IsWithout a own whole
+    → IsWithout a (first_step step own) (first_step step whole)
 own_first a None own whole is are = are
 own_first a (Some step) own whole is are =
     (are.0, ap (λ ts. step ∷ ts) are.1 ∙ ap (λ b. cond b (without_others a whole.steps) (step ∷ without_others a whole.steps)) (sym is))
 
 -- a line that is kept says its step
-kept_line : (desc : Description) (a : List ℕ) (names : List (List ℕ)) (n : ℕ) (line : List ℕ) (lines : List (List ℕ)) (step : Option Step) → step_of desc line ≡ Ok step → keeps_names names step ≡ true
+kept_line : (desc : Description) (a : List ℕ) (names : List (List ℕ)) (n : ℕ) (line : List ℕ) (lines : List (List ℕ)) (step : Option Step)
+    → step_of desc line ≡ Ok step → keeps_names names step ≡ true
     → script_from desc Finished names n (line ∷ lines) ≡ first_step step (script_from desc Finished (names_after names step) (n + 1) lines)
 kept_line desc a names n line lines step said keeps =
     ap (λ o. script_by desc names n lines (after_by names o)) said ∙ ap (λ b. script_by desc names n lines (checked step b)) keeps
 
-by_others : (desc : Description) (a : List ℕ) (line : List ℕ) (lines : List (List ℕ)) (names names' : List (List ℕ)) (n n' : ℕ) (step : Option Step) (b : Bool) → step_of desc line ≡ Ok step → says_others a (Ok step) ≡ b
+by_others : (desc : Description) (a : List ℕ) (line : List ℕ) (lines : List (List ℕ)) (names names' : List (List ℕ)) (n n' : ℕ) (step : Option Step) (b : Bool)
+    → step_of desc line ≡ Ok step → says_others a (Ok step) ≡ b
     → AreOwn a names' → (script_from desc Finished (names_after names step) (n + 1) lines).ending ≡ Finished → Says desc a lines
-    → IsWithout a (script_from desc Finished names' n' (cond b (own_lines desc a lines) (line ∷ own_lines desc a lines))) (first_step step (script_from desc Finished (names_after names step) (n + 1) lines))
+    → IsWithout a (script_from desc Finished names' n' (cond b (own_lines desc a lines) (line ∷ own_lines desc a lines)))
+    (first_step step (script_from desc Finished (names_after names step) (n + 1) lines))
 unfolding OwnNames
 by_others desc a line lines names names' n n' step true said is are ends next =
-    others_first a step (script_from desc Finished names' n' (own_lines desc a lines)) (script_from desc Finished (names_after names step) (n + 1) lines) is (next (names_after names step) names' (n + 1) n' are ends)
+    others_first a step (script_from desc Finished names' n' (own_lines desc a lines)) (script_from desc Finished (names_after names step) (n + 1) lines) is
+    (next (names_after names step) names' (n + 1) n' are ends)
 by_others desc a line lines names names' n n' step false said is are ends next =
     let own = own_names a names' step is are in
     subst (λ script. IsWithout a script (first_step step (script_from desc Finished (names_after names step) (n + 1) lines)))
     (sym (kept_line desc a names' n' line (own_lines desc a lines) step said own.0))
-    (own_first a step (script_from desc Finished (names_after names' step) (n' + 1) (own_lines desc a lines)) (script_from desc Finished (names_after names step) (n + 1) lines) is
+    (own_first a step (script_from desc Finished (names_after names' step) (n' + 1) (own_lines desc a lines))
+    (script_from desc Finished (names_after names step) (n + 1) lines) is
     (next (names_after names step) (names_after names' step) (n + 1) (n' + 1) own.1 ends))
 
-by_keeping : (desc : Description) (a : List ℕ) (line : List ℕ) (lines : List (List ℕ)) (names names' : List (List ℕ)) (n n' : ℕ) (step : Option Step) (b : Bool) → step_of desc line ≡ Ok step
+by_keeping : (desc : Description) (a : List ℕ) (line : List ℕ) (lines : List (List ℕ)) (names names' : List (List ℕ)) (n n' : ℕ) (step : Option Step) (b : Bool)
+    → step_of desc line ≡ Ok step
     → AreOwn a names' → (script_by desc names n lines (checked step b)).ending ≡ Finished → Says desc a lines
-    → IsWithout a (script_from desc Finished names' n' (cond (says_others a (Ok step)) (own_lines desc a lines) (line ∷ own_lines desc a lines))) (script_by desc names n lines (checked step b))
+    → IsWithout a (script_from desc Finished names' n' (cond (says_others a (Ok step)) (own_lines desc a lines) (line ∷ own_lines desc a lines)))
+    (script_by desc names n lines (checked step b))
 by_keeping desc a line lines names names' n n' step false said are ends next = cc
 by_keeping desc a line lines names names' n n' step true said are ends next =
-    by_others desc a line lines names names' n n' step (says_others a (Ok step)) said refl are (sym (first_ends step (script_from desc Finished (names_after names step) (n + 1) lines)) ∙ ends) next
+    by_others desc a line lines names names' n n' step (says_others a (Ok step)) said refl are
+    (sym (first_ends step (script_from desc Finished (names_after names step) (n + 1) lines)) ∙ ends) next
 
-by_said : (desc : Description) (a : List ℕ) (line : List ℕ) (lines : List (List ℕ)) (names names' : List (List ℕ)) (n n' : ℕ) (o : Result (Option Step) Why) → step_of desc line ≡ o
+by_said : (desc : Description) (a : List ℕ) (line : List ℕ) (lines : List (List ℕ)) (names names' : List (List ℕ)) (n n' : ℕ) (o : Result (Option Step) Why)
+    → step_of desc line ≡ o
     → AreOwn a names' → (script_by desc names n lines (after_by names o)).ending ≡ Finished → Says desc a lines
-    → IsWithout a (script_from desc Finished names' n' (cond (says_others a o) (own_lines desc a lines) (line ∷ own_lines desc a lines))) (script_by desc names n lines (after_by names o))
+    → IsWithout a (script_from desc Finished names' n' (cond (says_others a o) (own_lines desc a lines) (line ∷ own_lines desc a lines)))
+    (script_by desc names n lines (after_by names o))
 by_said desc a line lines names names' n n' (Err why) said are ends next = cc
-by_said desc a line lines names names' n n' (Ok step) said are ends next = by_keeping desc a line lines names names' n n' step (keeps_names names step) said are ends next
+by_said desc a line lines names names' n n' (Ok step) said are ends next =
+    by_keeping desc a line lines names names' n n' step (keeps_names names step) said are ends next
 
 own_says : (desc : Description) (a : List ℕ) (lines : List (List ℕ)) → Says desc a lines
 own_says desc a [] names names' n n' are ends = (refl, refl)
-own_says desc a (line ∷ lines) names names' n n' are ends = by_said desc a line lines names names' n n' (step_of desc line) refl are ends (own_says desc a lines)
+own_says desc a (line ∷ lines) names names' n n' are ends =
+    by_said desc a line lines names names' n n' (step_of desc line) refl are ends (own_says desc a lines)
 
 pub own_lines_play : OwnLinesPlay
 unfolding AreOwn

@@ -36,7 +36,8 @@ listed = setup (codes "trigger t0 2\ndevice a t0\nchannel voltage0 le:u8/8>>0\nc
 -- B sets, opens, reads and closes beside A
 abbrev beside : List Step
 beside =
-    a (codes "OPEN a 1 00000001") ∷ b (codes "SET a BUFFERS_COUNT 1") ∷ b (codes "OPEN a 1 00000002") ∷ fire 1 ∷ b (codes "READBUF a 1") ∷ fire 2 ∷ b (codes "CLOSE a")
+    a (codes "OPEN a 1 00000001") ∷ b (codes "SET a BUFFERS_COUNT 1") ∷ b (codes "OPEN a 1 00000002") ∷ fire 1 ∷ b (codes "READBUF a 1") ∷ fire 2
+    ∷ b (codes "CLOSE a")
     ∷ a (codes "READBUF a 2") ∷ Drop (codes "B") ∷ a (codes "CLOSE a") ∷ fire 3 ∷ []
 
 beside_meets : (only_bystanders one A (with_steps one [] beside) ≡ true) × (first_offence one A [] beside ≡ None)
@@ -48,7 +49,8 @@ beside_with : transcript one [] beside
 unfolding digits
 beside_with = refl
 
-beside_without : transcript one [] (without_others A beside) ≡ codes "A \"0\\n\"\npoll t0 accepted 1\nhandle t0 a captured\npoll t0 accepted 1\nhandle t0 a captured\nA \"2\\n00000001\\n\\x01\\x01\"\nA \"0\\n\"\npoll t0 accepted 0\n"
+beside_without : transcript one [] (without_others A beside)
+    ≡ codes "A \"0\\n\"\npoll t0 accepted 1\nhandle t0 a captured\npoll t0 accepted 1\nhandle t0 a captured\nA \"2\\n00000001\\n\\x01\\x01\"\nA \"0\\n\"\npoll t0 accepted 0\n"
 unfolding digits
 beside_without = refl
 
@@ -78,7 +80,8 @@ losing_differs = (refl, refl, refl)
 abbrev opening : List Step
 opening = b (codes "OPEN a 1 00000002") ∷ a (codes "OPEN a 1 00000001") ∷ []
 
-opening_differs : (first_offence listed A [] opening ≡ Some 0) × (transcript_kept listed A [] opening ≡ codes "A \"-22\\n\"\n") × (transcript listed [] (without_others A opening) ≡ codes "A \"0\\n\"\n")
+opening_differs : (first_offence listed A [] opening ≡ Some 0) × (transcript_kept listed A [] opening ≡ codes "A \"-22\\n\"\n")
+    × (transcript listed [] (without_others A opening) ≡ codes "A \"0\\n\"\n")
 unfolding digits
 opening_differs = (refl, refl, refl)
 
@@ -96,7 +99,8 @@ writing_differs = (refl, refl, refl)
 abbrev holding : List Step
 holding = a (codes "OPEN a 1 00000001") ∷ b (codes "EVOPEN a") ∷ a (codes "EVOPEN a") ∷ []
 
-holding_differs : (first_offence one A [] holding ≡ Some 1) × (transcript_kept one A [] holding ≡ codes "A \"0\\n\"\nA \"-16\\n\"\n") × (transcript one [] (without_others A holding) ≡ codes "A \"0\\n\"\nA \"0\\n\"\n")
+holding_differs : (first_offence one A [] holding ≡ Some 1) × (transcript_kept one A [] holding ≡ codes "A \"0\\n\"\nA \"-16\\n\"\n")
+    × (transcript one [] (without_others A holding) ≡ codes "A \"0\\n\"\nA \"0\\n\"\n")
 unfolding digits
 holding_differs = (refl, refl, refl)
 
@@ -104,7 +108,8 @@ holding_differs = (refl, refl, refl)
 abbrev retriggering : List Step
 retriggering = b (codes "SETTRIG a") ∷ a (codes "OPEN a 1 00000001") ∷ []
 
-retriggering_differs : (first_offence one A [] retriggering ≡ Some 0) × (transcript_kept one A [] retriggering ≡ codes "A \"-22\\n\"\n") × (transcript one [] (without_others A retriggering) ≡ codes "A \"0\\n\"\n")
+retriggering_differs : (first_offence one A [] retriggering ≡ Some 0) × (transcript_kept one A [] retriggering ≡ codes "A \"-22\\n\"\n")
+    × (transcript one [] (without_others A retriggering) ≡ codes "A \"0\\n\"\n")
 unfolding digits
 retriggering_differs = (refl, refl, refl)
 
@@ -112,7 +117,8 @@ retriggering_differs = (refl, refl, refl)
 abbrev remasking : List Step
 remasking = a (codes "OPEN a 1 00000001") ∷ b (codes "OPEN a 1 00000001") ∷ a (codes "REMASK a 00000002") ∷ []
 
-remasking_differs : (first_offence listed A [] remasking ≡ Some 2) × (transcript_kept listed A [] remasking ≡ codes "A \"0\\n\"\nA \"-22\\n\"\n") × (transcript listed [] (without_others A remasking) ≡ codes "A \"0\\n\"\nA \"0\\n\"\n")
+remasking_differs : (first_offence listed A [] remasking ≡ Some 2) × (transcript_kept listed A [] remasking ≡ codes "A \"0\\n\"\nA \"-22\\n\"\n")
+    × (transcript listed [] (without_others A remasking) ≡ codes "A \"0\\n\"\nA \"0\\n\"\n")
 unfolding digits
 remasking_differs = (refl, refl, refl)
 
@@ -120,7 +126,8 @@ remasking_differs = (refl, refl, refl)
 abbrev remasked : List Step
 remasked = a (codes "OPEN a 1 00000001") ∷ b (codes "OPEN a 1 00000001") ∷ b (codes "REMASK a 00000002") ∷ fire 1 ∷ a (codes "READBUF a 1") ∷ []
 
-remasked_meets : (only_bystanders one A (with_steps one [] remasked) ≡ true) × (transcript_kept one A [] remasked ≡ transcript one [] (without_others A remasked))
+remasked_meets : (only_bystanders one A (with_steps one [] remasked) ≡ true)
+    × (transcript_kept one A [] remasked ≡ transcript one [] (without_others A remasked))
 unfolding digits
 remasked_meets = (refl, refl)
 
@@ -138,10 +145,12 @@ all_kinds = record one {
 -- an inner member is nobody's: A may leave its averaging device beside B, and B's place at the base is seen by nobody
 abbrev averaging : List Step
 averaging =
-    a (codes "OPEN a 1 00000001") ∷ b (codes "OPEN a 1 00000002") ∷ a (codes "OPEN m 1 00000001") ∷ fire 1 ∷ fire 2 ∷ a (codes "READBUF m 1") ∷ a (codes "CLOSE m") ∷ b (codes "REMASK a 00000001")
+    a (codes "OPEN a 1 00000001") ∷ b (codes "OPEN a 1 00000002") ∷ a (codes "OPEN m 1 00000001") ∷ fire 1 ∷ fire 2 ∷ a (codes "READBUF m 1")
+    ∷ a (codes "CLOSE m") ∷ b (codes "REMASK a 00000001")
     ∷ b (codes "CLOSE a") ∷ a (codes "OPEN m 1 00000002") ∷ a (codes "CLOSE a") ∷ fire 3 ∷ fire 4 ∷ a (codes "READBUF m 1") ∷ []
 
-averaging_meets : (only_bystanders all_kinds A (with_steps all_kinds [] averaging) ≡ true) × (transcript_kept all_kinds A [] averaging ≡ transcript all_kinds [] (without_others A averaging))
+averaging_meets : (only_bystanders all_kinds A (with_steps all_kinds [] averaging) ≡ true)
+    × (transcript_kept all_kinds A [] averaging ≡ transcript all_kinds [] (without_others A averaging))
     × (transcript all_kinds [] (without_others A averaging)
     ≡ codes "A \"0\\n\"\nA \"0\\n\"\npoll t0 accepted 1\nhandle t0 a captured\npoll t0 accepted 1\nhandle t0 a captured\nA \"1\\n00000001\\n\\x01\"\nA \"0\\n\"\nA \"0\\n\"\nA \"0\\n\"\npoll t0 accepted 1\nhandle t0 a captured\npoll t0 accepted 1\nhandle t0 a captured\nA \"1\\n00000002\\n\\x02\"\n")
 unfolding digits
@@ -159,6 +168,7 @@ naming_offends = (refl, refl, refl, refl)
 taking : List Step
 taking = b (codes "OPEN o 1 00000001") ∷ a (codes "OPEN o 1 00000001") ∷ []
 
-taking_differs : (first_offence all_kinds A [] taking ≡ Some 0) × (transcript_kept all_kinds A [] taking ≡ codes "A \"-16\\n\"\n") × (transcript all_kinds [] (without_others A taking) ≡ codes "A \"0\\n\"\n")
+taking_differs : (first_offence all_kinds A [] taking ≡ Some 0) × (transcript_kept all_kinds A [] taking ≡ codes "A \"-16\\n\"\n")
+    × (transcript all_kinds [] (without_others A taking) ≡ codes "A \"0\\n\"\n")
 unfolding digits taking
 taking_differs = (refl, refl, refl)

@@ -25,7 +25,8 @@ at_next : (t : Numbered) (ts : List Numbered) (o : Option ℕ) → number_at (t 
 at_next t ts None = refl
 at_next t ts (Some k) = refl
 
-line_is : (s : Setup) (a : List ℕ) (h : List Event) (ts : List Numbered) → first_offence_line s a h ts ≡ number_at ts (first_offence s a h (map step_of_numbered ts))
+line_is : (s : Setup) (a : List ℕ) (h : List Event) (ts : List Numbered)
+    → first_offence_line s a h ts ≡ number_at ts (first_offence s a h (map step_of_numbered ts))
 line_is s a h [] = refl
 line_is s a h (t ∷ ts) = by_step (only_bystanders s a (with_step s h t.step)) (line_is s a (with_step s h t.step) ts)
   where
@@ -37,7 +38,8 @@ line_is s a h (t ∷ ts) = by_step (only_bystanders s a (with_step s h t.step)) 
     by_step true is = is ∙ sym (at_next t ts rest)
     by_step false is = refl
 
-none_then : (s : Setup) (a : List ℕ) (h : List Event) (ts : List Numbered) → first_offence_line s a h ts ≡ None → first_offence s a h (map step_of_numbered ts) ≡ None
+none_then : (s : Setup) (a : List ℕ) (h : List Event) (ts : List Numbered) → first_offence_line s a h ts ≡ None
+    → first_offence s a h (map step_of_numbered ts) ≡ None
 none_then s a h [] is = refl
 none_then s a h (t ∷ ts) is = by_step (only_bystanders s a (with_step s h t.step)) is (none_then s a (with_step s h t.step) ts)
   where
@@ -79,9 +81,11 @@ twice_script s a ts Finished = twice_steps s a ts
 twice_script s a ts (Refused line why) = refl
 twice_script s a ts TooLong = refl
 
-twice_head : (a : List ℕ) (drivers : List Driver) (overlong : Bool) (head : Head) → solo_of_head a drivers overlong head ≡ twice (kept_of_head a drivers overlong head)
+twice_head : (a : List ℕ) (drivers : List Driver) (overlong : Bool) (head : Head)
+    → solo_of_head a drivers overlong head ≡ twice (kept_of_head a drivers overlong head)
 twice_head a drivers overlong (Described desc first lines) =
-    twice_script (record { desc = desc; drivers = drivers }) a (numbered_from desc [] first lines) (script_from desc (last_ending overlong) [] first lines).ending
+    twice_script (record { desc = desc; drivers = drivers }) a (numbered_from desc [] first lines)
+    (script_from desc (last_ending overlong) [] first lines).ending
 twice_head a drivers overlong (Faulty (Line n why)) = refl
 twice_head a drivers overlong (Faulty Mem) = refl
 twice_head a drivers overlong Cut = refl
@@ -106,18 +110,21 @@ before_more b text more None (Err line) is = cc
 before_more b text more (Some n) (Ok kept) is = cc
 before_more b text more (Some n) (Err line) is = is
 
-run_after : (s : Setup) (a : List ℕ) (h : List Event) (ts : List Numbered) → only_bystanders s a h ≡ true → kept_after s a h ts ≡ as_ending (kept_from s a (told s h) ts)
+run_after : (s : Setup) (a : List ℕ) (h : List Event) (ts : List Numbered) → only_bystanders s a h ≡ true
+    → kept_after s a h ts ≡ as_ending (kept_from s a (told s h) ts)
 unfolding kept_after
 run_after s a h [] only = refl
 run_after s a h (t ∷ ts) only =
     by_step (only_bystanders s a (with_step s h t.step)) refl (run_after s a (with_step s h t.step) ts)
-    ∙ ap (λ b. as_ending (cond b (keep (is_others a t.step) (step_lines s (told s h) t.step) (kept_from s a (state_after s (told s h) t.step) ts)) (Err t.number))) (step_decides s a h t.step only)
+    ∙ ap (λ b. as_ending (cond b (keep (is_others a t.step) (step_lines s (told s h) t.step) (kept_from s a (state_after s (told s h) t.step) ts))
+    (Err t.number))) (step_decides s a h t.step only)
   where
     more : List ℕ
     more = transcript_kept s a (with_step s h t.step) (map step_of_numbered ts)
 
     by_step : (b : Bool) → only_bystanders s a (with_step s h t.step) ≡ b
-        → (only_bystanders s a (with_step s h t.step) ≡ true → kept_after s a (with_step s h t.step) ts ≡ as_ending (kept_from s a (told s (with_step s h t.step)) ts))
+        → (only_bystanders s a (with_step s h t.step) ≡ true
+        → kept_after s a (with_step s h t.step) ts ≡ as_ending (kept_from s a (told s (with_step s h t.step)) ts))
         → elim (cond b (first_offence_line s a (with_step s h t.step) ts) (Some t.number)) [
           | None ↦ Ok (cond (is_others a t.step) [] (lines_of_step s h t.step) ++ more)
           | Some line ↦ Err (Refused line Bystander)
@@ -125,7 +132,8 @@ run_after s a h (t ∷ ts) only =
         ≡ as_ending (cond b (keep (is_others a t.step) (step_lines s (told s h) t.step) (kept_from s a (state_after s (told s h) t.step) ts)) (Err t.number))
     by_step false is rest = refl
     by_step true is rest =
-        before_more (is_others a t.step) (lines_of_step s h t.step) more (first_offence_line s a (with_step s h t.step) ts) (kept_from s a (told s (with_step s h t.step)) ts) (rest is)
+        before_more (is_others a t.step) (lines_of_step s h t.step) more (first_offence_line s a (with_step s h t.step) ts)
+        (kept_from s a (told s (with_step s h t.step)) ts) (rest is)
         ∙ ap (λ text. as_ending (keep (is_others a t.step) text (kept_from s a (told s (with_step s h t.step)) ts))) (lines_are s h t.step)
         ∙ ap (λ (m : Told). as_ending (keep (is_others a t.step) (step_lines s (told s h) t.step) (kept_from s a m ts))) (state_is s h t.step)
 
@@ -143,7 +151,8 @@ bad_script s a ts TooLong bad = refl
 bad_head : (a : List ℕ) (drivers : List Driver) (overlong : Bool) (head : Head) → ((outcome_of_head drivers overlong head).ending ≡ Finished → ⊥)
     → solo_of_head a drivers overlong head ≡ only_ending (outcome_of_head drivers overlong head).ending
 bad_head a drivers overlong (Described desc first lines) bad =
-    bad_script (record { desc = desc; drivers = drivers }) a (numbered_from desc [] first lines) (script_from desc (last_ending overlong) [] first lines).ending bad
+    bad_script (record { desc = desc; drivers = drivers }) a (numbered_from desc [] first lines) (script_from desc (last_ending overlong) [] first lines).ending
+    bad
 bad_head a drivers overlong (Faulty (Line n why)) bad = refl
 bad_head a drivers overlong (Faulty Mem) bad = absurd (bad refl)
 bad_head a drivers overlong Cut bad = refl

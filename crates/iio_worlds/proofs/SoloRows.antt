@@ -7,7 +7,8 @@ use Rattle.iio_history.specs.Script.{Finished, Refused}
 use Rattle.iio_worlds.specs.Solo.{solo_outcome_of}
 
 abbrev adc : List ℕ
-adc = codes "trigger t0 2\ndevice adc0 t0\nchannel voltage0 le:u12/16>>4\nchannel voltage1 le:u12/16>>4\nchannel accel_x be:s16/16>>0\ntimestamp\nrow 0 1 2 -3\n"
+adc =
+    codes "trigger t0 2\ndevice adc0 t0\nchannel voltage0 le:u12/16>>4\nchannel voltage1 le:u12/16>>4\nchannel accel_x be:s16/16>>0\ntimestamp\nrow 0 1 2 -3\n"
 
 -- with one device more
 abbrev adcs : List ℕ
@@ -24,7 +25,8 @@ abbrev done : List ℕ → Outcome
 done text = record { printed = text; ending = Finished }
 
 -- B sets, opens and closes beside A: lines 9 to 14
-two_texts : solo A adc (codes "A \"OPEN adc0 1 00000005\\n\"\nB \"SET adc0 BUFFERS_COUNT 1\\nOPEN adc0 1 00000002\\n\"\nfire t0 1000\nfire t0 2000\nB \"CLOSE adc0\\n\"\nA \"READBUF adc0 8\\n\"\n")
+two_texts : solo A adc (codes
+    "A \"OPEN adc0 1 00000005\\n\"\nB \"SET adc0 BUFFERS_COUNT 1\\nOPEN adc0 1 00000002\\n\"\nfire t0 1000\nfire t0 2000\nB \"CLOSE adc0\\n\"\nA \"READBUF adc0 8\\n\"\n")
     ≡ done (codes "A \"0\\n\"\npoll t0 accepted 1\nhandle t0 adc0 captured\npoll t0 accepted 1\nhandle t0 adc0 captured\nA \"8\\n00000005\\n\\x10\\x00\\xff\\xfd\\x10\\x00\\xff\\xfd\"\n%%\nA \"0\\n\"\npoll t0 accepted 1\nhandle t0 adc0 captured\npoll t0 accepted 1\nhandle t0 adc0 captured\nA \"8\\n00000005\\n\\x10\\x00\\xff\\xfd\\x10\\x00\\xff\\xfd\"\n")
 unfolding digits
 two_texts = refl
@@ -35,11 +37,13 @@ unfolding digits
 opening_offends = refl
 
 -- A closes beside B
-closing_offends : solo A adc (codes "A \"OPEN adc0 1 00000005\\n\"\nB \"SET adc0 BUFFERS_COUNT 1\\nOPEN adc0 1 00000002\\n\"\nfire t0 1000\nfire t0 2000\nA \"CLOSE adc0\\n\"\nA \"READBUF adc0 8\\n\"\n") ≡ only_ending (Refused 13 Bystander)
+closing_offends : solo A adc
+    (codes "A \"OPEN adc0 1 00000005\\n\"\nB \"SET adc0 BUFFERS_COUNT 1\\nOPEN adc0 1 00000002\\n\"\nfire t0 1000\nfire t0 2000\nA \"CLOSE adc0\\n\"\nA \"READBUF adc0 8\\n\"\n") ≡ only_ending (Refused 13 Bystander)
 unfolding digits
 closing_offends = refl
 
-closing_prints : (solo A adc (codes "A \"OPEN adc0 1 00000005\\n\"\nB \"OPEN adc0 1 00000002\\n\"\nfire t0 1000\nfire t0 2000\nA \"CLOSE adc0\\n\"\n")).printed ≡ codes "refused 13 bystander\n"
+closing_prints : (solo A adc (codes "A \"OPEN adc0 1 00000005\\n\"\nB \"OPEN adc0 1 00000002\\n\"\nfire t0 1000\nfire t0 2000\nA \"CLOSE adc0\\n\"\n")).printed
+    ≡ codes "refused 13 bystander\n"
 unfolding digits
 closing_prints = refl
 
@@ -49,11 +53,13 @@ unfolding digits
 bad_line_behind = refl
 
 -- the name never occurs: others may say what asks for nothing, and nobody has a device open
-never_named : solo (codes "Z") adc (codes "A \"VERSION\\n\\nNOTHING\\n\"\nfire t0 1000\ndrop A\ndrop B\nsense adc0 5\n") ≡ done (codes "poll t0 accepted 0\nadc0 sensed 0\n%%\npoll t0 accepted 0\nadc0 sensed 0\n")
+never_named : solo (codes "Z") adc (codes "A \"VERSION\\n\\nNOTHING\\n\"\nfire t0 1000\ndrop A\ndrop B\nsense adc0 5\n")
+    ≡ done (codes "poll t0 accepted 0\nadc0 sensed 0\n%%\npoll t0 accepted 0\nadc0 sensed 0\n")
 unfolding digits
 never_named = refl
 
-never_named_offends : solo (codes "Z") adc (codes "fire t0 1000\nA \"VERSION\\n\"\nA \"READ adc0 name\\n\"\nZ \"VERSION\\n\"\n") ≡ only_ending (Refused 11 Bystander)
+never_named_offends : solo (codes "Z") adc (codes "fire t0 1000\nA \"VERSION\\n\"\nA \"READ adc0 name\\n\"\nZ \"VERSION\\n\"\n")
+    ≡ only_ending (Refused 11 Bystander)
 unfolding digits
 never_named_offends = refl
 
@@ -71,7 +77,8 @@ unfolding digits
 description_refused = refl
 
 -- an item offends where it is made whole: B's begins while A has the device open
-begun_before : solo A adc (codes "A \"OPEN adc0 1 00000001\\n\"\nB \"READ adc0\"\nA \"CLOSE adc0\\n\"\n# nothing\nB \" name\\n\"\n") ≡ only_ending (Refused 13 Bystander)
+begun_before : solo A adc (codes "A \"OPEN adc0 1 00000001\\n\"\nB \"READ adc0\"\nA \"CLOSE adc0\\n\"\n# nothing\nB \" name\\n\"\n")
+    ≡ only_ending (Refused 13 Bystander)
 unfolding digits
 begun_before = refl
 
@@ -90,6 +97,7 @@ unfolding digits
 exit_offends = refl
 
 -- A may go once B has
-leaving_last : solo A adc (codes "A \"OPEN adc0 1 00000001\\n\"\nB \"OPEN adc0 1 00000001\\n\"\ndrop B\nA \"REMASK adc0 00000002\\nCLOSE adc0\\n\"\ndrop A\n") ≡ done (codes "A \"0\\n\"\nA \"0\\n0\\n\"\nA dropped\n%%\nA \"0\\n\"\nA \"0\\n0\\n\"\nA dropped\n")
+leaving_last : solo A adc (codes "A \"OPEN adc0 1 00000001\\n\"\nB \"OPEN adc0 1 00000001\\n\"\ndrop B\nA \"REMASK adc0 00000002\\nCLOSE adc0\\n\"\ndrop A\n")
+    ≡ done (codes "A \"0\\n\"\nA \"0\\n0\\n\"\nA dropped\n%%\nA \"0\\n\"\nA \"0\\n0\\n\"\nA dropped\n")
 unfolding digits
 leaving_last = refl

@@ -36,7 +36,8 @@ at_one j k f [] = refl
 at_one zero k f (d ∷ ds) =
     let here : (0 + k == k) ≡ true = grind (arith, nat_tests) in
     let next : 0 + k < suc k = omega arith in
-    ap (λ b. not (b && f d) && all_from (λ i d. not (0 + k == i && f d)) (suc k) ds) here ∙ ap (λ b. not (f d) && b) (passed (0 + k) (suc k) f ds next) ∙ alone (f d)
+    ap (λ b. not (b && f d) && all_from (λ i d. not (0 + k == i && f d)) (suc k) ds) here ∙ ap (λ b. not (f d) && b) (passed (0 + k) (suc k) f ds next)
+    ∙ alone (f d)
   where
     alone : (b : Bool) → (not b && true) ≡ not b
     alone true = refl
@@ -44,7 +45,8 @@ at_one zero k f (d ∷ ds) =
 at_one (suc j) k f (d ∷ ds) =
     let apart : (suc j + k == k) ≡ false = grind (arith, nat_tests) in
     let place : suc j + k ≡ j + suc k = omega arith in
-    ap (λ b. not (b && f d) && all_from (λ i d. not (suc j + k == i && f d)) (suc k) ds) apart ∙ ap (λ n. all_from (λ i d. not (n == i && f d)) (suc k) ds) place ∙ at_one j (suc k) f ds
+    ap (λ b. not (b && f d) && all_from (λ i d. not (suc j + k == i && f d)) (suc k) ds) apart
+    ∙ ap (λ n. all_from (λ i d. not (n == i && f d)) (suc k) ds) place ∙ at_one j (suc k) f ds
 
 never : (k : ℕ) (p : ℕ → Bool) (f : Device → Bool) (ds : List Device) → ((j : ℕ) → p j ≡ false) → all_from (λ i d. not (p i && f d)) k ds ≡ true
 never k p f [] none = refl
@@ -63,11 +65,14 @@ at_all k f (d ∷ ds) = ap (λ b. not (f d) && b) (at_all (suc k) f ds)
 
 -- ---- an item
 
-own_part : (s : Setup) (a name : List ℕ) (item : Item) (r : Registry) → bytes_eq name a ≡ true → all_from (is_met s a (Heard name item)) 0 r.devices ≡ may_part (opens_of s.desc (stance_of a r)) item
+own_part : (s : Setup) (a name : List ℕ) (item : Item) (r : Registry) → bytes_eq name a ≡ true
+    → all_from (is_met s a (Heard name item)) 0 r.devices ≡ may_part (opens_of s.desc (stance_of a r)) item
 own_part s a name (Said (Ok (Close device))) r is =
-    ap (λ b. all_from (λ k d. not ((b && is_at (find_device s.desc device) k) && has_others a d)) 0 r.devices) is ∙ at_named (has_others a) r.devices (find_device s.desc device)
+    ap (λ b. all_from (λ k d. not ((b && is_at (find_device s.desc device) k) && has_others a d)) 0 r.devices) is
+    ∙ at_named (has_others a) r.devices (find_device s.desc device)
 own_part s a name (Said (Ok (Remask device text))) r is =
-    ap (λ b. all_from (λ k d. not ((b && is_at (find_device s.desc device) k) && has_others a d)) 0 r.devices) is ∙ at_named (has_others a) r.devices (find_device s.desc device)
+    ap (λ b. all_from (λ k d. not ((b && is_at (find_device s.desc device) k) && has_others a d)) 0 r.devices) is
+    ∙ at_named (has_others a) r.devices (find_device s.desc device)
 own_part s a name (End refusal) r is = ap (λ b. all_from (λ k d. not (b && has_others a d)) 0 r.devices) is ∙ at_all 0 (has_others a) r.devices
 own_part s a name item r is = never 0 (λ i. false) (has_others a) r.devices (λ j. refl)
 
@@ -92,7 +97,8 @@ and_true : (b : Bool) → (b && true) ≡ b
 and_true true = refl
 and_true false = refl
 
-pub stance_decides : (s : Setup) (r : Registry) (a name : List ℕ) (item : Item) → meets_by s r a name item ≡ item_meets (opens_of s.desc (stance_of a r)) (bytes_eq name a) item
+pub stance_decides : (s : Setup) (r : Registry) (a name : List ℕ) (item : Item)
+    → meets_by s r a name item ≡ item_meets (opens_of s.desc (stance_of a r)) (bytes_eq name a) item
 stance_decides s r a name item = by_speaker (bytes_eq name a) refl
   where
     by_speaker : (b : Bool) → bytes_eq name a ≡ b → meets_by s r a name item ≡ item_meets (opens_of s.desc (stance_of a r)) b item
@@ -103,10 +109,12 @@ stance_decides s r a name item = by_speaker (bytes_eq name a) refl
         ∙ ap (λ b. b || is_modest s r a item) is
         ∙ say_same (has_open s r a) (is_so s.desc (map (has_input a) r.devices)) item (open_is s r a)
 
-items_decided : (s : Setup) (r : Registry) (a name : List ℕ) (items : List Item) → all_meet_by s r a name items ≡ items_meet (opens_of s.desc (stance_of a r)) (bytes_eq name a) items
+items_decided : (s : Setup) (r : Registry) (a name : List ℕ) (items : List Item)
+    → all_meet_by s r a name items ≡ items_meet (opens_of s.desc (stance_of a r)) (bytes_eq name a) items
 items_decided s r a name [] = refl
 items_decided s r a name (item ∷ items) =
-    ap (λ b. b && all_meet_by s r a name items) (stance_decides s r a name item) ∙ ap (λ b. item_meets (opens_of s.desc (stance_of a r)) (bytes_eq name a) item && b) (items_decided s r a name items)
+    ap (λ b. b && all_meet_by s r a name items) (stance_decides s r a name item)
+    ∙ ap (λ b. item_meets (opens_of s.desc (stance_of a r)) (bytes_eq name a) item && b) (items_decided s r a name items)
 
 -- ---- events that meet the rules whoever has what open
 
@@ -121,7 +129,8 @@ AllPlain s a (e ∷ es) = IsPlain s a e × AllPlain s a es
 unparted : (s : Setup) (a : List ℕ) (e : Event) (k : ℕ) (ds : List Device) → ((j : ℕ) → is_parting s a e j ≡ false) → all_from (is_unparted s a e) k ds ≡ true
 unparted s a e k [] none = refl
 unparted s a e k (d ∷ ds) none =
-    ap (λ b. not (b && is_member (Conn a) d.members && has_other (Conn a) d.members) && all_from (is_unparted s a e) (suc k) ds) (none k) ∙ unparted s a e (suc k) ds none
+    ap (λ b. not (b && is_member (Conn a) d.members && has_other (Conn a) d.members) && all_from (is_unparted s a e) (suc k) ds) (none k)
+    ∙ unparted s a e (suc k) ds none
 
 plain_meets : (s : Setup) (r : Registry) (a : List ℕ) (e : Event) → IsPlain s a e → is_bystander s r a e ≡ true
 plain_meets s r a e is = ap (λ b. b && all_from (is_unparted s a e) 0 r.devices) (is.modest r) ∙ unparted s a e 0 r.devices is.parts
@@ -142,7 +151,8 @@ handled_plain s a trigger (e ∷ es) = (record { modest = λ r. refl; parts = λ
 -- ---- a step
 
 -- an arrival joins and parts nobody
-stance_arrived : (s : Setup) (a : List ℕ) (h : List Event) (name bytes : List ℕ) → stance_of a (registry_after s (Arrived name bytes ∷ h)) ≡ stance_of a (registry_after s h)
+stance_arrived : (s : Setup) (a : List ℕ) (h : List Event) (name bytes : List ℕ)
+    → stance_of a (registry_after s (Arrived name bytes ∷ h)) ≡ stance_of a (registry_after s h)
 stance_arrived s a h name bytes =
     ap (λ bs. record { own = bs; others = map (has_others a) (registry_after s (Arrived name bytes ∷ h)).devices })
     (each_kept (has_input a) (device_after s (registry_after s h) (Arrived name bytes)) 0 (registry_after s h).devices (λ j d. refl))
@@ -159,17 +169,20 @@ feed_decides s a h name bytes only = by_end (has_ended name (registry_of (told s
     stance_is : stance_of a (registry_after s h) ≡ stance_of a (registry_of (told s h))
     stance_is = ap (stance_of a) (sym (registry_is s h))
 
-    live : only_bystanders s a (and_then (Arrived name bytes ∷ h) (heard name items)) ≡ items_meet (opens_of s.desc (stance_of a (registry_of (told s h)))) (bytes_eq name a) items
+    live : only_bystanders s a (and_then (Arrived name bytes ∷ h) (heard name items))
+        ≡ items_meet (opens_of s.desc (stance_of a (registry_of (told s h)))) (bytes_eq name a) items
     live =
         start_decides s a name items (Arrived name bytes ∷ h) (plain_next s a h (Arrived name bytes) (record { modest = λ r. refl; parts = λ k. refl }) only)
         ∙ items_decided s (registry_after s (Arrived name bytes ∷ h)) a name items
         ∙ ap (λ (x : Stance). items_meet (opens_of s.desc x) (bytes_eq name a) items) (stance_arrived s a h name bytes ∙ stance_is)
 
-    by_end : (b : Bool) → only_bystanders s a (and_then h (cond b [] (Arrived name bytes ∷ heard name items))) ≡ (b || items_meet (opens_of s.desc (stance_of a (registry_of (told s h)))) (bytes_eq name a) items)
+    by_end : (b : Bool) → only_bystanders s a (and_then h (cond b [] (Arrived name bytes ∷ heard name items)))
+        ≡ (b || items_meet (opens_of s.desc (stance_of a (registry_of (told s h)))) (bytes_eq name a) items)
     by_end true = only
     by_end false = live
 
-drop_decides : (s : Setup) (a : List ℕ) (h : List Event) (name : List ℕ) → only_bystanders s a h ≡ true → only_bystanders s a (with_step s h (Drop name)) ≡ step_meets s a (told s h) (Drop name)
+drop_decides : (s : Setup) (a : List ℕ) (h : List Event) (name : List ℕ) → only_bystanders s a h ≡ true
+    → only_bystanders s a (with_step s h (Drop name)) ≡ step_meets s a (told s h) (Drop name)
 drop_decides s a h name only =
     ap (λ b. all_from (is_unparted s a (Dropped name)) 0 (registry_after s h).devices && b) only
     ∙ and_true (all_from (is_unparted s a (Dropped name)) 0 (registry_after s h).devices)
@@ -177,11 +190,13 @@ drop_decides s a h name only =
     ∙ by_name (bytes_eq name a)
     ∙ ap (λ (r : Registry). not (bytes_eq name a) || none_so (map (has_others a) r.devices)) (sym (registry_is s h))
   where
-    by_name : (b : Bool) → all_from (λ k d. not (b && has_others a d)) 0 (registry_after s h).devices ≡ (not b || none_so (map (has_others a) (registry_after s h).devices))
+    by_name : (b : Bool) → all_from (λ k d. not (b && has_others a d)) 0 (registry_after s h).devices
+        ≡ (not b || none_so (map (has_others a) (registry_after s h).devices))
     by_name true = at_all 0 (has_others a) (registry_after s h).devices
     by_name false = never 0 (λ i. false) (has_others a) (registry_after s h).devices (λ j. refl)
 
-pub step_decides : (s : Setup) (a : List ℕ) (h : List Event) (t : Step) → only_bystanders s a h ≡ true → only_bystanders s a (with_step s h t) ≡ step_meets s a (told s h) t
+pub step_decides : (s : Setup) (a : List ℕ) (h : List Event) (t : Step) → only_bystanders s a h ≡ true
+    → only_bystanders s a (with_step s h t) ≡ step_meets s a (told s h) t
 unfolding AllPlain
 step_decides s a h (Feed name bytes) only = feed_decides s a h name bytes only
 step_decides s a h (Drop name) only = drop_decides s a h name only
@@ -204,11 +219,13 @@ seated : (w : Who) (xs : List Seat) → is_member w (map member_of_seat xs) ≡ 
 seated w [] = refl
 seated w (x ∷ xs) = by_test (same w x.member.who) (seated w xs)
   where
-    by_test : (b : Bool) → is_member w (map member_of_seat xs) ≡ is_some (seat_of w xs) → (b || is_member w (map member_of_seat xs)) ≡ is_some (cond b (Some x) (seat_of w xs))
+    by_test : (b : Bool) → is_member w (map member_of_seat xs) ≡ is_some (seat_of w xs)
+        → (b || is_member w (map member_of_seat xs)) ≡ is_some (cond b (Some x) (seat_of w xs))
     by_test true rest = refl
     by_test false rest = rest
 
-pub seats_tell : (m : Told) (name : List ℕ) (desk : DeskRecord) (k : ℕ) (st : Station) → IsDeskOf m name desk → slice_get m.stations k ≡ Some st → is_member (Conn name) (device_of st).members ≡ has_seat k desk
+pub seats_tell : (m : Told) (name : List ℕ) (desk : DeskRecord) (k : ℕ) (st : Station) → IsDeskOf m name desk → slice_get m.stations k ≡ Some st
+    → is_member (Conn name) (device_of st).members ≡ has_seat k desk
 seats_tell m name desk k st is here =
     seated (Conn name) st.seats
     ∙ sym (is_some_map (bare_by k) (seat_of (Conn name) st.seats))
@@ -245,9 +262,11 @@ one_among a name (n ∷ ns) apart is = by_test (bytes_eq n name) refl is (one_am
         let two : n ≡ name = (bytes_eq-Decides n name).0 same in
         absurd (true≢false (sym ((bytes_eq-Decides a name).1 (sym one ∙ two)) ∙ apart))
 
-    by_test : (b : Bool) → bytes_eq n name ≡ b → (b || is_in ns name) ≡ true → (is_in ns name ≡ true → one_is a ns name ≡ true) → ((not (bytes_eq n a) && b) || one_is a ns name) ≡ true
+    by_test : (b : Bool) → bytes_eq n name ≡ b → (b || is_in ns name) ≡ true → (is_in ns name ≡ true → one_is a ns name ≡ true)
+        → ((not (bytes_eq n a) && b) || one_is a ns name) ≡ true
     by_test true same is rest =
-        or_left (not (bytes_eq n a) && true) (one_is a ns name) (and_from (not (bytes_eq n a)) true (not_from_false (bytes_eq n a) (other (bytes_eq n a) refl same)) refl)
+        or_left (not (bytes_eq n a) && true) (one_is a ns name)
+        (and_from (not (bytes_eq n a)) true (not_from_false (bytes_eq n a) (other (bytes_eq n a) refl same)) refl)
     by_test false same is rest = or_right (not (bytes_eq n a) && false) (one_is a ns name) (rest is)
 
 not_one : (a name : List ℕ) (ns : List (List ℕ)) → bytes_eq a name ≡ true → one_is a ns name ≡ false
@@ -322,7 +341,9 @@ one_of_is : (a : List ℕ) (ns : List (List ℕ)) (d : Device) → one_of a ns d
 one_of_is a [] d = refl
 one_of_is a (n ∷ ns) d = ap (λ b. (not (bytes_eq n a) && is_member (Conn n) d.members) || b) (one_of_is a ns d)
 
-pub others_are_there : (s : Setup) (m : Told) (a : List ℕ) (k : ℕ) (st : Station) → IsBench s m → slice_get m.stations k ≡ Some st → has_others a (device_of st) ≡ one_has a (names_of m) (device_of st)
+pub others_are_there : (s : Setup) (m : Told) (a : List ℕ) (k : ℕ) (st : Station) → IsBench s m → slice_get m.stations k ≡ Some st
+    → has_others a (device_of st) ≡ one_has a (names_of m) (device_of st)
 others_are_there s m a k st bench here =
-    others_are a (names_of m) (device_of st).members (seats_there (names_of m) st st.seats (station_there (IsStation (names_of m)) m.stations k st bench.stations here).seats)
+    others_are a (names_of m) (device_of st).members
+    (seats_there (names_of m) st st.seats (station_there (IsStation (names_of m)) m.stations k st bench.stations here).seats)
     ∙ one_of_is a (names_of m) (device_of st)

@@ -66,15 +66,19 @@ met_by w false m ms led is = refl
 met_by w true true ms led is = refl
 met_by w true false ms led is = ap not (sym (led is))
 
-pub all_met : (s : Setup) (a : List ℕ) (e : Event) (k : ℕ) (ds : List Device) → AllEven (Conn a) ds → all_from (is_unparted s a e) k ds ≡ all_from (is_met s a e) k ds
+pub all_met : (s : Setup) (a : List ℕ) (e : Event) (k : ℕ) (ds : List Device) → AllEven (Conn a) ds
+    → all_from (is_unparted s a e) k ds ≡ all_from (is_met s a e) k ds
 all_met s a e k [] even = refl
 all_met s a e k (d ∷ ds) even =
-    ap (λ b. b && all_from (is_unparted s a e) (suc k) ds) (met_by (Conn a) (is_parting s a e k) (is_member (Conn a) d.members) d.members (even 0 d refl).led refl)
+    ap (λ b. b && all_from (is_unparted s a e) (suc k) ds)
+    (met_by (Conn a) (is_parting s a e k) (is_member (Conn a) d.members) d.members (even 0 d refl).led refl)
     ∙ ap (λ b. is_met s a e k d && b) (all_met s a e (suc k) ds (λ j x here. even (suc j) x here))
 
-by_start : (s : Setup) (a name : List ℕ) (item : Item) (h : List Event) → OnlyBystanders s a h → is_bystander s (registry_after s h) a (Heard name item) ≡ meets_by s (registry_after s h) a name item
+by_start : (s : Setup) (a name : List ℕ) (item : Item) (h : List Event) → OnlyBystanders s a h
+    → is_bystander s (registry_after s h) a (Heard name item) ≡ meets_by s (registry_after s h) a name item
 by_start s a name item h only =
-    ap (λ b. others_are_modest s (registry_after s h) a (Heard name item) && b) (all_met s a (Heard name item) 0 (registry_after s h).devices (quiet_all s a h only).0)
+    ap (λ b. others_are_modest s (registry_after s h) a (Heard name item) && b)
+    (all_met s a (Heard name item) 0 (registry_after s h).devices (quiet_all s a h only).0)
 
 -- ---- an item joins or parts nobody but its speaker
 
@@ -105,15 +109,20 @@ by_open : (w : Who) (m : Member) (o : Option Errno) → IsHis w m.who → IsBy w
 by_open w m None is = is
 by_open w m (Some e) is = tt
 
-by_opening : (s : Setup) (r : Registry) (name : List ℕ) (samples : ℕ) (text : List ℕ) (cyclic : Bool) (o : Option ℕ) (k : ℕ) (d : Device) → IsBy (Conn name) (open_act s r name samples text cyclic o k d)
+by_opening : (s : Setup) (r : Registry) (name : List ℕ) (samples : ℕ) (text : List ℕ) (cyclic : Bool) (o : Option ℕ) (k : ℕ) (d : Device)
+    → IsBy (Conn name) (open_act s r name samples text cyclic o k d)
 by_opening s r name samples text cyclic None k d = tt
 by_opening s r name samples text cyclic (Some j) k d = by (j == k)
   where
-    inner : (x : Option Device) → IsBy (Conn name) (elim x [ None ↦ Nothing | Some y ↦ inner_joins y.kind j k d (is_ok (open_answer s r y (Conn name) (buffers_of r.users name j) samples text cyclic)) ])
+    inner : (x : Option Device)
+        → IsBy (Conn name) (elim x
+        [ None ↦ Nothing | Some y ↦ inner_joins y.kind j k d (is_ok (open_answer s r y (Conn name) (buffers_of r.users name j) samples text cyclic)) ])
     inner None = tt
     inner (Some y) = by_only (Conn name) _ (Joining (inner_member j d)) tt
 
-    by : (b : Bool) → IsBy (Conn name) (cond b (accepted (λ m. Joining m) (open_answer s r d (Conn name) (buffers_of r.users name k) samples text cyclic)) (inner_joining s r name samples text cyclic j k d))
+    by : (b : Bool) → IsBy (Conn name)
+        (cond b (accepted (λ m. Joining m) (open_answer s r d (Conn name) (buffers_of r.users name k) samples text cyclic))
+        (inner_joining s r name samples text cyclic j k d))
     by true = by_open (Conn name) (member_asked d (Conn name) (buffers_of r.users name k) samples text cyclic) _ refl
     by false = inner (slice_get r.devices j)
 
@@ -122,7 +131,8 @@ his_left w false c j = tt
 his_left w true false j = tt
 his_left w true true j = (tt, tt)
 
-his_left_at : (w : Who) (b : Bool) (gone : List Who) (j k : ℕ) (o : Option Device) → AreHis w (cond b (elim o [ None ↦ [] | Some x ↦ inner_left gone j k x ]) [])
+his_left_at : (w : Who) (b : Bool) (gone : List Who) (j k : ℕ) (o : Option Device)
+    → AreHis w (cond b (elim o [ None ↦ [] | Some x ↦ inner_left gone j k x ]) [])
 his_left_at w true gone j k None = tt
 his_left_at w false gone j k None = tt
 his_left_at w b gone j k (Some x) = his_left w b (is_over x.kind k && is_left_empty gone x.members) j
@@ -137,7 +147,8 @@ by_closing r name (Some j) k d = by (j == k)
   where
     by : (b : Bool) → IsBy (Conn name) (cond b (Leaving (Conn name ∷ [])) (leaving (inner_left_at r (Conn name ∷ []) j k d)))
     by true = (refl, tt)
-    by false = by_leaving (Conn name) (inner_left_at r (Conn name ∷ []) j k d) (his_left_at (Conn name) (is_input d.kind) (Conn name ∷ []) j k (slice_get r.devices j))
+    by false =
+        by_leaving (Conn name) (inner_left_at r (Conn name ∷ []) j k d) (his_left_at (Conn name) (is_input d.kind) (Conn name ∷ []) j k (slice_get r.devices j))
 
 his_joined : (w : Who) (b : Bool) (j : ℕ) (more : List Who) → AreHis w more → AreHis w (cond b (Inner j ∷ []) [] ++ more)
 his_joined w true j more are = (tt, are)
@@ -145,7 +156,8 @@ his_joined w false j more are = are
 
 his_lefts : (w : Who) (gone : List Who) (k j : ℕ) (ds : List Device) → AreHis w (inners_left gone k j ds)
 his_lefts w gone k j [] = tt
-his_lefts w gone k j (d ∷ ds) = his_joined w (is_over d.kind k && is_left_empty gone d.members) j (inners_left gone k (suc j) ds) (his_lefts w gone k (suc j) ds)
+his_lefts w gone k j (d ∷ ds) =
+    his_joined w (is_over d.kind k && is_left_empty gone d.members) j (inners_left gone k (suc j) ds) (his_lefts w gone k (suc j) ds)
 
 by_ending : (r : Registry) (name : List ℕ) (k : ℕ) (d : Device) → IsBy (Conn name) (end_act r name k d)
 by_ending r name k d = (refl, by (is_input d.kind))
@@ -164,10 +176,12 @@ by_item s r name (Said (Ok (Read device place attribute))) k d =
 by_item s r name (Written device (Some target) payload) k d =
     by_only (Conn name) (is_named s device k) _ (by_accepted (Conn name) setting (write_found d (Conn name) target.0 target.1 payload) (λ x. tt))
 by_item s r name (Streamed device payload) k d =
-    by_only (Conn name) (is_named s device k) _ (by_accepted (Conn name) (λ scans. Writing (Conn name) scans) (write_answer d (Conn name) payload) (λ scans. tt))
+    by_only (Conn name) (is_named s device k) _
+    (by_accepted (Conn name) (λ scans. Writing (Conn name) scans) (write_answer d (Conn name) payload) (λ scans. tt))
 by_item s r name (Said (Ok (SetTrig device trigger))) k d =
     by_only (Conn name) (is_named s device k) _ (by_accepted (Conn name) (λ t. Retriggering t) (trigger_answer s (outline_of d) trigger) (λ t. tt))
-by_item s r name (Said (Ok (Remask device text))) k d = by_only (Conn name) (is_named s device k) _ (by_accepted (Conn name) (λ x. Remasking x.member x.mask) (remask_answer d (Conn name) text) (λ x. tt))
+by_item s r name (Said (Ok (Remask device text))) k d =
+    by_only (Conn name) (is_named s device k) _ (by_accepted (Conn name) (λ x. Remasking x.member x.mask) (remask_answer d (Conn name) text) (λ x. tt))
 by_item s r name (Said (Ok (EvOpen device))) k d = by_only (Conn name) (is_named s device k && d.site.plugged && is_input d.kind) (Holding (Conn name)) tt
 by_item s r name (Said (Ok (EvRead device))) k d = by_only (Conn name) (is_named s device k && d.site.plugged && is_input d.kind) (Draining (Conn name)) tt
 by_item s r name (Said (Ok (EvClose device))) k d = by_only (Conn name) (is_named s device k && d.site.plugged && is_input d.kind) (Releasing (Conn name)) tt
@@ -188,7 +202,8 @@ among_apart : (a : List ℕ) (w : Who) (gone : List Who) → same (Conn a) w ≡
 among_apart a w [] apart are = refl
 among_apart a w (x ∷ gone) apart are = ap (λ b. b || is_among (Conn a) gone) (his_apart a w x apart are.0) ∙ among_apart a w gone apart are.1
 
-asked_kept : (a : List ℕ) (w : Who) (act : Act) (ms : List Member) → same (Conn a) w ≡ false → IsBy w act → is_member (Conn a) (members_after act ms) ≡ is_member (Conn a) ms
+asked_kept : (a : List ℕ) (w : Who) (act : Act) (ms : List Member) → same (Conn a) w ≡ false → IsBy w act
+    → is_member (Conn a) (members_after act ms) ≡ is_member (Conn a) ms
 asked_kept a w (Joining m) ms apart by = joined_member (Conn a) ms m (his_apart a w m.who apart by)
 asked_kept a w (Remasking m mask) ms apart by = member_masked (Conn a) m.who mask ms
 asked_kept a w (Leaving gone) ms apart by = member_left (Conn a) gone ms (among_apart a w gone apart by)
@@ -210,13 +225,15 @@ his_among w x (y ∷ gone) are is = by (same x y) refl is (his_among w x gone ar
     by true own h rest = ap (mine w) (same_is x y own) ∙ his_mine w y are.0
     by false own h rest = rest h
 
-left_other_by : (g : Bool) (w : Who) (m : Member) (zs ms : List Member) → (g ≡ true → mine w m.who ≡ true) → has_other w zs ≡ has_other w ms → has_other w (cond g zs (m ∷ zs)) ≡ (not (mine w m.who) || has_other w ms)
+left_other_by : (g : Bool) (w : Who) (m : Member) (zs ms : List Member) → (g ≡ true → mine w m.who ≡ true) → has_other w zs ≡ has_other w ms
+    → has_other w (cond g zs (m ∷ zs)) ≡ (not (mine w m.who) || has_other w ms)
 left_other_by true w m zs ms own h = h ∙ ap (λ b. not b || has_other w ms) (sym (own refl))
 left_other_by false w m zs ms own h = ap (λ b. not (mine w m.who) || b) h
 
 left_other : (w : Who) (gone : List Who) (ms : List Member) → AreHis w gone → has_other w (without_members gone ms) ≡ has_other w ms
 left_other w gone [] are = refl
-left_other w gone (m ∷ ms) are = left_other_by (is_among m.who gone) w m (without_members gone ms) ms (λ is. his_among w m.who gone are is) (left_other w gone ms are)
+left_other w gone (m ∷ ms) are =
+    left_other_by (is_among m.who gone) w m (without_members gone ms) ms (λ is. his_among w m.who gone are is) (left_other w gone ms are)
 
 others_kept : (w : Who) (act : Act) (ms : List Member) → IsBy w act → has_other w (members_after act ms) ≡ has_other w ms
 others_kept w (Joining m) ms by = other_joined w ms m (his_mine w m.who by)
@@ -225,7 +242,8 @@ others_kept w (Leaving gone) ms by = left_other w gone ms by
 others_kept w (Ending gone) ms by = left_other w gone ms by
 others_kept w act ms by = refl
 
-pub each_kept : (v : Device → Bool) (f : ℕ → Device → Device) (k : ℕ) (ds : List Device) → ((j : ℕ) (d : Device) → v (f j d) ≡ v d) → map v (map_from f k ds) ≡ map v ds
+pub each_kept : (v : Device → Bool) (f : ℕ → Device → Device) (k : ℕ) (ds : List Device) → ((j : ℕ) (d : Device) → v (f j d) ≡ v d)
+    → map v (map_from f k ds) ≡ map v ds
 each_kept v f k [] all = refl
 each_kept v f k (d ∷ ds) all = ap (λ b. b ∷ map v (map_from f (suc k) ds)) (all k d) ∙ ap (λ bs. v d ∷ bs) (each_kept v f (suc k) ds all)
 
@@ -240,7 +258,8 @@ others_of a d = has_other (Conn a) d.members
 abbrev pub held_in : Option Bool → Bool
 held_in x = elim x [ None ↦ false | Some b ↦ b ]
 
-opened_in : (a : List ℕ) (x : Option Device) → elim x [ None ↦ false | Some d ↦ is_input d.kind && is_member (Conn a) d.members ] ≡ held_in (option_map (asked_of a) x)
+opened_in : (a : List ℕ) (x : Option Device)
+    → elim x [ None ↦ false | Some d ↦ is_input d.kind && is_member (Conn a) d.members ] ≡ held_in (option_map (asked_of a) x)
 opened_in a None = refl
 opened_in a (Some d) = refl
 
@@ -254,10 +273,12 @@ open_by_same : (r q : Registry) (a : List ℕ) (o : Option ℕ) → map (asked_o
 open_by_same r q a None alike = refl
 open_by_same r q a (Some k) alike = open_at_is r a k ∙ ap (λ bs. held_in (slice_get bs k)) alike ∙ sym (open_at_is q a k)
 
-open_same : (s : Setup) (r q : Registry) (a device : List ℕ) → map (asked_of a) r.devices ≡ map (asked_of a) q.devices → has_open s r a device ≡ has_open s q a device
+open_same : (s : Setup) (r q : Registry) (a device : List ℕ) → map (asked_of a) r.devices ≡ map (asked_of a) q.devices
+    → has_open s r a device ≡ has_open s q a device
 open_same s r q a device alike = open_by_same r q a (find_device s.desc device) alike
 
-modest_same : (s : Setup) (r q : Registry) (a : List ℕ) (item : Item) → map (asked_of a) r.devices ≡ map (asked_of a) q.devices → is_modest s r a item ≡ is_modest s q a item
+modest_same : (s : Setup) (r q : Registry) (a : List ℕ) (item : Item) → map (asked_of a) r.devices ≡ map (asked_of a) q.devices
+    → is_modest s r a item ≡ is_modest s q a item
 modest_same s r q a (Said (Ok (Open device samples text cyclic))) alike = open_same s r q a device alike
 modest_same s r q a (Said (Ok (Close device))) alike = open_same s r q a device alike
 modest_same s r q a (Said (Ok (ReadBuf device bytes))) alike = open_same s r q a device alike
@@ -267,11 +288,13 @@ modest_same s r q a (Said (Ok (SetBuffers device n))) alike = open_same s r q a 
 modest_same s r q a (Said (Ok (Remask device text))) alike = open_same s r q a device alike
 modest_same s r q a item alike = refl
 
-met_is : (s : Setup) (a : List ℕ) (e : Event) (k : ℕ) (ds : List Device) → all_from (is_met s a e) k ds ≡ all_from (λ j b. not (is_parting s a e j && b)) k (map (others_of a) ds)
+met_is : (s : Setup) (a : List ℕ) (e : Event) (k : ℕ) (ds : List Device)
+    → all_from (is_met s a e) k ds ≡ all_from (λ j b. not (is_parting s a e j && b)) k (map (others_of a) ds)
 met_is s a e k [] = refl
 met_is s a e k (d ∷ ds) = ap (λ b. is_met s a e k d && b) (met_is s a e (suc k) ds)
 
-met_same : (s : Setup) (r q : Registry) (a : List ℕ) (e : Event) → map (others_of a) r.devices ≡ map (others_of a) q.devices → all_from (is_met s a e) 0 r.devices ≡ all_from (is_met s a e) 0 q.devices
+met_same : (s : Setup) (r q : Registry) (a : List ℕ) (e : Event) → map (others_of a) r.devices ≡ map (others_of a) q.devices
+    → all_from (is_met s a e) 0 r.devices ≡ all_from (is_met s a e) 0 q.devices
 met_same s r q a e alike = met_is s a e 0 r.devices ∙ ap (all_from (λ j b. not (is_parting s a e j && b)) 0) alike ∙ sym (met_is s a e 0 q.devices)
 
 -- another's item parts nothing
@@ -281,10 +304,12 @@ never_parts s a name (Said (Ok (Remask device text))) k apart = ap (λ b. b && i
 never_parts s a name (End refusal) k apart = apart
 never_parts s a name item k apart = refl
 
-pub all_unparted : (s : Setup) (a name : List ℕ) (item : Item) (k : ℕ) (ds : List Device) → bytes_eq name a ≡ false → all_from (is_met s a (Heard name item)) k ds ≡ true
+pub all_unparted : (s : Setup) (a name : List ℕ) (item : Item) (k : ℕ) (ds : List Device) → bytes_eq name a ≡ false
+    → all_from (is_met s a (Heard name item)) k ds ≡ true
 all_unparted s a name item k [] apart = refl
 all_unparted s a name item k (d ∷ ds) apart =
-    ap (λ b. not (b && has_other (Conn a) d.members) && all_from (is_met s a (Heard name item)) (suc k) ds) (never_parts s a name item k apart) ∙ all_unparted s a name item (suc k) ds apart
+    ap (λ b. not (b && has_other (Conn a) d.members) && all_from (is_met s a (Heard name item)) (suc k) ds) (never_parts s a name item k apart)
+    ∙ all_unparted s a name item (suc k) ds apart
 
 -- ---- the items of a feed
 
@@ -294,7 +319,8 @@ AreSame a name r q =
     (bytes_eq name a ≡ false → map (asked_of a) r.devices ≡ map (asked_of a) q.devices)
     × (bytes_eq name a ≡ true → map (others_of a) r.devices ≡ map (others_of a) q.devices)
 
-meets_same : (s : Setup) (a name : List ℕ) (item : Item) (r q : Registry) (t : Bool) → bytes_eq name a ≡ t → AreSame a name r q → meets_by s r a name item ≡ meets_by s q a name item
+meets_same : (s : Setup) (a name : List ℕ) (item : Item) (r q : Registry) (t : Bool) → bytes_eq name a ≡ t → AreSame a name r q
+    → meets_by s r a name item ≡ meets_by s q a name item
 meets_same s a name item r q true is alike =
     ap (λ b. (b || is_modest s r a item) && all_from (is_met s a (Heard name item)) 0 r.devices) is ∙ met_same s r q a (Heard name item) (alike.1 is)
     ∙ ap (λ b. (b || is_modest s q a item) && all_from (is_met s a (Heard name item)) 0 q.devices) (sym is)
@@ -305,7 +331,9 @@ meets_same s a name item r q false is alike =
 still_same : (s : Setup) (a name : List ℕ) (item : Item) (r q : Registry) → AreSame a name r q → AreSame a name (registry_next s r (Heard name item)) q
 still_same s a name item r q alike = (
   λ apart. each_kept (asked_of a) (device_after s r (Heard name item)) 0 r.devices
-      (λ j d. ap (λ b. is_input d.kind && b) (asked_kept a (Conn name) (act_of s r (Heard name item) j d) d.members (same_sym (Conn a) (Conn name) ∙ apart) (by_item s r name item j d))) ∙ alike.0 apart,
+      (λ j d. ap (λ b. is_input d.kind && b)
+      (asked_kept a (Conn name) (act_of s r (Heard name item) j d) d.members (same_sym (Conn a) (Conn name) ∙ apart) (by_item s r name item j d)))
+      ∙ alike.0 apart,
   λ is. each_kept (others_of a) (device_after s r (Heard name item)) 0 r.devices
       (λ j d. others_kept (Conn a) (act_of s r (Heard name item) j d) d.members
       (subst (λ w. IsBy (Conn w) (act_of s r (Heard name item) j d)) ((bytes_eq-Decides name a).0 is) (by_item s r name item j d))) ∙ alike.1 is,
@@ -318,7 +346,8 @@ decided : (s : Setup) (a name : List ℕ) (items : List Item) (h : List Event) (
     → only_bystanders s a (and_then h (heard name items)) ≡ all_meet_by s q a name items
 decided s a name [] h q only alike = meet_all s a h only
 decided s a name (item ∷ items) h q only alike =
-    by_rule (is_bystander s (registry_after s h) a (Heard name item)) refl (λ next. decided s a name items (Heard name item ∷ h) q next (still_same s a name item (registry_after s h) q alike))
+    by_rule (is_bystander s (registry_after s h) a (Heard name item)) refl
+    (λ next. decided s a name items (Heard name item ∷ h) q next (still_same s a name item (registry_after s h) q alike))
   where
     it : is_bystander s (registry_after s h) a (Heard name item) ≡ meets_by s q a name item
     it = by_start s a name item h only ∙ meets_same s a name item (registry_after s h) q (bytes_eq name a) refl alike

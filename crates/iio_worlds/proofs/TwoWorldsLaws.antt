@@ -53,7 +53,8 @@ AreAlike s a h g = IsQuiet a (registry_after s h) × AreAlone a (registry_after 
 of_told : (s : Setup) (h : List Event) (P : Registry → Type 0) → P (registry_after s h) → P (registry_of (told s h))
 of_told s h P is = subst P (sym (registry_is s h)) is
 
-own_next : (s : Setup) (a : List ℕ) (h : List Event) (e : Event) → IsOwn a e → AllEven (Conn a) (registry_after s h).devices → AreUnparted s a e (registry_after s h).devices
+own_next : (s : Setup) (a : List ℕ) (h : List Event) (e : Event) → IsOwn a e → AllEven (Conn a) (registry_after s h).devices
+    → AreUnparted s a e (registry_after s h).devices
     → own a (told s (e ∷ h)) ≡ own a (step s (own a (told s h)) e)
 own_next s a h e is even apart =
     ap (own a) (step_is_told s h e)
@@ -74,13 +75,16 @@ alike_foreign s a h g e is only alike =
       quiet_foreign s a (registry_after s h) e is met.0 alike.0,
       alike.1,
       ap (own a) (step_is_told s h e)
-          ∙ step_kept s a (told s h) e is (of_told s h (λ r. others_are_modest s r a e ≡ true) met.0) (of_told s h (λ r. AllEven (Conn a) r.devices) alike.0.0) (of_told s h (λ r. AllFree (Conn a) r.devices) alike.0.1) ∙ alike.2,
+          ∙ step_kept s a (told s h) e is (of_told s h (λ r. others_are_modest s r a e ≡ true) met.0) (of_told s h (λ r. AllEven (Conn a) r.devices) alike.0.0)
+          (of_told s h (λ r. AllFree (Conn a) r.devices) alike.0.1) ∙ alike.2,
     )
 
-text_same : (s : Setup) (a : List ℕ) (h g : List Event) (e : Event) → IsOwn a e → OnlyBystanders s a (e ∷ h) → AreAlike s a h g → event_text s (told s h) e ≡ event_text s (told s g) e
+text_same : (s : Setup) (a : List ℕ) (h g : List Event) (e : Event) → IsOwn a e → OnlyBystanders s a (e ∷ h) → AreAlike s a h g
+    → event_text s (told s h) e ≡ event_text s (told s g) e
 text_same s a h g e is only alike =
     let met = rules_met s a (registry_after s h) e only.0 alike.0.0 in
-    text_alike s a (told s h) e is (of_told s h (λ r. AllEven (Conn a) r.devices) alike.0.0) (of_told s h (λ r. AreUnparted s a e r.devices) met.1) ∙ ap (λ m. event_text s m e) alike.2
+    text_alike s a (told s h) e is (of_told s h (λ r. AllEven (Conn a) r.devices) alike.0.0) (of_told s h (λ r. AreUnparted s a e r.devices) met.1)
+    ∙ ap (λ m. event_text s m e) alike.2
     ∙ sym (text_alike s a (told s g) e is (of_told s g (λ r. AllEven (Conn a) r.devices) (alone_all a (registry_after s g) alike.1))
     (of_told s g (λ r. AreUnparted s a e r.devices) (λ k d here part. alike.1 k d here)))
 
@@ -98,12 +102,17 @@ own_events : (s : Setup) (a : List ℕ) (es : List Event) (h g : List Event) →
     → (texts_after s h es ≡ texts_after s g es) × AreAlike s a (and_then h es) (and_then g es)
 own_events s a [] h g are only alike = (refl, alike)
 own_events s a (e ∷ es) h g are only alike =
-    let rest = own_events s a es (e ∷ h) (e ∷ g) are.1 only (alike_own s a h g e are.0 (before_events s a es (e ∷ h) only) alike) in
-    (ap (λ text. text ++ texts_after s (e ∷ h) es) (text_same s a h g e are.0 (before_events s a es (e ∷ h) only) alike) ∙ ap (λ text. event_text s (told s g) e ++ text) rest.0, rest.1)
+    let rest = own_events s a es (e ∷ h) (e ∷ g) are.1 only (alike_own s a h g e are.0 (before_events s a es (e ∷ h) only) alike) in (
+      ap (λ text. text ++ texts_after s (e ∷ h) es) (text_same s a h g e are.0 (before_events s a es (e ∷ h) only) alike)
+          ∙ ap (λ text. event_text s (told s g) e ++ text) rest.0,
+      rest.1,
+    )
 
-others_events : (s : Setup) (a : List ℕ) (es : List Event) (h g : List Event) → AllForeign a es → OnlyBystanders s a (and_then h es) → AreAlike s a h g → AreAlike s a (and_then h es) g
+others_events : (s : Setup) (a : List ℕ) (es : List Event) (h g : List Event) → AllForeign a es → OnlyBystanders s a (and_then h es) → AreAlike s a h g
+    → AreAlike s a (and_then h es) g
 others_events s a [] h g are only alike = alike
-others_events s a (e ∷ es) h g are only alike = others_events s a es (e ∷ h) g are.1 only (alike_foreign s a h g e are.0 (before_events s a es (e ∷ h) only) alike)
+others_events s a (e ∷ es) h g are only alike =
+    others_events s a es (e ∷ h) g are.1 only (alike_foreign s a h g e are.0 (before_events s a es (e ∷ h) only) alike)
 
 -- ---- steps
 
@@ -160,10 +169,12 @@ is_own_step a (Feed name bytes) is = (bytes_eq-Decides name a).0 (kept (bytes_eq
 is_own_step a (Drop name) is = (bytes_eq-Decides name a).0 (kept (bytes_eq name a) is)
 is_own_step a t is = tt
 
-ended_same : (s : Setup) (a : List ℕ) (h g : List Event) → AreAlike s a h g → has_ended a (registry_of (told s h)).users ≡ has_ended a (registry_of (told s g)).users
+ended_same : (s : Setup) (a : List ℕ) (h g : List Event) → AreAlike s a h g
+    → has_ended a (registry_of (told s h)).users ≡ has_ended a (registry_of (told s g)).users
 ended_same s a h g alike = ended_alike a (told s h) ∙ ap (λ m. has_ended a (registry_of m).users) alike.2 ∙ sym (ended_alike a (told s g))
 
-step_same : (s : Setup) (a : List ℕ) (h g h' g' : List Event) (t : Step) (text : List ℕ) → IsOwnStep a t → AreAlike s a h g → AreAlike s a h' g' → step_text (told s h) (told s h') t text ≡ step_text (told s g) (told s g') t text
+step_same : (s : Setup) (a : List ℕ) (h g h' g' : List Event) (t : Step) (text : List ℕ) → IsOwnStep a t → AreAlike s a h g → AreAlike s a h' g'
+    → step_text (told s h) (told s h') t text ≡ step_text (told s g) (told s g') t text
 step_same s a h g h' g' (Feed name bytes) text is alike next =
     let line : Bool → Bool → List ℕ = λ b c. cond b [] (printed (name ∷ quoted text ∷ [])) ++ cond c (closed_line name) [] in
     let ended : (x y : List Event) → AreAlike s a x y → has_ended name (registry_of (told s x)).users ≡ has_ended name (registry_of (told s y)).users =
@@ -192,14 +203,16 @@ own_step s a h g t is only alike =
       subst (λ xs. AreAlike s a (and_then h es) (and_then g xs)) same next.1,
     )
 
-kept_is : (s : Setup) (a : List ℕ) (ts : List Step) (h g : List Event) → OnlyBystanders s a (with_steps s h ts) → AreAlike s a h g → transcript s g (without_others a ts) ≡ transcript_kept s a h ts
+kept_is : (s : Setup) (a : List ℕ) (ts : List Step) (h g : List Event) → OnlyBystanders s a (with_steps s h ts) → AreAlike s a h g
+    → transcript s g (without_others a ts) ≡ transcript_kept s a h ts
 kept_is s a [] h g only alike = refl
 kept_is s a (t ∷ ts) h g only alike = by_step (is_others a t) refl (λ next. kept_is s a ts (with_step s h t) next only)
   where
     met : OnlyBystanders s a (with_step s h t)
     met = before_steps s a ts (with_step s h t) only
 
-    by_step : (b : Bool) → is_others a t ≡ b → ((next : List Event) → AreAlike s a (with_step s h t) next → transcript s next (without_others a ts) ≡ transcript_kept s a (with_step s h t) ts)
+    by_step : (b : Bool) → is_others a t ≡ b
+        → ((next : List Event) → AreAlike s a (with_step s h t) next → transcript s next (without_others a ts) ≡ transcript_kept s a (with_step s h t) ts)
         → transcript s g (cond b (without_others a ts) (t ∷ without_others a ts)) ≡ cond b [] (lines_of_step s h t) ++ transcript_kept s a (with_step s h t) ts
     by_step true is rest = rest g (others_events s a (events_of_step (told s h) t) h g (foreign_of a (told s h) t is) met alike)
     by_step false is rest =
@@ -207,7 +220,8 @@ kept_is s a (t ∷ ts) h g only alike = by_step (is_others a t) refl (λ next. k
         ap (λ text. text ++ transcript s (with_step s g t) (without_others a ts)) (sym goes.0)
         ∙ ap (λ text. lines_of_step s h t ++ text) (rest (with_step s g t) goes.1)
 
-pub two_worlds : (s : Setup) (a : List ℕ) (steps : List Step) → only_bystanders s a (with_steps s [] steps) ≡ true → transcript s [] (without_others a steps) ≡ transcript_kept s a [] steps
+pub two_worlds : (s : Setup) (a : List ℕ) (steps : List Step) → only_bystanders s a (with_steps s [] steps) ≡ true
+    → transcript s [] (without_others a steps) ≡ transcript_kept s a [] steps
 two_worlds s a steps only = kept_is s a steps [] [] (all_meet s a (with_steps s [] steps) only) (quiet_first s a, alone_first s a, refl)
 
 -- ---- the step that offends
@@ -216,12 +230,14 @@ none_below : (o : Option ℕ) → option_map suc o ≡ None → o ≡ None
 none_below None is = refl
 none_below (Some k) is = cc
 
-none_offends : (s : Setup) (a : List ℕ) (ts : List Step) (h : List Event) → only_bystanders s a h ≡ true → first_offence s a h ts ≡ None → only_bystanders s a (with_steps s h ts) ≡ true
+none_offends : (s : Setup) (a : List ℕ) (ts : List Step) (h : List Event) → only_bystanders s a h ≡ true → first_offence s a h ts ≡ None
+    → only_bystanders s a (with_steps s h ts) ≡ true
 none_offends s a [] h before none = before
 none_offends s a (t ∷ ts) h before none = by_step (only_bystanders s a (with_step s h t)) refl none (none_offends s a ts (with_step s h t))
   where
     by_step : (b : Bool) → only_bystanders s a (with_step s h t) ≡ b → cond b (option_map suc (first_offence s a (with_step s h t) ts)) (Some 0) ≡ None
-        → (only_bystanders s a (with_step s h t) ≡ true → first_offence s a (with_step s h t) ts ≡ None → only_bystanders s a (with_steps s (with_step s h t) ts) ≡ true)
+        → (only_bystanders s a (with_step s h t) ≡ true → first_offence s a (with_step s h t) ts ≡ None
+        → only_bystanders s a (with_steps s (with_step s h t) ts) ≡ true)
         → only_bystanders s a (with_steps s (with_step s h t) ts) ≡ true
     by_step true is none rest = rest is (none_below (first_offence s a (with_step s h t) ts) none)
     by_step false is none rest = cc
@@ -229,8 +245,10 @@ none_offends s a (t ∷ ts) h before none = by_step (only_bystanders s a (with_s
 offends_none : (s : Setup) (a : List ℕ) (ts : List Step) (h : List Event) → OnlyBystanders s a (with_steps s h ts) → first_offence s a h ts ≡ None
 offends_none s a [] h only = refl
 offends_none s a (t ∷ ts) h only =
-    ap (λ b. cond b (option_map suc (first_offence s a (with_step s h t) ts)) (Some 0)) (meet_all s a (with_step s h t) (before_steps s a ts (with_step s h t) only))
+    ap (λ b. cond b (option_map suc (first_offence s a (with_step s h t) ts)) (Some 0))
+    (meet_all s a (with_step s h t) (before_steps s a ts (with_step s h t) only))
     ∙ ap (option_map suc) (offends_none s a ts (with_step s h t) only)
 
-pub offence_is : (s : Setup) (a : List ℕ) (steps : List Step) → (first_offence s a [] steps ≡ None → only_bystanders s a (with_steps s [] steps) ≡ true) × (only_bystanders s a (with_steps s [] steps) ≡ true → first_offence s a [] steps ≡ None)
+pub offence_is : (s : Setup) (a : List ℕ) (steps : List Step) → (first_offence s a [] steps ≡ None → only_bystanders s a (with_steps s [] steps) ≡ true)
+    × (only_bystanders s a (with_steps s [] steps) ≡ true → first_offence s a [] steps ≡ None)
 offence_is s a steps = (none_offends s a steps [] refl, λ only. offends_none s a steps [] (all_meet s a (with_steps s [] steps) only))

@@ -32,7 +32,8 @@ KeptGoesOn =
     (s : Setup) (a : List ℕ) (ending : Ending)
     → ((ts : List Numbered) → kept_on s a None [] [] ts ending ≡ kept_of_script s a ts ending)
     × ((text : List ℕ) (h : List Event) (t : Numbered) (ts : List Numbered) → only_bystanders s a (with_step s h t.step) ≡ true
-    → kept_on s a None text h (t ∷ ts) ending ≡ kept_on s a None (text ++ (if is_others a t.step then [] else lines_of_step s h t.step)) (with_step s h t.step) ts ending)
+    → kept_on s a None text h (t ∷ ts) ending
+    ≡ kept_on s a None (text ++ (if is_others a t.step then [] else lines_of_step s h t.step)) (with_step s h t.step) ts ending)
     × ((text : List ℕ) (h : List Event) (t : Numbered) (ts : List Numbered) → only_bystanders s a (with_step s h t.step) ≡ false
     → (text' : List ℕ) (h' : List Event) → kept_on s a None text h (t ∷ ts) ending ≡ kept_on s a (Some t.number) text' h' ts ending)
     × ((line : ℕ) (text : List ℕ) (h : List Event) (t : Numbered) (ts : List Numbered) (text' : List ℕ) (h' : List Event)

@@ -23,4 +23,5 @@ abbrev pub OwnLinesPlay : Type 0
 OwnLinesPlay =
     (s : Setup) (a : List ℕ) (first : ℕ) (lines : List (List ℕ)) → (script_from s.desc Finished [] first lines).ending ≡ Finished
     → ((script_from s.desc Finished [] first (own_lines s.desc a lines)).ending ≡ Finished)
-    × (script_text s (script_from s.desc Finished [] first (own_lines s.desc a lines)) ≡ transcript s [] (without_others a (script_from s.desc Finished [] first lines).steps))
+    × (script_text s (script_from s.desc Finished [] first (own_lines s.desc a lines))
+    ≡ transcript s [] (without_others a (script_from s.desc Finished [] first lines).steps))

@@ -44,7 +44,8 @@ solo_of_script s a ts ending = only_ending ending
 
 abbrev pub solo_of_head : List ℕ → List Driver → Bool → Head → Outcome
 solo_of_head a drivers overlong (Described desc first lines) =
-    solo_of_script (record { desc = desc; drivers = drivers }) a (numbered_from desc [] first lines) (script_from desc (last_ending overlong) [] first lines).ending
+    solo_of_script (record { desc = desc; drivers = drivers }) a (numbered_from desc [] first lines)
+    (script_from desc (last_ending overlong) [] first lines).ending
 solo_of_head a drivers overlong (Faulty (Line n why)) = only_ending (Refused n why)
 solo_of_head a drivers overlong (Faulty Mem) = only_ending Finished
 solo_of_head a drivers overlong Cut = only_ending TooLong
@@ -68,7 +69,8 @@ kept_of_script s a ts ending = Err ending
 
 abbrev pub kept_of_head : List ℕ → List Driver → Bool → Head → Result (List ℕ) Ending
 kept_of_head a drivers overlong (Described desc first lines) =
-    kept_of_script (record { desc = desc; drivers = drivers }) a (numbered_from desc [] first lines) (script_from desc (last_ending overlong) [] first lines).ending
+    kept_of_script (record { desc = desc; drivers = drivers }) a (numbered_from desc [] first lines)
+    (script_from desc (last_ending overlong) [] first lines).ending
 kept_of_head a drivers overlong (Faulty (Line n why)) = Err (Refused n why)
 kept_of_head a drivers overlong (Faulty Mem) = Err Finished
 kept_of_head a drivers overlong Cut = Err TooLong
@@ -121,7 +123,9 @@ OffenceLineIs =
 
 -- where a line of the input is refused, or it has too many bytes, that is all that is printed
 abbrev pub BadLineIsFirst : Type 0
-BadLineIsFirst = (a : List ℕ) (drivers : List Driver) (input : List ℕ) → ((outcome_of drivers input).ending ≡ Finished → ⊥) → solo_outcome_of a drivers input ≡ only_ending (outcome_of drivers input).ending
+BadLineIsFirst =
+    (a : List ℕ) (drivers : List Driver) (input : List ℕ) → ((outcome_of drivers input).ending ≡ Finished → ⊥)
+    → solo_outcome_of a drivers input ≡ only_ending (outcome_of drivers input).ending
 
 -- ---- an input in the grammar
 
@@ -149,7 +153,8 @@ AreAlike a drivers input =
 abbrev pub IsRefusedBeside : List ℕ → List Driver → List ℕ → Type 0
 IsRefusedBeside a drivers input =
     (s : Setup) (ts : List Numbered) → HasSteps drivers input s ts → only_bystanders s a (with_steps s [] (map step_of_numbered ts)) ≡ false
-    → (line : ℕ) × (number_at ts (first_offence s a [] (map step_of_numbered ts)) ≡ Some line) × (solo_outcome_of a drivers input ≡ only_ending (Refused line Bystander))
+    → (line : ℕ) × (number_at ts (first_offence s a [] (map step_of_numbered ts)) ≡ Some line)
+    × (solo_outcome_of a drivers input ≡ only_ending (Refused line Bystander))
 
 abbrev pub WorldsAreAlike : Type 0
 WorldsAreAlike = (a : List ℕ) (drivers : List Driver) (input : List ℕ) → AreAlike a drivers input

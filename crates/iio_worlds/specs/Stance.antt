@@ -86,11 +86,13 @@ step_meets s a m t = step_meets_by (opens_of s.desc (stance_of a (registry_of m)
 
 -- the stance decides of an item what the registry does
 abbrev pub StanceDecides : Type 0
-StanceDecides = (s : Setup) (r : Registry) (a name : List ℕ) (item : Item) → meets_by s r a name item ≡ item_meets (opens_of s.desc (stance_of a r)) (bytes_eq name a) item
+StanceDecides =
+    (s : Setup) (r : Registry) (a name : List ℕ) (item : Item) → meets_by s r a name item ≡ item_meets (opens_of s.desc (stance_of a r)) (bytes_eq name a) item
 
 -- and of a step, where all events before it meet the rules, whether all of its own do
 abbrev pub StepDecides : Type 0
-StepDecides = (s : Setup) (a : List ℕ) (h : List Event) (t : Step) → only_bystanders s a h ≡ true → only_bystanders s a (with_step s h t) ≡ step_meets s a (told s h) t
+StepDecides =
+    (s : Setup) (a : List ℕ) (h : List Event) (t : Step) → only_bystanders s a h ≡ true → only_bystanders s a (with_step s h t) ≡ step_meets s a (told s h) t
 
 -- ---- the stance by the desks
 
@@ -111,7 +113,8 @@ one_has a (name ∷ names) d = (not (bytes_eq name a) && is_member (Conn name) d
 -- another has it open exactly where one of the other connections that are there does
 abbrev pub OthersAreThere : Type 0
 OthersAreThere =
-    (s : Setup) (m : Told) (a : List ℕ) (k : ℕ) (st : Station) → IsBench s m → slice_get m.stations k ≡ Some st → has_others a (device_of st) ≡ one_has a (names_of m) (device_of st)
+    (s : Setup) (m : Told) (a : List ℕ) (k : ℕ) (st : Station) → IsBench s m → slice_get m.stations k ≡ Some st
+    → has_others a (device_of st) ≡ one_has a (names_of m) (device_of st)
 
 -- by the seats of the connection, where it is there, and of the others that are there: what a session sees is enough
 abbrev pub own_has : Option DeskRecord → ℕ → Bool

@@ -35,7 +35,8 @@ pub record FirstAt (drivers : List Driver) (n i : ℕ) (descs : List DeviceRecor
   pub number : v.number ≡ n + i
   pub shape : v.standing.shape ≡ desc.shape
 
-first_at : (drivers : List Driver) (n i : ℕ) (descs : List DeviceRecord) (v : DeviceView WriterEnd) → slice_get (first_devices drivers n descs) i ≡ Some v → FirstAt drivers n i descs v
+first_at : (drivers : List Driver) (n i : ℕ) (descs : List DeviceRecord) (v : DeviceView WriterEnd) → slice_get (first_devices drivers n descs) i ≡ Some v
+    → FirstAt drivers n i descs v
 first_at drivers n i [] v e = absurd (cc)
 first_at drivers n zero (d ∷ ds) v e =
     let same : v ≡ new_view d n (first_driver drivers d) = cc in
@@ -62,12 +63,16 @@ unfolding shape_at
 shape_first desc i x e = ap (λ (o : Option DeviceHead). option_map_or (λ (d : DeviceHead). d.shape) o no_shape) (sym (map_at input_head desc.devices i x e))
 
 module _ {X : Type 0} {V : X → Type 0} {g : Ghosts WriterEnd} where
-  pub first_fits : (drv : Plug X V → Driver) (front : HubFront) (devices : List (Fitted (IioDev WriterEnd g) X V)) (drivers : List Driver) (desc : Description) (many : ℕ)
-      → map (λ d. lent_by drv d) devices ≡ first_devices drivers 0 desc.devices → front_of front ≡ served_front desc → many ≡ MAX_TRIGGERS → Fits front devices many
+  pub first_fits : (drv : Plug X V → Driver) (front : HubFront) (devices : List (Fitted (IioDev WriterEnd g) X V)) (drivers : List Driver) (desc : Description)
+      (many : ℕ)
+      → map (λ d. lent_by drv d) devices ≡ first_devices drivers 0 desc.devices → front_of front ≡ served_front desc → many ≡ MAX_TRIGGERS
+      → Fits front devices many
   first_fits drv front devices drivers desc many views fronts sixteen = record {
     many = sym (length_map_is (λ d. lent_by drv d) devices) ∙ ap (λ (vs : List (DeviceView WriterEnd)). length vs) views ∙ length_first drivers 0 desc.devices
         ∙ sym (length_map_is input_head desc.devices) ∙ ap (λ (f : Front). length f.devices) (sym fronts) ∙ length_map_is face_of front.devices.items;
-    each = λ i d at. by i d (first_at drivers 0 i desc.devices (lent_by drv d) (ap (λ (vs : List (DeviceView WriterEnd)). slice_get vs i) (sym views) ∙ map_at (λ d. lent_by drv d) devices i d at));
+    each =
+        λ i d at. by i d (first_at drivers 0 i desc.devices (lent_by drv d)
+        (ap (λ (vs : List (DeviceView WriterEnd)). slice_get vs i) (sym views) ∙ map_at (λ d. lent_by drv d) devices i d at));
     sixteen = sixteen;
   }
     where
@@ -82,10 +87,12 @@ one_more zero x = refl
 one_more (suc k) x = ap (λ (xs : List State). x ∷ xs) (one_more k x)
 
 -- one trigger more, after that many
-pub trigger_more : (made : List State) (n k : ℕ) (x : State) (states states' : List State) → n ≤ k → states ≡ made ++ replicate (k - n) x → states' ≡ states ++ x ∷ [] → states' ≡ made ++ replicate (k + 1 - n) x
+pub trigger_more : (made : List State) (n k : ℕ) (x : State) (states states' : List State) → n ≤ k → states ≡ made ++ replicate (k - n) x
+    → states' ≡ states ++ x ∷ [] → states' ≡ made ++ replicate (k + 1 - n) x
 trigger_more made n k x states states' low is pushed =
     let one : k + 1 - n ≡ suc (k - n) = omega arith in
-    pushed ∙ ap (λ (xs : List State). xs ++ x ∷ []) is ∙ append_assoc made (replicate (k - n) x) (x ∷ []) ∙ ap (λ (xs : List State). made ++ xs) (sym (one_more (k - n) x)) ∙ ap (λ (m : ℕ). made ++ replicate m x) (sym one)
+    pushed ∙ ap (λ (xs : List State). xs ++ x ∷ []) is ∙ append_assoc made (replicate (k - n) x) (x ∷ [])
+    ∙ ap (λ (xs : List State). made ++ xs) (sym (one_more (k - n) x)) ∙ ap (λ (m : ℕ). made ++ replicate m x) (sym one)
 
 length_replicate : (k : ℕ) (x : State) → length (replicate k x) ≡ k
 length_replicate zero x = refl
@@ -96,7 +103,8 @@ length_both [] ys = let z : length ys ≡ 0 + length ys = omega arith in z
 length_both (x ∷ xs) ys = let z = length_both xs ys in omega (arith, z)
 
 -- sixteen triggers, where no more are described
-pub sixteen_first : (described : List TriggerDesc) (states : List State) → length described ≤ MAX_TRIGGERS → states ≡ first_triggers described → length states ≡ MAX_TRIGGERS
+pub sixteen_first : (described : List TriggerDesc) (states : List State) → length described ≤ MAX_TRIGGERS → states ≡ first_triggers described
+    → length states ≡ MAX_TRIGGERS
 sixteen_first described states few is =
     let both = length_both (map (λ (t : TriggerDesc). idle_trigger t.places) described) (replicate (MAX_TRIGGERS - length described) (idle_trigger 1)) in
     let one = length_map_is (λ (t : TriggerDesc). idle_trigger t.places) described in
@@ -106,7 +114,10 @@ sixteen_first described states few is =
 -- where the parts were made
 module _ {X : Type 0} {V : X → Type 0} where
   pub parts_fit : (drv : Plug X V → Driver) (drivers : List Driver) (desc : Description) (n : ℕ) (r : Result (Parts X V) Mem) → IsWellFormed n desc
-      → IfOk r (λ p. front_of p.front ≡ served_front desc) → IfOk r (λ p. map (λ d. lent_by drv d) p.devices.items ≡ first_devices drivers 0 desc.devices) → IfOk r (λ p. p.triggers.items ≡ first_triggers desc.triggers)
+      → IfOk r (λ p. front_of p.front ≡ served_front desc) → IfOk r (λ p. map (λ d. lent_by drv d) p.devices.items ≡ first_devices drivers 0 desc.devices)
+      → IfOk r (λ p. p.triggers.items ≡ first_triggers desc.triggers)
       → IfOk r (λ p. Fits p.front p.devices.items (length p.triggers.items))
   parts_fit drv drivers desc n (Err e) sound fronts views triggers = tt
-  parts_fit drv drivers desc n (Ok p) sound fronts views triggers = first_fits drv p.front p.devices.items drivers desc (length p.triggers.items) views fronts (sixteen_first desc.triggers p.triggers.items sound.triggers triggers)
+  parts_fit drv drivers desc n (Ok p) sound fronts views triggers =
+      first_fits drv p.front p.devices.items drivers desc (length p.triggers.items) views fronts
+      (sixteen_first desc.triggers p.triggers.items sound.triggers triggers)

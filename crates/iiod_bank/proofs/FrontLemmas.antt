@@ -49,7 +49,8 @@ prefix_map f p (x ∷ xs) = rw (prefix_map f p xs) refl
 position_map : {A B : Type 0} (f : A → B) (p : B → Bool) (xs : List A) → position p (map f xs) ≡ position (λ x. p (f x)) xs
 position_map f p xs = rw (prefix_map f (λ x. not (p x)) xs, length_map_is f xs) refl
 
-pub position_seen : {A B : Type 0} (f : A → B) (p : B → Bool) (xs ys : List A) (r : Option ℕ) → ys ≡ xs → r ≡ position (λ x. p (f x)) ys → r ≡ position p (map f xs)
+pub position_seen : {A B : Type 0} (f : A → B) (p : B → Bool) (xs ys : List A) (r : Option ℕ) → ys ≡ xs → r ≡ position (λ x. p (f x)) ys
+    → r ≡ position p (map f xs)
 position_seen f p xs ys r same e = e ∙ ap (λ zs. position (λ x. p (f x)) zs) same ∙ sym (position_map f p xs)
 
 pub name_there : (front : Front) (t : ℕ) (x : TriggerDesc) → slice_get front.triggers t ≡ Some x → x.name ≡ trigger_name front t
@@ -58,4 +59,5 @@ name_there front t x at = ap (λ (o : Option TriggerDesc). option_map_or (λ (y 
 
 pub name_past : (front : Front) (t n : ℕ) → n ≡ length front.triggers → n ≤ t → [] ≡ trigger_name front t
 unfolding trigger_name
-name_past front t n e past = ap (λ (o : Option TriggerDesc). option_map_or (λ (y : TriggerDesc). y.name) o []) (sym (slice_get_past front.triggers t (omega arith)))
+name_past front t n e past =
+    ap (λ (o : Option TriggerDesc). option_map_or (λ (y : TriggerDesc). y.name) o []) (sym (slice_get_past front.triggers t (omega arith)))

@@ -31,14 +31,16 @@ kept_site site false a b e = kept_same a b e
 pub kept_retriggered : (trigger : Option ℕ) (a b : DeviceView WriterEnd) → b ≡ after_trigger trigger a → Kept a b
 kept_retriggered trigger a b e = kept_site (record a.site { trigger = trigger }) (is_idle a) a b e
 
-pub kept_left : (lost : WriterEnd → ℕ) (number : ℕ) (o : Option WriterEnd) (a b : DeviceView WriterEnd) (s t : State) → LeavesDevice lost number o a b s t → Kept a b
+pub kept_left : (lost : WriterEnd → ℕ) (number : ℕ) (o : Option WriterEnd) (a b : DeviceView WriterEnd) (s t : State) → LeavesDevice lost number o a b s t
+    → Kept a b
 kept_left lost number None a b s t left = kept_same a b left.1
 kept_left lost number (Some tail) a b s t left = kept_along a _ b left.1 (record { name = refl; number = refl; shape = refl })
 
 -- ---- refusals of OPEN
 
 module _ (taken lost size capacity : WriterEnd → ℕ) (mask : Mask) (scans bytes : ℕ) where
-  pub refused_by : (f : JoinFault) (r : No) (a b : DeviceView WriterEnd) (s t : Option State) → r ≡ no_of f → first_refusal (join_faults a mask.bits s) ≡ Some f → b ≡ a → t ≡ s → OpenMakes taken lost size capacity mask scans bytes a s (Err r) b t
+  pub refused_by : (f : JoinFault) (r : No) (a b : DeviceView WriterEnd) (s t : Option State) → r ≡ no_of f → first_refusal (join_faults a mask.bits s) ≡ Some f
+      → b ≡ a → t ≡ s → OpenMakes taken lost size capacity mask scans bytes a s (Err r) b t
   refused_by f r a b s t is refused same kept = rw is (by f refused)
     where
       by : (f : JoinFault) → first_refusal (join_faults a mask.bits s) ≡ Some f → OpenMakes taken lost size capacity mask scans bytes a s (Err (no_of f)) b t
@@ -62,6 +64,7 @@ stated None f e = absurd (cc)
 stated (Some x) f e = let same : f ≡ x = cc in ap (λ y. Some y) (sym same)
 
 -- a READ at the same moment, of the same channel
-pub read_along : (t u : ℤ) (channel channel' : Option ℕ) (s : Attr) (a b : DeviceView WriterEnd) (o : Result Value No) → u ≡ t → channel ≡ channel' → ReadMakes u channel' s a o b → ReadMakes t channel s a o b
+pub read_along : (t u : ℤ) (channel channel' : Option ℕ) (s : Attr) (a b : DeviceView WriterEnd) (o : Result Value No) → u ≡ t → channel ≡ channel'
+    → ReadMakes u channel' s a o b → ReadMakes t channel s a o b
 read_along t u channel channel' s a b o e d made =
     subst (λ (x : ℤ). ReadMakes x channel s a o b) e (subst (λ (x : Option ℕ). ReadMakes u x s a o b) (sym d) made)

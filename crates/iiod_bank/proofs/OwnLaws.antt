@@ -53,7 +53,8 @@ module _ {A : Type 0} where
       by (Some y) = Some (f y)
   map_at f (z ∷ zs) (suc i) x e = map_at f zs i x e
 
-made_at : {O : Type 0} (makes : DeviceView WriterEnd → Option State → O → DeviceView WriterEnd → Option State → Type 0) (a b : DeviceView WriterEnd) (o : O) (x y z : Option State) → x ≡ y → makes a y o b z → makes a x o b z
+made_at : {O : Type 0} (makes : DeviceView WriterEnd → Option State → O → DeviceView WriterEnd → Option State → Type 0) (a b : DeviceView WriterEnd) (o : O)
+    (x y z : Option State) → x ≡ y → makes a y o b z → makes a x o b z
 made_at makes a b o x y z e m = rw e m
 
 length_map_is : {A B : Type 0} (f : A → B) (xs : List A) → length (map f xs) ≡ length xs
@@ -61,20 +62,24 @@ length_map_is f [] = refl
 length_map_is f (x ∷ xs) = ap (λ (n : ℕ). suc n) (length_map_is f xs)
 
 module _ {X : Type 0} {V : X → Type 0} {g : Ghosts WriterEnd} where
-  pub within : (f : HubFront) (devices : List (Fitted (IioDev WriterEnd g) X V)) (n dev : ℕ) → Fits f devices n → dev < length (front_of f).devices → dev < length devices
+  pub within : (f : HubFront) (devices : List (Fitted (IioDev WriterEnd g) X V)) (n dev : ℕ) → Fits f devices n → dev < length (front_of f).devices
+      → dev < length devices
   within f devices n dev fits h = rw (fits.many ∙ sym (length_map_is face_of f.devices.items)) h
 
-  pub same_device : (devices : List (Fitted (IioDev WriterEnd g) X V)) (i : ℕ) (s t : (Fitted (IioDev WriterEnd g) X V)) → slice_get devices i ≡ Some s → slice_get devices i ≡ Some t → s ≡ t
+  pub same_device : (devices : List (Fitted (IioDev WriterEnd g) X V)) (i : ℕ) (s t : (Fitted (IioDev WriterEnd g) X V)) → slice_get devices i ≡ Some s
+      → slice_get devices i ≡ Some t → s ≡ t
   same_device devices i s t e d = cc
 
-  pub below : (f : HubFront) (devices : List (Fitted (IioDev WriterEnd g) X V)) (n i k : ℕ) (s : (Fitted (IioDev WriterEnd g) X V)) → Fits f devices n → slice_get devices i ≡ Some s → s.core.trigger ≡ Some k → k < n
+  pub below : (f : HubFront) (devices : List (Fitted (IioDev WriterEnd g) X V)) (n i k : ℕ) (s : (Fitted (IioDev WriterEnd g) X V)) → Fits f devices n
+      → slice_get devices i ≡ Some s → s.core.trigger ≡ Some k → k < n
   below f devices n i k s fits at e = rw fits.sixteen (by s.core.trigger e s.core.whole.below)
     where
       by : (o : Option ℕ) → o ≡ Some k → IfSome o (λ j. j < MAX_TRIGGERS) → k < MAX_TRIGGERS
       by None e h = absurd (cc)
       by (Some j) e h = let same : j ≡ k = cc in rw (← same) h
 
-  pub fits_after : (drv : Plug X V → Driver) (f : HubFront) (devices : List (Fitted (IioDev WriterEnd g) X V)) (n n' i : ℕ) (s t : (Fitted (IioDev WriterEnd g) X V)) → Fits f devices n → n' ≡ n → slice_get devices i ≡ Some s
+  pub fits_after : (drv : Plug X V → Driver) (f : HubFront) (devices : List (Fitted (IioDev WriterEnd g) X V)) (n n' i : ℕ)
+      (s t : (Fitted (IioDev WriterEnd g) X V)) → Fits f devices n → n' ≡ n → slice_get devices i ≡ Some s
       → Kept (lent_by drv s) (lent_by drv t) → Fits f (set devices i t) n'
   fits_after drv f devices n n' i s t fits e at kept = record {
     many = length_after devices i t ∙ fits.many;
@@ -96,11 +101,13 @@ module _ {X : Type 0} {V : X → Type 0} {g : Ghosts WriterEnd} where
       by j y (inr p) = fits.each j y p
 
   -- a job's condition at a device that is there
-  pub may_at : (may : ShapeRecord → Type 0) (f : HubFront) (devices : List (Fitted (IioDev WriterEnd g) X V)) (n i : ℕ) (s : (Fitted (IioDev WriterEnd g) X V)) → Fits f devices n → slice_get devices i ≡ Some s → may (shape_at (front_of f) i) → may s.core.roster.shape
+  pub may_at : (may : ShapeRecord → Type 0) (f : HubFront) (devices : List (Fitted (IioDev WriterEnd g) X V)) (n i : ℕ) (s : (Fitted (IioDev WriterEnd g) X V))
+      → Fits f devices n → slice_get devices i ≡ Some s → may (shape_at (front_of f) i) → may s.core.roster.shape
   may_at may f devices n i s fits at m = rw (fits.each i s at).shaped m
 
   module _ {O : Type 0} (makes : DeviceView WriterEnd → Option State → O → DeviceView WriterEnd → Option State → Type 0) where
-    pub ran_alone : (drv : Plug X V → Driver) (devices : List (Fitted (IioDev WriterEnd g) X V)) (triggers : List State) (clock : ℤ) (i : ℕ) (s t : (Fitted (IioDev WriterEnd g) X V)) (o : O) → slice_get devices i ≡ Some s
+    pub ran_alone : (drv : Plug X V → Driver) (devices : List (Fitted (IioDev WriterEnd g) X V)) (triggers : List State) (clock : ℤ) (i : ℕ)
+        (s t : (Fitted (IioDev WriterEnd g) X V)) (o : O) → slice_get devices i ≡ Some s
         → s.core.trigger ≡ None → makes (lent_by drv s) None o (lent_by drv t) None
         → (c : Told) × (Some (record { devices = map (λ x. lent_by drv x) (set devices i t); triggers = triggers; clock = clock }) ≡ Some c)
         × Ran makes i (record { devices = map (λ x. lent_by drv x) devices; triggers = triggers; clock = clock }) o c
@@ -112,12 +119,15 @@ module _ {X : Type 0} {V : X → Type 0} {g : Ghosts WriterEnd} where
         at = map_at (λ x. lent_by drv x) devices i s at;
         new = lent_by drv t;
         t = None;
-        made = made_at makes (lent_by drv s) (lent_by drv t) o (trigger_at triggers s.core.trigger) None None (ap (λ (z : Option ℕ). trigger_at triggers z) none) m;
+        made =
+            made_at makes (lent_by drv s) (lent_by drv t) o (trigger_at triggers s.core.trigger) None None (ap (λ (z : Option ℕ). trigger_at triggers z) none)
+            m;
         after = rw (ap (λ (z : Option ℕ). with_trigger triggers z None) none, map_after (λ x. lent_by drv x) devices i t) refl;
       },
     )
 
-    pub ran_paired : (drv : Plug X V → Driver) (devices : List (Fitted (IioDev WriterEnd g) X V)) (triggers : List State) (clock : ℤ) (i n : ℕ) (s t : (Fitted (IioDev WriterEnd g) X V)) (u v : State) (o : O) → slice_get devices i ≡ Some s
+    pub ran_paired : (drv : Plug X V → Driver) (devices : List (Fitted (IioDev WriterEnd g) X V)) (triggers : List State) (clock : ℤ) (i n : ℕ)
+        (s t : (Fitted (IioDev WriterEnd g) X V)) (u v : State) (o : O) → slice_get devices i ≡ Some s
         → s.core.trigger ≡ Some n → slice_get triggers n ≡ Some u → makes (lent_by drv s) (Some u) o (lent_by drv t) (Some v)
         → (c : Told) × (Some (record { devices = map (λ x. lent_by drv x) (set devices i t); triggers = set triggers n v; clock = clock }) ≡ Some c)
         × Ran makes i (record { devices = map (λ x. lent_by drv x) devices; triggers = triggers; clock = clock }) o c
@@ -129,12 +139,15 @@ module _ {X : Type 0} {V : X → Type 0} {g : Ghosts WriterEnd} where
         at = map_at (λ x. lent_by drv x) devices i s at;
         new = lent_by drv t;
         t = Some v;
-        made = made_at makes (lent_by drv s) (lent_by drv t) o (trigger_at triggers s.core.trigger) (Some u) (Some v) (ap (λ (z : Option ℕ). trigger_at triggers z) some ∙ there) m;
+        made =
+            made_at makes (lent_by drv s) (lent_by drv t) o (trigger_at triggers s.core.trigger) (Some u) (Some v)
+            (ap (λ (z : Option ℕ). trigger_at triggers z) some ∙ there) m;
         after = rw (ap (λ (z : Option ℕ). with_trigger triggers z (Some v)) some, map_after (λ x. lent_by drv x) devices i t) refl;
       },
     )
 
-pub ran_at : {O : Type 0} (makes : State → O → State → Type 0) (devices : List (DeviceView WriterEnd)) (triggers : List State) (clock : ℤ) (n : ℕ) (u v : State) (o : O) → slice_get triggers n ≡ Some u → makes u o v
+pub ran_at : {O : Type 0} (makes : State → O → State → Type 0) (devices : List (DeviceView WriterEnd)) (triggers : List State) (clock : ℤ) (n : ℕ) (u v : State)
+    (o : O) → slice_get triggers n ≡ Some u → makes u o v
     → (c : Told) × (Some (record { devices = devices; triggers = set triggers n v; clock = clock }) ≡ Some c)
     × RanAt makes n (record { devices = devices; triggers = triggers; clock = clock }) o c
 ran_at makes devices triggers clock n u v o at m = (_, refl, record { old = u; at = at; new = v; made = m; after = refl })

@@ -38,12 +38,14 @@ fewer number (m ∷ ms) e =
     by true e h = omega arith
     by false e h = absurd (cc)
 
-pub first_is : (ms : List (Membership WriterEnd)) (o : Option Member) (m : Member) → option_map (λ (x : Member). x.number) o ≡ first_number ms → o ≡ Some m → first_number ms ≡ Some m.number
+pub first_is : (ms : List (Membership WriterEnd)) (o : Option Member) (m : Member) → option_map (λ (x : Member). x.number) o ≡ first_number ms → o ≡ Some m
+    → first_number ms ≡ Some m.number
 first_is ms o m e d = sym e ∙ ap (λ (p : Option Member). option_map (λ (x : Member). x.number) p) d
 
 pub none_left : (ms : List (Membership WriterEnd)) (o : Option Member) → option_map (λ (x : Member). x.number) o ≡ first_number ms → o ≡ None → ms ≡ []
 none_left [] o e d = refl
-none_left (m ∷ ms) o e d = absurd (let h : option_map (λ (x : Member). x.number) o ≡ None = ap (λ (p : Option Member). option_map (λ (x : Member). x.number) p) d in cc)
+none_left (m ∷ ms) o e d =
+    absurd (let h : option_map (λ (x : Member). x.number) o ≡ None = ap (λ (p : Option Member). option_map (λ (x : Member). x.number) p) d in cc)
 
 module _ (lost : WriterEnd → ℕ) where
   pub record IsEmptying (a : DeviceView WriterEnd) (s : State) (b : DeviceView WriterEnd) (t : State) : Type 0 where
@@ -54,7 +56,8 @@ module _ (lost : WriterEnd → ℕ) where
   pub begins : (a : DeviceView WriterEnd) (s : State) → IsEmptying a s a s
   begins a s = record { members = 0; left = (refl, refl); kept = kept_same a a refl }
 
-  pub goes_on : (a : DeviceView WriterEnd) (s : State) (c : DeviceView WriterEnd) (u : State) (b : DeviceView WriterEnd) (t : State) (number : ℕ) (tail : WriterEnd)
+  pub goes_on : (a : DeviceView WriterEnd) (s : State) (c : DeviceView WriterEnd) (u : State) (b : DeviceView WriterEnd) (t : State) (number : ℕ)
+      (tail : WriterEnd)
       → IsEmptying a s c u → first_number c.standing.members ≡ Some number → LeavesDevice lost number (Some tail) c b u t → IsEmptying a s b t
   goes_on a s c u b t number tail now first left = record {
     members = suc now.members;
@@ -62,10 +65,12 @@ module _ (lost : WriterEnd → ℕ) where
     kept = kept_twice a c b now.kept (kept_left lost number (Some tail) c b u t left);
   }
 
-  pub smaller : (c b : DeviceView WriterEnd) (u t : State) (number : ℕ) (tail : WriterEnd) → first_number c.standing.members ≡ Some number → LeavesDevice lost number (Some tail) c b u t → length b.standing.members < length c.standing.members
+  pub smaller : (c b : DeviceView WriterEnd) (u t : State) (number : ℕ) (tail : WriterEnd) → first_number c.standing.members ≡ Some number
+      → LeavesDevice lost number (Some tail) c b u t → length b.standing.members < length c.standing.members
   smaller c b u t number tail first left = rw (ap (λ (v : DeviceView WriterEnd). v.standing.members) left.1) (fewer number c.standing.members first)
 
-  pub emptied : (a : DeviceView WriterEnd) (s : State) (x b : DeviceView WriterEnd) (t : State) → x ≡ gone a → IsEmptying x s b t → b.standing.members ≡ [] → Emptied lost a s b t
+  pub emptied : (a : DeviceView WriterEnd) (s : State) (x b : DeviceView WriterEnd) (t : State) → x ≡ gone a → IsEmptying x s b t → b.standing.members ≡ []
+      → Emptied lost a s b t
   emptied a s x b t e now none = by (rw e at now)
     where
       by : IsEmptying (gone a) s b t → Emptied lost a s b t

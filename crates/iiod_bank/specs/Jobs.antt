@@ -163,7 +163,8 @@ EvOpenMakes who a o b =
 
 abbrev pub EvReadMakes : ℕ → DeviceView WriterEnd → Result (Option EventData) No → DeviceView WriterEnd → Type 0
 EvReadMakes who a o b =
-    MatchBool a.site.plugged ((o ≡ holder_no (read_answer nat_eq who a.site.monitor)) × (b ≡ with_events (after_read nat_eq who) a)) ((o ≡ Err (NoErrno ENODEV)) × (b ≡ a))
+    MatchBool a.site.plugged ((o ≡ holder_no (read_answer nat_eq who a.site.monitor)) × (b ≡ with_events (after_read nat_eq who) a))
+    ((o ≡ Err (NoErrno ENODEV)) × (b ≡ a))
 
 abbrev pub EvCloseMakes : ℕ → DeviceView WriterEnd → Result ⊤ No → DeviceView WriterEnd → Type 0
 EvCloseMakes who a o b = (o ≡ holder_no (close_answer nat_eq who a.site.monitor)) × (b ≡ with_events (after_close nat_eq who) a)

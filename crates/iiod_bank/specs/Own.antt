@@ -13,7 +13,8 @@ pub record FitsAt {X : Type 0} {V : X → Type 0} {g : Ghosts WriterEnd} (front 
   pub number : d.core.number ≡ i
   pub shaped : d.core.roster.shape ≡ shape_at (front_of front) i
 
-pub record Fits {X : Type 0} {V : X → Type 0} {g : Ghosts WriterEnd} (front : HubFront) (devices : List (Fitted (IioDev WriterEnd g) X V)) (triggers : ℕ) : Type 0 where
+pub record Fits {X : Type 0} {V : X → Type 0} {g : Ghosts WriterEnd} (front : HubFront) (devices : List (Fitted (IioDev WriterEnd g) X V)) (triggers : ℕ) : Type
+    0 where
   pub many : length devices ≡ length front.devices.items
   pub each : (i : ℕ) (d : Fitted (IioDev WriterEnd g) X V) → slice_get devices i ≡ Some d → FitsAt front i d
   pub sixteen : triggers ≡ MAX_TRIGGERS

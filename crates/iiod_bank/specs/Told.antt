@@ -31,7 +31,8 @@ trigger_number_at b dev = option_map_or (λ (a : DeviceView WriterEnd). a.site.t
 
 module _ {O : Type 0} where
   -- an answer that a job may give at a device of that number where it may be done: what is known over every bank
-  pub record Allowed (may : ShapeRecord → Type 0) (makes : DeviceView WriterEnd → Option State → O → DeviceView WriterEnd → Option State → Type 0) (dev : ℕ) (o : O) : Type 0 where
+  pub record Allowed (may : ShapeRecord → Type 0) (makes : DeviceView WriterEnd → Option State → O → DeviceView WriterEnd → Option State → Type 0) (dev : ℕ)
+      (o : O) : Type 0 where
     pub a : DeviceView WriterEnd
     pub s : Option State
     pub b : DeviceView WriterEnd
@@ -41,7 +42,8 @@ module _ {O : Type 0} where
     pub made : makes a s o b t
 
   -- a job was run once at a device and its trigger
-  pub record Ran (makes : DeviceView WriterEnd → Option State → O → DeviceView WriterEnd → Option State → Type 0) (dev : ℕ) (b : Told) (o : O) (c : Told) : Type 0 where
+  pub record Ran (makes : DeviceView WriterEnd → Option State → O → DeviceView WriterEnd → Option State → Type 0) (dev : ℕ) (b : Told) (o : O) (c : Told) : Type
+      0 where
     pub old : DeviceView WriterEnd
     pub at : slice_get b.devices dev ≡ Some old
     pub new : DeviceView WriterEnd
@@ -50,7 +52,8 @@ module _ {O : Type 0} where
     pub after : c ≡ record b { devices = slice_set b.devices dev new; triggers = with_trigger b.triggers old.site.trigger t }
 
   -- one that leaves the trigger alone
-  abbrev pub Only : (DeviceView WriterEnd → O → DeviceView WriterEnd → Type 0) → DeviceView WriterEnd → Option State → O → DeviceView WriterEnd → Option State → Type 0
+  abbrev pub Only : (DeviceView WriterEnd → O → DeviceView WriterEnd → Type 0) → DeviceView WriterEnd → Option State → O → DeviceView WriterEnd → Option State
+      → Type 0
   Only does a s o b t = (t ≡ s) × does a o b
 
   pub record AllowedAt (makes : State → O → State → Type 0) (o : O) : Type 0 where

@@ -41,7 +41,8 @@ pub trait DeviceJob: Drop {
     fn paired(self, device: &mut Device<Writer>, trigger: &mut Trigger) -> Self::Out
         requires may { may self device.old.core.roster.shape }
         requires some { is_some device.old.core.trigger ≡ true }
-        ensures makes { makes self (lent_by ⟦<Plug as Sensor>⟧.driver device.old) (Some trigger.old) result (lent_by ⟦<Plug as Sensor>⟧.driver device.new) (Some trigger.new) }
+        ensures makes { makes self (lent_by ⟦<Plug as Sensor>⟧.driver device.old) (Some trigger.old) result (lent_by ⟦<Plug as Sensor>⟧.driver device.new)
+            (Some trigger.new) }
         ensures kept { Kept (lent_by ⟦<Plug as Sensor>⟧.driver device.old) (lent_by ⟦<Plug as Sensor>⟧.driver device.new) };
 }
 

@@ -65,7 +65,9 @@ pub struct Parts {
 fn made_of(alloc: Global, desc: Desc, drivers: Vec<Box<dyn Sensor + Send>>) -> Result<Parts, Mem>
     requires { IsWellFormed (length drivers.items) desc }
     ensures front { IfOk result (λ p. front_of p.front ≡ served_front desc) }
-    ensures devices { IfOk result (λ p. map (λ d. lent_by ⟦<Plug as Sensor>⟧.driver d) p.devices.items ≡ first_devices (map (λ d. ⟦<Plug as Sensor>⟧.driver (Given d)) drivers.items) 0 desc.devices) }
+    ensures devices { IfOk result
+        (λ p. map (λ d. lent_by ⟦<Plug as Sensor>⟧.driver d) p.devices.items
+        ≡ first_devices (map (λ d. ⟦<Plug as Sensor>⟧.driver (Given d)) drivers.items) 0 desc.devices) }
     ensures triggers { IfOk result (λ p. p.triggers.items ≡ first_triggers desc.triggers) }
 {
     let Desc {
@@ -97,7 +99,9 @@ pub fn parts_of(
 ) -> Result<Parts, Mem>
     requires { IsWellFormed (length drivers.items) desc }
     ensures front { IfOk result (λ p. front_of p.front ≡ served_front desc) }
-    ensures devices { IfOk result (λ p. map (λ d. lent_by ⟦<Plug as Sensor>⟧.driver d) p.devices.items ≡ first_devices (map (λ d. ⟦<Plug as Sensor>⟧.driver (Given d)) drivers.items) 0 desc.devices) }
+    ensures devices { IfOk result
+        (λ p. map (λ d. lent_by ⟦<Plug as Sensor>⟧.driver d) p.devices.items
+        ≡ first_devices (map (λ d. ⟦<Plug as Sensor>⟧.driver (Given d)) drivers.items) 0 desc.devices) }
     ensures triggers { IfOk result (λ p. p.triggers.items ≡ first_triggers desc.triggers) }
     ensures fits { IfOk result (λ p. Fits p.front p.devices.items (length p.triggers.items)) }
 {

@@ -32,7 +32,11 @@ impl Bank for OwnBank {
 
     ghost front = { λ b. front_of b.front };
 
-    ghost told = { λ b. Some (record { devices = map (λ d. lent_by (driver_of (λ p. (Sensor-box p).driver p.value)) d) b.devices.items; triggers = b.triggers.items; clock = b.clock }) };
+    ghost told = { λ b. Some (record {
+      devices = map (λ d. lent_by (driver_of (λ p. (Sensor-box p).driver p.value)) d) b.devices.items;
+      triggers = b.triggers.items;
+      clock = b.clock;
+    }) };
 
     fn front(&self) -> &HubFront {
         &self.front

@@ -35,7 +35,8 @@ fn remask_at(
     requires some { 1 ≤ capacity }
     requires bytes { 1 ≤ size }
     requires fits { capacity * size ≤ MAX_BYTES }
-    ensures { RemaskMakes ⟦<Writer as Tail>⟧.taken ⟦<Writer as Tail>⟧.lost ⟦<Writer as Tail>⟧.size ⟦<Writer as Tail>⟧.capacity member.now.number mask capacity size
+    ensures { RemaskMakes ⟦<Writer as Tail>⟧.taken ⟦<Writer as Tail>⟧.lost ⟦<Writer as Tail>⟧.size ⟦<Writer as Tail>⟧.capacity member.now.number mask capacity
+        size
         (lent_by ⟦<Plug as Sensor>⟧.driver device.old) result (lent_by ⟦<Plug as Sensor>⟧.driver device.new) }
 {
     if let Err(fault) = device.may_remask(member, mask) {
@@ -91,7 +92,8 @@ impl Work for RemaskWork {
 
     ghost may = { λ w shape. MayOpenAt w.mask.bits w.size shape };
 
-    ghost does = { λ w a o b. RemaskMakes ⟦<Writer as Tail>⟧.taken ⟦<Writer as Tail>⟧.lost ⟦<Writer as Tail>⟧.size ⟦<Writer as Tail>⟧.capacity w.member.number w.mask w.capacity w.size a o b };
+    ghost does = { λ w a o b. RemaskMakes ⟦<Writer as Tail>⟧.taken ⟦<Writer as Tail>⟧.lost ⟦<Writer as Tail>⟧.size ⟦<Writer as Tail>⟧.capacity w.member.number w.mask
+        w.capacity w.size a o b };
 
     fn fits(&self, shape: &Shape) -> bool {
         is_sized(shape, self.mask, self.size)

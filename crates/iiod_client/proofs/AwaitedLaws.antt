@@ -66,7 +66,8 @@ plain_end : (s : State) (text body : List ℕ) → IsEnd s → ReadsAs Plain s t
 plain_end state.More text body is r = absurd is
 plain_end state.Done text body is r = inl (record { line = zero_line; is_line = zero_begun; says = refl; none = r.1; text_is = r.0 })
 plain_end (state.Refused n) text body is r = inl (record { line = r.line; is_line = r.is_line; says = r.number; none = refl; text_is = r.text_is })
-plain_end state.Malformed text body is (inl w) = inl (record { line = w.line; is_line = w.is_line; says = (w.no_zero, w.no_refusal); none = refl; text_is = w.text_is })
+plain_end state.Malformed text body is (inl w) =
+    inl (record { line = w.line; is_line = w.is_line; says = (w.no_zero, w.no_refusal); none = refl; text_is = w.text_is })
 plain_end state.Malformed text body is (inr l) = inr (l, refl)
 
 one_says : (line : List ℕ) (s t : State) → SaysLine line s → SaysLine line t → t ≡ s
@@ -92,14 +93,16 @@ not_begun : (s : State) (text body more : List ℕ) → PlainEnd s text body ⊎
 not_begun s text body more (inl p) b = has_lf p.line more (subst HasNoLf (spelled p.line text more p.text_is) b.no_lf)
 not_begun s text body more (inr l) b = omega (arith, l.0.one_more, b.few, length-append text more)
 
-one_end : (s t : State) (text more body other : List ℕ) → PlainEnd s text body ⊎ (IsLongLine text × (s ≡ state.Malformed)) → PlainEnd t (text ++ more) other ⊎ (IsLongLine (text ++ more) × (t ≡ state.Malformed))
+one_end : (s t : State) (text more body other : List ℕ) → PlainEnd s text body ⊎ (IsLongLine text × (s ≡ state.Malformed)) → PlainEnd t (text ++ more) other
+    ⊎ (IsLongLine (text ++ more) × (t ≡ state.Malformed))
     → One s t more body other
 one_end s t text more body other (inl p) (inl r) =
     let same = one_line p.line r.line more [] p.is_line.no_lf r.is_line.no_lf (sym (spelled p.line text more p.text_is) ∙ r.text_is) in
     (same.1, one_says p.line s t p.says (subst (λ xs. SaysLine xs t) (sym same.0) r.says), r.none ∙ sym p.none)
 one_end s t text more body other (inl p) (inr l) = absurd (has_lf p.line more (subst HasNoLf (spelled p.line text more p.text_is) l.0.no_lf))
 one_end s t text more body other (inr l) (inl r) =
-    let none : more ≡ [] = nil_from_length more (omega (arith, l.0.one_more, r.is_line.few, ap length r.text_is, length-append text more, length-append r.line (10 ∷ []))) in
+    let none : more ≡ [] =
+    nil_from_length more (omega (arith, l.0.one_more, r.is_line.few, ap length r.text_is, length-append text more, length-append r.line (10 ∷ []))) in
     let whole : text ≡ r.line ++ 10 ∷ [] = sym (append-nil text) ∙ ap (λ xs. text ++ xs) (sym none) ∙ r.text_is in
     absurd (has_lf r.line [] (subst HasNoLf whole l.0.no_lf))
 one_end s t text more body other (inr l) (inr k) =
@@ -108,9 +111,12 @@ one_end s t text more body other (inr l) (inr k) =
 
 one_plain : (s t : State) (text more body other : List ℕ) → IsEnd s → ReadsAs Plain s text body → ReadsAs Plain t (text ++ more) other → One s t more body other
 one_plain s state.More text more body other is r k = absurd (not_begun s text body more (plain_end s text body is r) k)
-one_plain s state.Done text more body other is r k = one_end s state.Done text more body other (plain_end s text body is r) (plain_end state.Done (text ++ more) other tt k)
-one_plain s (state.Refused n) text more body other is r k = one_end s (state.Refused n) text more body other (plain_end s text body is r) (plain_end (state.Refused n) (text ++ more) other tt k)
-one_plain s state.Malformed text more body other is r k = one_end s state.Malformed text more body other (plain_end s text body is r) (plain_end state.Malformed (text ++ more) other tt k)
+one_plain s state.Done text more body other is r k =
+    one_end s state.Done text more body other (plain_end s text body is r) (plain_end state.Done (text ++ more) other tt k)
+one_plain s (state.Refused n) text more body other is r k =
+    one_end s (state.Refused n) text more body other (plain_end s text body is r) (plain_end (state.Refused n) (text ++ more) other tt k)
+one_plain s state.Malformed text more body other is r k =
+    one_end s state.Malformed text more body other (plain_end s text body is r) (plain_end state.Malformed (text ++ more) other tt k)
 
 -- ---- all answers
 
@@ -122,7 +128,8 @@ abbrev body_in : Option (State × List ℕ) → List ℕ
 body_in None = []
 body_in (Some p) = p.1
 
-pub one_answer : (w : Awaited) (s t : State) (text more body other : List ℕ) → IsEnd s → ReadsAs w s text body → ReadsAs w t (text ++ more) other → One s t more body other
+pub one_answer : (w : Awaited) (s t : State) (text more body other : List ℕ) → IsEnd s → ReadsAs w s text body → ReadsAs w t (text ++ more) other
+    → One s t more body other
 one_answer Plain s t text more body other is r k = one_plain s t text more body other is r k
 one_answer (Scans q) s t text more body other is r k =
     let one = one_reading q s t text more body other is r k in (one.0, ap state_in one.1, ap body_in one.1)
@@ -191,7 +198,8 @@ one_front w text text' more more' body body' a b e = by (split text text' more m
         let one = one_answer w state.Done state.Done x m body other tt (done w x body a) (subst (λ xs. ReadsAs w state.Done xs other) f (done w y other b)) in
         (sym (f ∙ ap (λ xs. x ++ xs) one.0 ∙ append-nil x), sym one.2, g ∙ ap (λ xs. xs ++ v) one.0)
 
-    by : ((m : List ℕ) × (text' ≡ text ++ m) × (more ≡ m ++ more')) ⊎ ((m : List ℕ) × (text ≡ text' ++ m) × (more' ≡ m ++ more)) → (text ≡ text') × (body ≡ body') × (more ≡ more')
+    by : ((m : List ℕ) × (text' ≡ text ++ m) × (more ≡ m ++ more')) ⊎ ((m : List ℕ) × (text ≡ text' ++ m) × (more' ≡ m ++ more)) → (text ≡ text')
+        × (body ≡ body') × (more ≡ more')
     by (inl (m, f, g)) = front text text' more more' body body' m a b f g
     by (inr (m, f, g)) = let one = front text' text more' more body' body m b a f g in (sym one.0, sym one.1, sym one.2)
 

@@ -35,7 +35,8 @@ stops_none l p s o line = record {
 
 -- ---- a stage
 
-pub early : (w : Wanted) (stage : Stage) (a b : Point) → IsStage w stage → Goes a (heard_at stage) (said_before w stage) (printed_at w stage) b → EndsEarly w a b
+pub early : (w : Wanted) (stage : Stage) (a b : Point) → IsStage w stage → Goes a (heard_at stage) (said_before w stage) (printed_at w stage) b
+    → EndsEarly w a b
 early w stage a b is g = record {
   stage = stage;
   is_stage = is;
@@ -47,7 +48,8 @@ early w stage a b is g = record {
 }
 
 -- the line of a stage was sent, and its answer came not
-pub stage_fails : (w : Wanted) (stage : Stage) (line : List ℕ) (e : ClientEnd) (a b c : Point) → IsStage w stage → Goes a (heard_at stage) (said_before w stage) (printed_at w stage) b → line ≡ line_at w stage
+pub stage_fails : (w : Wanted) (stage : Stage) (line : List ℕ) (e : ClientEnd) (a b c : Point) → IsStage w stage
+    → Goes a (heard_at stage) (said_before w stage) (printed_at w stage) b → line ≡ line_at w stage
     → Fails (awaits w stage) line e b c → Breaks w e a c
 stage_fails w stage line e a b c is g same f = by e (subst (λ xs. Fails (awaits w stage) xs e b c) same f)
   where
@@ -55,19 +57,30 @@ stage_fails w stage line e a b c is g same f = by e (subst (λ xs. Fails (awaits
     all = line_at w stage
 
     goes : (text : List ℕ) → Goes b text all [] c → Goes a (heard_at stage ++ text) (sent_at w stage) (printed_at w stage) c
-    goes text j = subst (λ xs. Goes a (heard_at stage ++ text) (sent_at w stage) xs c) (append-nil (printed_at w stage)) (goes_more a b c (heard_at stage) text (said_before w stage) all (printed_at w stage) [] g j)
+    goes text j =
+        subst (λ xs. Goes a (heard_at stage ++ text) (sent_at w stage) xs c) (append-nil (printed_at w stage))
+        (goes_more a b c (heard_at stage) text (said_before w stage) all (printed_at w stage) [] g j)
 
     stops : Stops b [] all [] c → EndsEarly w a c
     stops j = record {
       stage = stage;
       is_stage = is;
       goes = subst (λ xs. Stops a (heard_at stage) (sent_at w stage) xs c) (append-nil (printed_at w stage))
-          (subst (λ xs. Stops a xs (sent_at w stage) (printed_at w stage ++ []) c) (append-nil (heard_at stage)) (stops_more a b c (heard_at stage) [] (said_before w stage) all (printed_at w stage) [] g j));
+          (subst (λ xs. Stops a xs (sent_at w stage) (printed_at w stage ++ []) c) (append-nil (heard_at stage))
+          (stops_more a b c (heard_at stage) [] (said_before w stage) all (printed_at w stage) [] g j));
     }
 
     by : (e : ClientEnd) → Fails (awaits w stage) all e b c → Breaks w e a c
     by Done f = absurd f
-    by (Refused n) f = record { stage = stage; is_stage = is; text = f.0; refused = f.1; goes = goes_more a b c (heard_at stage) f.0 (said_before w stage) all (printed_at w stage) [] g f.2 }
+    by (Refused n) f =
+        record {
+          stage = stage;
+          is_stage = is;
+          text = f.0;
+          refused = f.1;
+          goes =
+              goes_more a b c (heard_at stage) f.0 (said_before w stage) all (printed_at w stage) [] g f.2;
+        }
     by LinkFault f = stops f
     by WriteFault f = absurd f
     by Memory f = stops f
@@ -76,11 +89,13 @@ stage_fails w stage line e a b c is g same f = by e (subst (λ xs. Fails (awaits
 
 -- ---- the end
 
-pub opened : (w : Wanted) (line : List ℕ) (a b : Point) → line ≡ open_line w → Exchanges {A = ⊤} Plain line [] (Ok tt) a b → Goes a (heard_of []) (open_line w) [] b
+pub opened : (w : Wanted) (line : List ℕ) (a b : Point) → line ≡ open_line w → Exchanges {A = ⊤} Plain line [] (Ok tt) a b
+    → Goes a (heard_of []) (open_line w) [] b
 opened w line a b e x =
     subst (λ xs. Goes a (line_text zero_line) xs [] b) e (subst (λ xs. Goes a xs line [] b) x.1.0 x.2)
 
-pub closed : (w : Wanted) (reads : List Read) (line : List ℕ) (a b c : Point) → line ≡ close_line w → Goes a (heard_at (Closing reads)) (said_before w (Closing reads)) (printed_at w (Closing reads)) b
+pub closed : (w : Wanted) (reads : List Read) (line : List ℕ) (a b c : Point) → line ≡ close_line w
+    → Goes a (heard_at (Closing reads)) (said_before w (Closing reads)) (printed_at w (Closing reads)) b
     → Exchanges {A = ⊤} Plain line [] (Ok tt) b c → Goes a (heard_at (Leaving reads)) (said_before w (Leaving reads)) (printed_at w (Leaving reads)) c
 closed w reads line a b c e g x =
     let j = subst (λ xs. Goes b (line_text zero_line) xs [] c) e (subst (λ xs. Goes b xs line [] c) x.1.0 x.2) in
@@ -90,7 +105,8 @@ closed w reads line a b c e g x =
 heard_still : (l m : Option (List ℕ)) (p : List ℕ) (s o s2 o2 : Option (List ℕ)) → m ≡ l → Heard (point l p s o) [] (point m p s2 o2)
 heard_still l m p s o s2 o2 e = subst (λ (x : Option (List ℕ)). Heard (point l p s o) [] (point x p s2 o2)) (sym e) (heard_none l p s o s2 o2)
 
-pub left_all : (w : Wanted) (reads : List Read) (line : List ℕ) (r : Result ⊤ ClientEnd) (a : Point) (l m : Option (List ℕ)) (p : List ℕ) (s t o : Option (List ℕ)) → line ≡ exit_line → IsStage w (Leaving reads)
+pub left_all : (w : Wanted) (reads : List Read) (line : List ℕ) (r : Result ⊤ ClientEnd) (a : Point) (l m : Option (List ℕ)) (p : List ℕ)
+    (s t o : Option (List ℕ)) → line ≡ exit_line → IsStage w (Leaving reads)
     → Goes a (heard_at (Leaving reads)) (said_before w (Leaving reads)) (printed_at w (Leaving reads)) (point l p s o)
     → m ≡ l → OnOk r (Wrote s line t) → OnErr r (WroteFront s line t) → IfErr r (λ e. e ≡ LinkFault) → BreaksOf w r a (point m p t o)
 left_all w reads line (Ok x) a l m p s t o e is g same sent part fails =
@@ -118,7 +134,8 @@ left_all w reads line (Err y) a l m p s t o e is g same sent part fails =
 
 -- ---- reading
 
-pub fails_reads : (w : Wanted) (got : ℕ) (line : List ℕ) (e : ClientEnd) (a b : Point) → line ≡ readbuf_line w (batch w got) → Fails (Scans (question w got)) line e a b → Reads w got (Err e) a b
+pub fails_reads : (w : Wanted) (got : ℕ) (line : List ℕ) (e : ClientEnd) (a b : Point) → line ≡ readbuf_line w (batch w got)
+    → Fails (Scans (question w got)) line e a b → Reads w got (Err e) a b
 fails_reads w got line e a b same f = by e (subst (λ xs. Fails (Scans (question w got)) xs e a b) same f)
   where
     by : (e : ClientEnd) → Fails (Scans (question w got)) (readbuf_line w (batch w got)) e a b → Reads w got (Err e) a b
@@ -131,8 +148,10 @@ fails_reads w got line e a b same f = by e (subst (λ xs. Fails (Scans (question
     by Cut f = f
 
 -- the printing stopped
-pub print_fails : (w : Wanted) (got : ℕ) (line body : List ℕ) (e : ClientEnd) (a : Point) (l : Option (List ℕ)) (p : List ℕ) (s o t : Option (List ℕ)) → line ≡ readbuf_line w (batch w got)
-    → Exchanges {A = ⊤} (Scans (question w got)) line body (Ok tt) a (point l p s o) → WroteFront o (scan_lines w.shape w.mask body) t → (e ≡ WriteFault) ⊎ (e ≡ Memory) → Reads w got (Err e) a (point l p s t)
+pub print_fails : (w : Wanted) (got : ℕ) (line body : List ℕ) (e : ClientEnd) (a : Point) (l : Option (List ℕ)) (p : List ℕ) (s o t : Option (List ℕ))
+    → line ≡ readbuf_line w (batch w got)
+    → Exchanges {A = ⊤} (Scans (question w got)) line body (Ok tt) a (point l p s o) → WroteFront o (scan_lines w.shape w.mask body) t → (e ≡ WriteFault)
+    ⊎ (e ≡ Memory) → Reads w got (Err e) a (point l p s t)
 print_fails w got line body e a l p s o t same x part which = by which
   where
     stops : Stops a x.0 (readbuf_line w (batch w got)) (scan_lines w.shape w.mask body) (point l p s t)
@@ -146,8 +165,10 @@ print_fails w got line body e a l p s o t same x part which = by which
     by (inl q) = subst (λ (y : ClientEnd). Reads w got (Err y) a (point l p s t)) (sym q) (x.0, body, x.1, stops)
     by (inr q) = subst (λ (y : ClientEnd). Reads w got (Err y) a (point l p s t)) (sym q) (inr (x.0, body, x.1, stops))
 
-pub print_ends : (w : Wanted) (got more : ℕ) (line body : List ℕ) (a : Point) (l : Option (List ℕ)) (p : List ℕ) (s o t : Option (List ℕ)) → line ≡ readbuf_line w (batch w got)
-    → Exchanges {A = ⊤} (Scans (question w got)) line body (Ok tt) a (point l p s o) → Wrote o (scan_lines w.shape w.mask body) t → more ≡ length body / size_for w → Reads w got (Ok more) a (point l p s t)
+pub print_ends : (w : Wanted) (got more : ℕ) (line body : List ℕ) (a : Point) (l : Option (List ℕ)) (p : List ℕ) (s o t : Option (List ℕ))
+    → line ≡ readbuf_line w (batch w got)
+    → Exchanges {A = ⊤} (Scans (question w got)) line body (Ok tt) a (point l p s o) → Wrote o (scan_lines w.shape w.mask body) t
+    → more ≡ length body / size_for w → Reads w got (Ok more) a (point l p s t)
 print_ends w got more line body a l p s o t same x shown count = (
   x.0,
   body,
@@ -161,7 +182,8 @@ print_ends w got more line body a l p s o t same x shown count = (
 )
 
 -- the stage after these answers
-pub after_reads : (w : Wanted) (reads : List Read) (a b : Point) → AreReads w reads → got_by w reads ≤ w.scans → Stops a (heard_of reads) (sent_for w reads) (printed_for w reads) b → EndsEarly w a b
+pub after_reads : (w : Wanted) (reads : List Read) (a b : Point) → AreReads w reads → got_by w reads ≤ w.scans
+    → Stops a (heard_of reads) (sent_for w reads) (printed_for w reads) b → EndsEarly w a b
 after_reads w reads a b are few g =
     elim (cases_lt (got_by w reads) w.scans) [
       | inl less ↦ record {
@@ -179,13 +201,15 @@ after_reads w reads a b are few g =
     ]
 
 -- a batch more
-reads_more : (w : Wanted) (reads : List Read) (text body : List ℕ) (got : ℕ) → AreReads w reads → got_by w reads ≡ got → got < w.scans → IsAnswer (question w got) text body → AreReads w (record { text = text; body = body } ∷ reads)
+reads_more : (w : Wanted) (reads : List Read) (text body : List ℕ) (got : ℕ) → AreReads w reads → got_by w reads ≡ got → got < w.scans
+    → IsAnswer (question w got) text body → AreReads w (record { text = text; body = body } ∷ reads)
 reads_more w reads text body got are e less ans = (are, omega (arith, e, less), subst (λ n. IsAnswer (question w n) text body) (sym e) ans)
 
 asked_same : (w : Wanted) (reads : List Read) (got : ℕ) → got_by w reads ≡ got → readbuf_line w (batch w got) ≡ readbuf_line w (batch w (got_by w reads))
 asked_same w reads got e = ap (λ n. readbuf_line w (batch w n)) (sym e)
 
-pub batch_more : (w : Wanted) (reads : List Read) (got more : ℕ) (a b c : Point) → AreReads w reads → got_by w reads ≡ got → got < w.scans → Goes a (heard_of reads) (sent_for w reads) (printed_for w reads) b
+pub batch_more : (w : Wanted) (reads : List Read) (got more : ℕ) (a b c : Point) → AreReads w reads → got_by w reads ≡ got → got < w.scans
+    → Goes a (heard_of reads) (sent_for w reads) (printed_for w reads) b
     → Reads w got (Ok more) b c
     → (next : List Read) × AreReads w next × (got_by w next ≡ got + more) × Goes a (heard_of next) (sent_for w next) (printed_for w next) c
 batch_more w reads got more a b c are e less g (text, body, ans, count, j) = (
@@ -234,14 +258,16 @@ batch_fails w reads got e a b c are same less g r = by e r
     is = (are, omega (arith, same, less))
 
     plain : (e : ClientEnd) → Fails (Scans (question w got)) line e b c → Breaks w e a c
-    plain e f = stage_fails w (Reading reads) line e a b c is g (asked_same w reads got same) (subst (λ n. Fails (Scans (question w n)) line e b c) (sym same) f)
+    plain e f =
+        stage_fails w (Reading reads) line e a b c is g (asked_same w reads got same) (subst (λ n. Fails (Scans (question w n)) line e b c) (sym same) f)
 
     printing : (text body : List ℕ) → IsAnswer (question w got) text body → Stops b text line (scan_lines w.shape w.mask body) c → EndsEarly w a c
     printing text body ans j =
         let next : List Read = record { text = text; body = body } ∷ reads in
         let few : got_by w next ≤ w.scans = omega (arith, same, less, answer_few w got text body ans) in
         after_reads w next a c (reads_more w reads text body got are same less ans) few
-        (stops_more a b c (heard_of reads) text (sent_for w reads) (readbuf_line w (batch w (got_by w reads))) (printed_for w reads) (scan_lines w.shape w.mask body) g
+        (stops_more a b c (heard_of reads) text (sent_for w reads) (readbuf_line w (batch w (got_by w reads))) (printed_for w reads)
+        (scan_lines w.shape w.mask body) g
         (subst (λ xs. Stops b text xs (scan_lines w.shape w.mask body) c) (asked_same w reads got same) j))
 
     by : (e : ClientEnd) → Reads w got (Err e) b c → Breaks w e a c
@@ -254,12 +280,14 @@ batch_fails w reads got e a b c are same less g r = by e r
     by Malformed f = plain Malformed f
     by Cut f = plain Cut f
 
-pub all_read : (w : Wanted) (reads : List Read) (a b : Point) → AreReads w reads → got_by w reads ≡ w.scans → Goes a (heard_of reads) (sent_for w reads) (printed_for w reads) b → ReadsAll {A = ⊤} w (Ok tt) a b
+pub all_read : (w : Wanted) (reads : List Read) (a b : Point) → AreReads w reads → got_by w reads ≡ w.scans
+    → Goes a (heard_of reads) (sent_for w reads) (printed_for w reads) b → ReadsAll {A = ⊤} w (Ok tt) a b
 all_read w reads a b are all g = (reads, (are, all), g)
 
 -- ---- the printing of a refusal
 
-pub refusal_ends : (w : Wanted) (n : ℕ) (end : ClientEnd) (a : Point) (l : Option (List ℕ)) (p : List ℕ) (s o t : Option (List ℕ)) → EndsRefused w n [] a (point l p s o) → Refuses end n
+pub refusal_ends : (w : Wanted) (n : ℕ) (end : ClientEnd) (a : Point) (l : Option (List ℕ)) (p : List ℕ) (s o t : Option (List ℕ))
+    → EndsRefused w n [] a (point l p s o) → Refuses end n
     → (end ≡ Refused n → Wrote o (refused_line n) t) → WroteFront o (refused_line n) t → Ends w end a (point l p s t)
 refusal_ends w n end a l p s o t r is whole part = by end is whole
   where

@@ -51,16 +51,24 @@ abbrev Walks : ℕ → Wanted → Stage → (bytes : List ℕ) → Stage → (re
 Walks zero w s bytes t rest = (t ≡ s) × (rest ≡ bytes)
 Walks (suc n) w s bytes t rest = (u : Stage) × (text : List ℕ) × (more : List ℕ) × (bytes ≡ text ++ more) × Steps w s text u × Walks n w u more t rest
 
-walks_on : (n : ℕ) (w : Wanted) (s : Stage) (bytes : List ℕ) (t : Stage) (rest : List ℕ) (text more : List ℕ) (u : Stage) → Walks n w s bytes t rest → rest ≡ text ++ more → Steps w t text u → Walks (suc n) w s bytes u more
+walks_on : (n : ℕ) (w : Wanted) (s : Stage) (bytes : List ℕ) (t : Stage) (rest : List ℕ) (text more : List ℕ) (u : Stage) → Walks n w s bytes t rest
+    → rest ≡ text ++ more → Steps w t text u → Walks (suc n) w s bytes u more
 walks_on zero w s bytes t rest text more u k e step = (u, text, more, sym k.1 ∙ e, subst (λ (x : Stage). Steps w x text u) k.0 step, (refl, refl))
-walks_on (suc n) w s bytes t rest text more u (v, begin, other, e, first, k) f step = (v, begin, other, e, first, walks_on n w v other t rest text more u k f step)
+walks_on (suc n) w s bytes t rest text more u (v, begin, other, e, first, k) f step =
+    (v, begin, other, e, first, walks_on n w v other t rest text more u k f step)
 
 -- a stage is come to by steps from the first
-reach_reads : (w : Wanted) (reads : List Read) (t : Stage) (bytes rest : List ℕ) → IsAfter reads t → IsStage w t → AreReads w reads → bytes ≡ heard_of reads ++ rest → (n : ℕ) × Walks n w Opening bytes t rest
-reach_reads w [] t bytes rest after is are e = (1, (t, line_text zero_line, rest, e, record { body = []; accepted = (refl, refl); next = after; is_stage = is }, (refl, refl)))
+reach_reads : (w : Wanted) (reads : List Read) (t : Stage) (bytes rest : List ℕ) → IsAfter reads t → IsStage w t → AreReads w reads
+    → bytes ≡ heard_of reads ++ rest → (n : ℕ) × Walks n w Opening bytes t rest
+reach_reads w [] t bytes rest after is are e =
+    (1, (t, line_text zero_line, rest, e, record { body = []; accepted = (refl, refl); next = after; is_stage = is }, (refl, refl)))
 reach_reads w (a ∷ before) t bytes rest after is are e =
-    let (n, k) = reach_reads w before (Reading before) bytes (a.text ++ rest) (inl refl) (are.0, are.1) are.0 (e ∙ append_assoc (heard_of before) a.text rest) in
-    (suc n, walks_on n w Opening bytes (Reading before) (a.text ++ rest) a.text rest t k refl (record { body = a.body; accepted = are.2; next = after; is_stage = is }))
+    let (n, k) =
+    reach_reads w before (Reading before) bytes (a.text ++ rest) (inl refl) (are.0, are.1) are.0 (e ∙ append_assoc (heard_of before) a.text rest) in (
+      suc n,
+      walks_on n w Opening bytes (Reading before) (a.text ++ rest) a.text rest t k refl
+          (record { body = a.body; accepted = are.2; next = after; is_stage = is }),
+    )
 
 reach : (w : Wanted) (t : Stage) (bytes rest : List ℕ) → IsStage w t → bytes ≡ heard_at t ++ rest → (n : ℕ) × Walks n w Opening bytes t rest
 reach w Opening bytes rest is e = (0, (refl, sym e))
@@ -68,15 +76,19 @@ reach w (Reading reads) bytes rest is e = reach_reads w reads (Reading reads) by
 reach w (Closing reads) bytes rest is e = reach_reads w reads (Closing reads) bytes rest (inr refl) is is.0 e
 reach w (Leaving reads) bytes rest is e =
     let zero_text = line_text zero_line in
-    let (n, k) = reach_reads w reads (Closing reads) bytes (zero_text ++ rest) (inr refl) is is.0 (e ∙ append_assoc (heard_of reads) zero_text rest) in
-    (suc n, walks_on n w Opening bytes (Closing reads) (zero_text ++ rest) zero_text rest (Leaving reads) k refl (record { body = []; accepted = (refl, refl); next = refl; is_stage = is }))
+    let (n, k) = reach_reads w reads (Closing reads) bytes (zero_text ++ rest) (inr refl) is is.0 (e ∙ append_assoc (heard_of reads) zero_text rest) in (
+      suc n,
+      walks_on n w Opening bytes (Closing reads) (zero_text ++ rest) zero_text rest (Leaving reads) k refl
+          (record { body = []; accepted = (refl, refl); next = refl; is_stage = is }),
+    )
 
 -- the answer that is awaited at a stage follows
 abbrev Passes : Wanted → Stage → List ℕ → Type 0
 Passes w t rest = Tells (awaits w t) rest state.Done
 
 -- of two stages that are come to over the same bytes, one lies before the other, or they are one
-meet : (m n : ℕ) (w : Wanted) (s : Stage) (bytes : List ℕ) (t : Stage) (rest : List ℕ) (u : Stage) (other : List ℕ) → Walks m w s bytes t rest → Walks n w s bytes u other
+meet : (m n : ℕ) (w : Wanted) (s : Stage) (bytes : List ℕ) (t : Stage) (rest : List ℕ) (u : Stage) (other : List ℕ) → Walks m w s bytes t rest
+    → Walks n w s bytes u other
     → ((t ≡ u) × (rest ≡ other)) ⊎ (Passes w t rest ⊎ Passes w u other)
 meet zero zero w s bytes t rest u other a b = inl (a.0 ∙ sym b.0, a.1 ∙ sym b.1)
 meet zero (suc n) w s bytes t rest u other a (v, text, more, e, step, k) =
@@ -140,7 +152,8 @@ one_at : (w : Wanted) (stage : Stage) (rest : List ℕ) (d e : ClientEnd) → Sh
 one_at w stage rest d e (inl x) (inl y) = x.1 ∙ sym y.1
 one_at w stage rest d e (inl x) (inr (t, tells, is, other)) = absurd (none_awaited w stage rest t x.0 tells)
 one_at w stage rest d e (inr (s, tells, is, other)) (inl y) = absurd (none_awaited w stage rest s y.0 tells)
-one_at w stage rest d e (inr (s, tells, is, other)) (inr (t, tells', is', other')) = is ∙ ap end_for (tells_one (awaits w stage) rest s t tells tells') ∙ sym is'
+one_at w stage rest d e (inr (s, tells, is, other)) (inr (t, tells', is', other')) =
+    is ∙ ap end_for (tells_one (awaits w stage) rest s t tells tells') ∙ sym is'
 
 -- bytes come to one end
 one_end : (w : Wanted) (bytes : List ℕ) (d e : ClientEnd) → ComesTo w bytes d → ComesTo w bytes e → d ≡ e
@@ -156,32 +169,56 @@ one_end w bytes d e a b =
     right = shows w b.stage b.following e b.ends
 
     by : ((a.stage ≡ b.stage) × (a.following ≡ b.following)) ⊎ (Passes w a.stage a.following ⊎ Passes w b.stage b.following) → d ≡ e
-    by (inl same) = one_at w b.stage b.following d e (subst (λ xs. Shows w b.stage xs d) same.1 (subst (λ (x : Stage). Shows w x a.following d) same.0 left)) right
+    by (inl same) =
+        one_at w b.stage b.following d e (subst (λ xs. Shows w b.stage xs d) same.1 (subst (λ (x : Stage). Shows w x a.following d) same.0 left)) right
     by (inr (inl p)) = absurd (no_pass w a.stage a.following d left p)
     by (inr (inr p)) = absurd (no_pass w b.stage b.following e right p)
 
 -- ---- the end of a reading
 
-heard_rest : (bytes text : List ℕ) (s o : Option (List ℕ)) (b : Point) → Heard (point (Some bytes) [] s o) text b → (ys : List ℕ) × (b.left ≡ Some ys) × (bytes ≡ text ++ (b.pending ++ ys))
+heard_rest : (bytes text : List ℕ) (s o : Option (List ℕ)) (b : Point) → Heard (point (Some bytes) [] s o) text b → (ys : List ℕ) × (b.left ≡ Some ys)
+    × (bytes ≡ text ++ (b.pending ++ ys))
 heard_rest bytes text s o b h = h
 
 none_left : (l : Option (List ℕ)) (p ys : List ℕ) → l ≡ Some ys → IfSome l (λ xs. p ++ xs ≡ []) → p ++ ys ≡ []
 none_left l p ys e h = subst (λ (x : Option (List ℕ)). IfSome x (λ xs. p ++ xs ≡ [])) e h
 
-came_to : (w : Wanted) (end : ClientEnd) (bytes : List ℕ) (s o : Option (List ℕ)) (b : Point) → Ends w end (point (Some bytes) [] s o) b → ComesTo w bytes end ⊎ IsFailure end
+came_to : (w : Wanted) (end : ClientEnd) (bytes : List ℕ) (s o : Option (List ℕ)) (b : Point) → Ends w end (point (Some bytes) [] s o) b → ComesTo w bytes end
+    ⊎ IsFailure end
 came_to w Done bytes s o b r =
     let (ys, e, f) = heard_rest bytes (heard_at (Leaving r.reads)) s o b r.goes.hears in
     inl (record { stage = Leaving r.reads; is_stage = r.is_stage; following = b.pending ++ ys; bytes_are = f; ends = tt })
 came_to w (Refused n) bytes s o b r =
     let (ys, e, f) = heard_rest bytes (heard_at r.stage ++ r.text) s o b r.goes.hears in
-    inl (record { stage = r.stage; is_stage = r.is_stage; following = r.text ++ (b.pending ++ ys); bytes_are = f ∙ append_assoc (heard_at r.stage) r.text (b.pending ++ ys); ends = (r.text, b.pending ++ ys, refl, r.refused) })
+    inl (record {
+      stage = r.stage;
+      is_stage = r.is_stage;
+      following = r.text ++ (b.pending ++ ys);
+      bytes_are = f
+          ∙ append_assoc (heard_at r.stage) r.text (b.pending ++ ys);
+      ends = (r.text, b.pending ++ ys, refl, r.refused);
+    })
 came_to w Malformed bytes s o b r =
     let (ys, e, f) = heard_rest bytes (heard_at r.stage ++ r.text) s o b r.goes.hears in
-    inl (record { stage = r.stage; is_stage = r.is_stage; following = r.text ++ (b.pending ++ ys); bytes_are = f ∙ append_assoc (heard_at r.stage) r.text (b.pending ++ ys); ends = (r.text, b.pending ++ ys, refl, r.wrong) })
+    inl (record {
+      stage = r.stage;
+      is_stage = r.is_stage;
+      following = r.text ++ (b.pending ++ ys);
+      bytes_are = f
+          ∙ append_assoc (heard_at r.stage) r.text (b.pending ++ ys);
+      ends = (r.text, b.pending ++ ys, refl, r.wrong);
+    })
 came_to w Cut bytes s o b r =
     let (ys, e, f) = heard_rest bytes (heard_at r.stage ++ r.text) s o b r.goes.hears in
     let none = none_left b.left b.pending ys e r.at_end in
-    inl (record { stage = r.stage; is_stage = r.is_stage; following = r.text; bytes_are = f ∙ ap (λ xs. (heard_at r.stage ++ r.text) ++ xs) none ∙ append-nil (heard_at r.stage ++ r.text); ends = r.unfinished })
+    inl (record {
+      stage = r.stage;
+      is_stage = r.is_stage;
+      following = r.text;
+      bytes_are = f ∙ ap (λ xs. (heard_at r.stage ++ r.text) ++ xs) none
+          ∙ append-nil (heard_at r.stage ++ r.text);
+      ends = r.unfinished;
+    })
 came_to w LinkFault bytes s o b r = inr tt
 came_to w WriteFault bytes s o b r = inr tt
 came_to w Memory bytes s o b r = inr tt
@@ -195,5 +232,6 @@ ends_by w end (Some bytes) s o b r = λ due comes. by due comes (came_to w end b
     by due comes (inr failed) = inr failed
 
 -- where nothing was received before
-pub ends_from : (w : Wanted) (end : ClientEnd) (left : Option (List ℕ)) (p : List ℕ) (s o : Option (List ℕ)) (b : Point) → p ≡ [] → Ends w end (point left p s o) b → IfSome left (λ bytes. EndsBy w bytes end)
+pub ends_from : (w : Wanted) (end : ClientEnd) (left : Option (List ℕ)) (p : List ℕ) (s o : Option (List ℕ)) (b : Point) → p ≡ []
+    → Ends w end (point left p s o) b → IfSome left (λ bytes. EndsBy w bytes end)
 ends_from w end left p s o b none ends = ends_by w end left s o b (subst (λ xs. Ends w end (point left xs s o) b) none ends)

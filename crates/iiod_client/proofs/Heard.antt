@@ -10,7 +10,8 @@ pub heard_none : (l : Option (List ℕ)) (p : List ℕ) (s o s2 o2 : Option (Lis
 heard_none None p s o s2 o2 = tt
 heard_none (Some xs) p s o s2 o2 = (xs, refl, refl)
 
-heard_by : (l m n : Option (List ℕ)) (p q r x y : List ℕ) → Heard (point l p None None) x (point m q None None) → Heard (point m q None None) y (point n r None None) → Heard (point l p None None) (x ++ y) (point n r None None)
+heard_by : (l m n : Option (List ℕ)) (p q r x y : List ℕ) → Heard (point l p None None) x (point m q None None)
+    → Heard (point m q None None) y (point n r None None) → Heard (point l p None None) (x ++ y) (point n r None None)
 heard_by None m n p q r x y h k = tt
 heard_by (Some xs) m n p q r x y (ys, e, f) k =
     let (zs, g, j) = subst (λ (o : Option (List ℕ)). Heard (point o q None None) y (point n r None None)) e k in
@@ -27,7 +28,8 @@ heard_pending (Some xs) p x r e = (xs, refl, ap (λ ys. ys ++ xs) e ∙ append_a
 pub heard_front : (a b : Point) (x : List ℕ) → Heard a x b → HeardFront a x
 heard_front a b x h = by a.left a.pending b.left b.pending h
   where
-    by : (l : Option (List ℕ)) (p : List ℕ) (m : Option (List ℕ)) (q : List ℕ) → Heard (point l p None None) x (point m q None None) → HeardFront (point l p None None) x
+    by : (l : Option (List ℕ)) (p : List ℕ) (m : Option (List ℕ)) (q : List ℕ) → Heard (point l p None None) x (point m q None None)
+        → HeardFront (point l p None None) x
     by None p m q h = tt
     by (Some xs) p m q (ys, e, f) = (q ++ ys, f)
 
@@ -42,7 +44,8 @@ front_less a x y h = by a.left a.pending h
 pub front_more : (a b : Point) (x y : List ℕ) → Heard a x b → HeardFront b y → HeardFront a (x ++ y)
 front_more a b x y h k = by a.left a.pending b.left b.pending h k
   where
-    by : (l : Option (List ℕ)) (p : List ℕ) (m : Option (List ℕ)) (q : List ℕ) → Heard (point l p None None) x (point m q None None) → HeardFront (point m q None None) y → HeardFront (point l p None None) (x ++ y)
+    by : (l : Option (List ℕ)) (p : List ℕ) (m : Option (List ℕ)) (q : List ℕ) → Heard (point l p None None) x (point m q None None)
+        → HeardFront (point m q None None) y → HeardFront (point l p None None) (x ++ y)
     by None p m q h k = tt
     by (Some xs) p m q (ys, e, f) k =
         let (more, g) = subst (λ (o : Option (List ℕ)). HeardFront (point o q None None) y) e k in

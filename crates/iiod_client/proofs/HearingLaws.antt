@@ -17,7 +17,8 @@ use Rattle.iiod_client.proofs.Heard.{heard_more, heard_pending}
 use Rattle.iiod_client.proofs.Stands.{no_lf_more, begun_none}
 
 -- the link gave no byte, in the midst of an answer
-pub hears_end : (w : Awaited) (body text : List ℕ) (r : Result ⊤ ClientEnd) (y e : ClientEnd) (a b c : Point) → r ≡ Err y → y ≡ e → IsUnfinished w text → Heard a text b → Heard b [] c → IsLinkEnd e c → Hears w body r a c
+pub hears_end : (w : Awaited) (body text : List ℕ) (r : Result ⊤ ClientEnd) (y e : ClientEnd) (a b c : Point) → r ≡ Err y → y ≡ e → IsUnfinished w text
+    → Heard a text b → Heard b [] c → IsLinkEnd e c → Hears w body r a c
 hears_end w body text r y e a b c p q u h k end = subst (λ (x : Result ⊤ ClientEnd). Hears w body x a c) (sym (p ∙ ap (λ (x : ClientEnd). Err x) q)) (by e end)
   where
     by : (e : ClientEnd) → IsLinkEnd e c → Hears w body (Err e) a c
@@ -31,7 +32,8 @@ hears_end w body text r y e a b c p q u h k end = subst (λ (x : Result ⊤ Clie
 
 -- ---- plain answers
 
-pub plain_says : (line said : List ℕ) (byte : ℕ) (r : Result ⊤ ClientEnd) (a b c : Point) → SaysPlain said r → said ≡ line → HasNoLf line → length line ≤ 32 → Heard a line b → Heard b (byte ∷ []) c → byte ≡ 10
+pub plain_says : (line said : List ℕ) (byte : ℕ) (r : Result ⊤ ClientEnd) (a b c : Point) → SaysPlain said r → said ≡ line → HasNoLf line → length line ≤ 32
+    → Heard a line b → Heard b (byte ∷ []) c → byte ≡ 10
     → Hears Plain [] r a c
 plain_says line said byte r a b c says e lf few h k is = by r (subst (λ xs. SaysPlain xs r) e says)
   where
@@ -45,13 +47,18 @@ plain_says line said byte r a b c says e lf few h k is = by r (subst (λ xs. Say
     by (Err LinkFault) s = absurd s
     by (Err WriteFault) s = absurd s
     by (Err Memory) s = absurd s
-    by (Err Malformed) s = (line_text line, inl (record { line = line; is_line = record { few = few; no_lf = lf }; no_zero = s.0; no_refusal = s.1; text_is = refl }), heard)
+    by (Err Malformed) s =
+        (line_text line, inl (record { line = line; is_line = record { few = few; no_lf = lf }; no_zero = s.0; no_refusal = s.1; text_is = refl }), heard)
     by (Err Cut) s = absurd s
 
 pub plain_long : (line : List ℕ) (byte : ℕ) (a b c : Point) → HasNoLf line → length line ≡ 32 → Heard a line b → Heard b (byte ∷ []) c → byte ≢ 10
     → Hears Plain [] (Err Malformed) a c
-plain_long line byte a b c lf full h k other =
-    (line ++ byte ∷ [], inr (record { one_more = omega (arith, full, length-append line (byte ∷ [])); no_lf = no_lf_more line byte lf other }), heard_more a b c line (byte ∷ []) h k)
+plain_long line byte a b c lf full h k other = (
+  line ++ byte ∷ [],
+  inr (record { one_more = omega (arith, full, length-append line (byte ∷ [])); no_lf = no_lf_more line byte lf other }),
+  heard_more a b c
+      line (byte ∷ []) h k,
+)
 
 -- ---- answers to READBUF
 
@@ -81,9 +88,11 @@ pub heard_taken : (l : Option (List ℕ)) (p q : List ℕ) (n : ℕ) → q ≡ d
 heard_taken l p q n e = heard_pending l p (take n p) q (sym (take-append-drop n p) ∙ ap (λ xs. take n p ++ xs) (sym e))
 
 -- the first of the bytes that are pending after a receive were heard
-pub heard_fed : (a : Point) (l m : Option (List ℕ)) (p q r bytes text : List ℕ) (n : ℕ) → Heard a text (point l p None None) → Heard (point l p None None) [] (point m q None None) → bytes ≡ q → r ≡ drop n q
+pub heard_fed : (a : Point) (l m : Option (List ℕ)) (p q r bytes text : List ℕ) (n : ℕ) → Heard a text (point l p None None)
+    → Heard (point l p None None) [] (point m q None None) → bytes ≡ q → r ≡ drop n q
     → Heard a (text ++ take n bytes) (point m r None None)
 heard_fed a l m p q r bytes text n h k e f =
     subst (λ xs. Heard a (text ++ take n xs) (point m r None None)) (sym e)
     (heard_more a (point m q None None) (point m r None None) text (take n q)
-    (subst (λ xs. Heard a xs (point m q None None)) (append-nil text) (heard_more a (point l p None None) (point m q None None) text [] h k)) (heard_taken m q r n f))
+    (subst (λ xs. Heard a xs (point m q None None)) (append-nil text) (heard_more a (point l p None None) (point m q None None) text [] h k))
+    (heard_taken m q r n f))

@@ -154,7 +154,8 @@ abbrev Runs : Asked → M → List ℕ → M → Type 0
 Runs q m [] x = x ≡ m
 Runs q m (b ∷ bs) x = (y : M) × Step q m b y × Runs q y bs x
 
-det_line : (line body : List ℕ) (After : Place → Type 0) (at : Place) (b : ℕ) (x y : M) → ((p r : Place) → After p → After r → p ≡ r) → LineStep line body After at b x → LineStep line body After at b y → x ≡ y
+det_line : (line body : List ℕ) (After : Place → Type 0) (at : Place) (b : ℕ) (x y : M) → ((p r : Place) → After p → After r → p ≡ r)
+    → LineStep line body After at b x → LineStep line body After at b y → x ≡ y
 det_line line body After at b x y det (inl (e, p, a, f)) (inl (g, r, c, h)) = f ∙ ap (λ (k : Place). At k [] body) (det p r a c) ∙ sym h
 det_line line body After at b x y det (inl (e, p, a, f)) (inr (inl (g, h, j))) = absurd (g e)
 det_line line body After at b x y det (inl (e, p, a, f)) (inr (inr (g, h, j))) = absurd (g e)
@@ -203,7 +204,8 @@ runs_beyond q (b ∷ bs) x (u, s, r) = runs_beyond q bs x (subst (λ (z : M). Ru
 abbrev start : M
 start = At Length [] []
 
-run_line : (q : Asked) (After : Place → Type 0) (at : Place) (line body xs : List ℕ) → ((l : List ℕ) (b : ℕ) → b ≢ 10 → length l < 32 → StepAt q at l body b (At at (l ++ b ∷ []) body)) → HasNoLf xs → length line + length xs ≤ 32
+run_line : (q : Asked) (After : Place → Type 0) (at : Place) (line body xs : List ℕ)
+    → ((l : List ℕ) (b : ℕ) → b ≢ 10 → length l < 32 → StepAt q at l body b (At at (l ++ b ∷ []) body)) → HasNoLf xs → length line + length xs ≤ 32
     → Runs q (At at line body) xs (At at (line ++ xs) body)
 run_line q After at line body [] step lf few = ap (λ (l : List ℕ). At at l body) (append-nil line)
 run_line q After at line body (b ∷ bs) step lf few =
@@ -225,32 +227,45 @@ run_length q body line is = run_line q (λ p. ⊥) Length [] body line (length_g
 run_mask : (q : Asked) (n : ℕ) (body line : List ℕ) → IsBegunLine line → Runs q (At (Mask n) [] body) line (At (Mask n) line body)
 run_mask q n body line is = run_line q (λ p. ⊥) (Mask n) [] body line (mask_go q n body) is.no_lf (omega (arith, is.few))
 
-length_line : (q : Asked) (body line : List ℕ) (p : Place) → IsBegunLine line → AfterLength q body line p → Runs q (At Length [] body) (line_text line) (At p [] body)
-length_line q body line p is a = runs_on q (At Length [] body) line (10 ∷ []) (At Length line body) (At p [] body) (run_length q body line is) (At p [] body, inl (refl, p, a, refl), refl)
+length_line : (q : Asked) (body line : List ℕ) (p : Place) → IsBegunLine line → AfterLength q body line p
+    → Runs q (At Length [] body) (line_text line) (At p [] body)
+length_line q body line p is a =
+    runs_on q (At Length [] body) line (10 ∷ []) (At Length line body) (At p [] body) (run_length q body line is) (At p [] body, inl (refl, p, a, refl), refl)
 
-mask_line : (q : Asked) (n : ℕ) (body line : List ℕ) (p : Place) → IsBegunLine line → AfterMask q n line p → Runs q (At (Mask n) [] body) (line_text line) (At p [] body)
-mask_line q n body line p is a = runs_on q (At (Mask n) [] body) line (10 ∷ []) (At (Mask n) line body) (At p [] body) (run_mask q n body line is) (At p [] body, inl (refl, p, a, refl), refl)
+mask_line : (q : Asked) (n : ℕ) (body line : List ℕ) (p : Place) → IsBegunLine line → AfterMask q n line p
+    → Runs q (At (Mask n) [] body) (line_text line) (At p [] body)
+mask_line q n body line p is a =
+    runs_on q (At (Mask n) [] body) line (10 ∷ []) (At (Mask n) line body) (At p [] body) (run_mask q n body line is)
+    (At p [] body, inl (refl, p, a, refl), refl)
 
-run_data : (q : Asked) (n : ℕ) (line body xs : List ℕ) (p : Place) → length xs ≡ n → 1 ≤ n → AfterBlock q (body ++ xs) p → Runs q (At (Data n) line body) xs (At p [] (body ++ xs))
+run_data : (q : Asked) (n : ℕ) (line body xs : List ℕ) (p : Place) → length xs ≡ n → 1 ≤ n → AfterBlock q (body ++ xs) p
+    → Runs q (At (Data n) line body) xs (At p [] (body ++ xs))
 run_data q n line body [] p e some a = absurd (omega (arith, e, some))
 run_data q n line body (b ∷ []) p e some a = (At p [] (body ++ b ∷ []), inr (omega (arith, e), p, a, refl), refl)
 run_data q n line body (b ∷ c ∷ cs) p e some a =
     let all = append_assoc body (b ∷ []) (c ∷ cs) in
-    let more = run_data q (n - 1) [] (body ++ b ∷ []) (c ∷ cs) p (omega (arith, e)) (omega (arith, e)) (subst (λ xs. AfterBlock q xs p) (sym all) a) in
-    (At (Data (n - 1)) [] (body ++ b ∷ []), inl (omega (arith, e), refl), subst (λ (xs : List ℕ). Runs q (At (Data (n - 1)) [] (body ++ b ∷ [])) (c ∷ cs) (At p [] xs)) all more)
+    let more = run_data q (n - 1) [] (body ++ b ∷ []) (c ∷ cs) p (omega (arith, e)) (omega (arith, e)) (subst (λ xs. AfterBlock q xs p) (sym all) a) in (
+      At (Data (n - 1)) [] (body ++ b ∷ []),
+      inl (omega (arith, e), refl),
+      subst
+          (λ (xs : List ℕ). Runs q (At (Data (n - 1)) [] (body ++ b ∷ [])) (c ∷ cs) (At p [] xs)) all more,
+    )
 
 -- ---- blocks
 
 abbrev all_bytes : List Block → List ℕ
 all_bytes later = flat_map (λ (x : Block). x.bytes) later
 
-run_block : (q : Asked) (b : Block) (body : List ℕ) (p : Place) → IsBlock b → 1 ≤ length body → length body + length b.bytes ≤ q.bytes → AfterBlock q (body ++ b.bytes) p
+run_block : (q : Asked) (b : Block) (body : List ℕ) (p : Place) → IsBlock b → 1 ≤ length body → length body + length b.bytes ≤ q.bytes
+    → AfterBlock q (body ++ b.bytes) p
     → Runs q (At Length [] body) (block_text b) (At p [] (body ++ b.bytes))
 run_block q b body p is some fits a =
     runs_on q (At Length [] body) (line_text b.line) b.bytes (At (Data (length b.bytes)) [] body) (At p [] (body ++ b.bytes))
-    (length_line q body b.line (Data (length b.bytes)) is.is_line (is.counted, is.some, fits, some)) (run_data q (length b.bytes) [] body b.bytes p refl is.some a)
+    (length_line q body b.line (Data (length b.bytes)) is.is_line (is.counted, is.some, fits, some))
+    (run_data q (length b.bytes) [] body b.bytes p refl is.some a)
 
-run_later : (q : Asked) (later : List Block) (body : List ℕ) (p : Place) → AllByRecursion IsBlock later → length body < q.bytes → 1 ≤ length body → length (body ++ all_bytes later) ≤ q.bytes → AfterBlock q (body ++ all_bytes later) p
+run_later : (q : Asked) (later : List Block) (body : List ℕ) (p : Place) → AllByRecursion IsBlock later → length body < q.bytes → 1 ≤ length body
+    → length (body ++ all_bytes later) ≤ q.bytes → AfterBlock q (body ++ all_bytes later) p
     → Runs q (At Length [] body) (flat_map block_text later) (At p [] (body ++ all_bytes later))
 run_later q [] body p are short some fits a =
     let e = append-nil body in
@@ -260,20 +275,25 @@ run_later q (b ∷ []) body p are short some fits a =
     let e : b.bytes ++ [] ≡ b.bytes = append-nil b.bytes in
     let fit : length body + length b.bytes ≤ q.bytes = omega (arith, fits, ap length e, length-append body (b.bytes ++ [])) in
     subst (λ (xs : List ℕ). Runs q (At Length [] body) xs (At p [] (body ++ (b.bytes ++ [])))) (sym (append-nil (block_text b)))
-    (subst (λ (xs : List ℕ). Runs q (At Length [] body) (block_text b) (At p [] (body ++ xs))) (sym e) (run_block q b body p are.0 some fit (subst (λ xs. AfterBlock q (body ++ xs) p) e a)))
+    (subst (λ (xs : List ℕ). Runs q (At Length [] body) (block_text b) (At p [] (body ++ xs))) (sym e)
+    (run_block q b body p are.0 some fit (subst (λ xs. AfterBlock q (body ++ xs) p) e a)))
 run_later q (b ∷ c ∷ cs) body p are short some fits a =
     let next = body ++ b.bytes in
     let rest = all_bytes (c ∷ cs) in
     let all = append_assoc body b.bytes rest in
-    let sizes : length body + length b.bytes + length (all_bytes (c ∷ cs)) ≤ q.bytes = omega (arith, fits, ap length all, length-append body b.bytes, length-append (body ++ b.bytes) rest) in
+    let sizes : length body + length b.bytes + length (all_bytes (c ∷ cs)) ≤ q.bytes =
+    omega (arith, fits, ap length all, length-append body b.bytes, length-append (body ++ b.bytes) rest) in
     let more : 1 ≤ length rest = omega (arith, are.1.0.some, length-append c.bytes (all_bytes cs)) in
     let less : length next < q.bytes = omega (arith, sizes, more, length-append body b.bytes) in
     let one = run_block q b body Length are.0 some (omega (arith, sizes)) less in
-    let two = run_later q (c ∷ cs) next p are.1 less (omega (arith, some, length-append body b.bytes)) (omega (arith, fits, ap length all)) (subst (λ xs. AfterBlock q xs p) (sym all) a) in
+    let two =
+    run_later q (c ∷ cs) next p are.1 less (omega (arith, some, length-append body b.bytes)) (omega (arith, fits, ap length all))
+    (subst (λ xs. AfterBlock q xs p) (sym all) a) in
     subst (λ (xs : List ℕ). Runs q (At Length [] body) (flat_map block_text (b ∷ c ∷ cs)) (At p [] xs)) all
     (runs_on q (At Length [] body) (block_text b) (flat_map block_text (c ∷ cs)) (At Length [] next) (At p [] (next ++ rest)) one two)
 
-run_first : (q : Asked) (first : Block) (mask : List ℕ) (p : Place) → IsBlock first → IsBegunLine mask → IsMaskText q.channels mask q.mask → length first.bytes ≤ q.bytes → AfterBlock q first.bytes p
+run_first : (q : Asked) (first : Block) (mask : List ℕ) (p : Place) → IsBlock first → IsBegunLine mask → IsMaskText q.channels mask q.mask
+    → length first.bytes ≤ q.bytes → AfterBlock q first.bytes p
     → Runs q start (line_text first.line ++ (line_text mask ++ first.bytes)) (At p [] first.bytes)
 run_first q first mask p is is_line is_mask fits a =
     let n = length first.bytes in
@@ -285,11 +305,14 @@ run_first q first mask p is is_line is_mask fits a =
 run_blocks : (q : Asked) (text body : List ℕ) (p : Place) → AreBlocks q text body → AfterBlock q body p → Runs q start text (At p [] body)
 run_blocks q text body p b a =
     subst (λ (xs : List ℕ). Runs q start xs (At p [] body)) (sym b.text_is)
-    (subst (λ (xs : List ℕ). Runs q start (line_text b.first.line ++ (line_text b.mask ++ (b.first.bytes ++ flat_map block_text b.later))) (At p [] xs)) (sym b.body_is)
+    (subst (λ (xs : List ℕ). Runs q start (line_text b.first.line ++ (line_text b.mask ++ (b.first.bytes ++ flat_map block_text b.later))) (At p [] xs))
+    (sym b.body_is)
     (by b.later b.are_later (subst (λ xs. length xs ≤ q.bytes) b.body_is b.within) (subst (λ xs. AfterBlock q xs p) b.body_is a)))
   where
-    by : (later : List Block) → AllByRecursion IsBlock later → length (b.first.bytes ++ all_bytes later) ≤ q.bytes → AfterBlock q (b.first.bytes ++ all_bytes later) p
-        → Runs q start (line_text b.first.line ++ (line_text b.mask ++ (b.first.bytes ++ flat_map block_text later))) (At p [] (b.first.bytes ++ all_bytes later))
+    by : (later : List Block) → AllByRecursion IsBlock later → length (b.first.bytes ++ all_bytes later) ≤ q.bytes
+        → AfterBlock q (b.first.bytes ++ all_bytes later) p
+        → Runs q start (line_text b.first.line ++ (line_text b.mask ++ (b.first.bytes ++ flat_map block_text later)))
+        (At p [] (b.first.bytes ++ all_bytes later))
     by [] are fits c =
         let e = append-nil b.first.bytes in
         subst (λ (xs : List ℕ). Runs q start (line_text b.first.line ++ (line_text b.mask ++ xs)) (At p [] xs)) (sym e)
@@ -299,15 +322,18 @@ run_blocks q text body p b a =
         let more : 1 ≤ length rest = omega (arith, are.0.some, length-append d.bytes (all_bytes ds)) in
         let less : length b.first.bytes < q.bytes = omega (arith, fits, more, length-append b.first.bytes rest) in
         let text = flat_map block_text (d ∷ ds) in
-        let spelled : (line_text b.first.line ++ (line_text b.mask ++ b.first.bytes)) ++ text ≡ line_text b.first.line ++ (line_text b.mask ++ (b.first.bytes ++ text)) =
-        append_assoc (line_text b.first.line) (line_text b.mask ++ b.first.bytes) text ∙ ap (λ xs. line_text b.first.line ++ xs) (append_assoc (line_text b.mask) b.first.bytes text) in
+        let spelled : (line_text b.first.line ++ (line_text b.mask ++ b.first.bytes)) ++ text ≡ line_text b.first.line
+        ++ (line_text b.mask ++ (b.first.bytes ++ text)) =
+        append_assoc (line_text b.first.line) (line_text b.mask ++ b.first.bytes) text
+        ∙ ap (λ xs. line_text b.first.line ++ xs) (append_assoc (line_text b.mask) b.first.bytes text) in
         subst (λ (xs : List ℕ). Runs q start xs (At p [] (b.first.bytes ++ rest))) spelled
         (runs_on q start (line_text b.first.line ++ (line_text b.mask ++ b.first.bytes)) text (At Length [] b.first.bytes) (At p [] (b.first.bytes ++ rest))
         (run_first q b.first b.mask Length b.is_first b.is_mask_line b.is_mask (omega (arith, less)) less)
         (run_later q (d ∷ ds) b.first.bytes p are less b.is_first.some fits c))
 
 run_begins : (q : Asked) (text body : List ℕ) → Begins q text body → length body < q.bytes → Runs q start text (At Length [] body)
-run_begins q text body (inl none) short = subst (λ (xs : List ℕ). Runs q start xs (At Length [] body)) (sym none.0) (ap (λ (xs : List ℕ). At Length [] xs) none.1)
+run_begins q text body (inl none) short =
+    subst (λ (xs : List ℕ). Runs q start xs (At Length [] body)) (sym none.0) (ap (λ (xs : List ℕ). At Length [] xs) none.1)
 run_begins q text body (inr b) short = run_blocks q text body Length b short
 
 -- ---- whole texts
@@ -333,11 +359,13 @@ run_refusal : (q : Asked) (n : ℕ) (text : List ℕ) → IsRefusal q n text →
 run_refusal q n text r = (
   r.body,
   subst (λ (xs : List ℕ). Runs q start xs (At (Refused n) [] r.body)) (sym r.text_is)
-      (runs_on q start r.blocks (line_text r.line) (At Length [] r.body) (At (Refused n) [] r.body) (run_begins q r.blocks r.body r.begins r.short) (length_line q r.body r.line (Refused n) r.is_line (r.number, r.scans))),
+      (runs_on q start r.blocks (line_text r.line) (At Length [] r.body) (At (Refused n) [] r.body) (run_begins q r.blocks r.body r.begins r.short)
+      (length_line q r.body r.line (Refused n) r.is_line (r.number, r.scans))),
 )
 
 -- the last of some bytes
-last_of : (k : ℕ) (line : List ℕ) → length line ≡ suc k → HasNoLf line → (xs : List ℕ) × (b : ℕ) × (line ≡ xs ++ b ∷ []) × (length xs ≡ k) × HasNoLf xs × (b ≢ 10)
+last_of : (k : ℕ) (line : List ℕ) → length line ≡ suc k → HasNoLf line → (xs : List ℕ) × (b : ℕ) × (line ≡ xs ++ b ∷ []) × (length xs ≡ k) × HasNoLf xs
+    × (b ≢ 10)
 last_of k [] e lf = absurd (omega (arith, e))
 last_of k (b ∷ []) e lf = ([], b, refl, omega (arith, e), tt, lf.0)
 last_of zero (b ∷ c ∷ cs) e lf = absurd (omega (arith, e))
@@ -346,22 +374,27 @@ last_of (suc k) (b ∷ c ∷ cs) e lf =
     (b ∷ xs, d, ap (λ ys. b ∷ ys) f, omega (arith, g), (lf.0, h), j)
 
 run_long : (q : Asked) (at : Place) (body line : List ℕ) → ((l : List ℕ) (b : ℕ) → b ≢ 10 → length l < 32 → StepAt q at l body b (At at (l ++ b ∷ []) body))
-    → ((l : List ℕ) (b : ℕ) → b ≢ 10 → 32 ≤ length l → StepAt q at l body b (At Malformed [] body)) → length line ≡ 33 → HasNoLf line → Runs q (At at [] body) line (At Malformed [] body)
+    → ((l : List ℕ) (b : ℕ) → b ≢ 10 → 32 ≤ length l → StepAt q at l body b (At Malformed [] body)) → length line ≡ 33 → HasNoLf line
+    → Runs q (At at [] body) line (At Malformed [] body)
 run_long q at body line go stop long lf =
     let (xs, b, e, f, g, h) = last_of 32 line long lf in
     subst (λ (ys : List ℕ). Runs q (At at [] body) ys (At Malformed [] body)) (sym e)
-    (runs_on q (At at [] body) xs (b ∷ []) (At at xs body) (At Malformed [] body) (run_line q (λ p. ⊥) at [] body xs go g (omega (arith, f))) (At Malformed [] body, stop xs b h (omega (arith, f)), refl))
+    (runs_on q (At at [] body) xs (b ∷ []) (At at xs body) (At Malformed [] body) (run_line q (λ p. ⊥) at [] body xs go g (omega (arith, f)))
+    (At Malformed [] body, stop xs b h (omega (arith, f)), refl))
 
 run_malformed : (q : Asked) (text : List ℕ) → IsMalformed q text → (body : List ℕ) × Runs q start text (At Malformed [] body)
 run_malformed q text (inl w) = (
   w.body,
   subst (λ (xs : List ℕ). Runs q start xs (At Malformed [] w.body)) (sym w.text_is)
-      (runs_on q start w.blocks (line_text w.line) (At Length [] w.body) (At Malformed [] w.body) (run_begins q w.blocks w.body w.begins w.short) (length_line q w.body w.line Malformed w.is_line w.wrong)),
+      (runs_on q start w.blocks (line_text w.line) (At Length [] w.body) (At Malformed [] w.body) (run_begins q w.blocks w.body w.begins w.short)
+      (length_line q w.body w.line Malformed w.is_line w.wrong)),
 )
 run_malformed q text (inr (inl w)) = (
   [],
   subst (λ (xs : List ℕ). Runs q start xs (At Malformed [] [])) (sym w.text_is)
-      (runs_on q start (line_text w.first) (line_text w.line) (At (Mask w.n) [] []) (At Malformed [] []) (length_line q [] w.first (Mask w.n) w.is_first.is_line (w.is_first.counted, w.is_first.some, w.is_first.within, refl)) (mask_line q w.n [] w.line Malformed w.is_line w.wrong)),
+      (runs_on q start (line_text w.first) (line_text w.line) (At (Mask w.n) [] []) (At Malformed [] [])
+      (length_line q [] w.first (Mask w.n) w.is_first.is_line (w.is_first.counted, w.is_first.some, w.is_first.within, refl))
+      (mask_line q w.n [] w.line Malformed w.is_line w.wrong)),
 )
 run_malformed q text (inr (inr (inl w))) = by w.before
   where
@@ -375,7 +408,8 @@ run_malformed q text (inr (inr (inl w))) = by w.before
     by (inr (n, first, is, e)) = (
       [],
       subst (λ (xs : List ℕ). Runs q start xs (At Malformed [] [])) (sym (w.text_is ∙ ap (λ xs. xs ++ w.line) e))
-          (runs_on q start (line_text first) w.line (At (Mask n) [] []) (At Malformed [] []) (length_line q [] first (Mask n) is.is_line (is.counted, is.some, is.within, refl))
+          (runs_on q start (line_text first) w.line (At (Mask n) [] []) (At Malformed [] [])
+          (length_line q [] first (Mask n) is.is_line (is.counted, is.some, is.within, refl))
           (run_long q (Mask n) [] w.line (mask_go q n []) (λ l b other full. inr (inr (other, full, refl))) w.long.one_more w.long.no_lf)),
     )
 run_malformed q text (inr (inr (inr w))) = (w.body, run_blocks q text w.body Malformed w.are_blocks (w.full, w.uneven))
@@ -426,8 +460,10 @@ alive q (At Length line heard) b bs p body r = refl
 alive q (At (Mask n) line heard) b bs p body r = refl
 alive q (At (Data n) line heard) b bs p body r = refl
 alive q (At Done line heard) b bs p body (u, s, r) = let e = runs_beyond q bs (At p [] body) (subst (λ (z : M). Runs q z bs (At p [] body)) s r) in absurd cc
-alive q (At (Refused n) line heard) b bs p body (u, s, r) = let e = runs_beyond q bs (At p [] body) (subst (λ (z : M). Runs q z bs (At p [] body)) s r) in absurd cc
-alive q (At Malformed line heard) b bs p body (u, s, r) = let e = runs_beyond q bs (At p [] body) (subst (λ (z : M). Runs q z bs (At p [] body)) s r) in absurd cc
+alive q (At (Refused n) line heard) b bs p body (u, s, r) =
+    let e = runs_beyond q bs (At p [] body) (subst (λ (z : M). Runs q z bs (At p [] body)) s r) in absurd cc
+alive q (At Malformed line heard) b bs p body (u, s, r) =
+    let e = runs_beyond q bs (At p [] body) (subst (λ (z : M). Runs q z bs (At p [] body)) s r) in absurd cc
 alive q Beyond b bs p body (u, s, r) = let e = runs_beyond q bs (At p [] body) (subst (λ (z : M). Runs q z bs (At p [] body)) s r) in absurd cc
 
 some_zeros : (n : ℕ) → (zs : List ℕ) × (length zs ≡ n)
@@ -444,7 +480,8 @@ run_partial q text body (inl (line, s)) = (
 run_partial q text body (inr (inl (n, line, s))) = (
   At (Mask n) line [],
   subst (λ (xs : List ℕ). Runs q start xs (At (Mask n) line [])) (sym s.text_is)
-      (runs_on q start (line_text s.first) line (At (Mask n) [] []) (At (Mask n) line []) (length_line q [] s.first (Mask n) s.is_first.is_line (s.is_first.counted, s.is_first.some, s.is_first.within, refl)) (run_mask q n [] line s.begun)),
+      (runs_on q start (line_text s.first) line (At (Mask n) [] []) (At (Mask n) line [])
+      (length_line q [] s.first (Mask n) s.is_first.is_line (s.is_first.counted, s.is_first.some, s.is_first.within, refl)) (run_mask q n [] line s.begun)),
   refl,
 )
 run_partial q text body (inr (inr (missing, s))) =
@@ -464,7 +501,8 @@ run_reads q state.Done text body r = (At Done [] body, run_answer q text body r,
 run_reads q (state.Refused n) text body r = let (b, k) = run_refusal q n text r in (At (Refused n) [] b, k, refl)
 run_reads q state.Malformed text body r = let (b, k) = run_malformed q text r in (At Malformed [] b, k, refl)
 
-behind : (q : Asked) (x y : M) (more : List ℕ) (s t : State) (k j : List ℕ) → says x ≡ told s k → IsEnd s → says y ≡ told t j → Runs q x more y → (more ≡ []) × (told t j ≡ told s k)
+behind : (q : Asked) (x y : M) (more : List ℕ) (s t : State) (k j : List ℕ) → says x ≡ told s k → IsEnd s → says y ≡ told t j → Runs q x more y → (more ≡ [])
+    × (told t j ≡ told s k)
 behind q x y [] s t k j e is f r = (refl, sym f ∙ ap says r ∙ e)
 behind q x y (b ∷ bs) s t k j e is f (u, step, r) =
     let over = runs_beyond q bs y (subst (λ (z : M). Runs q z bs y) (end_step q x u b s k e is step) r) in

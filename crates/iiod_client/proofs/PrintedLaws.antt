@@ -15,11 +15,13 @@ use Rattle.iiod_client.specs.Printed.{channel_name, elements_text, field_text, l
 
 -- ---- elements
 
-elements_next : (f : Format) (bytes : List ℕ) (k : ℕ) → 1 ≤ k → elements_text f bytes (suc k) ≡ elements_text f bytes k ++ 44 ∷ signed_decimal (value_at f bytes k)
+elements_next : (f : Format) (bytes : List ℕ) (k : ℕ) → 1 ≤ k
+    → elements_text f bytes (suc k) ≡ elements_text f bytes k ++ 44 ∷ signed_decimal (value_at f bytes k)
 elements_next f bytes zero some = absurd (omega (arith, some))
 elements_next f bytes (suc k) some = refl
 
-pub elements_more : (f : Format) (bytes : List ℕ) (k : ℕ) → 1 ≤ k → (before out comma after : List ℕ) → out ≡ before ++ elements_text f bytes k → comma ≡ out ++ 44 ∷ []
+pub elements_more : (f : Format) (bytes : List ℕ) (k : ℕ) → 1 ≤ k → (before out comma after : List ℕ) → out ≡ before ++ elements_text f bytes k
+    → comma ≡ out ++ 44 ∷ []
     → after ≡ comma ++ signed_decimal (value_at f bytes k) → after ≡ before ++ elements_text f bytes (k + 1)
 elements_more f bytes k some before out comma after e g h =
     let text = elements_text f bytes k in
@@ -33,8 +35,10 @@ elements_more f bytes k some before out comma after e g h =
 parts : (before a b c name text : List ℕ) → a ≡ before ++ 32 ∷ [] → b ≡ a ++ name → c ≡ b ++ 61 ∷ [] → c ++ text ≡ before ++ 32 ∷ (name ++ 61 ∷ text)
 parts before a b c name text ea eb ec = rw (ec, eb, ea) (simp append_assoc)
 
-pub field_more : (shape : ShapeRecord) (mask : ℕ) (scan : List ℕ) (c : ℕ) (f : Format) (from n : ℕ) (before a b d e : List ℕ) → f ≡ format_at (formats_of shape) c → from ≡ place_of shape mask c → n ≡ size_of f
-    → a ≡ before ++ 32 ∷ [] → b ≡ a ++ channel_name shape c → d ≡ b ++ 61 ∷ [] → e ≡ d ++ elements_text f (take n (drop from scan)) f.repeat → e ≡ before ++ field_text shape mask scan c
+pub field_more : (shape : ShapeRecord) (mask : ℕ) (scan : List ℕ) (c : ℕ) (f : Format) (from n : ℕ) (before a b d e : List ℕ)
+    → f ≡ format_at (formats_of shape) c → from ≡ place_of shape mask c → n ≡ size_of f
+    → a ≡ before ++ 32 ∷ [] → b ≡ a ++ channel_name shape c → d ≡ b ++ 61 ∷ [] → e ≡ d ++ elements_text f (take n (drop from scan)) f.repeat
+    → e ≡ before ++ field_text shape mask scan c
 field_more shape mask scan c f from n before a b d e ef ep en ea eb ed ee =
     let g = format_at (formats_of shape) c in
     ee ∙ ap (λ (x : Format). d ++ elements_text x (take n (drop from scan)) x.repeat) ef
@@ -53,7 +57,8 @@ lines_more shape mask body k size from n es ef en =
     ∙ ap (λ i. before ++ scan_line shape mask (take (scan_size shape mask) (drop i body))) (ef ∙ ap (λ i. k * i) es)
     ∙ ap (λ i. lines_below shape mask body i) next
 
-lines_on : (shape : ShapeRecord) (mask : ℕ) (body : List ℕ) (j d : ℕ) → (rest : List ℕ) × (lines_below shape mask body (d + j) ≡ lines_below shape mask body j ++ rest)
+lines_on : (shape : ShapeRecord) (mask : ℕ) (body : List ℕ) (j d : ℕ) → (rest : List ℕ)
+    × (lines_below shape mask body (d + j) ≡ lines_below shape mask body j ++ rest)
 lines_on shape mask body j zero =
     let same : 0 + j ≡ j = omega arith in
     ([], ap (λ i. lines_below shape mask body i) same ∙ sym (append-nil (lines_below shape mask body j)))
@@ -65,7 +70,8 @@ lines_on shape mask body j (suc d) =
     (rest ++ last, ap (λ i. lines_below shape mask body i) next ∙ ap (λ xs. xs ++ last) e ∙ append_assoc (lines_below shape mask body j) rest last)
 
 -- the first lines of all of them
-pub lines_front : (shape : ShapeRecord) (mask : ℕ) (body : List ℕ) (j n : ℕ) → j ≤ n → (rest : List ℕ) × (lines_below shape mask body n ≡ lines_below shape mask body j ++ rest)
+pub lines_front : (shape : ShapeRecord) (mask : ℕ) (body : List ℕ) (j n : ℕ) → j ≤ n → (rest : List ℕ)
+    × (lines_below shape mask body n ≡ lines_below shape mask body j ++ rest)
 lines_front shape mask body j n few =
     let (rest, e) = lines_on shape mask body j (n - j) in
     let all : n - j + j ≡ n = omega (arith, few) in

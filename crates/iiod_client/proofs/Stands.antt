@@ -33,7 +33,8 @@ begun_none = record { few = omega arith; no_lf = tt }
 -- ---- blocks
 
 -- blocks and a further one
-pub blocks_more : (q : Asked) (text body line rest : List ℕ) → AreBlocks q text body → IsBegunLine line → number_of line ≡ Some (length rest) → 1 ≤ length rest → length body + length rest ≤ q.bytes
+pub blocks_more : (q : Asked) (text body line rest : List ℕ) → AreBlocks q text body → IsBegunLine line → number_of line ≡ Some (length rest) → 1 ≤ length rest
+    → length body + length rest ≤ q.bytes
     → AreBlocks q (text ++ (line_text line ++ rest)) (body ++ rest)
 blocks_more q text body line rest b is_line n some fits =
     let block : Block = record { line = line; bytes = rest } in
@@ -58,7 +59,8 @@ blocks_more q text body line rest b is_line n some fits =
     }
 
 -- a first block
-pub blocks_first : (q : Asked) (first mask rest : List ℕ) → IsBegunLine first → IsBegunLine mask → number_of first ≡ Some (length rest) → 1 ≤ length rest → length rest ≤ q.bytes → IsMaskText q.channels mask q.mask
+pub blocks_first : (q : Asked) (first mask rest : List ℕ) → IsBegunLine first → IsBegunLine mask → number_of first ≡ Some (length rest) → 1 ≤ length rest
+    → length rest ≤ q.bytes → IsMaskText q.channels mask q.mask
     → AreBlocks q (line_text first ++ (line_text mask ++ rest)) rest
 blocks_first q first mask rest is_first is_mask_line n some fits is_mask = record {
   first = record { line = first; bytes = rest };
@@ -88,7 +90,8 @@ none_begun q text body (inr b) e = absurd (omega (arith, blocks_some q text body
 
 -- ---- a byte of a line
 
-pub length_byte : (q : Asked) (line body text : List ℕ) (b : ℕ) → InLength q line body text → b ≢ 10 → length line < 32 → InLength q (line ++ b ∷ []) body (text ++ b ∷ [])
+pub length_byte : (q : Asked) (line body text : List ℕ) (b : ℕ) → InLength q line body text → b ≢ 10 → length line < 32
+    → InLength q (line ++ b ∷ []) body (text ++ b ∷ [])
 length_byte q line body text b s other room = record {
   blocks = s.blocks;
   begins = s.begins;
@@ -97,7 +100,8 @@ length_byte q line body text b s other room = record {
   text_is = ap (λ xs. xs ++ b ∷ []) s.text_is ∙ append_assoc s.blocks line (b ∷ []);
 }
 
-pub mask_byte : (q : Asked) (n : ℕ) (line body text : List ℕ) (b : ℕ) → InMask q n line body text → b ≢ 10 → length line < 32 → InMask q n (line ++ b ∷ []) body (text ++ b ∷ [])
+pub mask_byte : (q : Asked) (n : ℕ) (line body text : List ℕ) (b : ℕ) → InMask q n line body text → b ≢ 10 → length line < 32
+    → InMask q n (line ++ b ∷ []) body (text ++ b ∷ [])
 mask_byte q n line body text b s other room = record {
   first = s.first;
   is_first = s.is_first;
@@ -132,7 +136,8 @@ ended blocks line text e = ap (λ xs. xs ++ 10 ∷ []) e ∙ append_assoc blocks
 number_at : (line rest : List ℕ) (n : ℕ) → number_of line ≡ Some n → length rest ≡ n → number_of line ≡ Some (length rest)
 number_at line rest n e f = e ∙ ap (λ (k : ℕ). Some k) (sym f)
 
-pub length_end : (q : Asked) (line body text : List ℕ) (p : Place) → InLength q line body text → AfterLength q body line p → StandsAt p q [] body (text ++ 10 ∷ [])
+pub length_end : (q : Asked) (line body text : List ℕ) (p : Place) → InLength q line body text → AfterLength q body line p
+    → StandsAt p q [] body (text ++ 10 ∷ [])
 length_end q line body text Length s a = absurd a
 length_end q line body text (Mask n) s a = record {
   first = line;
@@ -145,8 +150,10 @@ length_end q line body text (Data n) s a = record {
   some = a.1;
   within = a.2;
   whole = λ rest e.
-      subst (λ xs. AreBlocks q xs (body ++ rest)) (sym (ap (λ xs. xs ++ rest) (ended s.blocks line text s.text_is) ∙ append_assoc s.blocks (line_text line) rest))
-      (blocks_more q s.blocks body line rest (begun_blocks q s.blocks body s.begins a.3) s.begun (number_at line rest n a.0 e) (omega (arith, a.1, e)) (omega (arith, a.2, e)));
+      subst (λ xs. AreBlocks q xs (body ++ rest))
+      (sym (ap (λ xs. xs ++ rest) (ended s.blocks line text s.text_is) ∙ append_assoc s.blocks (line_text line) rest))
+      (blocks_more q s.blocks body line rest (begun_blocks q s.blocks body s.begins a.3) s.begun (number_at line rest n a.0 e) (omega (arith, a.1, e))
+      (omega (arith, a.2, e)));
 }
 length_end q line body text Done s a = record {
   blocks = s.blocks;
@@ -178,7 +185,8 @@ length_end q line body text Malformed s a = inl (record {
   text_is = ended s.blocks line text s.text_is;
 })
 
-pub mask_end : (q : Asked) (n : ℕ) (line body text : List ℕ) (p : Place) → InMask q n line body text → AfterMask q n line p → StandsAt p q [] body (text ++ 10 ∷ [])
+pub mask_end : (q : Asked) (n : ℕ) (line body text : List ℕ) (p : Place) → InMask q n line body text → AfterMask q n line p
+    → StandsAt p q [] body (text ++ 10 ∷ [])
 mask_end q n line body text Length s a = absurd a
 mask_end q n line body text (Mask k) s a = absurd a
 mask_end q n line body text (Data missing) s a = record {
@@ -190,7 +198,8 @@ mask_end q n line body text (Data missing) s a = record {
       ap (λ xs. xs ++ rest) (ended (line_text s.first) line text s.text_is) ∙ append_assoc (line_text s.first) (line_text line) rest in
       subst (λ xs. AreBlocks q ((text ++ 10 ∷ []) ++ rest) xs) (sym none)
       (subst (λ xs. AreBlocks q xs rest) (sym spelled)
-      (blocks_first q s.first line rest s.is_first.is_line s.begun (number_at s.first rest n s.is_first.counted (e ∙ a.0)) (omega (arith, s.is_first.some, a.0, e)) (omega (arith, s.is_first.within, a.0, e)) a.1));
+      (blocks_first q s.first line rest s.is_first.is_line s.begun (number_at s.first rest n s.is_first.counted (e ∙ a.0))
+      (omega (arith, s.is_first.some, a.0, e)) (omega (arith, s.is_first.within, a.0, e)) a.1));
 }
 mask_end q n line body text Done s a = absurd a
 mask_end q n line body text (Refused k) s a = absurd a
@@ -206,7 +215,8 @@ mask_end q n line body text Malformed s a = inr (inl (record {
 
 -- ---- bytes of a block
 
-pub data_more : (q : Asked) (missing left : ℕ) (body text part : List ℕ) → InData q missing body text → length part + left ≡ missing → 1 ≤ left → InData q left (body ++ part) (text ++ part)
+pub data_more : (q : Asked) (missing left : ℕ) (body text part : List ℕ) → InData q missing body text → length part + left ≡ missing → 1 ≤ left
+    → InData q left (body ++ part) (text ++ part)
 data_more q missing left body text part s e some = record {
   some = some;
   within = omega (arith, s.within, e, length-append body part);
@@ -216,7 +226,8 @@ data_more q missing left body text part s e some = record {
       (s.whole (part ++ rest) (omega (arith, e, f, length-append part rest))));
 }
 
-pub data_end : (q : Asked) (missing : ℕ) (body text part line : List ℕ) (p : Place) → InData q missing body text → length part ≡ missing → line ≡ [] → AfterBlock q (body ++ part) p
+pub data_end : (q : Asked) (missing : ℕ) (body text part line : List ℕ) (p : Place) → InData q missing body text → length part ≡ missing → line ≡ []
+    → AfterBlock q (body ++ part) p
     → StandsAt p q line (body ++ part) (text ++ part)
 data_end q missing body text part line Length s e none a =
     let b = s.whole part e in
@@ -245,7 +256,8 @@ data_end q missing body text part line Malformed s e none a =
 
 -- ---- what stands at a place that is no block
 
-pub line_end : (at : Place) (q : Asked) (line body text : List ℕ) (p : Place) → state_of at ≡ More → ((missing : ℕ) → at ≡ Data missing → ⊥) → StandsAt at q line body text → AfterLineAt at q line body p
+pub line_end : (at : Place) (q : Asked) (line body text : List ℕ) (p : Place) → state_of at ≡ More → ((missing : ℕ) → at ≡ Data missing → ⊥)
+    → StandsAt at q line body text → AfterLineAt at q line body p
     → StandsAt p q [] body (text ++ 10 ∷ [])
 line_end Length q line body text p m d s a = length_end q line body text p s a
 line_end (Mask n) q line body text p m d s a = mask_end q n line body text p s a
@@ -254,7 +266,8 @@ line_end Done q line body text p m d s a = absurd cc
 line_end (Refused n) q line body text p m d s a = absurd cc
 line_end Malformed q line body text p m d s a = absurd cc
 
-pub line_byte : (at : Place) (q : Asked) (line body text : List ℕ) (b : ℕ) → state_of at ≡ More → ((missing : ℕ) → at ≡ Data missing → ⊥) → StandsAt at q line body text → b ≢ 10 → length line < 32
+pub line_byte : (at : Place) (q : Asked) (line body text : List ℕ) (b : ℕ) → state_of at ≡ More → ((missing : ℕ) → at ≡ Data missing → ⊥)
+    → StandsAt at q line body text → b ≢ 10 → length line < 32
     → StandsAt at q (line ++ b ∷ []) body (text ++ b ∷ [])
 line_byte Length q line body text b m d s other room = length_byte q line body text b s other room
 line_byte (Mask n) q line body text b m d s other room = mask_byte q n line body text b s other room
@@ -263,7 +276,8 @@ line_byte Done q line body text b m d s other room = absurd cc
 line_byte (Refused n) q line body text b m d s other room = absurd cc
 line_byte Malformed q line body text b m d s other room = absurd cc
 
-pub line_long : (at : Place) (q : Asked) (line body text : List ℕ) (b : ℕ) → state_of at ≡ More → ((missing : ℕ) → at ≡ Data missing → ⊥) → StandsAt at q line body text → b ≢ 10 → length line ≡ 32
+pub line_long : (at : Place) (q : Asked) (line body text : List ℕ) (b : ℕ) → state_of at ≡ More → ((missing : ℕ) → at ≡ Data missing → ⊥)
+    → StandsAt at q line body text → b ≢ 10 → length line ≡ 32
     → IsMalformed q (text ++ b ∷ [])
 line_long Length q line body text b m d s other full = length_long q line body text b s other full
 line_long (Mask n) q line body text b m d s other full = mask_long q n line body text b s other full
@@ -272,7 +286,8 @@ line_long Done q line body text b m d s other full = absurd cc
 line_long (Refused n) q line body text b m d s other full = absurd cc
 line_long Malformed q line body text b m d s other full = absurd cc
 
-pub bytes_end : (at : Place) (q : Asked) (missing left : ℕ) (line body text part : List ℕ) (p : Place) → at ≡ Data missing → StandsAt at q line body text → length part + left ≡ missing → line ≡ [] → AfterBytes q left (body ++ part) p
+pub bytes_end : (at : Place) (q : Asked) (missing left : ℕ) (line body text part : List ℕ) (p : Place) → at ≡ Data missing → StandsAt at q line body text
+    → length part + left ≡ missing → line ≡ [] → AfterBytes q left (body ++ part) p
     → StandsAt p q line (body ++ part) (text ++ part)
 bytes_end at q missing left line body text part p e s f none a = by p a (subst (λ (x : Place). StandsAt x q line body text) e s)
   where
@@ -319,17 +334,20 @@ bytes_done q left body (Refused n) e a = absurd a
 bytes_done q left body Malformed e a = (e, a)
 
 -- a line in the place of the mask's
-pub is_mask_line : (at : Place) (q : Asked) (n : ℕ) (line said body : List ℕ) (p : Place) → at ≡ Mask n → said ≡ line → AfterMask q n said p → AfterLineAt at q line body p
+pub is_mask_line : (at : Place) (q : Asked) (n : ℕ) (line said body : List ℕ) (p : Place) → at ≡ Mask n → said ≡ line → AfterMask q n said p
+    → AfterLineAt at q line body p
 is_mask_line at q n line said body p e f a =
     subst (λ (x : Place). AfterLineAt x q line body p) (sym e) (subst (λ xs. AfterMask q n xs p) f a)
 
-pub sound_mask_line : (at : Place) (q : Asked) (n : ℕ) (line old body : List ℕ) (p : Place) → at ≡ Mask n → IsSoundPlace at q old body → AfterMask q n line p → IsSoundPlace p q [] body
+pub sound_mask_line : (at : Place) (q : Asked) (n : ℕ) (line old body : List ℕ) (p : Place) → at ≡ Mask n → IsSoundPlace at q old body → AfterMask q n line p
+    → IsSoundPlace p q [] body
 sound_mask_line at q n line old body p e s a =
     let k = subst (λ (x : Place). IsSoundPlace x q old body) e s in
     sound_mask q n line body p k.0 k.1 k.2 a
 
 -- a line in the place of a length line
-pub is_length_line : (at : Place) (q : Asked) (line said body heard : List ℕ) (p : Place) → state_of at ≡ More → ((missing : ℕ) → at ≡ Data missing → ⊥) → ((n : ℕ) → at ≡ Mask n → ⊥)
+pub is_length_line : (at : Place) (q : Asked) (line said body heard : List ℕ) (p : Place) → state_of at ≡ More → ((missing : ℕ) → at ≡ Data missing → ⊥)
+    → ((n : ℕ) → at ≡ Mask n → ⊥)
     → said ≡ line → heard ≡ body → AfterLength q heard said p → AfterLineAt at q line body p
 is_length_line Length q line said body heard p m d k e f a = subst (λ xs. AfterLength q xs line p) f (subst (λ xs. AfterLength q heard xs p) e a)
 is_length_line (Mask n) q line said body heard p m d k e f a = absurd (k n refl)

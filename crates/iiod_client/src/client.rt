@@ -182,7 +182,8 @@ fn read_batch<L: Link, K: Sink>(
     requires more { got < ask.now.scans }
     ensures some { IfOk result (λ n. (1 ≤ n) × (got + n ≤ ask.now.scans)) }
     ensures reads { Reads (wanted_by ask.now) got result
-        (point (L.left link.old) incoming.old (L.written link.old) (K.written output.old)) (point (L.left link.new) incoming.new (L.written link.new) (K.written output.new)) }
+        (point (L.left link.old) incoming.old (L.written link.old) (K.written output.old))
+        (point (L.left link.new) incoming.new (L.written link.new) (K.written output.new)) }
     ensures faults { FaultsOf result (L.faults link.old) (L.faults link.new) (K.faults output.old) (K.faults output.new) }
 {
     let size = size_of(ask);
@@ -226,7 +227,8 @@ fn open_and_read<L: Link, K: Sink>(
 ) -> Result<(), ClientEnd>
     requires { IsAsk (wanted_by ask.now) }
     ensures reads { ReadsAll (wanted_by ask.now) result
-        (point (L.left link.old) incoming.old (L.written link.old) (K.written output.old)) (point (L.left link.new) incoming.new (L.written link.new) (K.written output.new)) }
+        (point (L.left link.old) incoming.old (L.written link.old) (K.written output.old))
+        (point (L.left link.new) incoming.new (L.written link.new) (K.written output.new)) }
     ensures faults { FaultsOf result (L.faults link.old) (L.faults link.new) (K.faults output.old) (K.faults output.new) }
 {
     put_open(alloc, line, ask)?;
@@ -242,7 +244,8 @@ fn close_and_leave<L: Link>(
     line: &mut Vec<u8>,
 ) -> Result<(), ClientEnd>
     ensures leaves { (a : Point) (reads : List Read) (printed : Option (List ℕ)) → IsStage (wanted_by ask.now) (Closing reads) →
-        Goes a (heard_of reads) (sent_for (wanted_by ask.now) reads) (printed_for (wanted_by ask.now) reads) (point (L.left link.old) incoming.old (L.written link.old) printed) →
+        Goes a (heard_of reads) (sent_for (wanted_by ask.now) reads) (printed_for (wanted_by ask.now) reads)
+        (point (L.left link.old) incoming.old (L.written link.old) printed) →
         BreaksOf (wanted_by ask.now) result a (point (L.left link.new) incoming.new (L.written link.new) printed) }
     ensures faults { FaultsOf result (L.faults link.old) (L.faults link.new) 0 0 }
 {
@@ -263,7 +266,8 @@ fn talk<L: Link, K: Sink>(
 ) -> Result<(), ClientEnd>
     requires { IsAsk (wanted_by ask.now) }
     ensures talks { BreaksOf (wanted_by ask.now) result
-        (point (L.left link.old) incoming.old (L.written link.old) (K.written output.old)) (point (L.left link.new) incoming.new (L.written link.new) (K.written output.new)) }
+        (point (L.left link.old) incoming.old (L.written link.old) (K.written output.old))
+        (point (L.left link.new) incoming.new (L.written link.new) (K.written output.new)) }
     ensures faults { FaultsOf result (L.faults link.old) (L.faults link.new) (K.faults output.old) (K.faults output.new) }
 {
     open_and_read(alloc, link, incoming, ask, output, line)?;
@@ -288,9 +292,11 @@ fn print_refused<K: Sink>(output: &mut K, line: &mut Vec<u8>, number: u32) -> Cl
 
 // Ends a talk that broke off: a refusal is printed.
 fn end_with<K: Sink>(output: &mut K, line: &mut Vec<u8>, end: ClientEnd) -> ClientEnd
-    ensures ends { (w : Wanted) (a : Point) (left : Option (List ℕ)) (pending : List ℕ) (sent : Option (List ℕ)) → Breaks w end a (point left pending sent (K.written output.old)) →
+    ensures ends { (w : Wanted) (a : Point) (left : Option (List ℕ)) (pending : List ℕ) (sent : Option (List ℕ))
+        → Breaks w end a (point left pending sent (K.written output.old)) →
         Ends w result a (point left pending sent (K.written output.new)) }
-    ensures faults { (link : ℕ) (link' : ℕ) (before : ℕ) → Faults end link link' before (K.faults output.old) → Faults result link link' before (K.faults output.new) }
+    ensures faults { (link : ℕ) (link' : ℕ) (before : ℕ) → Faults end link link' before (K.faults output.old)
+        → Faults result link link' before (K.faults output.new) }
 {
     if let ClientEnd::Refused(number) = end {
         return print_refused(output, line, number);

@@ -52,7 +52,8 @@ pub(crate) fn hear_answer<L: Link>(
 ) -> Result<(), ClientEnd>
     requires new { answer.old ≡ new_answer answer.old.asked }
     requires some { 1 ≤ answer.old.asked.bytes }
-    ensures hears { Hears (Scans answer.old.asked) answer.new.body result (point (L.left link.old) incoming.old None None) (point (L.left link.new) incoming.new None None) }
+    ensures hears { Hears (Scans answer.old.asked) answer.new.body result (point (L.left link.old) incoming.old None None)
+        (point (L.left link.new) incoming.new None None) }
     ensures written { L.written link.new ≡ L.written link.old }
     ensures faults { FaultsOf result (L.faults link.old) (L.faults link.new) 0 0 }
 {

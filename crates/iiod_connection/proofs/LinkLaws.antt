@@ -22,14 +22,21 @@ took : (more piece : List ℕ) (n : ℕ) (mid new : Option (List ℕ)) → mid �
 took more piece n mid new e t = subst (λ (o : Option (List ℕ)). IfSome o (λ xs. Takes xs piece n new)) e t
 
 -- a recv more
-cut_more_of : (left mid right : Option (List ℕ)) (heard piece : List ℕ) (n : ℕ) → IsCut left heard mid → IfSome mid (λ xs. Takes xs piece n right) → IsCut left (heard ++ take n piece) right
+cut_more_of : (left mid right : Option (List ℕ)) (heard piece : List ℕ) (n : ℕ) → IsCut left heard mid → IfSome mid (λ xs. Takes xs piece n right)
+    → IsCut left (heard ++ take n piece) right
 cut_more_of None mid right heard piece n c t = tt
 cut_more_of (Some xs) mid right heard piece n (more, whole, rest) t =
-    let k = took more piece n mid right rest t in
-    (drop n more, whole ∙ ap (λ (zs : List ℕ). heard ++ zs) (take_drop n more) ∙ sym (append_assoc heard (take n more) (drop n more)) ∙ ap (λ (zs : List ℕ). (heard ++ zs) ++ drop n more) (sym k.bytes), k.rest)
+    let k = took more piece n mid right rest t in (
+      drop n more,
+      whole ∙ ap (λ (zs : List ℕ). heard ++ zs) (take_drop n more) ∙ sym (append_assoc heard (take n more) (drop n more))
+          ∙ ap (λ (zs : List ℕ). (heard ++ zs) ++ drop n more) (sym k.bytes),
+      k.rest,
+    )
 
-pub so_more : (front front2 : Front) (a m b : Place) (left written mid mid2 right right2 new new2 : Option (List ℕ)) (piece : List ℕ) (n : ℕ) (once : ⊤) → front2 ≡ front
-    → SoFar front a left written m mid mid2 → IfSome mid (λ xs. Takes xs piece n right) → right2 ≡ mid2 → Turns front2 m (take n piece) right2 b new2 (Ok once) → new ≡ right
+pub so_more : (front front2 : Front) (a m b : Place) (left written mid mid2 right right2 new new2 : Option (List ℕ)) (piece : List ℕ) (n : ℕ) (once : ⊤)
+    → front2 ≡ front
+    → SoFar front a left written m mid mid2 → IfSome mid (λ xs. Takes xs piece n right) → right2 ≡ mid2 → Turns front2 m (take n piece) right2 b new2 (Ok once)
+    → new ≡ right
     → SoFar front a left written b new new2
 so_more front front2 a m b left written mid mid2 right right2 new new2 piece n once same s t e v f =
     let u = subst (λ (r : Front). SendsAll r m (take n piece) right2 b new2) same v.0 in
@@ -40,7 +47,8 @@ so_more front front2 a m b left written mid mid2 right right2 new new2 piece n o
       cut = subst (λ (o : Option (List ℕ)). IsCut left (s.heard ++ take n piece) o) (sym f) (cut_more_of left mid right s.heard piece n s.cut t);
     }
 
-hears_all : (left mid right : Option (List ℕ)) (heard piece : List ℕ) (n : ℕ) → n ≡ 0 → IsCut left heard mid → IfSome mid (λ xs. Takes xs piece n right) → IfSome mid (λ xs. xs ≡ []) → Hears Eof left heard right
+hears_all : (left mid right : Option (List ℕ)) (heard piece : List ℕ) (n : ℕ) → n ≡ 0 → IsCut left heard mid → IfSome mid (λ xs. Takes xs piece n right)
+    → IfSome mid (λ xs. xs ≡ []) → Hears Eof left heard right
 hears_all None mid right heard piece n none c t end = tt
 hears_all (Some xs) mid right heard piece n none (more, whole, rest) t end =
     let k = took more piece n mid right rest t in
@@ -49,7 +57,8 @@ hears_all (Some xs) mid right heard piece n none (more, whole, rest) t end =
 
 -- the end of what comes
 pub so_eof : (front : Front) (a b : Place) (left written mid mid2 right right2 : Option (List ℕ)) (piece : List ℕ) (n : ℕ) → n ≡ 0 → b.stream.items ≡ []
-    → SoFar front a left written b mid mid2 → IfSome mid (λ xs. Takes xs piece n right) → IfSome mid (λ xs. xs ≡ []) → right2 ≡ mid2 → Ends (Talks front a) Eof left written right right2 b
+    → SoFar front a left written b mid mid2 → IfSome mid (λ xs. Takes xs piece n right) → IfSome mid (λ xs. xs ≡ []) → right2 ≡ mid2
+    → Ends (Talks front a) Eof left written right right2 b
 so_eof front a b left written mid mid2 right right2 piece n none settled s t end e = record {
   heard = s.heard;
   said = s.sends.said;
@@ -60,7 +69,8 @@ so_eof front a b left written mid mid2 right right2 piece n none settled s t end
 }
 
 -- a front part of what came was heard
-hears_front : (left right : Option (List ℕ)) (bytes p q : List ℕ) → bytes ≡ p ++ q → IsCut left bytes right → IfSome left (λ xs. (more : List ℕ) × (xs ≡ p ++ more))
+hears_front : (left right : Option (List ℕ)) (bytes p q : List ℕ) → bytes ≡ p ++ q → IsCut left bytes right
+    → IfSome left (λ xs. (more : List ℕ) × (xs ≡ p ++ more))
 hears_front None right bytes p q f c = tt
 hears_front (Some xs) right bytes p q f (more, whole, rest) = (q ++ more, whole ∙ ap (λ (zs : List ℕ). zs ++ more) f ∙ append_assoc p q more)
 
@@ -81,7 +91,8 @@ so_fault front a b left written mid mid2 right right2 s e = record {
 }
 
 -- a turn that ended
-ends_so : (front : Front) (a b : Place) (bytes : List ℕ) (left written right new new2 : Option (List ℕ)) (end : SessionEnd) → IsCut left bytes right → Turns front a bytes written b new2 (Err end)
+ends_so : (front : Front) (a b : Place) (bytes : List ℕ) (left written right new new2 : Option (List ℕ)) (end : SessionEnd) → IsCut left bytes right
+    → Turns front a bytes written b new2 (Err end)
     → (c : Place) × Ends (Talks front a) end left written new new2 c × IsLast end c b
 ends_so front a b bytes left written right new new2 Eof cut u = absurd u
 ends_so front a b bytes left written right new new2 Ended cut (p, q, f, u, ended) =
@@ -91,7 +102,8 @@ ends_so front a b bytes left written right new new2 LinkFault cut (p, q, x, f, t
 ends_so front a b bytes left written right new new2 Memory cut (p, q, c, f, u) =
     (c, record { heard = p; said = u.said; says = u.talks; hears = hears_front left right bytes p q f cut; sends = u.wrote; leaves = tt }, tt)
 
-pub so_end : (front front2 : Front) (a m b : Place) (left written mid mid2 right right2 new new2 : Option (List ℕ)) (piece : List ℕ) (n : ℕ) (end : SessionEnd) → front2 ≡ front
+pub so_end : (front front2 : Front) (a m b : Place) (left written mid mid2 right right2 new new2 : Option (List ℕ)) (piece : List ℕ) (n : ℕ) (end : SessionEnd)
+    → front2 ≡ front
     → SoFar front a left written m mid mid2 → IfSome mid (λ xs. Takes xs piece n right) → right2 ≡ mid2 → Turns front2 m (take n piece) right2 b new2 (Err end)
     → (c : Place) × Ends (Talks front a) end left written new new2 c × IsLast end c b
 so_end front front2 a m b left written mid mid2 right right2 new new2 piece n end same s t e v =

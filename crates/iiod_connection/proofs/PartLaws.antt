@@ -18,7 +18,8 @@ part_by_line [] = (λ h. absurd (omega (arith, h)), λ h. refl)
 part_by_line (b ∷ bs) = by (b == 10) refl (part_by_line bs)
   where
     by : (c : Bool) → (b == 10) ≡ c
-        → (position_or_len is_line_end bs < length bs → part_length bs ≡ position_or_len is_line_end bs + 1) × (length bs ≤ position_or_len is_line_end bs → part_length bs ≡ length bs)
+        → (position_or_len is_line_end bs < length bs → part_length bs ≡ position_or_len is_line_end bs + 1)
+        × (length bs ≤ position_or_len is_line_end bs → part_length bs ≡ length bs)
         → (position_or_len is_line_end (b ∷ bs) < length (b ∷ bs) → part_length (b ∷ bs) ≡ position_or_len is_line_end (b ∷ bs) + 1)
         × (length (b ∷ bs) ≤ position_or_len is_line_end (b ∷ bs) → part_length (b ∷ bs) ≡ length (b ∷ bs))
     by true e h =
@@ -52,10 +53,12 @@ none_one : 0 ≤ 1
 none_one = omega arith
 
 payload_items : (pending : Pending) (count : ℕ) (begun : List ℕ) → items_in (payload_after pending count begun) ≤ 1
-payload_items pending count begun = chosen (length begun == count) items_in (one_item (with_payload pending begun)) (no_item (InPayload pending count begun)) 1 one_one none_one
+payload_items pending count begun =
+    chosen (length begun == count) items_in (one_item (with_payload pending begun)) (no_item (InPayload pending count begun)) 1 one_one none_one
 
 begun_items : (pending : Pending) (count : ℕ) → items_in (payload_begun pending count) ≤ 1
-begun_items pending count = chosen (nat_lt MAX_PAYLOAD count) items_in (ended_by (Some EFBIG)) (payload_after pending count []) 1 one_one (payload_items pending count [])
+begun_items pending count =
+    chosen (nat_lt MAX_PAYLOAD count) items_in (ended_by (Some EFBIG)) (payload_after pending count []) 1 one_one (payload_items pending count [])
 
 line_items : (said : Result Command Refused) → items_in (after_said said) ≤ 1
 line_items (Ok Exit) = one_one
@@ -66,7 +69,8 @@ line_items said = one_one
 -- the last byte of a part
 last : (s : Scanner) (b : ℕ) → items_in (after_byte s b) ≤ weight s
 last (InLine begun) b =
-    chosen (b == 10) items_in (after_line begun) (if nat_lt (length begun) MAX_LINE then no_item (InLine (begun ++ b ∷ [])) else ended_by (Some E2BIG)) 1 (line_items (command_of begun))
+    chosen (b == 10) items_in (after_line begun) (if nat_lt (length begun) MAX_LINE then no_item (InLine (begun ++ b ∷ [])) else ended_by (Some E2BIG)) 1
+    (line_items (command_of begun))
     (chosen (nat_lt (length begun) MAX_LINE) items_in (no_item (InLine (begun ++ b ∷ []))) (ended_by (Some E2BIG)) 1 none_one one_one)
 last (InPayload pending count begun) b = let p = payload_items pending count (begun ++ b ∷ []) in omega (arith, p)
 last AtEnd b = let p : 0 ≤ 0 = omega arith in p
@@ -87,7 +91,8 @@ fits : (s : Scanner) (bytes : List ℕ) → length (items_from s (take (part_len
 fits s [] = let p : 0 ≤ weight s = omega arith in p
 fits s (b ∷ bs) = by (b == 10) refl (fits (after_byte s b).next bs)
   where
-    by : (c : Bool) → (b == 10) ≡ c → length (items_from (after_byte s b).next (take (part_length bs) bs)) ≤ weight (after_byte s b).next → length (items_from s (take (if c then 1 else suc (part_length bs)) (b ∷ bs))) ≤ weight s
+    by : (c : Bool) → (b == 10) ≡ c → length (items_from (after_byte s b).next (take (part_length bs) bs)) ≤ weight (after_byte s b).next
+        → length (items_from s (take (if c then 1 else suc (part_length bs)) (b ∷ bs))) ≤ weight s
     by true e k = subst (λ (is : List Item). length is ≤ weight s) (sym (append_nil (after_byte s b).items)) (last s b)
     by false e k =
         let one = after_byte s b in

@@ -30,7 +30,8 @@ append_nil {A} (x ∷ xs) = ap (λ (ys : List A). x ∷ ys) (append_nil xs)
 pub talk_none : (front : Front) (a : Place) → Talks front a [] [] a
 talk_none front a = record { feeds = 0; talk = (refl, refl, refl) }
 
-pub talk_more : (front : Front) (a b : Place) (h x bytes text : List ℕ) (going : Going) (c : Place) → Talks front a h x b → FeedsOnce front b bytes text going c → Talks front a (h ++ bytes) (x ++ text) c
+pub talk_more : (front : Front) (a b : Place) (h x bytes text : List ℕ) (going : Going) (c : Place) → Talks front a h x b → FeedsOnce front b bytes text going c
+    → Talks front a (h ++ bytes) (x ++ text) c
 talk_more front a b h x bytes text going c t f = record { feeds = suc t.feeds; talk = (b, h, x, bytes, text, going, t.talk, refl, refl, f) }
 
 -- what was written, and then more
@@ -80,7 +81,8 @@ unfolding find_device
 read_within front dev (Said (Ok (ReadBuf device asked))) r = (position-Some _ front.devices dev (record { name = []; kind = Input; shape = no_shape }) r).0
 read_within front dev item r = absurd r
 
-pub stands_by : (front : Front) (a b : Place) (bytes text : List ℕ) (going : Going) → FeedsOnce front a bytes text going b → (going ≡ On → b.stream.items ≡ []) → StandsBy front going b
+pub stands_by : (front : Front) (a b : Place) (bytes text : List ℕ) (going : Going) → FeedsOnce front a bytes text going b → (going ≡ On → b.stream.items ≡ [])
+    → StandsBy front going b
 stands_by front a b bytes text On f all = all refl
 stands_by front a b bytes text (Waits dev) f all = let w = f.feeds.carried.stands in read_within front dev w.item w.read
 stands_by front a b bytes text going.Ended f all = f.feeds.carried.stands.1
@@ -117,10 +119,12 @@ talks_one front a b bytes text going f = talk_more front a a [] [] bytes text go
 pub sends_none : (front : Front) (a : Place) (old : Option (List ℕ)) → SendsAll front a [] old a old
 sends_none front a old = record { said = []; talks = talk_none front a; wrote = wrote_none old }
 
-pub sends_once : (front : Front) (a b : Place) (bytes : List ℕ) (old new : Option (List ℕ)) (g : Going) → SendsOnce front a bytes old b new (Ok g) → SendsAll front a bytes old b new
+pub sends_once : (front : Front) (a b : Place) (bytes : List ℕ) (old new : Option (List ℕ)) (g : Going) → SendsOnce front a bytes old b new (Ok g)
+    → SendsAll front a bytes old b new
 sends_once front a b bytes old new g s = record { said = s.0; talks = talks_one front a b bytes s.0 g s.1; wrote = s.2 }
 
-pub sends_on : (front : Front) (a m b : Place) (h part : List ℕ) (old mid new : Option (List ℕ)) → SendsAll front a h old m mid → SendsAll front m part mid b new → SendsAll front a (h ++ part) old b new
+pub sends_on : (front : Front) (a m b : Place) (h part : List ℕ) (old mid new : Option (List ℕ)) → SendsAll front a h old m mid
+    → SendsAll front m part mid b new → SendsAll front a (h ++ part) old b new
 sends_on front a m b h part old mid new s t = record {
   said = s.said ++ t.said;
   talks = talks_on front a m b h s.said part t.said s.talks t.talks;
@@ -130,7 +134,8 @@ sends_on front a m b h part old mid new s t = record {
 -- ---- how far bytes were fed
 
 -- one feed that failed
-pub once_err : (front : Front) (a b : Place) (bytes : List ℕ) (old new : Option (List ℕ)) (e : SessionEnd) → SendsOnce front a bytes old b new (Err e) → Turns front a bytes old b new (Err e)
+pub once_err : (front : Front) (a b : Place) (bytes : List ℕ) (old new : Option (List ℕ)) (e : SessionEnd) → SendsOnce front a bytes old b new (Err e)
+    → Turns front a bytes old b new (Err e)
 once_err front a b bytes old new LinkFault s = (bytes, [], s.0, sym (append_nil bytes), talks_one front a b bytes s.0 s.1 s.2, s.3)
 once_err front a b bytes old new Memory s =
     ([], bytes, a, refl, record { said = []; talks = talk_none front a; wrote = subst (λ (o : Option (List ℕ)). Wrote old [] o) (sym s) (wrote_none old) })
@@ -146,8 +151,15 @@ pub turns_cut : (front : Front) (a m b : Place) (bytes h part more : List ℕ) (
     → SendsAll front a h old m mid → Turns front m part mid b new (Err e) → Turns front a bytes old b new (Err e)
 turns_cut front a m b bytes h part more old mid new Ended e t (p, q, f, u, ended) =
     (h ++ p, q ++ more, cut_more bytes h part more p q e f, sends_on front a m b h p old mid new t u, ended)
-turns_cut front a m b bytes h part more old mid new LinkFault e t (p, q, x, f, talks, w) =
-    (h ++ p, q ++ more, t.said ++ x, cut_more bytes h part more p q e f, talks_on front a m b h t.said p x t.talks talks, wrote_part old mid new t.said x t.wrote w)
+turns_cut front a m b bytes h part more old mid new LinkFault e t (p, q, x, f, talks, w) = (
+  h ++ p,
+  q ++ more,
+  t.said
+      ++ x,
+  cut_more bytes h part more p q e f,
+  talks_on front a m b h t.said p x t.talks talks,
+  wrote_part old mid new t.said x t.wrote w,
+)
 turns_cut front a m b bytes h part more old mid new Memory e t (p, q, c, f, u) =
     (h ++ p, q ++ more, c, cut_more bytes h part more p q e f, sends_on front a m c h p old mid new t u)
 turns_cut front a m b bytes h part more old mid new Eof e t u = absurd u
@@ -167,21 +179,27 @@ up_to : (bytes : List ℕ) (done end : ℕ) → done ≤ end → take end bytes 
 up_to bytes done end few = ap (λ n. take n bytes) (omega arith) ∙ take-add done (end - done) bytes
 
 -- a part more
-pub part_more : (front front2 : Front) (a m b : Place) (bytes : List ℕ) (done until : ℕ) (old mid new : Option (List ℕ)) (once : ⊤) → front2 ≡ front → done ≤ until
-    → SendsAll front a (take done bytes) old m mid → Turns front2 m (take (until - done) (drop done bytes)) mid b new (Ok once) → SendsAll front a (take until bytes) old b new
+pub part_more : (front front2 : Front) (a m b : Place) (bytes : List ℕ) (done until : ℕ) (old mid new : Option (List ℕ)) (once : ⊤) → front2 ≡ front
+    → done ≤ until
+    → SendsAll front a (take done bytes) old m mid → Turns front2 m (take (until - done) (drop done bytes)) mid b new (Ok once)
+    → SendsAll front a (take until bytes) old b new
 part_more front front2 a m b bytes done until old mid new once same few t v =
     let part = take (until - done) (drop done bytes) in
     let u = subst (λ (f : Front). Turns f m part mid b new (Ok once)) same v in
     subst (λ (ys : List ℕ). SendsAll front a ys old b new) (sym (up_to bytes done until few)) (sends_on front a m b (take done bytes) part old mid new t u.0)
 
 -- a part that wasn't fed whole
-pub part_err : (front front2 : Front) (a m b : Place) (bytes : List ℕ) (done until : ℕ) (old mid new : Option (List ℕ)) (e : SessionEnd) → front2 ≡ front → done ≤ until
-    → SendsAll front a (take done bytes) old m mid → Turns front2 m (take (until - done) (drop done bytes)) mid b new (Err e) → Turns front a bytes old b new (Err e)
+pub part_err : (front front2 : Front) (a m b : Place) (bytes : List ℕ) (done until : ℕ) (old mid new : Option (List ℕ)) (e : SessionEnd) → front2 ≡ front
+    → done ≤ until
+    → SendsAll front a (take done bytes) old m mid → Turns front2 m (take (until - done) (drop done bytes)) mid b new (Err e)
+    → Turns front a bytes old b new (Err e)
 part_err front front2 a m b bytes done until old mid new e same few t v =
     let part = take (until - done) (drop done bytes) in
-    let whole : bytes ≡ (take done bytes ++ part) ++ drop until bytes = take_drop until bytes ∙ ap (λ (ys : List ℕ). ys ++ drop until bytes) (up_to bytes done until few) in
+    let whole : bytes ≡ (take done bytes ++ part) ++ drop until bytes =
+    take_drop until bytes ∙ ap (λ (ys : List ℕ). ys ++ drop until bytes) (up_to bytes done until few) in
     turns_cut front a m b bytes (take done bytes) part (drop until bytes) old mid new e whole t (subst (λ (f : Front). Turns f m part mid b new (Err e)) same v)
 
 -- all parts
-pub parts_done : (front : Front) (a b : Place) (bytes : List ℕ) (done : ℕ) (old new : Option (List ℕ)) → length bytes ≤ done → SendsAll front a (take done bytes) old b new → SendsAll front a bytes old b new
+pub parts_done : (front : Front) (a b : Place) (bytes : List ℕ) (done : ℕ) (old new : Option (List ℕ)) → length bytes ≤ done
+    → SendsAll front a (take done bytes) old b new → SendsAll front a bytes old b new
 parts_done front a b bytes done old new few t = subst (λ (ys : List ℕ). SendsAll front a ys old b new) (take_all done bytes few) t

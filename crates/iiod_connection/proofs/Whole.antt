@@ -37,9 +37,11 @@ stands_so front a b left (Waits dev) s = inr (record { dev = dev; item = s.item;
 stands_so front a b left going.Ended s = inl s.0
 
 -- the items of bytes and further ones
-scanned_items : ItemsCutAnywhere → (x : Scanned) (before after : List ℕ) → (scan_on x (before ++ after)).items ≡ (scan_on x before).items ++ items_from (scan_on x before).next after
+scanned_items : ItemsCutAnywhere → (x : Scanned) (before after : List ℕ)
+    → (scan_on x (before ++ after)).items ≡ (scan_on x before).items ++ items_from (scan_on x before).next after
 scanned_items cut x before after =
-    ap (λ (is : List Item). x.items ++ is) (cut x.next before after) ∙ sym (append_assoc x.items (items_from x.next before) (items_from (scanner_after x.next before) after))
+    ap (λ (is : List Item). x.items ++ is) (cut x.next before after)
+    ∙ sym (append_assoc x.items (items_from x.next before) (items_from (scanner_after x.next before) after))
 
 answered_none : (front : Front) (a : Place) → Answers front a [] [] a
 answered_none front a = record {
@@ -52,7 +54,8 @@ answered_none front a = record {
   text = refl;
 }
 
-answered_more : ItemsCutAnywhere → ScannerCutAnywhere → (front : Front) (a m b : Place) (h x bytes text : List ℕ) (g : Going) → Answers front a h x m → FeedsOnce front m bytes text g b → Answers front a (h ++ bytes) (x ++ text) b
+answered_more : ItemsCutAnywhere → ScannerCutAnywhere → (front : Front) (a m b : Place) (h x bytes text : List ℕ) (g : Going) → Answers front a h x m
+    → FeedsOnce front m bytes text g b → Answers front a (h ++ bytes) (x ++ text) b
 answered_more cut cut2 front a m b h x bytes text g s f =
     let fed = f.feeds.carried.fed in
     let more : List Item = items_from m.stream.next bytes in
@@ -60,7 +63,20 @@ answered_more cut cut2 front a m b h x bytes text g s f =
       runs = suc s.runs;
       items = s.items ++ fed.items;
       replies = s.replies ++ fed.replies;
-      run = (m.state, s.items, s.replies, f.feeds.carried.mid, fed.items, fed.replies, s.run, fed.run, stands_so front f.feeds.carried.mid b.state b.stream g f.feeds.carried.stands, refl, refl);
+      run = (
+        m.state,
+        s.items,
+        s.replies,
+        f.feeds.carried.mid,
+        fed.items,
+        fed.replies,
+        s.run,
+        fed.run,
+        stands_so front f.feeds.carried.mid b.state b.stream g
+            f.feeds.carried.stands,
+        refl,
+        refl,
+      );
       whole =
           scanned_items cut a.stream h bytes
           ∙ ap (λ (is : List Item). is ++ items_from (scan_on a.stream h).next bytes) s.whole
@@ -69,7 +85,9 @@ answered_more cut cut2 front a m b h x bytes text g s f =
           ∙ ap (λ (is : List Item). s.items ++ is) fed.heard
           ∙ sym (append_assoc s.items fed.items b.stream.items);
       next = fed.next ∙ ap (λ n. scanner_after n bytes) s.next ∙ sym (cut2 a.stream.next h bytes);
-      text = ap (λ (ys : List ℕ). ys ++ text) s.text ∙ ap (λ (ys : List ℕ). flat_map text_of s.replies ++ ys) fed.text ∙ sym (flat_map-append text_of s.replies fed.replies);
+      text =
+          ap (λ (ys : List ℕ). ys ++ text) s.text ∙ ap (λ (ys : List ℕ). flat_map text_of s.replies ++ ys) fed.text
+          ∙ sym (flat_map-append text_of s.replies fed.replies);
     }
 
 answered_by : ItemsCutAnywhere → ScannerCutAnywhere → (front : Front) (n : ℕ) (a b : Place) (h x : List ℕ) → Talk n front a h x b → Answers front a h x b
@@ -79,12 +97,14 @@ answered_by cut cut2 front zero a b h x t =
     (subst (λ (ys : List ℕ). Answers front a [] ys a) (sym t.1) (answered_none front a)))
 answered_by cut cut2 front (suc n) a b h x (mid, h2, x2, bytes, text, g, t, eh, ex, f) =
     subst (λ (ys : List ℕ). Answers front a ys x b) (sym eh)
-    (subst (λ (ys : List ℕ). Answers front a (h2 ++ bytes) ys b) (sym ex) (answered_more cut cut2 front a mid b h2 x2 bytes text g (answered_by cut cut2 front n a mid h2 x2 t) f))
+    (subst (λ (ys : List ℕ). Answers front a (h2 ++ bytes) ys b) (sym ex)
+    (answered_more cut cut2 front a mid b h2 x2 bytes text g (answered_by cut cut2 front n a mid h2 x2 t) f))
 
 pub answered : ItemsCutAnywhere → ScannerCutAnywhere → (front : Front) (a b : Place) (h x : List ℕ) → Talks front a h x b → Answers front a h x b
 answered cut cut2 front a b h x t = answered_by cut cut2 front t.feeds a b h x t.talk
 
-whole_ends : ItemsCutAnywhere → ScannerCutAnywhere → (front : Front) (a b : Place) (end : SessionEnd) (left written new new2 : Option (List ℕ)) → Ends (Talks front a) end left written new new2 b
+whole_ends : ItemsCutAnywhere → ScannerCutAnywhere → (front : Front) (a b : Place) (end : SessionEnd) (left written new new2 : Option (List ℕ))
+    → Ends (Talks front a) end left written new new2 b
     → Ends (Answers front a) end left written new new2 b
 whole_ends cut cut2 front a b end left written new new2 e = record {
   heard = e.heard;
@@ -114,14 +134,16 @@ nothing_heard front a left written = record {
   leaves = tt;
 }
 
-pub closed_by : (front : Front) (end : SessionEnd) (c b : Place) (told : Option Machine) → IsLast end c b → IfSome b.state.told (λ m. told ≡ Some (left_machine front m b.state.desk)) → IsClosed front end c told
+pub closed_by : (front : Front) (end : SessionEnd) (c b : Place) (told : Option Machine) → IsLast end c b
+    → IfSome b.state.told (λ m. told ≡ Some (left_machine front m b.state.desk)) → IsClosed front end c told
 closed_by front Eof c b told last s = subst (λ (p : Place). IsClosed front Eof p told) (sym last) s
 closed_by front Ended c b told last s = subst (λ (p : Place). IsClosed front Ended p told) (sym last) s
 closed_by front LinkFault c b told last s = subst (λ (p : Place). IsClosed front LinkFault p told) (sym last) s
 closed_by front Memory c b told last s = tt
 
 -- a new session stands where nothing was heard of it
-pub is_first_place : {S : Type 0} (seen : S → SeatRecord) (told : Option Machine) (who : ℕ) (s : SessionRecord S) → IsFresh who Server s → place_of seen told s ≡ first_place who told
+pub is_first_place : {S : Type 0} (seen : S → SeatRecord) (told : Option Machine) (who : ℕ) (s : SessionRecord S) → IsFresh who Server s
+    → place_of seen told s ≡ first_place who told
 is_first_place {S} seen told who s f =
     let mk : ℕ → List (Held S) → List BuffersCount → List ℕ → Scanned → Place = λ w held counts holdings stream. record {
       state = record { told = told; desk = record { who = w; seats = seats_of seen held; buffers = counts; holdings = holdings }; tales = tales_of seen held };
@@ -133,7 +155,8 @@ is_first_place {S} seen told who s f =
     ∙ ap (λ h. mk who [] [] h s.stream) f.holdings
     ∙ ap (λ h. mk who [] [] [] h) f.stream
 
-pub served_all : ItemsCutAnywhere → ScannerCutAnywhere → (front : Front) (a a2 b : Place) (end : SessionEnd) (left written new new2 : Option (List ℕ)) → a2 ≡ a → Ends (Talks front a2) end left written new new2 b
+pub served_all : ItemsCutAnywhere → ScannerCutAnywhere → (front : Front) (a a2 b : Place) (end : SessionEnd) (left written new new2 : Option (List ℕ)) → a2 ≡ a
+    → Ends (Talks front a2) end left written new new2 b
     → Ends (Answers front a) end left written new new2 b
 served_all cut cut2 front a a2 b end left written new new2 same s =
     whole_ends cut cut2 front a b end left written new new2 (subst (λ (p : Place). Ends (Talks front p) end left written new new2 b) same s)

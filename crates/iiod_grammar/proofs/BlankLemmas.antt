@@ -7,7 +7,8 @@ use lib.Lanes.{chunk}
 use Rattle.iio_text.proofs.RunLemmas.{place_skip, place_front}
 
 -- the bytes of a run of n lanes before the first that passes
-pub place_on : (q : ℕ → Bool) (d : List ℕ) (n i r : ℕ) → r ≡ position_or_len q (chunk i n d) → position_or_len q (drop i d) ≡ r + position_or_len q (drop (i + r) d)
+pub place_on : (q : ℕ → Bool) (d : List ℕ) (n i r : ℕ) → r ≡ position_or_len q (chunk i n d)
+    → position_or_len q (drop i d) ≡ r + position_or_len q (drop (i + r) d)
 place_on q d n i r is =
     let front : position_or_len q (chunk i n d) ≤ position_or_len q (drop i d) =
     subst (λ (t : List ℕ). position_or_len q (chunk i n d) ≤ position_or_len q t) (sym (chunk-drop i n d)) (place_front q (chunk i n d) (drop (i + n) d)) in

@@ -29,7 +29,8 @@ end_after begun bytes h =
     let none : (position_or_len is_lf begun == length begun) ≡ true = (and_parts _ _ h).0 in
     prefix_len-append (λ b. not (is_lf b)) begun bytes ∙ rw none refl
 
-pub line_overlong : (begun bytes : List ℕ) → is_begun None begun ≡ true → 1024 < length begun + position_or_len is_lf bytes → cut None (begun ++ bytes) ≡ Overlong
+pub line_overlong : (begun bytes : List ℕ) → is_begun None begun ≡ true → 1024 < length begun + position_or_len is_lf bytes
+    → cut None (begun ++ bytes) ≡ Overlong
 line_overlong begun bytes h over = rw (end_after begun bytes h, lt-ltb 1024 (length begun + position_or_len is_lf bytes) over) refl
 
 pub line_not_yet : (begun bytes : List ℕ) → is_begun None begun ≡ true → length begun + length bytes ≤ 1024 → position_or_len is_lf bytes ≡ length bytes
@@ -46,7 +47,13 @@ pub line_whole : (begun bytes : List ℕ) (e : ℕ) → is_begun None begun ≡ 
 line_whole begun bytes e h is within some =
     let end : position_or_len is_lf (begun ++ bytes) ≡ length begun + e = end_after begun bytes h ∙ ap (λ n. length begun + n) (sym is) in
     let size : length begun + e + 1 ≡ length begun + (e + 1) = omega arith in
-    rw (end, le-ltb 1024 (length begun + e) within, lt-ltb (length begun + e) (length (begun ++ bytes)) (omega (arith, length-append begun bytes)), take-append-add begun bytes e, size) refl
+    rw (
+      end,
+      le-ltb 1024 (length begun + e) within,
+      lt-ltb (length begun + e) (length (begun ++ bytes)) (omega (arith, length-append begun bytes)),
+      take-append-add begun bytes e,
+      size,
+    ) refl
 
 -- an LF at the begin of a line
 pub line_blank : (begun bytes : List ℕ) → begun ≡ [] → 0 < length bytes → get_or bytes 0 0 ≡ 10 → cut None (begun ++ bytes) ≡ WholeLine begun (length begun + 1)
@@ -80,4 +87,5 @@ front_place xs n end is more = elim (cases_lt end n) [
 
 -- it is never after the first one of all
 pub front_before : (xs : List ℕ) (n : ℕ) → position_or_len is_lf (take n xs) ≤ position_or_len is_lf xs
-front_before xs n = subst (λ (t : List ℕ). position_or_len is_lf (take n xs) ≤ position_or_len is_lf t) (take-append-drop n xs) (place_front is_lf (take n xs) (drop n xs))
+front_before xs n =
+    subst (λ (t : List ℕ). position_or_len is_lf (take n xs) ≤ position_or_len is_lf t) (take-append-drop n xs) (place_front is_lf (take n xs) (drop n xs))

@@ -53,7 +53,8 @@ marks_joined text n m a b enough few fits front back =
     let first : a ≡ mask_l (take n ms) = front ∙ ap mask_l (sym (take-map is_solid n text)) in
     let last : b ≡ mask_l (drop k ms) = back ∙ ap marks_of (take_all m (drop k text) (omega (arith, rest))) ∙ ap mask_l (sym (drop-map is_solid k text)) in
     let small : mask_l (drop k ms) < 2 ^ m = subst (λ j. mask_l (drop k ms) < 2 ^ j) (omega (arith, length-drop k ms, long, enough)) (mask_l-lt (drop k ms)) in
-    let shifted : mask_l (drop k ms) * 2 ^ k % 2 ^ 64 ≡ mask_l (drop k ms) * 2 ^ k = shl_whole (mask_l (drop k ms)) m k 64 small (omega (arith, enough, fits)) in
+    let shifted : mask_l (drop k ms) * 2 ^ k % 2 ^ 64 ≡ mask_l (drop k ms) * 2 ^ k =
+    shl_whole (mask_l (drop k ms)) m k 64 small (omega (arith, enough, fits)) in
     ap₂ (λ x y. bit_or x (y * 2 ^ k % 2 ^ 64)) first last ∙ ap (λ y. bit_or (mask_l (take n ms)) y) shifted
     ∙ subst (λ j. bit_or (mask_l (take n ms)) (mask_l (drop (j - m) ms) * 2 ^ (j - m)) ≡ mask_l ms) long
     (same_from_bits _ _ (λ i. bits_joined ms n m i (omega (arith, long, enough)) (omega (arith, long, few))))
@@ -116,7 +117,8 @@ pub some_left : (text : List ℕ) → 0 < marks_of text → 0 < length (drop (pr
 some_left [] h = absurd (omega arith)
 some_left (b ∷ bs) h = left_byte b bs (is_blank b) refl (some_left bs) h
 
-none_byte : (b : ℕ) (bs : List ℕ) (v : Bool) → is_blank b ≡ v → (marks_of bs ≡ 0 → words_of is_blank bs ≡ []) → marks_of (b ∷ bs) ≡ 0 → words_of is_blank (b ∷ bs) ≡ []
+none_byte : (b : ℕ) (bs : List ℕ) (v : Bool) → is_blank b ≡ v → (marks_of bs ≡ 0 → words_of is_blank bs ≡ []) → marks_of (b ∷ bs) ≡ 0
+    → words_of is_blank (b ∷ bs) ≡ []
 none_byte b bs true e ih h = rw e (ih (omega (arith, rw e at h)))
 none_byte b bs false e ih h = absurd (omega (arith, rw e at h))
 

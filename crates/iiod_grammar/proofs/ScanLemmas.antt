@@ -121,7 +121,8 @@ fed_line pending begun piece bytes h =
         | inl some ↦
             let taken : length begun + (n + 1) - length begun ≡ suc n = omega arith in
             subst P (sym (line_whole begun bytes n h refl few some))
-            (ap (λ k. scan (InLine begun) (take k bytes)) taken ∙ scan_whole bytes begun n refl some few ∙ sym (without_returns-after_line (begun ++ take n bytes)))
+            (ap (λ k. scan (InLine begun) (take k bytes)) taken ∙ scan_whole bytes begun n refl some few
+            ∙ sym (without_returns-after_line (begun ++ take n bytes)))
         | inr none ↦
             let all : length bytes ≡ n = omega (arith, none, prefix_len-le-length (λ b. not (is_lf b)) bytes) in
             let within : length begun + length bytes ≤ 1024 = omega (arith, all, few) in
@@ -169,9 +170,11 @@ ends_piece x bytes (WholeLine line size) = refl
 ends_piece x bytes (WholePayload payload) = refl
 ends_piece x bytes Overlong = tt
 
-fed_ends : (x : LinesRecord) (bytes : List ℕ) (over : Bool) → let f : Fed = if over then record { taken = 0; ready = TooLong; lines = x } else feed_of_cut x bytes (cut x.wanted (x.begun ++ bytes)) in EndsPiece f.ready f.lines
+fed_ends : (x : LinesRecord) (bytes : List ℕ) (over : Bool) → let f : Fed =
+    if over then record { taken = 0; ready = TooLong; lines = x } else feed_of_cut x bytes (cut x.wanted (x.begun ++ bytes)) in EndsPiece f.ready f.lines
 fed_ends x bytes true = tt
 fed_ends x bytes false = ends_piece x bytes (cut x.wanted (x.begun ++ bytes))
 
-pub feed_ends : (x : LinesRecord) (bytes : List ℕ) (ready : Ready) (new : LinesRecord) → ready ≡ (feed_of x bytes).ready → new ≡ (feed_of x bytes).lines → EndsPiece ready new
+pub feed_ends : (x : LinesRecord) (bytes : List ℕ) (ready : Ready) (new : LinesRecord) → ready ≡ (feed_of x bytes).ready → new ≡ (feed_of x bytes).lines
+    → EndsPiece ready new
 feed_ends x bytes ready new r n = rw (r, n) (fed_ends x bytes x.overlong)

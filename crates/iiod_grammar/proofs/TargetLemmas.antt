@@ -6,11 +6,14 @@ use Rattle.iiod_grammar.specs.Command.{Target, AtBuffer, AtDebug, AtInput, AtOut
 use Rattle.iiod_grammar.specs.Parts.{place_form}
 
 -- a word that is no place's is an attribute's name
-pub target_of-name : (a : List ℕ) (words : List (List ℕ)) (w : Option PlaceWord) → option_map place_form w ≡ entry_of places a → w ≡ None → at_device a words ≡ target_of (a ∷ words)
+pub target_of-name : (a : List ℕ) (words : List (List ℕ)) (w : Option PlaceWord) → option_map place_form w ≡ entry_of places a → w ≡ None
+    → at_device a words ≡ target_of (a ∷ words)
 target_of-name a words w is none = ap (λ o. unwrap_or o (at_device a) words) (sym (ap (option_map place_form) none) ∙ is)
 
 by_tests : (a b c d : List ℕ) (more : List (List ℕ)) (p q r s : Bool) →
-    unwrap_or (if p then Some (at_place AtBuffer) else (if q then Some (at_place AtDebug) else (if r then Some (at_channel AtInput) else (if s then Some (at_channel AtOutput) else None)))) (at_device a) (b ∷ c ∷ d ∷ more) ≡ None
+    unwrap_or (if p then Some (at_place AtBuffer)
+    else (if q then Some (at_place AtDebug) else (if r then Some (at_channel AtInput) else (if s then Some (at_channel AtOutput) else None)))) (at_device a)
+    (b ∷ c ∷ d ∷ more) ≡ None
 by_tests a b c d more true q r s = refl
 by_tests a b c d more false true r s = refl
 by_tests a b c d more false false true s = refl

@@ -11,7 +11,8 @@ use Rattle.iiod_bank.specs.Jobs.{OpenMakes}
 use Rattle.iiod_hub.specs.Link.{BankOpens, SeatOf}
 
 module _ (taken lost size capacity : WriterEnd → ℕ) where
-  pub opens : (t0 t1 : Option Told) (front : Front) (dev : ℕ) (mask m : Mask) (scans n bytes : ℕ) (answer : Result Opened No) (result : Result HubSeat No) → m ≡ mask → n ≡ scans → bytes ≡ size_at front dev mask.bits → SeatOf dev mask scans answer result
+  pub opens : (t0 t1 : Option Told) (front : Front) (dev : ℕ) (mask m : Mask) (scans n bytes : ℕ) (answer : Result Opened No) (result : Result HubSeat No)
+      → m ≡ mask → n ≡ scans → bytes ≡ size_at front dev mask.bits → SeatOf dev mask scans answer result
       → Moves t0 t1 (λ b c. Ran (OpenMakes taken lost size capacity m n bytes) dev b answer c)
       → Moves t0 t1 (λ b c. BankOpens taken lost size capacity front dev mask scans b result c)
   opens None t1 front dev mask m scans n bytes answer result e d f seat p = tt

@@ -11,7 +11,8 @@ use Rattle.iiod_hub.specs.Remasking.{BankRemasks, SeatAfter}
 use Rattle.iiod_hub.specs.declared.seat.HubSeat.{HubSeat}
 
 module _ (taken lost size capacity : WriterEnd → ℕ) where
-  pub remasks : (t0 t1 : Option Told) (front : Front) (dev number : ℕ) (mask m : Mask) (n bytes : ℕ) (old new : HubSeat) (answer : Result Remasked No) (result : Result ℕ No)
+  pub remasks : (t0 t1 : Option Told) (front : Front) (dev number : ℕ) (mask m : Mask) (n bytes : ℕ) (old new : HubSeat) (answer : Result Remasked No)
+      (result : Result ℕ No)
       → number ≡ old.member.number → m ≡ mask → n ≡ old.capacity → bytes ≡ size_at front dev mask.bits → SeatAfter mask answer old result new
       → Moves t0 t1 (λ b c. Ran (Only (RemaskMakes taken lost size capacity number m n bytes)) dev b answer c)
       → Moves t0 t1 (λ b c. BankRemasks taken lost size capacity front dev mask b old result new c)

@@ -34,7 +34,8 @@ pub asked : (b : Bool) (r q : Reading) → MatchBool b (AsksClosed r q) (AsksOpe
 asked true r q a = record { received = ap (λ (x : Reading). x.received) a.knows; looks = ap (λ (x : Reading). x.looks) a.knows }
 asked false r q a = record { received = ap (λ (x : Reading). x.received) a.knows; looks = ap (λ (x : Reading). x.looks) a.knows }
 
-pub some_read : (b : Bool) (want count : ℕ) (r q r' : Reading) (before after : List ℕ) → MatchBool b (AsksClosed r q) (AsksOpen r q) → TakesScans q want count before after r' → count ≢ 0 → ReadsSome want count r r' before after
+pub some_read : (b : Bool) (want count : ℕ) (r q r' : Reading) (before after : List ℕ) → MatchBool b (AsksClosed r q) (AsksOpen r q)
+    → TakesScans q want count before after r' → count ≢ 0 → ReadsSome want count r r' before after
 some_read b want count r q r' before after a t more =
     let k = asked b r q a in
     record {
@@ -43,7 +44,9 @@ some_read b want count r q r' before after a t more =
       some = omega (arith, more);
       most = t.within;
       bytes = t.takes.bytes ∙ ap (λ (bs : List ℕ). before ++ bs) (joined t.takes.more);
-      received = ap (λ (x : Reading). scans_of x.received) t.takes.knows ∙ scans_append q.received t.takes.more ∙ ap (λ (xs : List Sent). scans_of xs ++ scans_of t.takes.more) k.received;
+      received =
+          ap (λ (x : Reading). scans_of x.received) t.takes.knows ∙ scans_append q.received t.takes.more
+          ∙ ap (λ (xs : List Sent). scans_of xs ++ scans_of t.takes.more) k.received;
       short = λ h. let s = t.short h in (omega (arith, s.0, k.looks), s.1);
     }
 
@@ -53,14 +56,24 @@ abbrev tale_of : HubSeat → Tale
 tale_of s = record { given = received_of s.reader; empties = s.empties; gone = s.gone }
 
 pub mid_is : (s : HubSeat) (r : ReaderEnd) (scans : List (List ℕ)) → size_of r ≡ size_of s.reader → received_of r ≡ received_of s.reader ++ scans
-    → seen_of (record s { reader = r }) ≡ record (seen_of s) { tale = Some (after_scans scans (record { given = received_of s.reader; empties = s.empties; gone = s.gone })) }
+    → seen_of (record s { reader = r })
+    ≡ record (seen_of s) { tale = Some (after_scans scans (record { given = received_of s.reader; empties = s.empties; gone = s.gone })) }
 mid_is s r scans e d =
     ap (λ (n : ℕ). at n (received_of r)) e ∙ ap (λ (xs : List (List ℕ)). at (size_of s.reader) xs) d
   where
     at : ℕ → List (List ℕ) → SeatRecord
-    at n xs = record { number = s.member.number; mask = s.mask.bits; size = n; capacity = s.capacity; tale = Some (record { given = xs; empties = s.empties; gone = s.gone }) }
+    at n xs =
+        record {
+          number = s.member.number;
+          mask = s.mask.bits;
+          size = n;
+          capacity = s.capacity;
+          tale =
+              Some (record { given = xs; empties = s.empties; gone = s.gone });
+        }
 
-pub full : (dev most : ℕ) (s s' : SeatRecord) (t : Tale) (scans : List (List ℕ)) → s.tale ≡ Some t → s' ≡ record s { tale = Some (after_scans scans t) } → length scans ≡ most → 1 ≤ most → ReadSome dev most None None s s' scans
+pub full : (dev most : ℕ) (s s' : SeatRecord) (t : Tale) (scans : List (List ℕ)) → s.tale ≡ Some t → s' ≡ record s { tale = Some (after_scans scans t) }
+    → length scans ≡ most → 1 ≤ most → ReadSome dev most None None s s' scans
 full dev most s s' t scans own is many some =
     let after : s'.tale ≡ Some (after_scans scans t) = ap (λ (x : SeatRecord). x.tale) is in
     record {
@@ -73,11 +86,14 @@ full dev most s s' t scans own is many some =
       from = tt;
     }
 
-pub short : (dev most : ℕ) (gone : Bool) (s m s' : SeatRecord) (t : Tale) (scans : List (List ℕ)) → s.tale ≡ Some t → m ≡ record s { tale = Some (after_scans scans t) } → s' ≡ record m { tale = option_map (after_nothing gone) m.tale }
+pub short : (dev most : ℕ) (gone : Bool) (s m s' : SeatRecord) (t : Tale) (scans : List (List ℕ)) → s.tale ≡ Some t
+    → m ≡ record s { tale = Some (after_scans scans t) } → s' ≡ record m { tale = option_map (after_nothing gone) m.tale }
     → 0 < length scans → length scans ≤ most → ReadSome dev most None None s s' scans
 short dev most gone s m s' t scans own is nothing some few =
-    let mid : m.tale ≡ option_map (after_scans scans) s.tale = ap (λ (x : SeatRecord). x.tale) is ∙ ap (λ (o : Option Tale). option_map (after_scans scans) o) (sym own) in
-    let after : s'.tale ≡ option_map (after_nothing gone) (option_map (after_scans scans) s.tale) = ap (λ (x : SeatRecord). x.tale) nothing ∙ ap (λ (o : Option Tale). option_map (after_nothing gone) o) mid in
+    let mid : m.tale ≡ option_map (after_scans scans) s.tale =
+    ap (λ (x : SeatRecord). x.tale) is ∙ ap (λ (o : Option Tale). option_map (after_scans scans) o) (sym own) in
+    let after : s'.tale ≡ option_map (after_nothing gone) (option_map (after_scans scans) s.tale) =
+    ap (λ (x : SeatRecord). x.tale) nothing ∙ ap (λ (o : Option Tale). option_map (after_nothing gone) o) mid in
     record {
       reads = record { some = some; most = few; grown = inr (gone, after) };
       same = nothing ∙ ap (λ (x : SeatRecord). (let y : SeatRecord = record x { tale = option_map (after_nothing gone) m.tale } in y)) is

@@ -9,7 +9,8 @@ moment_left None t after takes = tt
 moment_left (Some []) t after takes = let given = takes.given in absurd (cc)
 moment_left (Some (x ∷ xs)) t after takes = refl
 
-pub moment_taken : (moments : Option (List ℤ)) (t : ℤ) (after : Option (List ℤ)) → IfSome moments (λ ts. TakesFirst ts t after) → IfSome moments (λ ts. after ≡ Some (drop 1 ts))
+pub moment_taken : (moments : Option (List ℤ)) (t : ℤ) (after : Option (List ℤ)) → IfSome moments (λ ts. TakesFirst ts t after)
+    → IfSome moments (λ ts. after ≡ Some (drop 1 ts))
 moment_taken None t after takes = tt
 moment_taken (Some ts) t after takes = takes.rest
 

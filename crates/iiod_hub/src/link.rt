@@ -106,7 +106,8 @@ impl<B: Bank> Iio for HubLink<B> {
         ensures dev { IfOk result (λ s. s.dev ≡ dev) }
         ensures refused { RefusedBySome dev mask result }
         ensures bank { Moves (B.told self.old.bank) (B.told self.new.bank) (λ b c.
-            BankOpens ⟦<Writer as Tail>⟧.taken ⟦<Writer as Tail>⟧.lost ⟦<Writer as Tail>⟧.size ⟦<Writer as Tail>⟧.capacity (B.front self.old.bank) dev mask capacity b result c) }
+            BankOpens ⟦<Writer as Tail>⟧.taken ⟦<Writer as Tail>⟧.lost ⟦<Writer as Tail>⟧.size ⟦<Writer as Tail>⟧.capacity (B.front self.old.bank) dev mask
+            capacity b result c) }
     {
         let size = scan_size(self.bank.front().shape(dev), mask);
         let job = OpenJob::new(self.alloc, mask, capacity, size);
@@ -147,7 +148,8 @@ impl<B: Bank> Iio for HubLink<B> {
         ensures dev { seat.new.dev ≡ seat.old.dev }
         ensures refused { RemaskRefusedBySome dev seat.old.member.number mask result }
         ensures bank { Moves (B.told self.old.bank) (B.told self.new.bank) (λ b c.
-            BankRemasks ⟦<Writer as Tail>⟧.taken ⟦<Writer as Tail>⟧.lost ⟦<Writer as Tail>⟧.size ⟦<Writer as Tail>⟧.capacity (B.front self.old.bank) dev mask b seat.old result seat.new c) }
+            BankRemasks ⟦<Writer as Tail>⟧.taken ⟦<Writer as Tail>⟧.lost ⟦<Writer as Tail>⟧.size ⟦<Writer as Tail>⟧.capacity (B.front self.old.bank) dev mask b
+            seat.old result seat.new c) }
     {
         let size = scan_size(self.shape(dev), mask);
         let work = RemaskWork::new(self.alloc, seat.member, mask, seat.capacity, size);
@@ -164,7 +166,8 @@ impl<B: Bank> Iio for HubLink<B> {
         requires dev { dev < length (B.front self.old.bank).devices }
         requires owned { IsOfDevice (B.front self.old.bank) dev (seen_of seat) }
         ensures kept { B.front self.new.bank ≡ B.front self.old.bank }
-        ensures bank { Moves (B.told self.old.bank) (B.told self.new.bank) (λ b c. (o : Option WriterEnd) × Ran (LeaveMakes ⟦<Writer as Tail>⟧.lost seat.member.number) dev b o c) }
+        ensures bank { Moves (B.told self.old.bank) (B.told self.new.bank)
+            (λ b c. (o : Option WriterEnd) × Ran (LeaveMakes ⟦<Writer as Tail>⟧.lost seat.member.number) dev b o c) }
     {
         self.end_seat(dev, seat);
     }
@@ -203,7 +206,8 @@ impl<B: Bank> Iio for HubLink<B> {
         requires owned { IsOfDevice (B.front self.old.bank) dev (seen_of seat.old) }
         ensures kept { B.front self.new.bank ≡ B.front self.old.bank }
         ensures seat { seen_of seat.new ≡ seen_of seat.old }
-        ensures bank { Moves (B.told self.old.bank) (B.told self.new.bank) (λ b c. (o : Option ℕ) × Ran (Only (LostMakes ⟦<Writer as Tail>⟧.lost seat.old.member.number)) dev b o c × IfSome o (λ n. result.lost ≡ n)) }
+        ensures bank { Moves (B.told self.old.bank) (B.told self.new.bank)
+            (λ b c. (o : Option ℕ) × Ran (Only (LostMakes ⟦<Writer as Tail>⟧.lost seat.old.member.number)) dev b o c × IfSome o (λ n. result.lost ≡ n)) }
     {
         let member = seat.member;
         let told = self.bank.device(
@@ -331,7 +335,8 @@ impl<B: Bank> HubLink<B> {
     pub fn end_seat(&mut self, dev: u32, seat: HubSeat) -> Ended
         requires { dev < length (B.front self.old.bank).devices }
         ensures front { B.front self.new.bank ≡ B.front self.old.bank }
-        ensures bank { Moves (B.told self.old.bank) (B.told self.new.bank) (λ b c. (o : Option WriterEnd) × Ran (LeaveMakes ⟦<Writer as Tail>⟧.lost seat.member.number) dev b o c) }
+        ensures bank { Moves (B.told self.old.bank) (B.told self.new.bank)
+            (λ b c. (o : Option WriterEnd) × Ran (LeaveMakes ⟦<Writer as Tail>⟧.lost seat.member.number) dev b o c) }
         ensures ended { (rest : _) × Ends seat.reader.knows result rest }
     {
         let HubSeat {
@@ -364,7 +369,8 @@ impl<B: Bank> HubLink<B> {
         requires dev { dev < length (B.front self.old.bank).devices }
         ensures front { B.front self.new.bank ≡ B.front self.old.bank }
         ensures bank { Moves (B.told self.old.bank) (B.told self.new.bank) (λ b c.
-            BankHandles ⟦<Writer as Tail>⟧.taken ⟦<Writer as Tail>⟧.lost ⟦<Writer as Tail>⟧.size ⟦<Writer as Tail>⟧.capacity ⟦<Writer as Tail>⟧.offer_gives trigger dev b result c) }
+            BankHandles ⟦<Writer as Tail>⟧.taken ⟦<Writer as Tail>⟧.lost ⟦<Writer as Tail>⟧.size ⟦<Writer as Tail>⟧.capacity ⟦<Writer as Tail>⟧.offer_gives
+            trigger dev b result c) }
     {
         let due = self.bank.trigger(trigger, DueJob { dev })?;
         let handled = self.bank.device(
@@ -385,7 +391,8 @@ impl<B: Bank> HubLink<B> {
         requires { trigger < MAX_TRIGGERS }
         ensures front { B.front self.new.bank ≡ B.front self.old.bank }
         ensures bank { Moves (B.told self.old.bank) (B.told self.new.bank) (λ b c.
-            Swept ⟦<Writer as Tail>⟧.taken ⟦<Writer as Tail>⟧.lost ⟦<Writer as Tail>⟧.size ⟦<Writer as Tail>⟧.capacity ⟦<Writer as Tail>⟧.offer_gives trigger (length (B.front self.old.bank).devices) b c) }
+            Swept ⟦<Writer as Tail>⟧.taken ⟦<Writer as Tail>⟧.lost ⟦<Writer as Tail>⟧.size ⟦<Writer as Tail>⟧.capacity ⟦<Writer as Tail>⟧.offer_gives trigger
+            (length (B.front self.old.bank).devices) b c) }
     {
         for dev in 0..self.bank.front().count() {
             self.handle(trigger, dev);

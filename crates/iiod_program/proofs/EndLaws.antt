@@ -17,7 +17,8 @@ use Rattle.iiod_program.specs.Request.{Request, Play, Solo, Layout, Gen, Other, 
 use Rattle.iiod_program.specs.Words.{IsPlay}
 
 completes : (outcome : Outcome) (before : List ℕ) (status : Status) (after : Option (List ℕ)) (reads reads' writes writes' : ℕ)
-    → Writes outcome before status after → (status ≡ ReadFault → Rose reads reads') → (status ≡ WriteFault → Rose writes writes') → reads ≡ reads' → writes ≡ writes'
+    → Writes outcome before status after → (status ≡ ReadFault → Rose reads reads') → (status ≡ WriteFault → Rose writes writes') → reads ≡ reads'
+    → writes ≡ writes'
     → Completes outcome before status after
 completes outcome before Done after reads reads' writes writes' wrote read write r w = wrote
 completes outcome before (Refused line why) after reads reads' writes writes' wrote read write r w = wrote
@@ -29,7 +30,8 @@ completes outcome before TooLong after reads reads' writes writes' wrote read wr
 
 -- where both ends tell
 pub completes_told : (outcome : List ℕ → Outcome) (left written : Option (List ℕ)) (status : Status) (after : Option (List ℕ)) (reads reads' writes writes' : ℕ)
-    → IfSome left (λ xs. IfSome written (λ before. Writes (outcome xs) before status after)) → (status ≡ ReadFault → Rose reads reads') → (status ≡ WriteFault → Rose writes writes')
+    → IfSome left (λ xs. IfSome written (λ before. Writes (outcome xs) before status after)) → (status ≡ ReadFault → Rose reads reads')
+    → (status ≡ WriteFault → Rose writes writes')
     → reads ≡ reads' → writes ≡ writes' → IfSome left (λ xs. IfSome written (λ before. Completes (outcome xs) before status after))
 completes_told outcome None written status after reads reads' writes writes' wrote read write r w = tt
 completes_told outcome (Some xs) None status after reads reads' writes writes' wrote read write r w = tt
@@ -96,21 +98,26 @@ asks_one words Other (Gen n) one other = absurd (one.3 n other)
 asks_one words Other Other one other = refl
 
 -- so what is done for what they were read to ask is done for all that they ask
-pub does_asked : {A S K : Type 0} (left : S → Option (List ℕ)) (reads : S → ℕ) (written : K → Option (List ℕ)) (writes : K → ℕ) (words : List (String A)) (read : Request)
-    (drivers : List Driver) (end : Status) (source source' : S) (sink sink' : K) → Asks words read → Does left reads written writes drivers read end source source' sink sink'
+pub does_asked : {A S K : Type 0} (left : S → Option (List ℕ)) (reads : S → ℕ) (written : K → Option (List ℕ)) (writes : K → ℕ) (words : List (String A))
+    (read : Request)
+    (drivers : List Driver) (end : Status) (source source' : S) (sink sink' : K) → Asks words read
+    → Does left reads written writes drivers read end source source' sink sink'
     → (asked : Request) → Asks words asked → Does left reads written writes drivers asked end source source' sink sink'
 does_asked left reads written writes words read drivers end source source' sink sink' is does asked asks =
     subst (λ (r : Request). Does left reads written writes drivers r end source source' sink sink') (asks_one words read asked is asks) does
 
 -- ---- of the word `play`
 
-pub played_text : {A S K : Type 0} (left : S → Option (List ℕ)) (reads : S → ℕ) (written : K → Option (List ℕ)) (writes : K → ℕ) (words : List (String A)) (drivers : List Driver)
-    (end : Status) (source source' : S) (sink sink' : K) → ((asked : Request) → Asks words asked → Does left reads written writes drivers asked end source source' sink sink') → IsPlay words
+pub played_text : {A S K : Type 0} (left : S → Option (List ℕ)) (reads : S → ℕ) (written : K → Option (List ℕ)) (writes : K → ℕ) (words : List (String A))
+    (drivers : List Driver)
+    (end : Status) (source source' : S) (sink sink' : K)
+    → ((asked : Request) → Asks words asked → Does left reads written writes drivers asked end source source' sink sink') → IsPlay words
     → IfSome (left source) (λ xs. IfSome (written sink) (λ ys. Writes (outcome_of drivers xs) ys end (written sink')))
 played_text left reads written writes words drivers end source source' sink sink' does is = (does Play is).transcript
 
 pub ends_played : (drivers : List Driver) (left written : Option (List ℕ)) (status : Status) (after : Option (List ℕ)) → AreHandedIn drivers
-    → IfSome left (λ xs. IfSome written (λ ys. Writes (outcome_of drivers xs) ys status after)) → IfSome left (λ xs. IfSome written (λ ys. EndsPlayed xs ys (Ok (Run status)) after))
+    → IfSome left (λ xs. IfSome written (λ ys. Writes (outcome_of drivers xs) ys status after))
+    → IfSome left (λ xs. IfSome written (λ ys. EndsPlayed xs ys (Ok (Run status)) after))
 ends_played drivers None written status after handed writes = tt
 ends_played drivers (Some xs) None status after handed writes = tt
 ends_played drivers (Some xs) (Some ys) status after handed writes = record { drivers = drivers; handed = handed; writes = writes }

@@ -24,7 +24,9 @@ abbrev mask_laid : ShapeRecord → Option ℕ → Outcome
 mask_laid shape None = only_ending (script.Refused 0 Mask)
 mask_laid shape (Some bits) = record { printed = layout_text shape bits; ending = script.Finished }
 
-mask_is : (shape : ShapeRecord) (o : Option ℕ) → mask_laid shape o ≡ elim o [ None ↦ only_ending (script.Refused 0 Mask) | Some bits ↦ record { printed = layout_text shape bits; ending = script.Finished } ]
+mask_is : (shape : ShapeRecord) (o : Option ℕ)
+    → mask_laid shape o ≡ elim o
+    [ None ↦ only_ending (script.Refused 0 Mask) | Some bits ↦ record { printed = layout_text shape bits; ending = script.Finished } ]
 mask_is shape None = refl
 mask_is shape (Some bits) = refl
 
@@ -32,7 +34,8 @@ abbrev device_laid : List ℕ → Option DeviceRecord → Outcome
 device_laid mask None = only_ending (script.Refused 0 Device)
 device_laid mask (Some d) = laid_under d.shape mask
 
-device_is : (mask : List ℕ) (o : Option DeviceRecord) → device_laid mask o ≡ elim o [ None ↦ only_ending (script.Refused 0 Device) | Some d ↦ laid_under d.shape mask ]
+device_is : (mask : List ℕ) (o : Option DeviceRecord)
+    → device_laid mask o ≡ elim o [ None ↦ only_ending (script.Refused 0 Device) | Some d ↦ laid_under d.shape mask ]
 device_is mask None = refl
 device_is mask (Some d) = refl
 
@@ -44,10 +47,12 @@ mask_zero shape (Some bits) n why is = absurd (cc)
 device_zero : (mask : List ℕ) (o : Option DeviceRecord) (n : ℕ) (why : Why) → status.Refused (suc n) why ≡ status_of (device_laid mask o).ending → ⊥
 device_zero mask None n why is = absurd (cc)
 device_zero mask (Some d) n why is =
-    mask_zero d.shape (mask_of mask (count_of d.shape)) n why (is ∙ ap (λ (o : Outcome). status_of o.ending) (sym (mask_is d.shape (mask_of mask (count_of d.shape)))))
+    mask_zero d.shape (mask_of mask (count_of d.shape)) n why
+    (is ∙ ap (λ (o : Outcome). status_of o.ending) (sym (mask_is d.shape (mask_of mask (count_of d.shape)))))
 
 laid_zero : (desc : Description) (device mask : List ℕ) (n : ℕ) (why : Why) → status.Refused (suc n) why ≡ status_of (laid_out desc device mask).ending → ⊥
-laid_zero desc device mask n why is = device_zero mask (device_named desc device) n why (is ∙ ap (λ (o : Outcome). status_of o.ending) (sym (device_is mask (device_named desc device))))
+laid_zero desc device mask n why is =
+    device_zero mask (device_named desc device) n why (is ∙ ap (λ (o : Outcome). status_of o.ending) (sym (device_is mask (device_named desc device))))
 
 -- ---- a description that was read
 
@@ -61,19 +66,24 @@ says_laid desc device mask (Faulty (Line n why)) is = absurd is
 says_laid desc device mask (Faulty Mem) is = absurd is
 says_laid desc device mask Cut is = absurd is
 
-pub lay_writes : (drivers : ℕ) (desc : Description) (device mask : List ℕ) (st : Status) (left before after : Option (List ℕ)) → IfSome left (λ input. Says desc (head_of drivers input))
+pub lay_writes : (drivers : ℕ) (desc : Description) (device mask : List ℕ) (st : Status) (left before after : Option (List ℕ))
+    → IfSome left (λ input. Says desc (head_of drivers input))
     → PrintsLaid desc device mask st before after → IfSome left (λ input. IfSome before (λ xs. Writes (layout_of drivers input device mask) xs st after))
 lay_writes drivers desc device mask st None before after says prints = tt
 lay_writes drivers desc device mask st (Some input) before after says prints =
-    subst (λ (o : Outcome). IfSome before (λ xs. Writes o xs st after)) (says_laid desc device mask (head_of drivers input) says) (printed_writes (laid_out desc device mask) st before after prints)
+    subst (λ (o : Outcome). IfSome before (λ xs. Writes o xs st after)) (says_laid desc device mask (head_of drivers input) says)
+    (printed_writes (laid_out desc device mask) st before after prints)
 
-pub lay_status : (drivers : ℕ) (desc : Description) (device mask : List ℕ) (st : Status) (left before after : Option (List ℕ)) → IfSome left (λ input. Says desc (head_of drivers input))
+pub lay_status : (drivers : ℕ) (desc : Description) (device mask : List ℕ) (st : Status) (left before after : Option (List ℕ))
+    → IfSome left (λ input. Says desc (head_of drivers input))
     → PrintsLaid desc device mask st before after → IfSome left (λ input. HasStatus (layout_of drivers input device mask) st)
 lay_status drivers desc device mask st None before after says prints = tt
 lay_status drivers desc device mask st (Some input) before after says prints =
-    subst (λ (o : Outcome). HasStatus o st) (says_laid desc device mask (head_of drivers input) says) (status_by (laid_out desc device mask) st prints.0 prints.2)
+    subst (λ (o : Outcome). HasStatus o st) (says_laid desc device mask (head_of drivers input) says)
+    (status_by (laid_out desc device mask) st prints.0 prints.2)
 
-pub lay_near : (desc : Description) (device mask : List ℕ) (st : Status) (left left' before after : Option (List ℕ)) → PrintsLaid desc device mask st before after
+pub lay_near : (desc : Description) (device mask : List ℕ) (st : Status) (left left' before after : Option (List ℕ))
+    → PrintsLaid desc device mask st before after
     → IfSome left (λ input. TakesForLine st input left')
 lay_near desc device mask st None left' before after prints = tt
 lay_near desc device mask st (Some input) left' before after prints = by st prints.0 prints.2
@@ -97,9 +107,16 @@ front_nil (x ∷ xs) rest is = absurd (cc)
 -- nothing was written where nothing was to be written
 front_none : (outcome : Outcome) (xs : List ℕ) (after : Option (List ℕ)) → WritesFront xs [] after → WritesFront xs outcome.printed after
 front_none outcome xs after f =
-    record { front = f.front; rest = outcome.printed; parts = ap (λ (t : List ℕ). t ++ outcome.printed) (sym (front_nil f.front f.rest f.parts)); written = f.written }
+    record {
+      front = f.front;
+      rest = outcome.printed;
+      parts = ap (λ (t : List ℕ). t ++ outcome.printed) (sym (front_nil f.front f.rest f.parts));
+      written =
+          f.written;
+    }
 
-stop_writes : (device mask : List ℕ) (head : Head) (xs : List ℕ) (st : Status) (after : Option (List ℕ)) → IsStop st → Writes (read_head head) xs st after → Writes (laid device mask head) xs st after
+stop_writes : (device mask : List ℕ) (head : Head) (xs : List ℕ) (st : Status) (after : Option (List ℕ)) → IsStop st → Writes (read_head head) xs st after
+    → Writes (laid device mask head) xs st after
 stop_writes device mask (Described desc first lines) xs status.Done after stop writes = absurd stop
 stop_writes device mask (Described desc first lines) xs status.Usage after stop writes = absurd stop
 stop_writes device mask (Described desc first lines) xs (status.Refused n why) after stop writes = absurd (let is = writes.ends in cc)
@@ -112,7 +129,8 @@ stop_writes device mask (Faulty Mem) xs st after stop writes = writes
 stop_writes device mask Cut xs st after stop writes = writes
 
 pub stops_writes : (drivers : ℕ) (device mask : List ℕ) (st : Status) (left before after : Option (List ℕ)) → IsStop st
-    → IfSome left (λ input. IfSome before (λ xs. Writes (served_of drivers input) xs st after)) → IfSome left (λ input. IfSome before (λ xs. Writes (layout_of drivers input device mask) xs st after))
+    → IfSome left (λ input. IfSome before (λ xs. Writes (served_of drivers input) xs st after))
+    → IfSome left (λ input. IfSome before (λ xs. Writes (layout_of drivers input device mask) xs st after))
 stops_writes drivers device mask st None before after stop writes = tt
 stops_writes drivers device mask st (Some input) None after stop writes = tt
 stops_writes drivers device mask st (Some input) (Some xs) after stop writes = stop_writes device mask (head_of drivers input) xs st after stop writes
@@ -129,7 +147,8 @@ stop_status device mask (Faulty (Line n why)) st stop has = has
 stop_status device mask (Faulty Mem) st stop has = has
 stop_status device mask Cut st stop has = has
 
-pub stops_status : (drivers : ℕ) (device mask : List ℕ) (st : Status) (left : Option (List ℕ)) → IsStop st → IfSome left (λ input. HasStatus (served_of drivers input) st)
+pub stops_status : (drivers : ℕ) (device mask : List ℕ) (st : Status) (left : Option (List ℕ)) → IsStop st
+    → IfSome left (λ input. HasStatus (served_of drivers input) st)
     → IfSome left (λ input. HasStatus (layout_of drivers input device mask) st)
 stops_status drivers device mask st None stop has = tt
 stops_status drivers device mask st (Some input) stop has = stop_status device mask (head_of drivers input) st stop has
@@ -144,7 +163,8 @@ stop_near status.ReadFault input left near = tt
 stop_near status.WriteFault input left near = tt
 stop_near status.Memory input left near = tt
 
-pub stops_near : (st : Status) (left left' : Option (List ℕ)) → IfSome left (λ input. TakesFor st input left') → IfSome left (λ input. TakesForLine st input left')
+pub stops_near : (st : Status) (left left' : Option (List ℕ)) → IfSome left (λ input. TakesFor st input left')
+    → IfSome left (λ input. TakesForLine st input left')
 stops_near st None left' near = tt
 stops_near st (Some input) left' near = stop_near st input left' near
 

@@ -18,7 +18,8 @@ no_name true text is named = false≢true (sym is)
 no_name false text is named = false≢true named
 
 -- of two words, the first of which isn't other than `solo`, the second is the name, where it is one
-pub says_solo : {A : Type 0} (words : List (String A)) (u v : String A) (name : List ℕ) (r : Bool) (made : Option (List ℕ)) (none : Bool) → 2 ≤ length words → length words < 3
+pub says_solo : {A : Type 0} (words : List (String A)) (u v : String A) (name : List ℕ) (r : Bool) (made : Option (List ℕ)) (none : Bool) → 2 ≤ length words
+    → length words < 3
     → u ≡ slice_index_or words 0 u → v ≡ slice_index_or words 1 v → r ≡ not (bytes_eq (string_bytes u) (codes "solo")) → r ≡ false → name ≡ string_bytes v
     → made ≡ name_of name → is_some made ≡ not none → none ≡ false → IsSolo words name
 says_solo words u v name r made none some few a b test said second makes tells is =
@@ -27,7 +28,8 @@ says_solo words u v name r made none some few a b test said second makes tells i
     (named, two_words words u v some few a b ∙ ap (λ (t : List ℕ). t ∷ string_bytes v ∷ []) first ∙ ap (λ (t : List ℕ). codes "solo" ∷ t ∷ []) (sym second))
 
 -- where it is none, the words are others
-pub says_other : {A : Type 0} (words : List (String A)) (u v : String A) (text : List ℕ) (made : Option (List ℕ)) (none : Bool) → 2 ≤ length words → length words < 3
+pub says_other : {A : Type 0} (words : List (String A)) (u v : String A) (text : List ℕ) (made : Option (List ℕ)) (none : Bool) → 2 ≤ length words
+    → length words < 3
     → u ≡ slice_index_or words 0 u → v ≡ slice_index_or words 1 v → text ≡ string_bytes v
     → made ≡ name_of text → is_some made ≡ not none → none ≡ true → (name : List ℕ) → IsSolo words name → ⊥
 says_other words u v text made none some few a b second makes tells is name solo =

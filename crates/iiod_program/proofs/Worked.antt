@@ -7,7 +7,8 @@ use Rattle.iiod_program.specs.Layout.{layout_of}
 
 -- a device with three channels of two bytes and a timestamp
 abbrev adc0 : List ℕ
-adc0 = codes "trigger t0 2\ndevice adc0 t0\nchannel voltage0 le:u12/16>>4\nchannel voltage1 le:u12/16>>4\nchannel accel_x be:s16/16>>0\ntimestamp\n%%\nno line of a description\n"
+adc0 =
+    codes "trigger t0 2\ndevice adc0 t0\nchannel voltage0 le:u12/16>>4\nchannel voltage1 le:u12/16>>4\nchannel accel_x be:s16/16>>0\ntimestamp\n%%\nno line of a description\n"
 
 -- the timestamp stands at a multiple of its size
 first_and_timestamp : layout_of 0 adc0 (codes "adc0") (codes "00000009")

@@ -42,7 +42,8 @@ fn lay_device<K: Sink>(
     mask: &[u8],
     output: &mut K,
 ) -> Status
-    ensures prints { (text : List ℕ) × WritesText (K.written output.old) (K.written output.new) text × Prints (laid_out desc.now device.now mask.now) result text }
+    ensures prints { (text : List ℕ) × WritesText (K.written output.old) (K.written output.new) text
+        × Prints (laid_out desc.now device.now mask.now) result text }
     ensures write_fault { result ≡ Status.WriteFault → Rose (K.faults output.old) (K.faults output.new) }
     ensures memory { result ≡ Status.Memory → K.faults output.new ≡ K.faults output.old }
     ensures counted { K.faults output.old ≤ K.faults output.new }

@@ -80,8 +80,10 @@ read_fails run.Memory stop has = tt
 read_fails run.TooLong stop has = absurd cc
 
 -- words that are refused
-pub words_due : (why : Why) (st : Status) (wanted : Result Wanted Why) (result due : ReadStatus) (left before after : Option (List ℕ)) → result ≡ of_run st → wanted ≡ Err why
-    → ((text : List ℕ) × WritesText before after text × Prints (only_ending (script.Refused 0 why)) st text) → WantedComesTo wanted left due → IsDueOr due result
+pub words_due : (why : Why) (st : Status) (wanted : Result Wanted Why) (result due : ReadStatus) (left before after : Option (List ℕ)) → result ≡ of_run st
+    → wanted ≡ Err why
+    → ((text : List ℕ) × WritesText before after text × Prints (only_ending (script.Refused 0 why)) st text) → WantedComesTo wanted left due
+    → IsDueOr due result
 words_due why st wanted result due left before after is refused prints comes =
     let e : due ≡ status.Refused 0 why = subst (λ (w : Result Wanted Why). WantedComesTo w left due) refused comes in
     due_at due (status.Refused 0 why) result (of_run st) e is (refused_due 0 why st (status_by (only_ending (script.Refused 0 why)) st prints.0 prints.2))
@@ -115,8 +117,10 @@ described_due drivers said found desc result (Some xs) left meant says exact = �
 -- ---- what the words did
 
 pub does : (drivers : ℕ) (said : ReaddevWords) (end : ReadStatus) (input remaining left : Option (List ℕ)) (s o : Option (List ℕ)) (m t p : Option (List ℕ))
-    → IfSome input (λ xs. (pending : List ℕ) × ReadsInput drivers said xs end (point left [] s o) (point m pending t p)) → IfSome input (λ xs. EndsBy drivers said xs left end)
+    → IfSome input (λ xs. (pending : List ℕ) × ReadsInput drivers said xs end (point left [] s o) (point m pending t p))
+    → IfSome input (λ xs. EndsBy drivers said xs left end)
     → IfSome input (λ xs. TakesBlocks xs remaining) → IfSome input (λ xs. TakesForLine end xs remaining)
     → IfSome input (λ xs. (pending : List ℕ) × DoesReaddev drivers said xs remaining end (point left [] s o) (point m pending t p))
 does drivers said end None remaining left s o m t p reads exact taken near = tt
-does drivers said end (Some xs) remaining left s o m t p reads exact taken near = (reads.0, record { reads = reads.1; exact = exact; taken = taken; near = near })
+does drivers said end (Some xs) remaining left s o m t p reads exact taken near =
+    (reads.0, record { reads = reads.1; exact = exact; taken = taken; near = near })

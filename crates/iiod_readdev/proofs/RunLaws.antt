@@ -23,7 +23,8 @@ untouched l s o o' = record { left = refl; pending = refl; sent = refl }
 -- ---- refused words
 
 pub refused_ends : (why : Why) (st : Status) (result : ReadStatus) (l s o o' : Option (List ℕ)) → result ≡ of_run st
-    → ((text : List ℕ) × WritesText o o' text × Prints (only_ending (script.Refused 0 why)) st text) → EndsAsRun (only_ending (script.Refused 0 why)) result (point l [] s o) (point l [] s o')
+    → ((text : List ℕ) × WritesText o o' text × Prints (only_ending (script.Refused 0 why)) st text)
+    → EndsAsRun (only_ending (script.Refused 0 why)) result (point l [] s o) (point l [] s o')
 refused_ends why st result l s o o' is prints =
     let outcome : Outcome = only_ending (script.Refused 0 why) in
     record {
@@ -40,18 +41,23 @@ refused_ends why st result l s o o' is prints =
 
 as_run : (outcome : Outcome) (st : Status) (result : ReadStatus) (l s o o' : Option (List ℕ)) → result ≡ of_run st → IsStop st → HasStatus outcome st
     → IfSome o (λ ys. Writes outcome ys st o') → (st ≡ run.ReadFault → o' ≡ o) → EndsAsRun outcome result (point l [] s o) (point l [] s o')
-as_run outcome st result l s o o' is stop has lines nothing = record { run = st; ends = is; stops = stop; status = has; lines = lines; nothing = nothing; untouched = untouched l s o o' }
+as_run outcome st result l s o o' is stop has lines nothing =
+    record { run = st; ends = is; stops = stop; status = has; lines = lines; nothing = nothing; untouched = untouched l s o o' }
 
 -- a description that wasn't read
 pub stops_reads : (drivers : ℕ) (said : ReaddevWords) (st : Status) (result : ReadStatus) (left l s o o' : Option (List ℕ)) → result ≡ of_run st → IsStop st
-    → IfSome left (λ input. HasStatus (served_of drivers input) st) → IfSome left (λ input. IfSome o (λ ys. Writes (served_of drivers input) ys st o')) → (st ≡ run.ReadFault → o' ≡ o)
+    → IfSome left (λ input. HasStatus (served_of drivers input) st) → IfSome left (λ input. IfSome o (λ ys. Writes (served_of drivers input) ys st o'))
+    → (st ≡ run.ReadFault → o' ≡ o)
     → IfSome left (λ input. (pending : List ℕ) × ReadsInput drivers said input result (point l [] s o) (point l pending s o'))
 stops_reads drivers said st result None l s o o' is stop has lines nothing = tt
-stops_reads drivers said st result (Some input) l s o o' is stop has lines nothing = ([], inl (as_run (served_of drivers input) st result l s o o' is stop has lines nothing))
+stops_reads drivers said st result (Some input) l s o o' is stop has lines nothing =
+    ([], inl (as_run (served_of drivers input) st result l s o o' is stop has lines nothing))
 
 -- a description that was read, and nothing was printed for it
-pub described_reads : (drivers : ℕ) (said found : ReaddevWords) (desc : Description) (result : ReadStatus) (left l l' s s' o o1 o' : Option (List ℕ)) → found ≡ said → o1 ≡ o
-    → IfSome left (λ input. Says desc (head_of drivers input)) → ((pending : List ℕ) × ReadsFrom (wanted_of desc found) result (point l [] s o1) (point l' pending s' o'))
+pub described_reads : (drivers : ℕ) (said found : ReaddevWords) (desc : Description) (result : ReadStatus) (left l l' s s' o o1 o' : Option (List ℕ))
+    → found ≡ said → o1 ≡ o
+    → IfSome left (λ input. Says desc (head_of drivers input))
+    → ((pending : List ℕ) × ReadsFrom (wanted_of desc found) result (point l [] s o1) (point l' pending s' o'))
     → IfSome left (λ input. (pending : List ℕ) × ReadsInput drivers said input result (point l [] s o) (point l' pending s' o'))
 described_reads drivers said found desc result None l l' s s' o o1 o' meant same says reads = tt
 described_reads drivers said found desc result (Some input) l l' s s' o o1 o' meant same says reads = (

@@ -11,7 +11,8 @@ not_false true h = refl
 not_false false h = absurd (false≢true (sym h))
 
 six_words : {A : Type 0} (words : List (String A)) (a b c d e f : String A) → 6 ≤ length words → length words < 7
-    → a ≡ slice_index_or words 0 a → b ≡ slice_index_or words 1 b → c ≡ slice_index_or words 2 c → d ≡ slice_index_or words 3 d → e ≡ slice_index_or words 4 e → f ≡ slice_index_or words 5 f
+    → a ≡ slice_index_or words 0 a → b ≡ slice_index_or words 1 b → c ≡ slice_index_or words 2 c → d ≡ slice_index_or words 3 d → e ≡ slice_index_or words 4 e
+    → f ≡ slice_index_or words 5 f
     → map string_bytes words ≡ string_bytes a ∷ string_bytes b ∷ string_bytes c ∷ string_bytes d ∷ string_bytes e ∷ string_bytes f ∷ []
 six_words [] a b c d e f some few ea eb ec ed ee ef = absurd (omega arith)
 six_words (x0 ∷ []) a b c d e f some few ea eb ec ed ee ef = absurd (omega arith)
@@ -23,8 +24,10 @@ six_words (x0 ∷ x1 ∷ x2 ∷ x3 ∷ x4 ∷ x5 ∷ []) a b c d e f some few ea
 six_words (x0 ∷ x1 ∷ x2 ∷ x3 ∷ x4 ∷ x5 ∷ x6 ∷ xs) a b c d e f some few ea eb ec ed ee ef = absurd (omega arith)
 
 -- the six words, where the first is the text
-pub says_six : {A : Type 0} (words : List (String A)) (a b c d e f : String A) (text address device mask : List ℕ) (r : Bool) → 6 ≤ length words → length words < 7
-    → a ≡ slice_index_or words 0 a → b ≡ slice_index_or words 1 b → c ≡ slice_index_or words 2 c → d ≡ slice_index_or words 3 d → e ≡ slice_index_or words 4 e → f ≡ slice_index_or words 5 f
+pub says_six : {A : Type 0} (words : List (String A)) (a b c d e f : String A) (text address device mask : List ℕ) (r : Bool) → 6 ≤ length words
+    → length words < 7
+    → a ≡ slice_index_or words 0 a → b ≡ slice_index_or words 1 b → c ≡ slice_index_or words 2 c → d ≡ slice_index_or words 3 d → e ≡ slice_index_or words 4 e
+    → f ≡ slice_index_or words 5 f
     → r ≡ not (bytes_eq (string_bytes a) text) → r ≡ false → address ≡ string_bytes b → device ≡ string_bytes c → mask ≡ string_bytes e
     → map string_bytes words ≡ text ∷ address ∷ device ∷ string_bytes d ∷ mask ∷ string_bytes f ∷ []
 says_six words a b c d e f text address device mask r some few ea eb ec ed ee ef test said p q s =
@@ -63,10 +66,15 @@ one_meaning words a b x y =
 
 -- ---- the first word
 
-pub begins : {A : Type 0} (words : List (String A)) (word : String A) (r : Bool) → 1 ≤ length words → word ≡ slice_index_or words 0 word → r ≡ bytes_eq (string_bytes word) (codes "readdev")
+pub begins : {A : Type 0} (words : List (String A)) (word : String A) (r : Bool) → 1 ≤ length words → word ≡ slice_index_or words 0 word
+    → r ≡ bytes_eq (string_bytes word) (codes "readdev")
     → IsTrue r ↔ BeginsReaddev words
 begins [] word r some is test = absurd (omega arith)
 begins (x ∷ xs) word r some is test = (
-  (λ (t : r ≡ true). (map string_bytes xs, ap (λ w. string_bytes w ∷ map string_bytes xs) (sym is) ∙ ap (λ bs. bs ∷ map string_bytes xs) ((bytes_eq-Decides (string_bytes word) (codes "readdev")).0 (sym test ∙ t)))),
+  (λ (t : r ≡ true). (
+    map string_bytes xs,
+    ap (λ w. string_bytes w ∷ map string_bytes xs) (sym is)
+        ∙ ap (λ bs. bs ∷ map string_bytes xs) ((bytes_eq-Decides (string_bytes word) (codes "readdev")).0 (sym test ∙ t)),
+  )),
   (λ b. test ∙ (bytes_eq-Decides (string_bytes word) (codes "readdev")).1 (ap string_bytes is ∙ nth_same 0 _ _ b.1)),
 )

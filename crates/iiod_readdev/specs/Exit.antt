@@ -22,7 +22,8 @@ pub record Streams : Type 0 where
 pub record EndsWithCode {A O : Type 0} (drivers : ℕ) (words : List (String A)) (code : ℕ) (a b : Streams) (output output' : O) : Type 0 where
   pub status : ReadStatus
   pub code_is : code ≡ read_code status
-  pub does : (said : ReaddevWords) → IsReaddev words said → IfSome a.input (λ xs. (pending : List ℕ) × DoesReaddev drivers said xs b.input status a.over (record b.over { pending = pending }))
+  pub does : (said : ReaddevWords) → IsReaddev words said
+      → IfSome a.input (λ xs. (pending : List ℕ) × DoesReaddev drivers said xs b.input status a.over (record b.over { pending = pending }))
   pub unprinted : (said : ReaddevWords) → IsReaddev words said → status ≡ ReadFault → output' ≡ output
   pub not_usage : (said : ReaddevWords) → IsReaddev words said → status ≡ Usage → ⊥
   pub usage : IsNoReaddev words → NamesCommands status a.over.printed b.over.printed

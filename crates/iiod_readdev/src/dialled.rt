@@ -19,7 +19,8 @@ const NO_ADDRESS: &[u8] = b"no address\n";
 fn end_undialled<K: Sink>(output: &mut K) -> ReadStatus
     ensures ends { (left : Option (List ℕ)) (left' : Option (List ℕ)) (sent : Option (List ℕ)) (sent' : Option (List ℕ)) → left' ≡ left → sent' ≡ sent →
         EndsUndialled result (point left [] sent (K.written output.old)) (point left' [] sent' (K.written output.new)) }
-    ensures counts { (input : ℕ) (link : ℕ) (link' : ℕ) → Rose link link' → ShowsCounts result input input link link' (K.faults output.old) (K.faults output.new) }
+    ensures counts { (input : ℕ) (link : ℕ) (link' : ℕ) → Rose link link'
+        → ShowsCounts result input input link link' (K.faults output.old) (K.faults output.new) }
     ensures described { IsDescribed result }
     ensures failure { IsFailure result }
 {

@@ -58,7 +58,8 @@ pub fn readdev<S: Source, K: Sink, L: Dial>(
     link: &mut L,
 ) -> ReadStatus
     // What was sent and printed, and why; `pending` was received, and stands after what was heard.
-    ensures reads { (said : ReaddevWords) → IsReaddev words.now said → IfSome (S.left input.old) (λ left. (pending : List ℕ) × ReadsInput drivers said left result
+    ensures reads { (said : ReaddevWords) → IsReaddev words.now said
+        → IfSome (S.left input.old) (λ left. (pending : List ℕ) × ReadsInput drivers said left result
         (point (L.left link.old) [] (L.written link.old) (K.written output.old)) (point (L.left link.new) pending (L.written link.new) (K.written output.new))) }
     ensures taken { (said : ReaddevWords) → IsReaddev words.now said → IfSome (S.left input.old) (λ left. TakesBlocks left (S.left input.new)) }
     // Where a line of the description is refused, at most 65,536 bytes were taken after the byte at which it failed.
@@ -68,7 +69,8 @@ pub fn readdev<S: Source, K: Sink, L: Dial>(
     ensures usage { IsNoReaddev words.now → NamesCommands result (K.written output.old) (K.written output.new) }
     ensures unread { IsNoReaddev words.now → input.new ≡ input.old }
     ensures undialled { IsNoReaddev words.now → link.new ≡ link.old }
-    ensures counts { ShowsCounts result (S.faults input.old) (S.faults input.new) (L.faults link.old) (L.faults link.new) (K.faults output.old) (K.faults output.new) }
+    ensures counts { ShowsCounts result (S.faults input.old) (S.faults input.new) (L.faults link.old) (L.faults link.new) (K.faults output.old)
+        (K.faults output.new) }
     // The status is the one that the input comes to, and over a link that tells its bytes these, unless a call fails or memory
     // runs out.
     ensures exact { (said : ReaddevWords) → IsReaddev words.now said → IfSome (S.left input.old) (λ left. EndsBy drivers said left (L.left link.old) result) }

@@ -11,7 +11,9 @@ use Rattle.iiod_reply.specs.Reply.{head_length, head_text}
 
 -- a smaller number has no more digits
 pub no_longer : (came most : ℕ) → came ≤ most → most < 2 ^ 64 → length (decimal came) ≤ length (decimal most)
-no_longer came most less small = decimal_by_steps (λ m ds. (n : ℕ) → n ≤ m → n < 2 ^ 64 → length (decimal n) ≤ length ds) (λ m l n h s. one n (omega arith)) more most small came less (omega arith)
+no_longer came most less small =
+    decimal_by_steps (λ m ds. (n : ℕ) → n ≤ m → n < 2 ^ 64 → length (decimal n) ≤ length ds) (λ m l n h s. one n (omega arith)) more most small came less
+    (omega arith)
   where
     one : (n : ℕ) → n < 10 → length (decimal n) ≤ 1
     one n h = length-decimal-le 1 n (omega arith) (omega arith) (omega arith)
@@ -20,7 +22,14 @@ no_longer came most less small = decimal_by_steps (λ m ds. (n : ℕ) → n ≤ 
         → (n : ℕ) → n ≤ m → n < 2 ^ 64 → length (decimal n) ≤ length (ds ++ ((48 + m % 10) ∷ []))
     more m ds l h n less s = elim (cases_lt n 10) [
       | inl few ↦ omega (arith, one n few, length-append ds ((48 + m % 10) ∷ []))
-      | inr many ↦ omega (arith, ap length (decimal_step n many s), length-append (decimal (n / 10)) ((48 + n % 10) ∷ []), length-append ds ((48 + m % 10) ∷ []), h (n / 10) (omega arith) (omega arith))
+      | inr many ↦ omega (
+        arith,
+        ap length (decimal_step n many s),
+        length-append (decimal (n / 10)) ((48 + n % 10) ∷ []),
+        length-append ds
+            ((48 + m % 10) ∷ []),
+        h (n / 10) (omega arith) (omega arith),
+      )
     ]
 
 -- how many digits a number has, at most

@@ -21,7 +21,8 @@ record ToldBy (drivers : ℕ) (input : List ℕ) (opening : Opening) : Type 0 wh
   pub more : List (List ℕ)
   pub head : head_of drivers input ≡ told next more opening
 
-told_by : (drivers : ℕ) (input : List ℕ) (opening : Opening) (h : Hand) (left : Option (List ℕ)) → Opens drivers opening input h left → ToldBy drivers input opening
+told_by : (drivers : ℕ) (input : List ℕ) (opening : Opening) (h : Hand) (left : Option (List ℕ)) → Opens drivers opening input h left
+    → ToldBy drivers input opening
 told_by drivers input (Described desc first) h left opens = record { next = 0; more = opens.behind; head = opens.whole }
 told_by drivers input (Alone desc) h left opens = record { next = opens.next; more = []; head = opens.head }
 told_by drivers input (Refused line why) h left opens = record { next = 0; more = []; head = opens.head }
@@ -29,7 +30,8 @@ told_by drivers input Cut h left opens = record { next = 0; more = []; head = op
 
 -- ---- what was printed
 
-writes_by : (outcome : Outcome) (st : Status) (text xs : List ℕ) (after : Option (List ℕ)) → Prints outcome st text → after ≡ Some (xs ++ text) → Writes outcome xs st after
+writes_by : (outcome : Outcome) (st : Status) (text xs : List ℕ) (after : Option (List ℕ)) → Prints outcome st text → after ≡ Some (xs ++ text)
+    → Writes outcome xs st after
 writes_by outcome status.Done text xs after f writes = record { ends = f.ends; written = writes ∙ ap (λ t. Some (xs ++ t)) f.printed }
 writes_by outcome (status.Refused line why) text xs after f writes = record { ends = f.ends; written = writes ∙ ap (λ t. Some (xs ++ t)) f.printed }
 writes_by outcome status.TooLong text xs after f writes = record { ends = f.ends; written = writes ∙ ap (λ t. Some (xs ++ t)) f.printed }
@@ -38,7 +40,8 @@ writes_by outcome status.ReadFault text xs after f writes = absurd f
 writes_by outcome status.WriteFault text xs after f writes = record { front = text; rest = f.rest; parts = f.parts; written = writes }
 writes_by outcome status.Memory text xs after f writes = record { front = text; rest = f.rest; parts = f.parts; written = writes }
 
-pub printed_writes : (outcome : Outcome) (st : Status) (before after : Option (List ℕ)) → ((text : List ℕ) × WritesText before after text × Prints outcome st text)
+pub printed_writes : (outcome : Outcome) (st : Status) (before after : Option (List ℕ))
+    → ((text : List ℕ) × WritesText before after text × Prints outcome st text)
     → IfSome before (λ xs. Writes outcome xs st after)
 printed_writes outcome st None after prints = tt
 printed_writes outcome st (Some xs) after prints = writes_by outcome st prints.0 xs after prints.2 prints.1
@@ -54,7 +57,8 @@ status_by outcome status.Memory text f = tt
 
 -- what is printed where the head was read so
 abbrev pub PrintsHead : Opening → Status → (before after : Option (List ℕ)) → Type 0
-PrintsHead opening st before after = (next : ℕ) (more : List (List ℕ)) → (text : List ℕ) × WritesText before after text × Prints (read_head (told next more opening)) st text
+PrintsHead opening st before after =
+    (next : ℕ) (more : List (List ℕ)) → (text : List ℕ) × WritesText before after text × Prints (read_head (told next more opening)) st text
 
 pub head_writes : (drivers : ℕ) (opening : Opening) (st : Status) (h : Hand) (left left' before after : Option (List ℕ)) → PrintsHead opening st before after
     → IfSome left (λ input. Opens drivers opening input h left') → IfSome left (λ input. IfSome before (λ xs. Writes (served_of drivers input) xs st after))
@@ -79,7 +83,8 @@ near_by : (input text : List ℕ) (n : ℕ) (why : Why) (drivers : ℕ) (opening
     → Prints (read_head (told 0 [] opening)) (status.Refused n why) text → TakesNear n input left
 near_by input text n why drivers (Described desc first) h left opens prints = absurd (let is = prints.ends in cc)
 near_by input text n why drivers (Alone desc) h left opens prints = absurd (let is = prints.ends in cc)
-near_by input text n why drivers (Refused line why') h left opens prints = subst (λ (k : ℕ). TakesNear k input left) (line_of line n why why' prints.ends) opens.near
+near_by input text n why drivers (Refused line why') h left opens prints =
+    subst (λ (k : ℕ). TakesNear k input left) (line_of line n why why' prints.ends) opens.near
 near_by input text n why drivers Cut h left opens prints = absurd (let is = prints.ends in cc)
 
 pub head_near : (drivers : ℕ) (opening : Opening) (st : Status) (h : Hand) (left left' before after : Option (List ℕ)) → PrintsHead opening st before after
@@ -97,7 +102,8 @@ head_near drivers opening st h (Some input) left' before after prints opens = le
     by status.Memory text prints = tt
 
 -- the description that was read is the head's
-pub head_says : (drivers : ℕ) (opening : Opening) (result : Result Description Status) (h : Hand) (left left' : Option (List ℕ)) → IfOk result (λ desc. (next : ℕ) (more : List (List ℕ)) → Says desc (told next more opening))
+pub head_says : (drivers : ℕ) (opening : Opening) (result : Result Description Status) (h : Hand) (left left' : Option (List ℕ))
+    → IfOk result (λ desc. (next : ℕ) (more : List (List ℕ)) → Says desc (told next more opening))
     → IfSome left (λ input. Opens drivers opening input h left') → IfOk result (λ desc. IfSome left (λ input. Says desc (head_of drivers input)))
 head_says drivers opening (Err st) h left left' says opens = tt
 head_says drivers opening (Ok desc) h None left' says opens = tt
@@ -123,12 +129,14 @@ prints_read before = ([], nothing before, record { end = tt; ends = refl; printe
 pub prints_none : (outcome : Outcome) (before : Option (List ℕ)) → (text : List ℕ) × WritesText before before text × Prints outcome status.Memory text
 prints_none outcome before = ([], nothing before, record { rest = outcome.printed; parts = refl })
 
-pub writes_none : (outcome : List ℕ → Outcome) (left before : Option (List ℕ)) → IfSome left (λ input. IfSome before (λ xs. Writes (outcome input) xs status.Memory before))
+pub writes_none : (outcome : List ℕ → Outcome) (left before : Option (List ℕ))
+    → IfSome left (λ input. IfSome before (λ xs. Writes (outcome input) xs status.Memory before))
 writes_none outcome None before = tt
 writes_none outcome (Some input) before = printed_writes (outcome input) status.Memory before before (prints_none (outcome input) before)
 
 -- where a read failed
-pub writes_failed : (outcome : List ℕ → Outcome) (left before : Option (List ℕ)) → IfSome left (λ input. IfSome before (λ xs. Writes (outcome input) xs status.ReadFault before))
+pub writes_failed : (outcome : List ℕ → Outcome) (left before : Option (List ℕ))
+    → IfSome left (λ input. IfSome before (λ xs. Writes (outcome input) xs status.ReadFault before))
 writes_failed outcome None before = tt
 writes_failed outcome (Some input) None = tt
 writes_failed outcome (Some input) (Some xs) = record { front = []; rest = (outcome input).printed; parts = refl; written = ap Some (sym (append-nil xs)) }
@@ -162,8 +170,10 @@ cut_stops status.ReadFault text f = tt
 cut_stops status.WriteFault text f = tt
 cut_stops status.Memory text f = tt
 
-pub stops_at : (line : ℕ) (why : Why) (st : Status) (before after : Option (List ℕ)) → ((text : List ℕ) × WritesText before after text × Prints (only_ending (script.Refused line why)) st text) → IsStop st
+pub stops_at : (line : ℕ) (why : Why) (st : Status) (before after : Option (List ℕ))
+    → ((text : List ℕ) × WritesText before after text × Prints (only_ending (script.Refused line why)) st text) → IsStop st
 stops_at line why st before after prints = refused_stops line why st prints.0 prints.2
 
-pub stops_cut : (st : Status) (before after : Option (List ℕ)) → ((text : List ℕ) × WritesText before after text × Prints (only_ending script.TooLong) st text) → IsStop st
+pub stops_cut : (st : Status) (before after : Option (List ℕ)) → ((text : List ℕ) × WritesText before after text × Prints (only_ending script.TooLong) st text)
+    → IsStop st
 stops_cut st before after prints = cut_stops st prints.0 prints.2

@@ -30,7 +30,8 @@ as_of run.WriteFault = refl
 as_of run.Memory = refl
 as_of run.TooLong = refl
 
-stop_lines : (outcome : Outcome) (before : List ℕ) (st : Status) (after : Option (List ℕ)) → IsStop st → Writes outcome before st after → ServesLines outcome before (of_run st) after
+stop_lines : (outcome : Outcome) (before : List ℕ) (st : Status) (after : Option (List ℕ)) → IsStop st → Writes outcome before st after
+    → ServesLines outcome before (of_run st) after
 stop_lines outcome before run.Done after stop writes = absurd stop
 stop_lines outcome before (run.Refused line why) after stop writes = writes
 stop_lines outcome before run.Usage after stop writes = absurd stop
@@ -47,11 +48,14 @@ as_is st r e = ap as_run e ∙ as_of st
 pub as_ended : (P : Status → Type 0) (st : Status) (r : ServeStatus) → r ≡ of_run st → P st → P (as_run r)
 as_ended P st r e holds = subst P (sym (as_is st r e)) holds
 
-pub stops_lines : (outcome : List ℕ → Outcome) (left before : Option (List ℕ)) (st : Status) (r : ServeStatus) (after : Option (List ℕ)) → r ≡ of_run st → IsStop st
-    → IfSome left (λ input. IfSome before (λ xs. Writes (outcome input) xs st after)) → IfSome left (λ input. IfSome before (λ xs. ServesLines (outcome input) xs r after))
+pub stops_lines : (outcome : List ℕ → Outcome) (left before : Option (List ℕ)) (st : Status) (r : ServeStatus) (after : Option (List ℕ)) → r ≡ of_run st
+    → IsStop st
+    → IfSome left (λ input. IfSome before (λ xs. Writes (outcome input) xs st after))
+    → IfSome left (λ input. IfSome before (λ xs. ServesLines (outcome input) xs r after))
 stops_lines outcome None before st r after e stop writes = tt
 stops_lines outcome (Some input) None st r after e stop writes = tt
-stops_lines outcome (Some input) (Some xs) st r after e stop writes = subst (λ (x : ServeStatus). ServesLines (outcome input) xs x after) (sym e) (stop_lines (outcome input) xs st after stop writes)
+stops_lines outcome (Some input) (Some xs) st r after e stop writes =
+    subst (λ (x : ServeStatus). ServesLines (outcome input) xs x after) (sym e) (stop_lines (outcome input) xs st after stop writes)
 
 pub stops_failed : (st : Status) (r : ServeStatus) → r ≡ of_run st → r ≡ ReadFault → st ≡ run.ReadFault
 stops_failed st r e is = sym (as_is st r e) ∙ ap as_run is
@@ -71,11 +75,13 @@ unasked left faults run.WriteFault door stop = (omega arith, refl)
 unasked left faults run.Memory door stop = (refl, refl)
 unasked left faults run.TooLong door stop = refl
 
-pub stops_door : {D : Type 0} (left : D → Option ℕ) (faults : D → ℕ) (st : Status) (r : ServeStatus) (door : D) → r ≡ of_run st → IsStop st ⊎ IsUsage st → ShowsDoor left faults r door door
+pub stops_door : {D : Type 0} (left : D → Option ℕ) (faults : D → ℕ) (st : Status) (r : ServeStatus) (door : D) → r ≡ of_run st → IsStop st ⊎ IsUsage st
+    → ShowsDoor left faults r door door
 stops_door left faults st r door e stop = subst (λ (x : ServeStatus). ShowsDoor left faults x door door) (sym e) (unasked left faults st door stop)
 
 -- words that are no command leave the source alone
-pub usage_faults : {S K : Type 0} (left : S → Option (List ℕ)) (reads : S → ℕ) (written : K → Option (List ℕ)) (writes : K → ℕ) (st : Status) (r : ServeStatus) (source : S) (sink sink' : K) → r ≡ of_run st → IsUsage st
+pub usage_faults : {S K : Type 0} (left : S → Option (List ℕ)) (reads : S → ℕ) (written : K → Option (List ℕ)) (writes : K → ℕ) (st : Status) (r : ServeStatus)
+    (source : S) (sink sink' : K) → r ≡ of_run st → IsUsage st
     → (st ≡ run.WriteFault → Rose (writes sink) (writes sink')) → writes sink ≤ writes sink' → IfNone (written sink) (written sink' ≡ None)
     → ShowsFaults left reads written writes (as_run r) source source sink sink'
 usage_faults left reads written writes st r source sink sink' e usage write counted silent =
@@ -99,8 +105,10 @@ says_read desc (Faulty (Line n why)) is = absurd is
 says_read desc (Faulty Mem) is = absurd is
 says_read desc Cut is = absurd is
 
-pub read_lines : (count : ℕ) (desc : Description) (st : ServeStatus) (left before after : Option (List ℕ)) → IfSome left (λ input. Says desc (head_of count input))
-    → IfSome before (λ xs. ServesLines (only_ending Finished) xs st after) → IfSome left (λ input. IfSome before (λ xs. ServesLines (served_of count input) xs st after))
+pub read_lines : (count : ℕ) (desc : Description) (st : ServeStatus) (left before after : Option (List ℕ))
+    → IfSome left (λ input. Says desc (head_of count input))
+    → IfSome before (λ xs. ServesLines (only_ending Finished) xs st after)
+    → IfSome left (λ input. IfSome before (λ xs. ServesLines (served_of count input) xs st after))
 read_lines count desc st None before after says lines = tt
 read_lines count desc st (Some input) before after says lines =
     subst (λ (o : Outcome). IfSome before (λ xs. ServesLines o xs st after)) (sym (says_read desc (head_of count input) says)) lines
@@ -116,10 +124,12 @@ served_status ReadFault served = absurd served
 served_status TooLong served = absurd served
 served_status (Refused line why) served = absurd served
 
-pub read_status : (count : ℕ) (desc : Description) (st : ServeStatus) (left : Option (List ℕ)) → IfSome left (λ input. Says desc (head_of count input)) → IsServed st
+pub read_status : (count : ℕ) (desc : Description) (st : ServeStatus) (left : Option (List ℕ)) → IfSome left (λ input. Says desc (head_of count input))
+    → IsServed st
     → IfSome left (λ input. HasStatus (served_of count input) (as_run st))
 read_status count desc st None says served = tt
-read_status count desc st (Some input) says served = subst (λ (o : Outcome). HasStatus o (as_run st)) (sym (says_read desc (head_of count input) says)) (served_status st served)
+read_status count desc st (Some input) says served =
+    subst (λ (o : Outcome). HasStatus o (as_run st)) (sym (says_read desc (head_of count input) says)) (served_status st served)
 
 served_near : (st : ServeStatus) (input : List ℕ) (left : Option (List ℕ)) → IsServed st → TakesFor (as_run st) input left
 served_near DoorEnd input left served = tt
@@ -172,11 +182,22 @@ as_memory (Refused line why) is = absurd (cc)
 -- ---- where the door couldn't be opened
 
 -- a front part of the line that says so was written
-unopened_part : (before : List ℕ) (after : Option (List ℕ)) → WritesPart before no_address_line after → ServesLines (only_ending Finished) before WriteFault after
+unopened_part : (before : List ℕ) (after : Option (List ℕ)) → WritesPart before no_address_line after
+    → ServesLines (only_ending Finished) before WriteFault after
 unopened_part before after part =
-    inr (refl, record { front = take part.count no_address_line; rest = drop part.count no_address_line; parts = sym (take-append-drop part.count no_address_line); written = part.appended })
+    inr (
+      refl,
+      record {
+        front = take part.count no_address_line;
+        rest = drop part.count no_address_line;
+        parts =
+            sym (take-append-drop part.count no_address_line);
+        written = part.appended;
+      },
+    )
 
-pub unopened_told : (before after : Option (List ℕ)) → IfSome before (λ xs. WritesPart xs no_address_line after) → IfSome before (λ xs. ServesLines (only_ending Finished) xs WriteFault after)
+pub unopened_told : (before after : Option (List ℕ)) → IfSome before (λ xs. WritesPart xs no_address_line after)
+    → IfSome before (λ xs. ServesLines (only_ending Finished) xs WriteFault after)
 unopened_told None after part = tt
 unopened_told (Some xs) after part = unopened_part xs after part
 
@@ -201,7 +222,8 @@ ends : {D : Type 0} (doors : D → Option ℕ) (faults : D → ℕ) (outcome : O
     → HasStatus outcome (as_run st) → (st ≡ Usage → ⊥) → (as_run st ≡ run.ReadFault → Rose reads reads') → (as_run st ≡ run.WriteFault → Rose writes writes')
     → ShowsDoor doors faults st door door' → reads ≡ reads' → writes ≡ writes' → faults door ≡ faults door' → EndsServed outcome st
 ends doors faults outcome DoorEnd reads reads' writes writes' door door' has words read write shows r w d = inl (done_end outcome.ending has)
-ends doors faults outcome (Refused line why) reads reads' writes writes' door door' has words read write shows r w d = inl (refused_end outcome.ending line why has)
+ends doors faults outcome (Refused line why) reads reads' writes writes' door door' has words read write shows r w d =
+    inl (refused_end outcome.ending line why has)
 ends doors faults outcome TooLong reads reads' writes writes' door door' has words read write shows r w d = inl (long_end outcome.ending has)
 ends doors faults outcome Usage reads reads' writes writes' door door' has words read write shows r w d = absurd (words refl)
 ends doors faults outcome ReadFault reads reads' writes writes' door door' has words read write shows r w d = absurd (omega (arith, read refl))
@@ -210,9 +232,12 @@ ends doors faults outcome Memory reads reads' writes writes' door door' has word
 ends doors faults outcome NoAddress reads reads' writes writes' door door' has words read write shows r w d = absurd (omega (arith, shows.0))
 ends doors faults outcome DoorFault reads reads' writes writes' door door' has words read write shows r w d = absurd (omega (arith, shows))
 
-pub ends_told : {D : Type 0} (doors : D → Option ℕ) (faults : D → ℕ) (outcome : List ℕ → Outcome) (left : Option (List ℕ)) (st : ServeStatus) (reads reads' writes writes' : ℕ) (door door' : D)
-    → IfSome left (λ input. HasStatus (outcome input) (as_run st)) → (st ≡ Usage → ⊥) → (as_run st ≡ run.ReadFault → Rose reads reads') → (as_run st ≡ run.WriteFault → Rose writes writes')
-    → ShowsDoor doors faults st door door' → reads ≡ reads' → writes ≡ writes' → faults door ≡ faults door' → IfSome left (λ input. EndsServed (outcome input) st)
+pub ends_told : {D : Type 0} (doors : D → Option ℕ) (faults : D → ℕ) (outcome : List ℕ → Outcome) (left : Option (List ℕ)) (st : ServeStatus)
+    (reads reads' writes writes' : ℕ) (door door' : D)
+    → IfSome left (λ input. HasStatus (outcome input) (as_run st)) → (st ≡ Usage → ⊥) → (as_run st ≡ run.ReadFault → Rose reads reads')
+    → (as_run st ≡ run.WriteFault → Rose writes writes')
+    → ShowsDoor doors faults st door door' → reads ≡ reads' → writes ≡ writes' → faults door ≡ faults door'
+    → IfSome left (λ input. EndsServed (outcome input) st)
 ends_told doors faults outcome None st reads reads' writes writes' door door' has words read write shows r w d = tt
 ends_told doors faults outcome (Some input) st reads reads' writes writes' door door' has words read write shows r w d =
     ends doors faults (outcome input) st reads reads' writes writes' door door' has words read write shows r w d

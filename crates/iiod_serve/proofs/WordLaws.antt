@@ -62,7 +62,8 @@ says_three words u v w text device mask r some few a b c test said second third 
 -- ---- the words `serve ADDRESS PERIOD`
 
 -- of three words, the first of which isn't other than `serve`, the second and the number that the third spells are theirs
-pub says_serve : {A : Type 0} (words : List (String A)) (u v w : String A) (address number : List ℕ) (period : ℕ) (r : Bool) → 3 ≤ length words → length words < 4
+pub says_serve : {A : Type 0} (words : List (String A)) (u v w : String A) (address number : List ℕ) (period : ℕ) (r : Bool) → 3 ≤ length words
+    → length words < 4
     → u ≡ slice_index_or words 0 u → v ≡ slice_index_or words 1 v → w ≡ slice_index_or words 2 w
     → r ≡ not (bytes_eq (string_bytes u) (codes "serve")) → r ≡ false → address ≡ string_bytes v → number ≡ string_bytes w
     → (1 ≤ period) × (period ≤ 60000) × (number ≡ decimal period) → IsServe words address period

@@ -52,7 +52,8 @@ no_address_line = codes "no address" ++ 10 ∷ []
 -- the line that says so, or a front part of it where a write failed
 abbrev pub ServesLines : Outcome → (before : List ℕ) → ServeStatus → Option (List ℕ) → Type 0
 ServesLines outcome before NoAddress after = (outcome.ending ≡ Finished) × (after ≡ Some (before ++ no_address_line))
-ServesLines outcome before WriteFault after = WritesFront before outcome.printed after ⊎ ((outcome.ending ≡ Finished) × WritesFront before no_address_line after)
+ServesLines outcome before WriteFault after =
+    WritesFront before outcome.printed after ⊎ ((outcome.ending ≡ Finished) × WritesFront before no_address_line after)
 ServesLines outcome before status after = Writes outcome before (as_run status) after
 
 -- the statuses of a server whose description was read

@@ -17,7 +17,8 @@ use std::alloc::Global;
 
 // The description, or the end in its place, which is printed.
 fn described<K: Sink>(alloc: Global, opening: Opening, output: &mut K) -> Result<Desc, Status>
-    ensures prints { (next : ℕ) (more : List (List ℕ)) → (text : List ℕ) × WritesText (K.written output.old) (K.written output.new) text × Prints (read_head (told next more opening)) (ended result) text }
+    ensures prints { (next : ℕ) (more : List (List ℕ)) → (text : List ℕ) × WritesText (K.written output.old) (K.written output.new) text
+        × Prints (read_head (told next more opening)) (ended result) text }
     ensures described { IfOk result (λ desc. (next : ℕ) (more : List (List ℕ)) → Says desc (told next more opening)) }
     ensures sound { (drivers : ℕ) → IsSoundOpening drivers opening → IfOk result (IsWellFormed drivers) }
     ensures unwritten { IfOk result (λ _. output.new ≡ output.old) }

@@ -68,16 +68,20 @@ pub fn serve<R: Threads + Wait + Sync, S: Source, K: Sink, D: Listen, G: Gate + 
     door: &mut D,
     gate: &G,
 ) -> ServeStatus
-    ensures lines { (address : List ℕ) (period : ℕ) → IsServe words.now address period → IfSome (S.left input.old) (λ left. IfSome (K.written output.old) (λ written.
+    ensures lines { (address : List ℕ) (period : ℕ) → IsServe words.now address period
+        → IfSome (S.left input.old) (λ left. IfSome (K.written output.old) (λ written.
         ServesLines (served_of (length drivers.items) left) written result (K.written output.new))) }
     ensures status { (address : List ℕ) (period : ℕ) → IsServe words.now address period → IfSome (S.left input.old) (λ left.
         HasStatus (served_of (length drivers.items) left) (as_run result)) }
     // Where no count of faults rose, the description decides, unless memory ran out.
-    ensures complete { (address : List ℕ) (period : ℕ) → IsServe words.now address period → S.faults input.old ≡ S.faults input.new → K.faults output.old ≡ K.faults output.new
+    ensures complete { (address : List ℕ) (period : ℕ) → IsServe words.now address period → S.faults input.old ≡ S.faults input.new
+        → K.faults output.old ≡ K.faults output.new
         → D.faults door.old ≡ D.faults door.new → IfSome (S.left input.old) (λ left. EndsServed (served_of (length drivers.items) left) result) }
-    ensures taken { (address : List ℕ) (period : ℕ) → IsServe words.now address period → IfSome (S.left input.old) (λ left. TakesBlocks left (S.left input.new)) }
+    ensures taken { (address : List ℕ) (period : ℕ) → IsServe words.now address period
+        → IfSome (S.left input.old) (λ left. TakesBlocks left (S.left input.new)) }
     // Where a line of the description is refused, at most 65,536 bytes were taken after the byte at which it failed.
-    ensures near { (address : List ℕ) (period : ℕ) → IsServe words.now address period → IfSome (S.left input.old) (λ left. TakesFor (as_run result) left (S.left input.new)) }
+    ensures near { (address : List ℕ) (period : ℕ) → IsServe words.now address period
+        → IfSome (S.left input.old) (λ left. TakesFor (as_run result) left (S.left input.new)) }
     ensures nothing { (address : List ℕ) (period : ℕ) → IsServe words.now address period → result ≡ ServeStatus.ReadFault → output.new ≡ output.old }
     ensures words { (address : List ℕ) (period : ℕ) → IsServe words.now address period → result ≡ ServeStatus.Usage → ⊥ }
 

@@ -25,7 +25,19 @@ module _ (slots : Dict → Slots) (T : Table Ghosts Dict) (lawful : Lawful T) (s
       (struct_sync (shape H) (
         search (sendable, crosses) depth 100 fits 20000,
         (
-          search (sendable, crosses, box, beyond.the_send, shared.the_send, shared.the_sync, seat.the_send, lease.the_send, lease.the_sync, cells.the_send, deed.the_send) depth 100 fits 20000,
+          search (
+            sendable,
+            crosses,
+            box,
+            beyond.the_send,
+            shared.the_send,
+            shared.the_sync,
+            seat.the_send,
+            lease.the_send,
+            lease.the_sync,
+            cells.the_send,
+            deed.the_send,
+          ) depth 100 fits 20000,
           (
             search (sendable, crosses) depth 100 fits 20000,
             (search (sendable, crosses) depth 100 fits 20000, (search (sendable, crosses) depth 100 fits 20000, tt)),

@@ -39,17 +39,20 @@ only_comes m desk (Value t) w = (m, refl, refl)
 only_comes m desk (Raw t) w = (m, refl, refl)
 only_comes m desk (Block a b c d) w = (m, refl, refl)
 
-pub serves_only : (front : Front) (told : Option Machine) (desk : DeskRecord) (tales : List (Option Tale)) (item : Item) (reply : Reply) → IsWhole reply → AnswersAlone front desk item reply → AnswersAs front item reply
+pub serves_only : (front : Front) (told : Option Machine) (desk : DeskRecord) (tales : List (Option Tale)) (item : Item) (reply : Reply) → IsWhole reply
+    → AnswersAlone front desk item reply → AnswersAs front item reply
     → ((m : Machine) → act front m desk item ≡ only reply m desk) → Moves front desk tales item reply desk tales
     → Serves front told desk tales item reply told desk tales
-serves_only front told desk tales item reply w alone formed is moves = record { alone = alone; formed = formed; exact = all_comes front told told desk desk item (λ m. only reply m desk) reply is (by told); moves = moves }
+serves_only front told desk tales item reply w alone formed is moves =
+    record { alone = alone; formed = formed; exact = all_comes front told told desk desk item (λ m. only reply m desk) reply is (by told); moves = moves }
   where
     by : (told : Option Machine) → IfSome told (λ m. Comes m desk (only reply m desk) reply told desk)
     by None = tt
     by (Some m) = only_comes m desk reply w
 
 -- want of memory, before which nothing had changed
-pub serves_short : (front : Front) (told : Option Machine) (desk : DeskRecord) (tales : List (Option Tale)) (item : Item) → AnswersAlone front desk item NoMemory → Moves front desk tales item NoMemory desk tales
+pub serves_short : (front : Front) (told : Option Machine) (desk : DeskRecord) (tales : List (Option Tale)) (item : Item)
+    → AnswersAlone front desk item NoMemory → Moves front desk tales item NoMemory desk tales
     → Serves front told desk tales item NoMemory told desk tales
 serves_short front told desk tales item alone moves = record { alone = alone; formed = tt; exact = by told; moves = moves }
   where
@@ -75,25 +78,29 @@ timeout_is : (front : Front) (m : Machine) (desk : DeskRecord) (n : ℕ) → act
 unfolding act
 timeout_is front m desk n = refl
 
-pub help_serves : (front : Front) (told : Option Machine) (desk : DeskRecord) (tales : List (Option Tale)) → ServesBy front told desk tales (Said (Ok Help)) (Ok answer.Help) told desk tales
+pub help_serves : (front : Front) (told : Option Machine) (desk : DeskRecord) (tales : List (Option Tale))
+    → ServesBy front told desk tales (Said (Ok Help)) (Ok answer.Help) told desk tales
 help_serves front told desk tales = record {
   served = serves_only front told desk tales (Said (Ok Help)) help_reply tt (inl refl) tt (λ m. help_is front m desk) (refl, refl);
   short = λ long. serves_short front told desk tales (Said (Ok Help)) (inr refl) (refl, refl);
 }
 
-pub version_serves : (front : Front) (told : Option Machine) (desk : DeskRecord) (tales : List (Option Tale)) → ServesBy front told desk tales (Said (Ok Version)) (Ok answer.Version) told desk tales
+pub version_serves : (front : Front) (told : Option Machine) (desk : DeskRecord) (tales : List (Option Tale))
+    → ServesBy front told desk tales (Said (Ok Version)) (Ok answer.Version) told desk tales
 version_serves front told desk tales = record {
   served = serves_only front told desk tales (Said (Ok Version)) version_reply tt (inl refl) tt (λ m. version_is front m desk) (refl, refl);
   short = λ long. serves_short front told desk tales (Said (Ok Version)) (inr refl) (refl, refl);
 }
 
-pub print_serves : (front : Front) (told : Option Machine) (desk : DeskRecord) (tales : List (Option Tale)) → ServesBy front told desk tales (Said (Ok Print)) (Ok answer.Context) told desk tales
+pub print_serves : (front : Front) (told : Option Machine) (desk : DeskRecord) (tales : List (Option Tale))
+    → ServesBy front told desk tales (Said (Ok Print)) (Ok answer.Context) told desk tales
 print_serves front told desk tales = record {
   served = serves_only front told desk tales (Said (Ok Print)) (Value front.context) tt (inl refl) tt (λ m. print_is front m desk) (refl, refl);
   short = λ long. serves_short front told desk tales (Said (Ok Print)) (inr refl) (refl, refl);
 }
 
-pub timeout_serves : (front : Front) (told : Option Machine) (desk : DeskRecord) (tales : List (Option Tale)) (n : ℕ) → ServesBy front told desk tales (Said (Ok (Timeout n))) (Ok (answer.Number 0)) told desk tales
+pub timeout_serves : (front : Front) (told : Option Machine) (desk : DeskRecord) (tales : List (Option Tale)) (n : ℕ)
+    → ServesBy front told desk tales (Said (Ok (Timeout n))) (Ok (answer.Number 0)) told desk tales
 timeout_serves front told desk tales n = record {
   served = serves_only front told desk tales (Said (Ok (Timeout n))) zero_reply tt (inl refl) tt (λ m. timeout_is front m desk n) (refl, refl);
   short = λ long. absurd long;
@@ -136,7 +143,8 @@ has_word why (inr (inr n)) e = absurd (cc)
 pub serves_refused : (front : Front) (told : Option Machine) (desk : DeskRecord) (tales : List (Option Tale)) (why : Refused) → why ≢ Empty
     → Serves front told desk tales (Said (Err why)) (Refusal EINVAL) told desk tales
 serves_refused front told desk tales why some =
-    serves_only front told desk tales (Said (Err why)) (Refusal EINVAL) tt (refused_alone front desk why some) tt (λ m. refused_is front m desk why some) (refl, refl)
+    serves_only front told desk tales (Said (Err why)) (Refusal EINVAL) tt (refused_alone front desk why some) tt (λ m. refused_is front m desk why some)
+    (refl, refl)
 
 -- ---- what a command at a device is answered
 
@@ -147,7 +155,8 @@ by_zero front told told' desk desk' tales tales' item (Ok done) s = record { ser
 by_zero front told told' desk desk' tales tales' item (Err why) s = record { served = s; short = λ long. absurd long }
 
 -- the number of a payload's bytes
-pub by_count : (front : Front) (told told' : Option Machine) (desk desk' : DeskRecord) (tales tales' : List (Option Tale)) (item : Item) (n : ℕ) (r : Result ⊤ No)
+pub by_count : (front : Front) (told told' : Option Machine) (desk desk' : DeskRecord) (tales tales' : List (Option Tale)) (item : Item) (n : ℕ)
+    (r : Result ⊤ No)
     → Serves front told desk tales item (written_by n r) told' desk' tales' → ServesBy front told desk tales item (answer_by n r) told' desk' tales'
 by_count front told told' desk desk' tales tales' item n (Ok done) s = record { served = s; short = λ long. absurd long }
 by_count front told told' desk desk' tales tales' item n (Err (NoErrno e)) s = record { served = s; short = λ long. absurd long }
@@ -171,7 +180,8 @@ not_text (Ok answer.Context) t long = t
 not_text (Ok (answer.Trigger k)) t long = t
 not_text r t long = long
 
-pub by_text : (front : Front) (told told' : Option Machine) (desk desk' : DeskRecord) (tales tales' : List (Option Tale)) (item : Item) (r : Result Answer No) → IsText r
+pub by_text : (front : Front) (told told' : Option Machine) (desk desk' : DeskRecord) (tales tales' : List (Option Tale)) (item : Item) (r : Result Answer No)
+    → IsText r
     → Serves front told desk tales item (reply_of front r) told' desk' tales' → ServesBy front told desk tales item r told' desk' tales'
 by_text front told told' desk desk' tales tales' item r t s = record { served = s; short = λ long. absurd (not_text r t long) }
 
@@ -179,7 +189,8 @@ pub text_fits : (r : Result Answer No) → IsText r → Fits r
 text_fits (Ok (answer.Fixed digits)) t = t
 text_fits r t = tt
 
-pub text_formed : (front : Front) (device : List ℕ) (place : Place) (name : Option (List ℕ)) (r : Result Answer No) → IsText r → AnswersAs front (Said (Ok (Read device place name))) (reply_of front r)
+pub text_formed : (front : Front) (device : List ℕ) (place : Place) (name : Option (List ℕ)) (r : Result Answer No) → IsText r
+    → AnswersAs front (Said (Ok (Read device place name))) (reply_of front r)
 text_formed front device place name (Ok (answer.Fixed digits)) t = (_, refl)
 text_formed front device place name (Ok (answer.Int n)) t = (_, refl)
 text_formed front device place name (Ok (answer.Count n)) t = (_, refl)
@@ -201,7 +212,8 @@ not_event (Ok answer.Context) t long = t
 not_event (Ok (answer.Trigger k)) t long = t
 not_event r t long = long
 
-pub by_event : (front : Front) (told told' : Option Machine) (desk desk' : DeskRecord) (tales tales' : List (Option Tale)) (item : Item) (r : Result Answer No) → IsEvent r
+pub by_event : (front : Front) (told told' : Option Machine) (desk desk' : DeskRecord) (tales tales' : List (Option Tale)) (item : Item) (r : Result Answer No)
+    → IsEvent r
     → Serves front told desk tales item (reply_of front r) told' desk' tales' → ServesBy front told desk tales item r told' desk' tales'
 by_event front told told' desk desk' tales tales' item r t s = record { served = s; short = λ long. absurd (not_event r t long) }
 
@@ -266,12 +278,15 @@ may_err (Ok done) p = tt
 may_err (Err mem) p = p
 
 pub prints_no : (manner : Manner) (front : Front) (why : No) (before after : List ℕ) (r : Result ⊤ Mem)
-    → OnOk r (after ≡ before ++ text_of (reply_by (Err why))) → OnOk r (IsAllowed manner (reply_by (Err why))) → OnOk r (Prints manner front (Err why) before after)
+    → OnOk r (after ≡ before ++ text_of (reply_by (Err why))) → OnOk r (IsAllowed manner (reply_by (Err why)))
+    → OnOk r (Prints manner front (Err why) before after)
 prints_no manner front why before after (Ok done) t a = record { reply = reply_by (Err why); is = inl refl; text = t; allowed = a }
 prints_no manner front why before after (Err mem) t a = tt
 
-pub prints_text : (manner : Manner) (front : Front) (a : Answer) (before after : List ℕ) → after ≡ before ++ text_of (reply_of front (Ok a)) → Prints manner front (Ok a) before after
-prints_text manner front a before after t = record { reply = reply_of front (Ok a); is = inl refl; text = t; allowed = allowed manner (reply_of front (Ok a)) (answer_whole front a) }
+pub prints_text : (manner : Manner) (front : Front) (a : Answer) (before after : List ℕ) → after ≡ before ++ text_of (reply_of front (Ok a))
+    → Prints manner front (Ok a) before after
+prints_text manner front a before after t =
+    record { reply = reply_of front (Ok a); is = inl refl; text = t; allowed = allowed manner (reply_of front (Ok a)) (answer_whole front a) }
 
 -- a long text for which there was no memory
 pub prints_short : (manner : Manner) (front : Front) (a : Answer) (before mid after : List ℕ) (r : Result ⊤ Mem) → IsLong (Ok a) → mid ≡ before
@@ -282,7 +297,8 @@ prints_short manner front a before mid after (Err mem) long m t x = tt
 
 -- ---- an item with its answer
 
-pub performed : (manner : Manner) (front : Front) (told told' : Option Machine) (desk : DeskRecord) (tales : List (Option Tale)) (item : Item) (desk' : DeskRecord) (tales' : List (Option Tale)) (before after : List ℕ) (r : Result Answer No)
+pub performed : (manner : Manner) (front : Front) (told told' : Option Machine) (desk : DeskRecord) (tales : List (Option Tale)) (item : Item)
+    (desk' : DeskRecord) (tales' : List (Option Tale)) (before after : List ℕ) (r : Result Answer No)
     → ((reply : Reply) → IsAnswerOf item manner reply) → ServesBy front told desk tales item r told' desk' tales' → Prints manner front r before after
     → Performs manner front told told' desk tales item desk' tales' before after Done
 performed manner front told told' desk tales item desk' tales' before after r any s p = (p.reply, p.text, p.allowed, any p.reply, by p.reply p.is)
@@ -291,10 +307,13 @@ performed manner front told told' desk tales item desk' tales' before after r an
     by reply (inl e) = rw e s.served
     by reply (inr e) = rw e.0 (s.short e.1)
 
-pub performs : (manner : Manner) (front : Front) (told told' : Option Machine) (desk : DeskRecord) (tales : List (Option Tale)) (item : Item) (desk' : DeskRecord) (tales' : List (Option Tale)) (before after : List ℕ) (r : Result Answer No) (printed : Result ⊤ Mem)
-    → ((reply : Reply) → IsAnswerOf item manner reply) → ServesBy front told desk tales item r told' desk' tales' → OnOk printed (Prints manner front r before after)
+pub performs : (manner : Manner) (front : Front) (told told' : Option Machine) (desk : DeskRecord) (tales : List (Option Tale)) (item : Item)
+    (desk' : DeskRecord) (tales' : List (Option Tale)) (before after : List ℕ) (r : Result Answer No) (printed : Result ⊤ Mem)
+    → ((reply : Reply) → IsAnswerOf item manner reply) → ServesBy front told desk tales item r told' desk' tales'
+    → OnOk printed (Prints manner front r before after)
     → OnOk printed (Performs manner front told told' desk tales item desk' tales' before after Done)
-performs manner front told told' desk tales item desk' tales' before after r (Ok done) any s p = performed manner front told told' desk tales item desk' tales' before after r any s p
+performs manner front told told' desk tales item desk' tales' before after r (Ok done) any s p =
+    performed manner front told told' desk tales item desk' tales' before after r any s p
 performs manner front told told' desk tales item desk' tales' before after r (Err mem) any s p = tt
 
 -- a command that is answered at once doesn't wait
@@ -325,7 +344,8 @@ short_at_once front desk tales (EvOpen device) once = (short_at (find_device fro
 short_at_once front desk tales (EvRead device) once = (short_at (find_device front device), (refl, refl))
 short_at_once front desk tales (EvClose device) once = (short_at (find_device front device), (refl, refl))
 
-pub performs_short : (manner : Manner) (front : Front) (told : Option Machine) (desk : DeskRecord) (tales : List (Option Tale)) (command : Command) (before after : List ℕ) (r : Result ⊤ Mem) → IsAtOnce (Ok command)
+pub performs_short : (manner : Manner) (front : Front) (told : Option Machine) (desk : DeskRecord) (tales : List (Option Tale)) (command : Command)
+    (before after : List ℕ) (r : Result ⊤ Mem) → IsAtOnce (Ok command)
     → OnOk r (after ≡ before ++ text_of NoMemory) → OnOk r (IsAllowed manner NoMemory)
     → OnOk r (Performs manner front told told desk tales (Said (Ok command)) desk tales before after Done)
 performs_short manner front told desk tales command before after (Ok done) once t a =
@@ -333,6 +353,7 @@ performs_short manner front told desk tales command before after (Ok done) once 
     (NoMemory, t, a, at_once_answer manner (Ok command) once NoMemory, serves_short front told desk tales (Said (Ok command)) short.0 short.1)
 performs_short manner front told desk tales command before after (Err mem) once t a = tt
 
-pub short_written : (front : Front) (desk : DeskRecord) (device : List ℕ) (target : Option Target) (payload : List ℕ) → AnswersAlone front desk (Written device target payload) NoMemory
+pub short_written : (front : Front) (desk : DeskRecord) (device : List ℕ) (target : Option Target) (payload : List ℕ)
+    → AnswersAlone front desk (Written device target payload) NoMemory
 short_written front desk device None payload = inr refl
 short_written front desk device (Some target) payload = short_at (find_device front device)

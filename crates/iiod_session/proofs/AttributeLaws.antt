@@ -42,16 +42,20 @@ use Rattle.iiod_session.proofs.ServeLaws.{all_comes, all_refused, serves_at}
 -- ---- an attribute of the device
 
 -- a sample is no stored number
-asked_not_stored : (shape : ShapeRecord) (clock : ℤ) (c : ℕ) (st : Station) (v : Fixed) → (ensure st.site.plugged ENODEV >>= (λ free. raw_answer shape clock c st)) ≡ Ok (StoredNumber v) → {A : Type 0} → A
+asked_not_stored : (shape : ShapeRecord) (clock : ℤ) (c : ℕ) (st : Station) (v : Fixed)
+    → (ensure st.site.plugged ENODEV >>= (λ free. raw_answer shape clock c st)) ≡ Ok (StoredNumber v) → {A : Type 0} → A
 asked_not_stored shape clock c st v e = by st.site.plugged (is_empty st.members) (ask_fails st.site.driver) e
   where
-    by : (p q f : Bool) → (ensure p ENODEV >>= (λ x. ensure q EBUSY >>= (λ y. ensure (not f) EIO >>= (λ z. Ok (Int (value_of st.site.driver shape clock c 0)))))) ≡ Ok (StoredNumber v) → {A : Type 0} → A
+    by : (p q f : Bool) → (ensure p ENODEV >>=
+        (λ x. ensure q EBUSY >>= (λ y. ensure (not f) EIO >>= (λ z. Ok (Int (value_of st.site.driver shape clock c 0)))))) ≡ Ok (StoredNumber v) → {A : Type 0}
+        → A
     by false q f e = absurd (cc)
     by true false f e = absurd (cc)
     by true true true e = absurd (cc)
     by true true false e = absurd (cc)
 
-not_stored : (kind : Kind) (shape : ShapeRecord) (clock : ℤ) (c : ℕ) (st : Station) (v : Fixed) → (ensure st.site.plugged ENODEV >>= (λ free. raw_by kind shape clock c st)) ≡ Ok (StoredNumber v) → {A : Type 0} → A
+not_stored : (kind : Kind) (shape : ShapeRecord) (clock : ℤ) (c : ℕ) (st : Station) (v : Fixed)
+    → (ensure st.site.plugged ENODEV >>= (λ free. raw_by kind shape clock c st)) ≡ Ok (StoredNumber v) → {A : Type 0} → A
 not_stored Input shape clock c st v e = asked_not_stored shape clock c st v e
 not_stored (Average base window) shape clock c st v e = asked_not_stored shape clock c st v e
 not_stored Output shape clock c st v e = by st.site.plugged e
@@ -81,13 +85,16 @@ module _ {S : Type 0} (seen : S → SeatRecord) where
   -- a seat that is held has its mask
   pub held_under : (front : Front) (held : List (Held S)) (i : ℕ) (h : Held S) → i < length held → h ≡ slice_index_or held i h → AllHeld seen front held
       → (seen h.seat).mask ≡ h.mask.bits
-  held_under front held i h l e all = subst (λ (x : Held S). (seen x.seat).mask ≡ x.mask.bits) (sym e) (All-get_or (IsHeld seen front) held i h l all).owned.under
+  held_under front held i h l e all =
+      subst (λ (x : Held S). (seen x.seat).mask ≡ x.mask.bits) (sym e) (All-get_or (IsHeld seen front) held i h l all).owned.under
 
   pub counted : (told told' : Option Machine) (base : DeskRecord) (dev i n : ℕ) (a : Attr) (held : List (Held S)) (h : Held S)
       → place_of dev (seats_of seen held) ≡ Some i → i < length held → h ≡ slice_index_or held i h → (seen h.seat).mask ≡ h.mask.bits
-      → IfSome told (λ m. n ≡ buffer_number a h.capacity (length (queue_of m h.dev (seat_id (seen h.seat)))) (lost_of m h.dev (seat_id (seen h.seat))) h.discarded)
+      → IfSome told (λ m. n ≡ buffer_number a h.capacity (length (queue_of m h.dev (seat_id (seen h.seat)))) (lost_of m h.dev (seat_id (seen h.seat)))
+      h.discarded)
       → IfSome told (λ m. told' ≡ Some m)
-      → IfSome told (λ m. Comes m (with_seats (seats_of seen held) base) (read_buffer_attribute_at m (with_seats (seats_of seen held) base) a (place_of dev (seats_of seen held)))
+      → IfSome told (λ m. Comes m (with_seats (seats_of seen held) base)
+      (read_buffer_attribute_at m (with_seats (seats_of seen held) base) a (place_of dev (seats_of seen held)))
       (Value (decimal n)) told' (with_seats (seats_of seen held) base))
   counted None told' base dev i n a held h at l e under v t = tt
   counted (Some m) told' base dev i n a held h at l e under v t = let desk = with_seats (seats_of seen held) base in (
@@ -95,23 +102,28 @@ module _ {S : Type 0} (seen : S → SeatRecord) where
     t,
     ap (λ p. read_buffer_attribute_at m desk a p) at
         ∙ ap (λ s. read_buffer_attribute m desk a s) (get_is seen (bare_of seen) held i h l e)
-        ∙ ap (λ (id : MemberId). record { reply = Value (decimal (buffer_number a h.capacity (length (queue_of m h.dev id)) (lost_of m h.dev id) h.discarded)); machine = m; desk = desk })
+        ∙ ap (λ (id : MemberId). record
+        { reply = Value (decimal (buffer_number a h.capacity (length (queue_of m h.dev id)) (lost_of m h.dev id) h.discarded)); machine = m; desk = desk })
         (id_is (bare_of seen h) (seen h.seat) refl under)
         ∙ ap (λ (k : ℕ). record { reply = Value (decimal k); machine = m; desk = desk }) (sym v),
   )
 
 -- ---- what the code found is what the definitions say
 
-found_is : (front : Front) (m : Machine) (desk : DeskRecord) (dev : ℕ) (place : Place) (name : Option (List ℕ)) (is_open plugged of_buffer : Bool) (shape : ShapeRecord) (w : Result Named Errno)
+found_is : (front : Front) (m : Machine) (desk : DeskRecord) (dev : ℕ) (place : Place) (name : Option (List ℕ)) (is_open plugged of_buffer : Bool)
+    (shape : ShapeRecord) (w : Result Named Errno)
     → is_open ≡ is_some (place_of dev desk.seats) → plugged ≡ is_plugged m dev → shape ≡ shape_at front dev → of_buffer ≡ is_of_buffer place name
     → w ≡ found (kind_at front dev) shape plugged is_open place name
     → read_attribute_at front m desk place name dev ≡ read_named front m desk dev of_buffer w
 found_is front m desk dev place name is_open plugged of_buffer shape w e0 e1 e2 e3 e =
-    ap (λ b. read_named front m desk dev b (found (kind_at front dev) (shape_at front dev) (is_plugged m dev) (is_some (place_of dev desk.seats)) place name)) (sym e3)
+    ap (λ b. read_named front m desk dev b (found (kind_at front dev) (shape_at front dev) (is_plugged m dev) (is_some (place_of dev desk.seats)) place name))
+    (sym e3)
     ∙ ap (λ x. read_named front m desk dev of_buffer x) (rw (sym e0, sym e1, sym e2) (sym e))
 
-pub reads_found : (front : Front) (told told' : Option Machine) (desk : DeskRecord) (dev : ℕ) (place : Place) (name : Option (List ℕ)) (is_open plugged of_buffer : Bool) (shape : ShapeRecord) (w : Result Named Errno) (reply : Reply)
-    → is_open ≡ is_some (place_of dev desk.seats) → IfSome told (λ m. plugged ≡ is_plugged m dev) → shape ≡ shape_at front dev → of_buffer ≡ is_of_buffer place name
+pub reads_found : (front : Front) (told told' : Option Machine) (desk : DeskRecord) (dev : ℕ) (place : Place) (name : Option (List ℕ))
+    (is_open plugged of_buffer : Bool) (shape : ShapeRecord) (w : Result Named Errno) (reply : Reply)
+    → is_open ≡ is_some (place_of dev desk.seats) → IfSome told (λ m. plugged ≡ is_plugged m dev) → shape ≡ shape_at front dev
+    → of_buffer ≡ is_of_buffer place name
     → w ≡ found (kind_at front dev) shape plugged is_open place name
     → IfSome told (λ m. Comes m desk (read_named front m desk dev of_buffer w) reply told' desk)
     → IfSome told (λ m. Comes m desk (read_attribute_at front m desk place name dev) reply told' desk)
@@ -119,14 +131,16 @@ reads_found front None told' desk dev place name is_open plugged of_buffer shape
 reads_found front (Some m) told' desk dev place name is_open plugged of_buffer shape w reply e0 e1 e2 e3 e c =
     rw (found_is front m desk dev place name is_open plugged of_buffer shape w e0 e1 e2 e3 e) c
 
-write_is : (front : Front) (m : Machine) (desk : DeskRecord) (dev : ℕ) (place : Place) (name : Option (List ℕ)) (payload : List ℕ) (is_open plugged : Bool) (shape : ShapeRecord) (w : Result Assignment Errno)
+write_is : (front : Front) (m : Machine) (desk : DeskRecord) (dev : ℕ) (place : Place) (name : Option (List ℕ)) (payload : List ℕ) (is_open plugged : Bool)
+    (shape : ShapeRecord) (w : Result Assignment Errno)
     → is_open ≡ is_some (place_of dev desk.seats) → plugged ≡ is_plugged m dev → shape ≡ shape_at front dev
     → w ≡ write_found (kind_at front dev) shape plugged is_open place name payload
     → write_attribute_at front m desk place name payload dev ≡ write_assignment m desk dev (length payload) w
 write_is front m desk dev place name payload is_open plugged shape w e0 e1 e2 e =
     ap (λ x. write_assignment m desk dev (length payload) x) (rw (sym e0, sym e1, sym e2) (sym e))
 
-pub writes_found : (front : Front) (told told' : Option Machine) (desk : DeskRecord) (dev : ℕ) (place : Place) (name : Option (List ℕ)) (payload : List ℕ) (is_open plugged : Bool) (shape : ShapeRecord) (w : Result Assignment Errno) (reply : Reply)
+pub writes_found : (front : Front) (told told' : Option Machine) (desk : DeskRecord) (dev : ℕ) (place : Place) (name : Option (List ℕ)) (payload : List ℕ)
+    (is_open plugged : Bool) (shape : ShapeRecord) (w : Result Assignment Errno) (reply : Reply)
     → is_open ≡ is_some (place_of dev desk.seats) → IfSome told (λ m. plugged ≡ is_plugged m dev) → shape ≡ shape_at front dev
     → w ≡ write_found (kind_at front dev) shape plugged is_open place name payload
     → IfSome told (λ m. Comes m desk (write_assignment m desk dev (length payload) w) reply told' desk)
@@ -147,7 +161,8 @@ wrote (Some m) told' desk dev count x (Err NoMem) a = (a, refl)
 
 -- ---- the commands
 
-pub serves_read_attribute : (front : Front) (told told' : Option Machine) (desk desk' : DeskRecord) (tales tales' : List (Option Tale)) (device : List ℕ) (place : Place) (name : Option (List ℕ)) (dev : ℕ) (reply : Reply)
+pub serves_read_attribute : (front : Front) (told told' : Option Machine) (desk desk' : DeskRecord) (tales tales' : List (Option Tale)) (device : List ℕ)
+    (place : Place) (name : Option (List ℕ)) (dev : ℕ) (reply : Reply)
     → Some dev ≡ find_device front device
     → IfSome told (λ m. Comes m desk (read_attribute_at front m desk place name dev) reply told' desk)
     → desk' ≡ desk → tales' ≡ tales → AnswersAs front (Said (Ok (Read device place name))) reply
@@ -155,41 +170,55 @@ pub serves_read_attribute : (front : Front) (told told' : Option Machine) (desk 
 serves_read_attribute front told told' desk desk' tales tales' device place name dev reply e c d t formed =
     rw d (serves_at front told told' desk desk tales tales' (Read device place name) dev reply e (rw (sym e) tt) formed c (refl, t))
 
-written_is : (front : Front) (m : Machine) (desk : DeskRecord) (device : List ℕ) (place : Place) (name : Option (List ℕ)) (payload : List ℕ) (o : Option ℕ) → o ≡ find_device front device
+written_is : (front : Front) (m : Machine) (desk : DeskRecord) (device : List ℕ) (place : Place) (name : Option (List ℕ)) (payload : List ℕ) (o : Option ℕ)
+    → o ≡ find_device front device
     → act front m desk (Written device (Some (place, name)) payload) ≡ at_device m desk (λ dev. write_attribute_at front m desk place name payload dev) o
 unfolding act
 written_is front m desk device place name payload o e = ap (λ x. at_device m desk (λ dev. write_attribute_at front m desk place name payload dev) x) (sym e)
 
-written_formed : (front : Front) (device : List ℕ) (target : Target) (payload : List ℕ) (r : Result ⊤ No) → AnswersAs front (Written device (Some target) payload) (written_by (length payload) r)
+written_formed : (front : Front) (device : List ℕ) (target : Target) (payload : List ℕ) (r : Result ⊤ No)
+    → AnswersAs front (Written device (Some target) payload) (written_by (length payload) r)
 written_formed front device target payload (Ok done) = refl
 written_formed front device target payload (Err (NoErrno e)) = tt
 written_formed front device target payload (Err NoMem) = tt
 
-pub serves_write_attribute : (front : Front) (told told' : Option Machine) (desk : DeskRecord) (tales : List (Option Tale)) (device : List ℕ) (place : Place) (name : Option (List ℕ)) (payload : List ℕ) (dev : ℕ) (r : Result ⊤ No)
+pub serves_write_attribute : (front : Front) (told told' : Option Machine) (desk : DeskRecord) (tales : List (Option Tale)) (device : List ℕ) (place : Place)
+    (name : Option (List ℕ)) (payload : List ℕ) (dev : ℕ) (r : Result ⊤ No)
     → Some dev ≡ find_device front device
     → IfSome told (λ m. Comes m desk (write_attribute_at front m desk place name payload dev) (written_by (length payload) r) told' desk)
     → Serves front told desk tales (Written device (Some (place, name)) payload) (written_by (length payload) r) told' desk tales
 serves_write_attribute front told told' desk tales device place name payload dev r e c = record {
   alone = rw (sym e) tt;
   formed = written_formed front device (place, name) payload r;
-  exact = all_comes front told told' desk desk _ (λ m. write_attribute_at front m desk place name payload dev) (written_by (length payload) r) (λ m. written_is front m desk device place name payload (Some dev) e) c;
+  exact =
+      all_comes front told told' desk desk _ (λ m. write_attribute_at front m desk place name payload dev) (written_by (length payload) r)
+      (λ m. written_is front m desk device place name payload (Some dev) e) c;
   moves = (refl, refl);
 }
 
 -- at a device that isn't there
-pub serves_unwritten : (front : Front) (told : Option Machine) (desk : DeskRecord) (tales : List (Option Tale)) (device : List ℕ) (place : Place) (name : Option (List ℕ)) (payload : List ℕ) → None ≡ find_device front device
+pub serves_unwritten : (front : Front) (told : Option Machine) (desk : DeskRecord) (tales : List (Option Tale)) (device : List ℕ) (place : Place)
+    (name : Option (List ℕ)) (payload : List ℕ) → None ≡ find_device front device
     → Serves front told desk tales (Written device (Some (place, name)) payload) (Refusal ENODEV) told desk tales
 serves_unwritten front told desk tales device place name payload e =
-    record { alone = rw (sym e) (inl refl); formed = tt; exact = all_refused front told desk _ ENODEV (λ m. written_is front m desk device place name payload None e); moves = (refl, refl) }
+    record {
+      alone = rw (sym e) (inl refl);
+      formed = tt;
+      exact =
+          all_refused front told desk _ ENODEV (λ m. written_is front m desk device place name payload None e);
+      moves = (refl, refl);
+    }
 
 -- a WRITE whose words name nothing
-nameless_is : (front : Front) (m : Machine) (desk : DeskRecord) (device payload : List ℕ) → act front m desk (Written device None payload) ≡ only (Refusal EINVAL) m desk
+nameless_is : (front : Front) (m : Machine) (desk : DeskRecord) (device payload : List ℕ)
+    → act front m desk (Written device None payload) ≡ only (Refusal EINVAL) m desk
 unfolding act
 nameless_is front m desk device payload = refl
 
 pub serves_nameless : (front : Front) (told : Option Machine) (desk : DeskRecord) (tales : List (Option Tale)) (device payload : List ℕ)
     → Serves front told desk tales (Written device None payload) (Refusal EINVAL) told desk tales
-serves_nameless front told desk tales device payload = serves_only front told desk tales _ (Refusal EINVAL) tt (inl refl) tt (λ m. nameless_is front m desk device payload) (refl, refl)
+serves_nameless front told desk tales device payload =
+    serves_only front told desk tales _ (Refusal EINVAL) tt (inl refl) tt (λ m. nameless_is front m desk device payload) (refl, refl)
 
 -- ---- refusals
 
@@ -198,7 +227,8 @@ unchanged : (told : Option Machine) (desk : DeskRecord) (e : Errno) (o : Machine
 unchanged None desk e o is = tt
 unchanged (Some m) desk e o is = (m, refl, is m)
 
-pub reads_refused : (front : Front) (told : Option Machine) (desk : DeskRecord) (dev : ℕ) (place : Place) (name : Option (List ℕ)) (is_open plugged : Bool) (shape : ShapeRecord) (errno : Errno)
+pub reads_refused : (front : Front) (told : Option Machine) (desk : DeskRecord) (dev : ℕ) (place : Place) (name : Option (List ℕ)) (is_open plugged : Bool)
+    (shape : ShapeRecord) (errno : Errno)
     → is_open ≡ is_some (place_of dev desk.seats) → IfSome told (λ m. plugged ≡ is_plugged m dev) → shape ≡ shape_at front dev
     → Err errno ≡ found (kind_at front dev) shape plugged is_open place name
     → IfSome told (λ m. Comes m desk (read_attribute_at front m desk place name dev) (Refusal errno) told desk)
@@ -206,7 +236,8 @@ reads_refused front told desk dev place name is_open plugged shape errno e0 e1 e
     reads_found front told told desk dev place name is_open plugged (is_of_buffer place name) shape (Err errno) (Refusal errno) e0 e1 e2 refl e
     (unchanged told desk errno (λ m. read_named front m desk dev (is_of_buffer place name) (Err errno)) (λ m. refl))
 
-pub writes_refused : (front : Front) (told : Option Machine) (desk : DeskRecord) (dev : ℕ) (place : Place) (name : Option (List ℕ)) (payload : List ℕ) (is_open plugged : Bool) (shape : ShapeRecord) (errno : Errno)
+pub writes_refused : (front : Front) (told : Option Machine) (desk : DeskRecord) (dev : ℕ) (place : Place) (name : Option (List ℕ)) (payload : List ℕ)
+    (is_open plugged : Bool) (shape : ShapeRecord) (errno : Errno)
     → is_open ≡ is_some (place_of dev desk.seats) → IfSome told (λ m. plugged ≡ is_plugged m dev) → shape ≡ shape_at front dev
     → Err errno ≡ write_found (kind_at front dev) shape plugged is_open place name payload
     → IfSome told (λ m. Comes m desk (write_attribute_at front m desk place name payload dev) (Refusal errno) told desk)
@@ -214,7 +245,8 @@ writes_refused front told desk dev place name payload is_open plugged shape errn
     writes_found front told told desk dev place name payload is_open plugged shape (Err errno) (Refusal errno) e0 e1 e2 e
     (unchanged told desk errno (λ m. write_assignment m desk dev (length payload) (Err errno)) (λ m. refl))
 
-pub writes : (front : Front) (told told' : Option Machine) (desk : DeskRecord) (dev : ℕ) (place : Place) (name : Option (List ℕ)) (payload : List ℕ) (is_open plugged : Bool) (shape : ShapeRecord) (x : Assignment) (r : Result ⊤ No)
+pub writes : (front : Front) (told told' : Option Machine) (desk : DeskRecord) (dev : ℕ) (place : Place) (name : Option (List ℕ)) (payload : List ℕ)
+    (is_open plugged : Bool) (shape : ShapeRecord) (x : Assignment) (r : Result ⊤ No)
     → is_open ≡ is_some (place_of dev desk.seats) → IfSome told (λ m. plugged ≡ is_plugged m dev) → shape ≡ shape_at front dev
     → Ok x ≡ write_found (kind_at front dev) shape plugged is_open place name payload
     → IfSome told (λ m. Answers (write_attr_of m dev x.target.channel x.target.attribute x.value) m r told')

@@ -12,7 +12,8 @@ use Rattle.iio_mask.specs.Text.{digit_count, digits_of, mask_text}
 use Rattle.iiod_reply.specs.Reply.{block_text, closing_text, head_length, head_text, number_text, Appends, AppendsRoom, FitsInRoom}
 
 length-mask_text : (channels bits : ℕ) → length (mask_text channels bits) ≤ 16
-length-mask_text channels bits = cond_both (nat_le channels 32) w32 w64 (λ w. length (digits_of (to_be_bytes w bits)) ≤ 16) (λ _. omega arith) (λ _. omega arith)
+length-mask_text channels bits =
+    cond_both (nat_le channels 32) w32 w64 (λ w. length (digits_of (to_be_bytes w bits)) ≤ 16) (λ _. omega arith) (λ _. omega arith)
 
 length-closing : (came asked : ℕ) → length (closing_text came asked) ≤ 2
 length-closing came asked = cond_both (nat_lt came asked) (48 ∷ 10 ∷ []) [] (λ (bs : List ℕ). length bs ≤ 2) (λ _. omega arith) (λ _. omega arith)
@@ -66,7 +67,8 @@ room_stands channels most old new capacity (Ok done) a f short space = record {
 room_stands channels most old new capacity (Err mem) a f short space = absurd (cc (f (omega (arith, space, length-room channels most short))))
 
 -- the head in its room, and the scans after it
-pub headed : (channels mask most came start : ℕ) (old roomy scans out new : List ℕ) → HasRoom channels most old roomy → start ≡ length old → out ≡ roomy ++ scans
+pub headed : (channels mask most came start : ℕ) (old roomy scans out new : List ℕ) → HasRoom channels most old roomy → start ≡ length old
+    → out ≡ roomy ++ scans
     → new ≡ take start out ++ (head_text channels mask came ++ drop (start + head_length channels most) out)
     → new ≡ old ++ (head_text channels mask came ++ scans)
 headed channels mask most came start old roomy scans out new h e whole put =
@@ -85,7 +87,8 @@ pub closed : (channels mask came asked : ℕ) (old scans new ended : List ℕ) (
 closed channels mask came asked old scans new ended capacity r many short is room a f =
     let head = head_text channels mask came in
     let closing = closing_text came asked in
-    let size : length new ≡ length old + (length head + came) = ap length is ∙ length-append old (head ++ scans) ∙ omega (arith, length-append head scans, many) in
+    let size : length new ≡ length old + (length head + came) =
+    ap length is ∙ length-append old (head ++ scans) ∙ omega (arith, length-append head scans, many) in
     let fits : length new + length closing ≤ capacity = omega (arith, size, room, length-head channels mask came short, length-closing came asked) in
     appended closing new ended capacity r a f fits ∙ ap (λ xs. xs ++ closing) is ∙ append_assoc old (head ++ scans) closing
     ∙ ap (λ xs. old ++ xs) (append_assoc head scans closing) ∙ ap (λ n. old ++ (head_text channels mask n ++ (scans ++ closing_text n asked))) many

@@ -36,7 +36,8 @@ module _ {S : Type 0} {Answered : S → Item → Reply → S → Type 0} where
     replies = f.replies ++ g.replies;
     heard = f.heard ∙ ap (λ (xs : List Item). f.items ++ xs) g.heard ∙ sym (append_assoc f.items g.items rest.items);
     next = g.next ∙ f.next;
-    text = g.text ∙ ap (λ (xs : List ℕ). xs ++ flat_map text_of g.replies) f.text ∙ append_assoc before (flat_map text_of f.replies) (flat_map text_of g.replies)
+    text =
+        g.text ∙ ap (λ (xs : List ℕ). xs ++ flat_map text_of g.replies) f.text ∙ append_assoc before (flat_map text_of f.replies) (flat_map text_of g.replies)
         ∙ ap (λ (xs : List ℕ). before ++ xs) (sym (flat_map-append text_of f.replies g.replies));
     run = run_then Answered a b c f.items g.items f.replies g.replies f.run g.run;
   }
@@ -68,11 +69,13 @@ module _ {S : Type 0} {Answered : S → Item → Reply → S → Type 0} where
   }
 
 -- what the seats gave follows from the answers
-given_then : (manner : Manner) (front : Front) (items : List Item) (replies : List Reply) (seats : List Bare) (tales : List (Option Tale)) (a b : State) (left : Scanned) (going : Going)
+given_then : (manner : Manner) (front : Front) (items : List Item) (replies : List Reply) (seats : List Bare) (tales : List (Option Tale)) (a b : State)
+    (left : Scanned) (going : Going)
     → Stands manner front a left b going → AreSeated a.desk.seats a.tales
     → GivenIs front items replies seats tales a.desk.seats a.tales → GivenIs front items replies seats tales b.desk.seats b.tales
 given_then manner front items replies seats tales a b left On s seated g = rw s.0 g
-given_then manner front items replies seats tales a b left (Waits dev) s seated g = waiting_gives front items replies seats tales a b s.item EAGAIN s.served.moves seated g
+given_then manner front items replies seats tales a b left (Waits dev) s seated g =
+    waiting_gives front items replies seats tales a b s.item EAGAIN s.served.moves seated g
 given_then manner front items replies seats tales a b left Ended s seated g = rw s.0 g
 
 -- a feed, with what its seats gave
@@ -105,9 +108,11 @@ module _ {S : Type 0} {Answered : S → Item → Reply → S → Type 0} {Unansw
       → CarriesBy Answered Unanswered manner front a all before after b left going
       → CarriesBy Answered Unanswered manner front a (scan_on all bytes) before after b (scan_on left bytes) going
   feeds_more manner front a b all left before after bytes going stops f =
-      feeds_of manner front a f.mid b (scan_on all bytes) (scan_on left bytes) before after going (fed_more a f.mid all left before after bytes f.fed) (by going stops f.stands)
+      feeds_of manner front a f.mid b (scan_on all bytes) (scan_on left bytes) before after going (fed_more a f.mid all left before after bytes f.fed)
+      (by going stops f.stands)
     where
-      by : (going : Going) → going ≢ On → StandsBy Unanswered manner front f.mid left b going → StandsBy Unanswered manner front f.mid (scan_on left bytes) b going
+      by : (going : Going) → going ≢ On → StandsBy Unanswered manner front f.mid left b going
+          → StandsBy Unanswered manner front f.mid (scan_on left bytes) b going
       by On n s = absurd (n refl)
       by (Waits dev) n s = record {
         server = s.server;

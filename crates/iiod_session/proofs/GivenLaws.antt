@@ -73,7 +73,8 @@ first_from : (dev : ℕ) (seats : List Bare) (i : ℕ) → i < length seats → 
 first_from dev [] i l e = absurd (omega arith)
 first_from dev (s ∷ ss) i l e = by (λ j below at. first_from dev ss j below at) (s.dev == dev) refl i l e
   where
-    by : ((j : ℕ) → j < length ss → position_or_len (λ (x : Bare). x.dev == dev) ss ≡ j → IsFirst dev ss j) → (b : Bool) → (s.dev == dev) ≡ b → (i : ℕ) → i < length (s ∷ ss) → position_or_len (λ (x : Bare). x.dev == dev) (s ∷ ss) ≡ i → IsFirst dev (s ∷ ss) i
+    by : ((j : ℕ) → j < length ss → position_or_len (λ (x : Bare). x.dev == dev) ss ≡ j → IsFirst dev ss j) → (b : Bool) → (s.dev == dev) ≡ b → (i : ℕ)
+        → i < length (s ∷ ss) → position_or_len (λ (x : Bare). x.dev == dev) (s ∷ ss) ≡ i → IsFirst dev (s ∷ ss) i
     by rest true t zero l e = t
     by rest true t (suc i) l e = let n : 0 ≡ suc i = rw t at e in absurd (omega arith)
     by rest false t zero l e = let n : 1 + position_or_len (λ (x : Bare). x.dev == dev) ss ≡ 0 = rw t at e in absurd (omega arith)
@@ -184,7 +185,8 @@ has_kept dev i [] h = by i
     by (suc i) = refl
 has_kept dev i (x ∷ xs) h = by (λ j none. has_kept dev j xs none) (x.dev == dev) refl i
   where
-    by : ((j : ℕ) → has_seat dev xs ≡ false → has_seat dev (remove xs j) ≡ false) → (b : Bool) → (x.dev == dev) ≡ b → (i : ℕ) → has_seat dev (remove (x ∷ xs) i) ≡ false
+    by : ((j : ℕ) → has_seat dev xs ≡ false → has_seat dev (remove xs j) ≡ false) → (b : Bool) → (x.dev == dev) ≡ b → (i : ℕ)
+        → has_seat dev (remove (x ∷ xs) i) ≡ false
     by rest true e i = let c : true ≡ false = rw e at h in cc
     by rest false e zero = rw e at h
     by rest false e (suc i) = rw e (rest i (rw e at h))
@@ -208,7 +210,8 @@ length_kept (suc i) (x ∷ xs) (y ∷ ys) l = let more : length (remove ys i) �
 
 -- ---- a seat that is read
 
-tale_set : (k dev i : ℕ) (seats : List Bare) (tales : List (Option Tale)) (tale tale' : Option Tale) → IsFirst k seats i → slice_get tales i ≡ Some tale → (k == dev) ≡ true
+tale_set : (k dev i : ℕ) (seats : List Bare) (tales : List (Option Tale)) (tale tale' : Option Tale) → IsFirst k seats i → slice_get tales i ≡ Some tale
+    → (k == dev) ≡ true
     → (tale_at dev seats tales ≡ tale) × (tale_at dev seats (slice_set tales i tale') ≡ tale')
 tale_set k dev i [] tales tale tale' f g e = absurd f
 tale_set k dev zero (x ∷ xs) [] tale tale' f g e = cc
@@ -251,7 +254,8 @@ none_given : (y : Option Tale) (x : Tale) → y ≡ option_map (λ (z : Tale). f
 none_given None x f e = cc
 none_given (Some y) x f e = let first : Some x ≡ Some first_tale = sym e ∙ f in let here : x ≡ first_tale = cc in ap (λ (z : Tale). z.given) here
 
-opened : (front : Front) (device text : List ℕ) (samples : ℕ) (cyclic : Bool) (n : ℤ) (s : Bare) (t : Option Tale) (seats : List Bare) (tales : List (Option Tale))
+opened : (front : Front) (device text : List ℕ) (samples : ℕ) (cyclic : Bool) (n : ℤ) (s : Bare) (t : Option Tale) (seats : List Bare)
+    (tales : List (Option Tale))
     → find_device front device ≡ Some s.dev → place_of s.dev seats ≡ None → t ≡ option_map (λ (x : Tale). first_tale) t → AreSeated seats tales
     → Keeps front (Said (Ok (Open device samples text cyclic))) (Number n) seats tales (seats ++ s ∷ []) (tales ++ t ∷ [])
 opened front device text samples cyclic n s t seats tales named free fresh a = (
@@ -270,21 +274,24 @@ opened front device text samples cyclic n s t seats tales named free fresh a = (
         rw (named, here) (none_given t x fresh last)
     by given is dev x e false here = rw (named, here) (is dev x (sym (tale_before dev seats tales s t a.told here) ∙ e))
 
-closed : (front : Front) (device : List ℕ) (n : ℤ) (k i : ℕ) (seats : List Bare) (tales : List (Option Tale)) → place_of k seats ≡ Some i → AreSeated seats tales
+closed : (front : Front) (device : List ℕ) (n : ℤ) (k i : ℕ) (seats : List Bare) (tales : List (Option Tale)) → place_of k seats ≡ Some i
+    → AreSeated seats tales
     → Keeps front (Said (Ok (Close device))) (Number n) seats tales (remove seats i) (remove tales i)
 closed front device n k i seats tales at a = (
   record { apart = apart_kept i seats a.apart; told = length_kept i seats tales a.told },
   λ given is dev x e. by given is dev x e (k == dev) refl,
 )
   where
-    by : (given : ℕ → List (List ℕ)) → IsTold given seats tales → (dev : ℕ) (x : Tale) → tale_at dev (remove seats i) (remove tales i) ≡ Some x → (b : Bool) → (k == dev) ≡ b → x.given ≡ given dev
+    by : (given : ℕ → List (List ℕ)) → IsTold given seats tales → (dev : ℕ) (x : Tale) → tale_at dev (remove seats i) (remove tales i) ≡ Some x → (b : Bool)
+        → (k == dev) ≡ b → x.given ≡ given dev
     by given is dev x e true here = let n : None ≡ Some x = sym (tale_gone k dev i seats tales (place_first k seats i at) a.apart here) ∙ e in cc
     by given is dev x e false here = is dev x (sym (tale_kept k dev i seats tales (place_first k seats i at) here) ∙ e)
 
 -- ---- REMASK
 
 -- another seat at the same device, in the place of one
-has_under : (dev i : ℕ) (seats : List Bare) (s s' : Bare) → slice_get seats i ≡ Some s → s'.dev ≡ s.dev → has_seat dev (slice_set seats i s') ≡ has_seat dev seats
+has_under : (dev i : ℕ) (seats : List Bare) (s s' : Bare) → slice_get seats i ≡ Some s → s'.dev ≡ s.dev
+    → has_seat dev (slice_set seats i s') ≡ has_seat dev seats
 has_under dev i [] s s' here same = cc
 has_under dev zero (x ∷ xs) s s' here same = let one : s ≡ x = cc in ap (λ (n : ℕ). (n == dev) || has_seat dev xs) (same ∙ ap (λ (b : Bare). b.dev) one)
 has_under dev (suc i) (x ∷ xs) s s' here same = ap (λ (b : Bool). (x.dev == dev) || b) (has_under dev i xs s s' here same)
@@ -351,19 +358,23 @@ block_given : (want : ℕ) (scans : List (List ℕ)) (g : List (List ℕ)) (tale
     → ((x : Tale) → tale ≡ Some x → x.given ≡ g) → (x : Tale) → tale' ≡ Some x → x.given ≡ g ++ scans
 block_given want scans g tale tale' r is x e = elim r.grown [
   | inl h ↦ scans_given scans g tale tale' h.1 is x e
-  | inr h ↦ nothing_given h.0 (g ++ scans) (option_map (after_scans scans) tale) tale' h.1 (scans_given scans g tale (option_map (after_scans scans) tale) refl is) x e
+  | inr h ↦ nothing_given h.0 (g ++ scans) (option_map (after_scans scans) tale) tale' h.1
+      (scans_given scans g tale (option_map (after_scans scans) tale) refl is) x e
 ]
 
 -- at the device itself
-reads_given : (front : Front) (device : List ℕ) (bytes channels mask want asked dev : ℕ) (reply : Reply) (g : List (List ℕ)) (tale tale' : Option Tale) → is_named front device dev ≡ true
+reads_given : (front : Front) (device : List ℕ) (bytes channels mask want asked dev : ℕ) (reply : Reply) (g : List (List ℕ)) (tale tale' : Option Tale)
+    → is_named front device dev ≡ true
     → ReadsAs channels mask want asked reply tale tale' → ((x : Tale) → tale ≡ Some x → x.given ≡ g) → (x : Tale) → tale' ≡ Some x
     → x.given ≡ given_by front dev (Said (Ok (ReadBuf device bytes))) reply g
-reads_given front device bytes channels mask want asked dev (Block c m scans b) g tale tale' named r is x e = rw named (block_given want scans g tale tale' r.3 is x e)
+reads_given front device bytes channels mask want asked dev (Block c m scans b) g tale tale' named r is x e =
+    rw named (block_given want scans g tale tale' r.3 is x e)
 reads_given front device bytes channels mask want asked dev (Refusal EAGAIN) g tale tale' named r is x e = nothing_given false g tale tale' r is x e
 reads_given front device bytes channels mask want asked dev (Refusal ENODEV) g tale tale' named r is x e = nothing_given true g tale tale' r is x e
 reads_given front device bytes channels mask want asked dev reply g tale tale' named r is x e = absurd r
 
-at_seat : (front : Front) (device : List ℕ) (s : Bare) (asked dev : ℕ) (reply : Reply) (g : List (List ℕ)) (tale tale' : Option Tale) → is_named front device dev ≡ true
+at_seat : (front : Front) (device : List ℕ) (s : Bare) (asked dev : ℕ) (reply : Reply) (g : List (List ℕ)) (tale tale' : Option Tale)
+    → is_named front device dev ≡ true
     → ReadMoves front s asked reply tale tale' → ((x : Tale) → tale ≡ Some x → x.given ≡ g) → (x : Tale) → tale' ≡ Some x
     → x.given ≡ given_by front dev (Said (Ok (ReadBuf device asked))) reply g
 at_seat front device s asked dev reply g tale tale' named r is x e = by (nat_lt asked (size_at front s.dev s.mask)) refl
@@ -373,44 +384,57 @@ at_seat front device s asked dev reply g tale tale' named r is x e = by (nat_lt 
     by false less = reads_given front device asked _ _ _ asked dev reply g tale tale' named (rw less at r) is x e
 
 -- at another device
-not_named : (front : Front) (device : List ℕ) (asked dev : ℕ) (reply : Reply) (g : List (List ℕ)) → is_named front device dev ≡ false → given_by front dev (Said (Ok (ReadBuf device asked))) reply g ≡ g
+not_named : (front : Front) (device : List ℕ) (asked dev : ℕ) (reply : Reply) (g : List (List ℕ)) → is_named front device dev ≡ false
+    → given_by front dev (Said (Ok (ReadBuf device asked))) reply g ≡ g
 not_named front device asked dev (Block c m scans b) g n = rw n refl
 not_named front device asked dev reply g n = refl
 
-read_at : (front : Front) (device : List ℕ) (asked k i : ℕ) (reply : Reply) (seats : List Bare) (tales tales' : List (Option Tale)) → find_device front device ≡ Some k → place_of k seats ≡ Some i
+read_at : (front : Front) (device : List ℕ) (asked k i : ℕ) (reply : Reply) (seats : List Bare) (tales tales' : List (Option Tale))
+    → find_device front device ≡ Some k → place_of k seats ≡ Some i
     → ReadsAt front asked seats tales i reply tales' → AreSeated seats tales → Keeps front (Said (Ok (ReadBuf device asked))) reply seats tales seats tales'
 read_at front device asked k i reply seats tales tales' named at r a = rw r.after (
   record { apart = a.apart; told = length-set tales i r.tale' ∙ a.told },
   λ given is dev x e. by given is dev x e (k == dev) refl,
 )
   where
-    by : (given : ℕ → List (List ℕ)) → IsTold given seats tales → (dev : ℕ) (x : Tale) → tale_at dev seats (slice_set tales i r.tale') ≡ Some x → (b : Bool) → (k == dev) ≡ b
+    by : (given : ℕ → List (List ℕ)) → IsTold given seats tales → (dev : ℕ) (x : Tale) → tale_at dev seats (slice_set tales i r.tale') ≡ Some x → (b : Bool)
+        → (k == dev) ≡ b
         → x.given ≡ given_by front dev (Said (Ok (ReadBuf device asked))) reply (given dev)
     by given is dev x e true here =
         let both = tale_set k dev i seats tales r.tale r.tale' (place_first k seats i at) r.before here in
-        at_seat front device r.s asked dev reply (given dev) r.tale r.tale' (named_is front device k dev named ∙ here) r.reads (λ y f. is dev y (both.0 ∙ f)) x (sym both.1 ∙ e)
+        at_seat front device r.s asked dev reply (given dev) r.tale r.tale' (named_is front device k dev named ∙ here) r.reads (λ y f. is dev y (both.0 ∙ f)) x
+        (sym both.1 ∙ e)
     by given is dev x e false here =
         is dev x (sym (tale_other k dev i seats tales r.tale' (place_first k seats i at) here) ∙ e)
         ∙ sym (not_named front device asked dev reply (given dev) (named_is front device k dev named ∙ here))
 
-refusal_gives : (front : Front) (e : Errno) (device : List ℕ) (asked dev : ℕ) (g : List (List ℕ)) → given_by front dev (Said (Ok (ReadBuf device asked))) (Refusal e) g ≡ g
+refusal_gives : (front : Front) (e : Errno) (device : List ℕ) (asked dev : ℕ) (g : List (List ℕ))
+    → given_by front dev (Said (Ok (ReadBuf device asked))) (Refusal e) g ≡ g
 refusal_gives front e device asked dev g = refl
 
-read_by : (front : Front) (device : List ℕ) (asked k : ℕ) (place : Option ℕ) (reply : Reply) (seats : List Bare) (tales tales' : List (Option Tale)) → find_device front device ≡ Some k → place_of k seats ≡ place
+read_by : (front : Front) (device : List ℕ) (asked k : ℕ) (place : Option ℕ) (reply : Reply) (seats : List Bare) (tales tales' : List (Option Tale))
+    → find_device front device ≡ Some k → place_of k seats ≡ place
     → ReadsBy front asked seats tales place reply tales' → AreSeated seats tales → Keeps front (Said (Ok (ReadBuf device asked))) reply seats tales seats tales'
-read_by front device asked k None reply seats tales tales' named at r a = rw r.0 (same front (Said (Ok (ReadBuf device asked))) (Refusal EBADF) seats seats tales tales' refl r.1 (refusal_gives front EBADF device asked) a)
+read_by front device asked k None reply seats tales tales' named at r a =
+    rw r.0 (same front (Said (Ok (ReadBuf device asked))) (Refusal EBADF) seats seats tales tales' refl r.1 (refusal_gives front EBADF device asked) a)
 read_by front device asked k (Some i) reply seats tales tales' named at r a = read_at front device asked k i reply seats tales tales' named at r a
 
-read_from : (front : Front) (device : List ℕ) (asked : ℕ) (dev : Option ℕ) (reply : Reply) (seats : List Bare) (tales tales' : List (Option Tale)) → find_device front device ≡ dev
+read_from : (front : Front) (device : List ℕ) (asked : ℕ) (dev : Option ℕ) (reply : Reply) (seats : List Bare) (tales tales' : List (Option Tale))
+    → find_device front device ≡ dev
     → ReadsFrom front asked seats tales dev reply tales' → AreSeated seats tales → Keeps front (Said (Ok (ReadBuf device asked))) reply seats tales seats tales'
-read_from front device asked None reply seats tales tales' named r a = rw r.0 (same front (Said (Ok (ReadBuf device asked))) (Refusal ENODEV) seats seats tales tales' refl r.1 (refusal_gives front ENODEV device asked) a)
+read_from front device asked None reply seats tales tales' named r a =
+    rw r.0 (same front (Said (Ok (ReadBuf device asked))) (Refusal ENODEV) seats seats tales tales' refl r.1 (refusal_gives front ENODEV device asked) a)
 read_from front device asked (Some k) reply seats tales tales' named r a = by (is_output (kind_at front k)) r
   where
-    unread : (reply : Reply) → (reply ≡ Refusal ENODEV) ⊎ (reply ≡ Refusal ENOSYS) → tales' ≡ tales → Keeps front (Said (Ok (ReadBuf device asked))) reply seats tales seats tales'
-    unread reply (inl is) t = rw is (same front (Said (Ok (ReadBuf device asked))) (Refusal ENODEV) seats seats tales tales' refl t (refusal_gives front ENODEV device asked) a)
-    unread reply (inr is) t = rw is (same front (Said (Ok (ReadBuf device asked))) (Refusal ENOSYS) seats seats tales tales' refl t (refusal_gives front ENOSYS device asked) a)
+    unread : (reply : Reply) → (reply ≡ Refusal ENODEV) ⊎ (reply ≡ Refusal ENOSYS) → tales' ≡ tales
+        → Keeps front (Said (Ok (ReadBuf device asked))) reply seats tales seats tales'
+    unread reply (inl is) t =
+        rw is (same front (Said (Ok (ReadBuf device asked))) (Refusal ENODEV) seats seats tales tales' refl t (refusal_gives front ENODEV device asked) a)
+    unread reply (inr is) t =
+        rw is (same front (Said (Ok (ReadBuf device asked))) (Refusal ENOSYS) seats seats tales tales' refl t (refusal_gives front ENOSYS device asked) a)
 
-    by : (b : Bool) → MatchBool b (((reply ≡ Refusal ENODEV) ⊎ (reply ≡ Refusal ENOSYS)) × (tales' ≡ tales)) (ReadsBy front asked seats tales (place_of k seats) reply tales')
+    by : (b : Bool) → MatchBool b (((reply ≡ Refusal ENODEV) ⊎ (reply ≡ Refusal ENOSYS)) × (tales' ≡ tales))
+        (ReadsBy front asked seats tales (place_of k seats) reply tales')
         → Keeps front (Said (Ok (ReadBuf device asked))) reply seats tales seats tales'
     by true x = unread reply x.0 x.1
     by false x = read_by front device asked k (place_of k seats) reply seats tales tales' named refl x a
@@ -428,20 +452,26 @@ moved front desk desk' tales tales' (Said (Ok (Close device))) (Number n) a m =
     rw (ap (λ (d : DeskRecord). d.seats) m.gone, m.told) (closed front device n m.dev m.i desk.seats tales m.at a)
 moved front desk desk' tales tales' (Said (Ok (Remask device text))) (Number n) a m =
     rw (ap (λ (d : DeskRecord). d.seats) m.2.under, m.2.told)
-    (remasked front device text n m.2.i m.2.s (bare_remasked m.2.mask m.2.waiting m.2.s) m.2.t desk.seats tales (m.1 ∙ ap (λ (k : ℕ). Some k) (sym m.2.its)) (ap (λ (k : ℕ). place_of k desk.seats) m.2.its ∙ m.2.at) m.2.here refl m.2.fresh a)
-moved front desk desk' tales tales' (Said (Ok (ReadBuf device asked))) NoMemory a m = same front (Said (Ok (ReadBuf device asked))) NoMemory _ _ _ _ (seats_in desk desk' m.0) m.1 (λ dev g. refl) a
+    (remasked front device text n m.2.i m.2.s (bare_remasked m.2.mask m.2.waiting m.2.s) m.2.t desk.seats tales (m.1 ∙ ap (λ (k : ℕ). Some k) (sym m.2.its))
+    (ap (λ (k : ℕ). place_of k desk.seats) m.2.its ∙ m.2.at) m.2.here refl m.2.fresh a)
+moved front desk desk' tales tales' (Said (Ok (ReadBuf device asked))) NoMemory a m =
+    same front (Said (Ok (ReadBuf device asked))) NoMemory _ _ _ _ (seats_in desk desk' m.0) m.1 (λ dev g. refl) a
 moved front desk desk' tales tales' (Said (Ok (ReadBuf device asked))) reply a m =
     rw (seats_in desk desk' m.0) (read_from front device asked (find_device front device) reply desk.seats tales tales' refl m.1 a)
-moved front desk desk' tales tales' (Said (Ok (SetBuffers device n))) (Number z) a m = same front (Said (Ok (SetBuffers device n))) (Number z) _ _ _ _ (ap (λ (d : DeskRecord). d.seats) m.made) m.told (λ dev g. refl) a
-moved front desk desk' tales tales' (Said (Ok (EvOpen device))) (Number z) a m = same front (Said (Ok (EvOpen device))) (Number z) _ _ _ _ (ap (λ (d : DeskRecord). d.seats) m.made) m.told (λ dev g. refl) a
-moved front desk desk' tales tales' (Said (Ok (EvClose device))) (Number z) a m = same front (Said (Ok (EvClose device))) (Number z) _ _ _ _ (ap (λ (d : DeskRecord). d.seats) m.made) m.told (λ dev g. refl) a
+moved front desk desk' tales tales' (Said (Ok (SetBuffers device n))) (Number z) a m =
+    same front (Said (Ok (SetBuffers device n))) (Number z) _ _ _ _ (ap (λ (d : DeskRecord). d.seats) m.made) m.told (λ dev g. refl) a
+moved front desk desk' tales tales' (Said (Ok (EvOpen device))) (Number z) a m =
+    same front (Said (Ok (EvOpen device))) (Number z) _ _ _ _ (ap (λ (d : DeskRecord). d.seats) m.made) m.told (λ dev g. refl) a
+moved front desk desk' tales tales' (Said (Ok (EvClose device))) (Number z) a m =
+    same front (Said (Ok (EvClose device))) (Number z) _ _ _ _ (ap (λ (d : DeskRecord). d.seats) m.made) m.told (λ dev g. refl) a
 moved front desk desk' tales tales' (End error) reply a m =
     rw (ap (λ (d : DeskRecord). d.seats) m.1, m.2) (record { apart = tt; told = refl }, λ given is dev x e. let n : None ≡ Some x = e in cc)
 moved front desk desk' tales tales' item reply a m = same front item reply _ _ _ _ (seats_in desk desk' m.0) m.1 (λ dev g. refl) a
 
 -- ---- a whole feed
 
-pub run_gives : (manner : Manner) (front : Front) (a b : State) (items : List Item) (replies : List Reply) → Run manner front a items replies b → AreSeated a.desk.seats a.tales
+pub run_gives : (manner : Manner) (front : Front) (a b : State) (items : List Item) (replies : List Reply) → Run manner front a items replies b
+    → AreSeated a.desk.seats a.tales
     → AreSeated b.desk.seats b.tales
     × ((given : ℕ → List (List ℕ)) → IsTold given a.desk.seats a.tales → IsTold (λ dev. given_after front dev items replies (given dev)) b.desk.seats b.tales)
 run_gives manner front a b [] [] r s = rw r (s, λ given is dev x e. is dev x e)
@@ -455,9 +485,11 @@ run_gives manner front a b (x ∷ xs) (y ∷ ys) r s =
 first_told : (seats : List Bare) (tales : List (Option Tale)) → IsTold (λ dev. given_in (tale_at dev seats tales)) seats tales
 first_told seats tales dev t e = ap (λ (x : Option Tale). given_in x) (sym e)
 
-pub gives : (manner : Manner) (front : Front) (a b : State) (items : List Item) (replies : List Reply) → Run manner front a items replies b → AreSeated a.desk.seats a.tales
+pub gives : (manner : Manner) (front : Front) (a b : State) (items : List Item) (replies : List Reply) → Run manner front a items replies b
+    → AreSeated a.desk.seats a.tales
     → GivenIs front items replies a.desk.seats a.tales b.desk.seats b.tales
-gives manner front a b items replies r s = (run_gives manner front a b items replies r s).1 (λ dev. given_in (tale_at dev a.desk.seats a.tales)) (first_told a.desk.seats a.tales)
+gives manner front a b items replies r s =
+    (run_gives manner front a b items replies r s).1 (λ dev. given_in (tale_at dev a.desk.seats a.tales)) (first_told a.desk.seats a.tales)
 
 -- a READBUF that finds nothing gives nothing
 none_gives : (front : Front) (dev : ℕ) (item : Item) (e : Errno) (g : List (List ℕ)) → given_by front dev item (Refusal e) g ≡ g
@@ -469,7 +501,8 @@ none_gives front dev item e g = by item
     by (Said (Ok (Remask device text))) = refl
     by item = refl
 
-pub waiting_gives : (front : Front) (items : List Item) (replies : List Reply) (seats : List Bare) (tales : List (Option Tale)) (a b : State) (item : Item) (e : Errno)
+pub waiting_gives : (front : Front) (items : List Item) (replies : List Reply) (seats : List Bare) (tales : List (Option Tale)) (a b : State) (item : Item)
+    (e : Errno)
     → Moves front a.desk a.tales item (Refusal e) b.desk b.tales → AreSeated a.desk.seats a.tales
     → GivenIs front items replies seats tales a.desk.seats a.tales → GivenIs front items replies seats tales b.desk.seats b.tales
 waiting_gives front items replies seats tales a b item e m s g dev x at =

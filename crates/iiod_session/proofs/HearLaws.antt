@@ -83,13 +83,20 @@ module _ {W : Type 0} {makes : Front → Option Machine → ℕ → Item → W �
       (fed_one (scene a w false) (scene b v false) (ended_by error) (no_item AtEnd) before after (End error) (end_reply error) refl refl text
       (record {
         tells = tells;
-        answered = record { allowed = end_allowed manner error; answer = tt; served = record { alone = end_alone front a.desk error; formed = end_formed front error; exact = end_acts front a b error t d; moves = (refl, d, none) } };
+        answered =
+            record {
+              allowed = end_allowed manner error;
+              answer = tt;
+              served =
+                  record { alone = end_alone front a.desk error; formed = end_formed front error; exact = end_acts front a b error t d; moves = (refl, d, none) };
+            };
         next = refl;
       }))
       (refl, refl)
 
   -- the end of a connection, as `end` makes it
-  pub end_feeds : {S : Type 0} (seen : S → SeatRecord) (manner : Manner) (front : Front) (a b : State) (w v : W) (held : List (Held S)) (error : Option Errno) (before after : List ℕ)
+  pub end_feeds : {S : Type 0} (seen : S → SeatRecord) (manner : Manner) (front : Front) (a b : State) (w v : W) (held : List (Held S)) (error : Option Errno)
+      (before after : List ℕ)
       → makes front a.told a.desk.who (End error) w v
       → after ≡ before ++ text_of (end_reply error)
       → IfSome a.told (λ m. b.told ≡ Some (left_machine front m a.desk)) → b.desk ≡ left_desk a.desk → b.tales ≡ tales_of seen held → held ≡ []
@@ -98,7 +105,8 @@ module _ {W : Type 0} {makes : Front → Option Machine → ℕ → Item → W �
       ends manner front a b w v error before after tells text t d (tales ∙ none_seen seen held none)
 
 -- a line that ends the connection
-pub ended_line : {W : Type 0} (makes : Front → Option Machine → ℕ → Item → W → W → Type 0) (manner : Manner) (front : Front) (a b : State) (w v : W) (error : Option Errno) (all : Scanned) (before after : List ℕ) (lines : LinesRecord) (pending : PendingRecord) (r : Result Going Mem)
+pub ended_line : {W : Type 0} (makes : Front → Option Machine → ℕ → Item → W → W → Type 0) (manner : Manner) (front : Front) (a b : State) (w v : W)
+    (error : Option Errno) (all : Scanned) (before after : List ℕ) (lines : LinesRecord) (pending : PendingRecord) (r : Result Going Mem)
     → all ≡ ended_by error → IfOk r (λ going. going ≡ Ended)
     → IfOk r (λ going. Hears makes manner front (scene a w false) (ended_by error) before after (scene b v false) (no_item AtEnd) going)
     → IfOk r (λ going. Hears makes manner front (scene a w false) all before after (scene b v (is_waiting going)) (stream_by going lines pending) going)
@@ -107,7 +115,8 @@ ended_line makes manner front a b w v error all before after lines pending (Ok O
 ended_line makes manner front a b w v error all before after lines pending (Ok (Waits dev)) is e f = cc
 ended_line makes manner front a b w v error all before after lines pending (Err fault) is e f = tt
 
-pub ended_ready : (lines : LinesRecord) (pending : PendingRecord) (r : Result Going Mem) → IfOk r (λ going. going ≡ Ended) → IfOk r (λ going. IsReady going lines pending)
+pub ended_ready : (lines : LinesRecord) (pending : PendingRecord) (r : Result Going Mem) → IfOk r (λ going. going ≡ Ended)
+    → IfOk r (λ going. IsReady going lines pending)
 ended_ready lines pending (Ok Ended) e = tt
 ended_ready lines pending (Ok On) e = cc
 ended_ready lines pending (Ok (Waits dev)) e = cc
@@ -118,15 +127,18 @@ ended_ready lines pending (Err fault) e = tt
 pub exit_line : (line : List ℕ) → command_of line ≡ Ok Exit → after_line line ≡ ended_by None
 exit_line line e = ap (λ said. after_said said) e
 
-pub overlong_line : (line : List ℕ) (of : Pending) (count : ℕ) → after_line line ≡ payload_begun of count → MAX_PAYLOAD < count → after_line line ≡ ended_by (Some EFBIG)
+pub overlong_line : (line : List ℕ) (of : Pending) (count : ℕ) → after_line line ≡ payload_begun of count → MAX_PAYLOAD < count
+    → after_line line ≡ ended_by (Some EFBIG)
 overlong_line line of count e more = e ∙ rw (let b : nat_lt MAX_PAYLOAD count ≡ true = grind arith in b) refl
 
 -- the line of a command whose payload comes next
-payload_stream : (line : List ℕ) (of : Pending) (count : ℕ) (kept : PendingRecord) → after_line line ≡ payload_begun of count → count ≤ MAX_PAYLOAD → pending_of kept ≡ of
+payload_stream : (line : List ℕ) (of : Pending) (count : ℕ) (kept : PendingRecord) → after_line line ≡ payload_begun of count → count ≤ MAX_PAYLOAD
+    → pending_of kept ≡ of
     → after_line line ≡ stream_by On (record (after_piece line) { wanted = Some count }) kept
 payload_stream line of count kept e within is = e ∙ rw ((let b : nat_lt MAX_PAYLOAD count ≡ false = grind arith in b), is) refl
 
-pub payload_feeds : {W : Type 0} {makes : Front → Option Machine → ℕ → Item → W → W → Type 0} (manner : Manner) (front : Front) (a : State) (w : W) (line : List ℕ) (of : Pending) (count : ℕ) (before : List ℕ) (lines : LinesRecord) (kept : PendingRecord)
+pub payload_feeds : {W : Type 0} {makes : Front → Option Machine → ℕ → Item → W → W → Type 0} (manner : Manner) (front : Front) (a : State) (w : W)
+    (line : List ℕ) (of : Pending) (count : ℕ) (before : List ℕ) (lines : LinesRecord) (kept : PendingRecord)
     → after_line line ≡ payload_begun of count → count ≤ MAX_PAYLOAD → lines ≡ record (after_piece line) { wanted = Some count } → pending_of kept ≡ of
     → Hears makes manner front (scene a w false) (after_line line) before before (scene a w false) (stream_by On lines kept) On
 payload_feeds manner front a w line of count before lines kept e within is same =
@@ -144,11 +156,13 @@ abbrev pub going_of : Performed → Going
 going_of Done = On
 going_of (PerformedWaits dev) = Waits dev
 
-pub plain_feeds : {W : Type 0} {makes : Front → Option Machine → ℕ → Item → W → W → Type 0} (manner : Manner) (front : Front) (a b : State) (w v : W) (told : Bool) (line : List ℕ) (kept : PendingRecord) (said : Result Command Refused) (lines : LinesRecord) (before after : List ℕ) (p : Performed)
+pub plain_feeds : {W : Type 0} {makes : Front → Option Machine → ℕ → Item → W → W → Type 0} (manner : Manner) (front : Front) (a b : State) (w v : W)
+    (told : Bool) (line : List ℕ) (kept : PendingRecord) (said : Result Command Refused) (lines : LinesRecord) (before after : List ℕ) (p : Performed)
     → command_of line ≡ said → IsPlain said → lines ≡ after_piece line
     → Tells makes manner front (scene a w told) (Said said) v
     → Performs manner front a.told b.told a.desk a.tales (Said said) b.desk b.tales before after p
-    → Hears makes manner front (scene a w told) (after_line line) before after (scene b v (is_waiting (going_of p))) (stream_by (going_of p) lines kept) (going_of p)
+    → Hears makes manner front (scene a w told) (after_line line) before after (scene b v (is_waiting (going_of p))) (stream_by (going_of p) lines kept)
+    (going_of p)
 plain_feeds manner front a b w v told line kept said lines before after Done e plain is tells x =
     let all : after_line line ≡ one_item (Said said) = ap (λ z. after_said z) e ∙ plain_line said plain in
     let left : stream_by On lines kept ≡ no_item (InLine []) = rw is refl in
@@ -160,7 +174,15 @@ plain_feeds manner front a b w v told line kept said lines before after (Perform
     let left : stream_by (Waits dev) lines kept ≡ one_item (Said said) = rw is all in
     feeds_of manner front (scene a w told) (scene a w told) (scene b v true) (after_line line) (stream_by (Waits dev) lines kept) before after (Waits dev)
     (rw (all, left, x.0) (fed_none (scene a w told) (one_item (Said said)) before))
-    (record { server = x.1; item = Said said; more = []; first = ap (λ (z : Scanned). z.items) left; read = x.2; served = record { tells = tells; served = x.3; put = refl } })
+    (record {
+      server = x.1;
+      item = Said said;
+      more = [];
+      first = ap (λ (z : Scanned). z.items) left;
+      read = x.2;
+      served =
+          record { tells = tells; served = x.3; put = refl };
+    })
 
 -- a line that is answered at once
 pub once_plain : (said : Result Command Refused) → IsAtOnce said → IsPlain said
@@ -173,7 +195,8 @@ no_wait : (front : Front) (dev : ℕ) (said : Result Command Refused) → IsAtOn
 no_wait front dev (Ok (ReadBuf device asked)) once r = absurd once
 no_wait front dev said once r = r
 
-pub at_once_feeds : {W : Type 0} {makes : Front → Option Machine → ℕ → Item → W → W → Type 0} (manner : Manner) (front : Front) (a b : State) (w v : W) (kept : PendingRecord) (said : Result Command Refused) (lines : LinesRecord) (before after : List ℕ) (p : Performed)
+pub at_once_feeds : {W : Type 0} {makes : Front → Option Machine → ℕ → Item → W → W → Type 0} (manner : Manner) (front : Front) (a b : State) (w v : W)
+    (kept : PendingRecord) (said : Result Command Refused) (lines : LinesRecord) (before after : List ℕ) (p : Performed)
     → lines ≡ after_piece lines.piece → command_of lines.piece ≡ said → IsAtOnce said
     → makes front a.told a.desk.who (Said said) w v
     → Performs manner front a.told b.told a.desk a.tales (Said said) b.desk b.tales before after p
@@ -188,24 +211,30 @@ no_read : (front : Front) (dev : ℕ) (of : Pending) (payload : List ℕ) → Is
 no_read front dev (OfWrite device target) payload r = r
 no_read front dev (OfWriteBuf device) payload r = r
 
-pub written_feeds : {W : Type 0} {makes : Front → Option Machine → ℕ → Item → W → W → Type 0} (manner : Manner) (front : Front) (a b : State) (w v : W) (lines : LinesRecord) (kept : PendingRecord) (of : Pending) (payload before after : List ℕ) (p : Performed)
+pub written_feeds : {W : Type 0} {makes : Front → Option Machine → ℕ → Item → W → W → Type 0} (manner : Manner) (front : Front) (a b : State) (w v : W)
+    (lines : LinesRecord) (kept : PendingRecord) (of : Pending) (payload before after : List ℕ) (p : Performed)
     → lines ≡ after_piece lines.piece
     → makes front a.told a.desk.who (with_payload of payload) w v
     → Performs manner front a.told b.told a.desk a.tales (with_payload of payload) b.desk b.tales before after p
     → Hears makes manner front (scene a w false) (one_item (with_payload of payload)) before after (scene b v false) (stream_by On lines kept) On
 written_feeds manner front a b w v lines kept of payload before after Done is tells x =
     let left : stream_by On lines kept ≡ no_item (InLine []) = ap (λ (z : LinesRecord). stream_by On z kept) is in
-    goes_on manner front (scene a w false) (scene b v false) (one_item (with_payload of payload)) (stream_by On lines kept) before after (scanner_goes_on lines (pending_of kept))
-    (rw left (fed_one (scene a w false) (scene b v false) (one_item (with_payload of payload)) (no_item (InLine [])) before after (with_payload of payload) x.0 refl refl x.1
+    goes_on manner front (scene a w false) (scene b v false) (one_item (with_payload of payload)) (stream_by On lines kept) before after
+    (scanner_goes_on lines (pending_of kept))
+    (rw left (fed_one (scene a w false) (scene b v false) (one_item (with_payload of payload)) (no_item (InLine [])) before after (with_payload of payload) x.0
+    refl refl x.1
     (record { tells = tells; answered = record { allowed = x.2; answer = x.3; served = x.4 }; next = refl })))
 written_feeds manner front a b w v lines kept of payload before after (PerformedWaits dev) is tells x = absurd (no_read front dev of payload x.2)
 
-pub said_feeds : {W : Type 0} {makes : Front → Option Machine → ℕ → Item → W → W → Type 0} (manner : Manner) (front : Front) (a b : State) (w v : W) (told : Bool) (kept : PendingRecord) (said : Result Command Refused) (lines : LinesRecord) (before after : List ℕ) (p : Performed)
+pub said_feeds : {W : Type 0} {makes : Front → Option Machine → ℕ → Item → W → W → Type 0} (manner : Manner) (front : Front) (a b : State) (w v : W)
+    (told : Bool) (kept : PendingRecord) (said : Result Command Refused) (lines : LinesRecord) (before after : List ℕ) (p : Performed)
     → lines ≡ after_piece lines.piece → command_of lines.piece ≡ said → IsPlain said
     → Tells makes manner front (scene a w told) (Said said) v
     → Performs manner front a.told b.told a.desk a.tales (Said said) b.desk b.tales before after p
-    → Hears makes manner front (scene a w told) (after_line lines.piece) before after (scene b v (is_waiting (going_of p))) (stream_by (going_of p) lines kept) (going_of p)
-said_feeds manner front a b w v told kept said lines before after p is e plain tells x = plain_feeds manner front a b w v told lines.piece kept said lines before after p e plain is tells x
+    → Hears makes manner front (scene a w told) (after_line lines.piece) before after (scene b v (is_waiting (going_of p))) (stream_by (going_of p) lines kept)
+    (going_of p)
+said_feeds manner front a b w v told kept said lines before after p is e plain tells x =
+    plain_feeds manner front a b w v told lines.piece kept said lines before after p e plain is tells x
 
 -- a line of no bytes
 pub blank_line : (line : List ℕ) → line ≡ [] → command_of line ≡ Err Empty
@@ -214,7 +243,8 @@ blank_line line none = ap command_of none
 -- ---- pieces of further bytes
 
 -- no piece is whole
-pub more_feeds : {S : Type 0} {Answered : S → Item → Reply → S → Type 0} {Unanswered : S → Item → S → Type 0} (manner : Manner) (front : Front) (a b : S) (all : Scanned) (before after : List ℕ) (old new : LinesRecord) (pending : Pending) (rest whole tail : List ℕ)
+pub more_feeds : {S : Type 0} {Answered : S → Item → Reply → S → Type 0} {Unanswered : S → Item → S → Type 0} (manner : Manner) (front : Front) (a b : S)
+    (all : Scanned) (before after : List ℕ) (old new : LinesRecord) (pending : Pending) (rest whole tail : List ℕ)
     → scan_on (scanner_at old pending) rest ≡ scanner_at new pending → rest ≡ whole → tail ≡ []
     → FedBy Answered a all before after b (scan_on (scanner_at old pending) whole)
     → CarriesBy Answered Unanswered manner front a all before after b (scan_on (scanner_at new pending) tail) On
@@ -242,7 +272,8 @@ pub none_after : (at taken : ℕ) (bytes : List ℕ) → at ≤ length bytes →
 none_after at taken bytes within all = ap (λ n. drop n bytes) (all_taken at taken bytes within all) ∙ drop_all bytes
 
 -- a piece is whole, and the bytes after it
-pub piece_scans : ItemsCutAnywhere → ScannerCutAnywhere → (old new : LinesRecord) (kept : PendingRecord) (rest : List ℕ) (taken : ℕ) (ready : Ready) → (ready ≢ More) → old.overlong ≡ false
+pub piece_scans : ItemsCutAnywhere → ScannerCutAnywhere → (old new : LinesRecord) (kept : PendingRecord) (rest : List ℕ) (taken : ℕ) (ready : Ready)
+    → (ready ≢ More) → old.overlong ≡ false
     → ScansBy (pending_of kept) old rest taken ready new
     → scan_on (stream_by On old kept) rest ≡ scan_on (piece_by ready new kept) (drop taken rest)
 piece_scans items scanner old new kept rest taken More n going scans = absurd (n refl)
@@ -252,15 +283,18 @@ piece_scans items scanner old new kept rest taken Payload n going scans =
     scan_rest items scanner (stream_by On old kept) taken rest ∙ ap (λ x. scan_on x (drop taken rest)) scans
 piece_scans items scanner old new kept rest taken TooLong n going scans = scans going ∙ sym (ended_stays (Some E2BIG) (drop taken rest))
 
-pub on_fed : {S : Type 0} {Answered : S → Item → Reply → S → Type 0} {Unanswered : S → Item → S → Type 0} (manner : Manner) (front : Front) (a b c : S) (all left piece next : Scanned) (before mid after tail tail' : List ℕ)
+pub on_fed : {S : Type 0} {Answered : S → Item → Reply → S → Type 0} {Unanswered : S → Item → S → Type 0} (manner : Manner) (front : Front) (a b c : S)
+    (all left piece next : Scanned) (before mid after tail tail' : List ℕ)
     → left ≡ scan_on piece tail → tail ≡ tail' → FedBy Answered a all before mid b left → CarriesBy Answered Unanswered manner front b piece mid after c next On
     → FedBy Answered a all before after c (scan_on next tail')
 on_fed manner front a b c all left piece next before mid after tail tail' e same f g =
     rw (sym same) (fed_then a b c all left (scan_on next tail) before mid after f
     (rw e (fed_more b c piece next mid after tail (feeds_on manner front b c piece next mid after g))))
 
-pub stop_feeds : {S : Type 0} {Answered : S → Item → Reply → S → Type 0} {Unanswered : S → Item → S → Type 0} (manner : Manner) (front : Front) (a b c : S) (all left piece next : Scanned) (before mid after tail tail' : List ℕ) (going : Going) → going ≢ On
-    → left ≡ scan_on piece tail → tail ≡ tail' → FedBy Answered a all before mid b left → CarriesBy Answered Unanswered manner front b piece mid after c next going
+pub stop_feeds : {S : Type 0} {Answered : S → Item → Reply → S → Type 0} {Unanswered : S → Item → S → Type 0} (manner : Manner) (front : Front) (a b c : S)
+    (all left piece next : Scanned) (before mid after tail tail' : List ℕ) (going : Going) → going ≢ On
+    → left ≡ scan_on piece tail → tail ≡ tail' → FedBy Answered a all before mid b left
+    → CarriesBy Answered Unanswered manner front b piece mid after c next going
     → CarriesBy Answered Unanswered manner front a all before after c (scan_on next tail') going
 stop_feeds manner front a b c all left piece next before mid after tail tail' going stops e same f g =
     rw (sym same) (feeds_then manner front a b c all left (scan_on next tail) before mid after going f
@@ -268,12 +302,17 @@ stop_feeds manner front a b c all left piece next before mid after tail tail' go
 
 -- ---- bytes after a READBUF that waits
 
-pub ended_feeds : {S : Type 0} {Answered : S → Item → Reply → S → Type 0} {Unanswered : S → Item → S → Type 0} (manner : Manner) (front : Front) (a : S) (before bytes more : List ℕ) → CarriesBy Answered Unanswered manner front a (scan_on (no_item AtEnd) bytes) before before a (scan_on (no_item AtEnd) more) Ended
+pub ended_feeds : {S : Type 0} {Answered : S → Item → Reply → S → Type 0} {Unanswered : S → Item → S → Type 0} (manner : Manner) (front : Front) (a : S)
+    (before bytes more : List ℕ)
+    → CarriesBy Answered Unanswered manner front a (scan_on (no_item AtEnd) bytes) before before a (scan_on (no_item AtEnd) more) Ended
 ended_feeds manner front a before bytes more =
-    rw (scan_end bytes, scan_end more) (feeds_of manner front a a a (no_item AtEnd) (no_item AtEnd) before before Ended (fed_none a (no_item AtEnd) before) (refl, refl))
+    rw (scan_end bytes, scan_end more)
+    (feeds_of manner front a a a (no_item AtEnd) (no_item AtEnd) before before Ended (fed_none a (no_item AtEnd) before) (refl, refl))
 
-pub resumed : {S : Type 0} {Answered : S → Item → Reply → S → Type 0} {Unanswered : S → Item → S → Type 0} (manner : Manner) (front : Front) (a b : S) (c : ℕ × Going → S) (all left : Scanned) (before mid after bytes : List ℕ) (next : ℕ × Going → Scanned) (r : Result (ℕ × Going) Mem)
-    → CarriesBy Answered Unanswered manner front a all before mid b left On → IfOk r (λ x. CarriesBy Answered Unanswered manner front b (scan_on left bytes) mid after (c x) (next x) x.1)
+pub resumed : {S : Type 0} {Answered : S → Item → Reply → S → Type 0} {Unanswered : S → Item → S → Type 0} (manner : Manner) (front : Front) (a b : S)
+    (c : ℕ × Going → S) (all left : Scanned) (before mid after bytes : List ℕ) (next : ℕ × Going → Scanned) (r : Result (ℕ × Going) Mem)
+    → CarriesBy Answered Unanswered manner front a all before mid b left On
+    → IfOk r (λ x. CarriesBy Answered Unanswered manner front b (scan_on left bytes) mid after (c x) (next x) x.1)
     → IfOk r (λ x. CarriesBy Answered Unanswered manner front a (scan_on all bytes) before after (c x) (next x) x.1)
 resumed manner front a b c all left before mid after bytes next (Ok x) f g =
     feeds_then manner front a b (c x) (scan_on all bytes) (scan_on left bytes) (next x) before mid after x.1
@@ -281,15 +320,18 @@ resumed manner front a b c all left before mid after bytes next (Ok x) f g =
 resumed manner front a b c all left before mid after bytes next (Err fault) f g = tt
 
 -- where no bytes come after it
-pub again_feeds : {S : Type 0} {Answered : S → Item → Reply → S → Type 0} {Unanswered : S → Item → S → Type 0} (manner : Manner) (front : Front) (a b : S) (all left : Scanned) (before after bytes : List ℕ) (going : Going) → bytes ≡ []
-    → CarriesBy Answered Unanswered manner front a all before after b left going → CarriesBy Answered Unanswered manner front a (scan_on all bytes) before after b (scan_on left (drop 0 bytes)) going
+pub again_feeds : {S : Type 0} {Answered : S → Item → Reply → S → Type 0} {Unanswered : S → Item → S → Type 0} (manner : Manner) (front : Front) (a b : S)
+    (all left : Scanned) (before after bytes : List ℕ) (going : Going) → bytes ≡ []
+    → CarriesBy Answered Unanswered manner front a all before after b left going
+    → CarriesBy Answered Unanswered manner front a (scan_on all bytes) before after b (scan_on left (drop 0 bytes)) going
 again_feeds manner front a b all left before after bytes going none f = rw none (rw (scan_nil all, scan_nil left) f)
 
 pub none_begun : (lines : LinesRecord) (kept : PendingRecord) → lines ≡ after_piece lines.piece → (stream_by On lines kept).items ≡ []
 none_begun lines kept is = ap (λ (z : LinesRecord). (stream_by On z kept).items) is
 
 -- the bytes that are kept
-pub unread_feeds : {S : Type 0} {Answered : S → Item → Reply → S → Type 0} {Unanswered : S → Item → S → Type 0} (manner : Manner) (front : Front) (a b : S) (all : Scanned) (before after bytes : List ℕ) (taken : ℕ) (going : Going) (lines : LinesRecord) (kept : PendingRecord)
+pub unread_feeds : {S : Type 0} {Answered : S → Item → Reply → S → Type 0} {Unanswered : S → Item → S → Type 0} (manner : Manner) (front : Front) (a b : S)
+    (all : Scanned) (before after bytes : List ℕ) (taken : ℕ) (going : Going) (lines : LinesRecord) (kept : PendingRecord)
     → (going ≡ On → (taken ≡ length bytes) × ((stream_by On lines kept).items ≡ []))
     → CarriesBy Answered Unanswered manner front a all before after b (scan_on (stream_by going lines kept) (drop taken bytes)) going
     → CarriesBy Answered Unanswered manner front a all before after b (scan_on (stream_by going lines kept) (unread_of going taken bytes)) going
@@ -299,20 +341,23 @@ unread_feeds manner front a b all before after bytes taken (Waits dev) lines kep
 unread_feeds manner front a b all before after bytes taken Ended lines kept on f = rw (scan_end (drop taken bytes), ← (scan_end [])) at f
 
 -- no bytes were kept before
-pub first_feeds : {S : Type 0} {Answered : S → Item → Reply → S → Type 0} {Unanswered : S → Item → S → Type 0} (manner : Manner) (front : Front) (a b : S) (all : Scanned) (before after bytes held left : List ℕ) (taken : ℕ) (going : Going) (lines : LinesRecord) (kept : PendingRecord)
+pub first_feeds : {S : Type 0} {Answered : S → Item → Reply → S → Type 0} {Unanswered : S → Item → S → Type 0} (manner : Manner) (front : Front) (a b : S)
+    (all : Scanned) (before after bytes held left : List ℕ) (taken : ℕ) (going : Going) (lines : LinesRecord) (kept : PendingRecord)
     → held ≡ [] → left ≡ held ++ unread_of going taken bytes
     → (going ≡ On → (taken ≡ length bytes) × ((stream_by On lines kept).items ≡ []))
     → CarriesBy Answered Unanswered manner front a (scan_on all bytes) before after b (scan_on (stream_by going lines kept) (drop taken bytes)) going
     → CarriesBy Answered Unanswered manner front a (scan_on (scan_on all held) bytes) before after b (scan_on (stream_by going lines kept) left) going
 first_feeds {S} {Answered} {Unanswered} manner front a b all before after bytes held left taken going lines kept none now on f =
-    let same : scan_on (scan_on all held) bytes ≡ scan_on all bytes = ap (λ bs. scan_on (scan_on all bs) bytes) none ∙ ap (λ x. scan_on x bytes) (scan_nil all) in
+    let same : scan_on (scan_on all held) bytes ≡ scan_on all bytes =
+    ap (λ bs. scan_on (scan_on all bs) bytes) none ∙ ap (λ x. scan_on x bytes) (scan_nil all) in
     let unread : left ≡ unread_of going taken bytes = now ∙ ap (λ (bs : List ℕ). bs ++ unread_of going taken bytes) none in
     subst (λ x. CarriesBy Answered Unanswered manner front a x before after b (scan_on (stream_by going lines kept) left) going) (sym same)
     (subst (λ bs. CarriesBy Answered Unanswered manner front a (scan_on all bytes) before after b (scan_on (stream_by going lines kept) bs) going) (sym unread)
     (unread_feeds manner front a b (scan_on all bytes) before after bytes taken going lines kept on f))
 
 -- bytes were kept before, and are looked at first
-pub kept_feeds : {S : Type 0} {Answered : S → Item → Reply → S → Type 0} {Unanswered : S → Item → S → Type 0} (manner : Manner) (front : Front) (a b : S) (all : Scanned) (before after bytes held whole left : List ℕ) (taken : ℕ) (going : Going) (lines : LinesRecord) (kept : PendingRecord)
+pub kept_feeds : {S : Type 0} {Answered : S → Item → Reply → S → Type 0} {Unanswered : S → Item → S → Type 0} (manner : Manner) (front : Front) (a b : S)
+    (all : Scanned) (before after bytes held whole left : List ℕ) (taken : ℕ) (going : Going) (lines : LinesRecord) (kept : PendingRecord)
     → ItemsCutAnywhere → ScannerCutAnywhere → whole ≡ held ++ bytes → left ≡ unread_of going taken whole
     → (going ≡ On → (taken ≡ length whole) × ((stream_by On lines kept).items ≡ []))
     → CarriesBy Answered Unanswered manner front a (scan_on all whole) before after b (scan_on (stream_by going lines kept) (drop taken whole)) going
@@ -330,15 +375,18 @@ none_left bytes taken On lines kept on e = ap (λ (s : Scanned). s.items) (scan_
 none_left bytes taken (Waits dev) lines kept on e = cc
 none_left bytes taken Ended lines kept on e = cc
 
-pub kept_by : (bytes : List ℕ) (taken : ℕ) (going : Going) (lines : LinesRecord) (pending : PendingRecord) → IsReady going lines pending → IsKept going lines pending (unread_of going taken bytes)
+pub kept_by : (bytes : List ℕ) (taken : ℕ) (going : Going) (lines : LinesRecord) (pending : PendingRecord) → IsReady going lines pending
+    → IsKept going lines pending (unread_of going taken bytes)
 kept_by bytes taken On lines pending r = (r, refl)
 kept_by bytes taken (Waits dev) lines pending r = r
 kept_by bytes taken Ended lines pending r = tt
 
 -- ---- a command of the code
 
-pub at_once_command : (command : CodeCommand) → (command ≡ code.Exit → ⊥) → ((dev : Bor (List ℕ)) (target : Option (CodePlace × Option (Bor (List ℕ)))) (count : ℕ) → command ≡ code.Write dev target count → ⊥)
-    → ((dev : Bor (List ℕ)) (bytes : ℕ) → command ≡ code.WriteBuf dev bytes → ⊥) → ((dev : Bor (List ℕ)) (bytes : ℕ) → command ≡ code.ReadBuf dev bytes → ⊥) → IsAtOnce (Ok (command_view command))
+pub at_once_command : (command : CodeCommand) → (command ≡ code.Exit → ⊥)
+    → ((dev : Bor (List ℕ)) (target : Option (CodePlace × Option (Bor (List ℕ)))) (count : ℕ) → command ≡ code.Write dev target count → ⊥)
+    → ((dev : Bor (List ℕ)) (bytes : ℕ) → command ≡ code.WriteBuf dev bytes → ⊥) → ((dev : Bor (List ℕ)) (bytes : ℕ) → command ≡ code.ReadBuf dev bytes → ⊥)
+    → IsAtOnce (Ok (command_view command))
 at_once_command code.Exit e w s r = absurd (e refl)
 at_once_command (code.Write dev target count) e w s r = absurd (w dev target count refl)
 at_once_command (code.WriteBuf dev bytes) e w s r = absurd (s dev bytes refl)
@@ -347,16 +395,19 @@ at_once_command command e w s r = tt
 
 -- ---- whether a connection has ended
 
-pub is_ended : (lines : LinesRecord) (kept : PendingRecord) (left : List ℕ) (going : Going) → going ≡ Ended → scan_on (stream_by going lines kept) left ≡ no_item AtEnd
+pub is_ended : (lines : LinesRecord) (kept : PendingRecord) (left : List ℕ) (going : Going) → going ≡ Ended
+    → scan_on (stream_by going lines kept) left ≡ no_item AtEnd
 is_ended lines kept left going e = ap (λ g. scan_on (stream_by g lines kept) left) e ∙ scan_end left
 
 not_nothing : (item : Item) (more : List Item) → item ∷ more ≡ [] → ⊥
 not_nothing item more e = cc
 
-pub not_ended : (lines : LinesRecord) (kept : PendingRecord) (left : List ℕ) (going : Going) → IsKept going lines kept left → (going ≡ Ended → ⊥) → scan_on (stream_by going lines kept) left ≡ no_item AtEnd → ⊥
+pub not_ended : (lines : LinesRecord) (kept : PendingRecord) (left : List ℕ) (going : Going) → IsKept going lines kept left → (going ≡ Ended → ⊥)
+    → scan_on (stream_by going lines kept) left ≡ no_item AtEnd → ⊥
 not_ended lines kept left Ended k n e = n refl
 not_ended lines kept left On k n e =
-    let stays : scan_on (stream_by On lines kept) left ≡ stream_by On lines kept = ap (λ bs. scan_on (stream_by On lines kept) bs) k.1 ∙ scan_nil (stream_by On lines kept) in
+    let stays : scan_on (stream_by On lines kept) left ≡ stream_by On lines kept =
+    ap (λ bs. scan_on (stream_by On lines kept) bs) k.1 ∙ scan_nil (stream_by On lines kept) in
     scanner_goes_on lines (pending_of kept) (ap (λ (s : Scanned). s.next) (sym stays ∙ e))
 not_ended lines kept left (Waits dev) k n e =
     let one : after_line lines.piece ≡ one_item (Said (command_of lines.piece)) = plain_line (command_of lines.piece) (rw k.1 tt) in
@@ -382,7 +433,8 @@ begun_waits x of = by x.wanted
 pub waits_by : (lines : LinesRecord) (kept : PendingRecord) (left : List ℕ) (going : Going) → IsKept going lines kept left
     → waits_in (scan_on (stream_by going lines kept) left).items ≡ is_waiting going
 waits_by lines kept left On k =
-    let stays : scan_on (stream_by On lines kept) left ≡ stream_by On lines kept = ap (λ bs. scan_on (stream_by On lines kept) bs) k.1 ∙ scan_nil (stream_by On lines kept) in
+    let stays : scan_on (stream_by On lines kept) left ≡ stream_by On lines kept =
+    ap (λ bs. scan_on (stream_by On lines kept) bs) k.1 ∙ scan_nil (stream_by On lines kept) in
     ap (λ (s : Scanned). waits_in s.items) stays ∙ begun_waits lines (pending_of kept)
 waits_by lines kept left (Waits dev) k =
     let one : after_line lines.piece ≡ one_item (Said (command_of lines.piece)) = plain_line (command_of lines.piece) (rw k.1 tt) in

@@ -41,7 +41,12 @@ served_less front asked told s tale h = record { exact = by told; moves = rw (le
 
 read_scans_is : (front : Front) (m : Machine) (desk : DeskRecord) (s : Bare) (want asked : ℕ) (scans : List (List ℕ)) → 0 < length scans
     → read_scans_of front m desk s want asked scans
-    ≡ record { reply = Block (channel_count front s.dev) s.mask scans asked; machine = with_queue m s.dev (bare_id s) scans (drop want (queue_of m s.dev (bare_id s))); desk = desk }
+    ≡ record {
+      reply = Block (channel_count front s.dev) s.mask scans asked;
+      machine =
+          with_queue m s.dev (bare_id s) scans (drop want (queue_of m s.dev (bare_id s)));
+      desk = desk;
+    }
 read_scans_is front m desk s want asked [] h = absurd (omega arith)
 read_scans_is front m desk s want asked (x ∷ xs) h = refl
 
@@ -54,12 +59,18 @@ served_some front asked told told' s v v' scans same h r =
   where
     by : (told : Option Machine)
         → IfSome told (λ m. (take (most_scans asked (size_at front s.dev s.mask) s.capacity) (queue_of m s.dev (bare_id s)) ≡ scans)
-        × (told' ≡ Some (with_queue m s.dev (bare_id s) scans (drop (most_scans asked (size_at front s.dev s.mask) s.capacity) (queue_of m s.dev (bare_id s))))))
+        × (told' ≡ Some (with_queue m s.dev (bare_id s) scans
+        (drop (most_scans asked (size_at front s.dev s.mask) s.capacity) (queue_of m s.dev (bare_id s))))))
         → IfSome told (λ m. (n : Machine) × (told' ≡ Some n)
         × ((desk : DeskRecord) → read_at_seat front m desk s asked
         ≡ record { reply = Block (channel_count front s.dev) s.mask scans asked; machine = n; desk = desk }))
     by None f = tt
-    by (Some m) f = (_, f.1, λ desk. rw (not_less_is _ _ h, f.0) (read_scans_is front m desk s (most_scans asked (size_at front s.dev s.mask) s.capacity) asked scans r.reads.some))
+    by (Some m) f = (
+      _,
+      f.1,
+      λ desk. rw (not_less_is _ _ h, f.0)
+          (read_scans_is front m desk s (most_scans asked (size_at front s.dev s.mask) s.capacity) asked scans r.reads.some),
+    )
 
 served_none : (front : Front) (asked : ℕ) (gone : Bool) (told told' : Option Machine) (s : Bare) (v v' : SeatRecord) → bare_id s ≡ seat_id v
     → size_at front s.dev s.mask ≤ asked
@@ -69,7 +80,8 @@ served_none front asked gone told told' s v v' same h r =
     record { exact = by told (rw (← same) at r.from); moves = rw (not_less_is _ _ h) (moved gone (ap (λ (x : SeatRecord). x.tale) r.same)); whole = tt }
   where
     moved : (gone : Bool) → v'.tale ≡ option_map (after_nothing gone) v.tale
-        → ReadsAs (channel_count front s.dev) s.mask (most_scans asked (size_at front s.dev s.mask) s.capacity) asked (Refusal (cond gone ENODEV EAGAIN)) v.tale v'.tale
+        → ReadsAs (channel_count front s.dev) s.mask (most_scans asked (size_at front s.dev s.mask) s.capacity) asked (Refusal (cond gone ENODEV EAGAIN)) v.tale
+        v'.tale
     moved true e = e
     moved false e = e
 
@@ -106,7 +118,8 @@ wrote_scans front (Some m) told' s v payload (Err (NoErrno e)) same a = λ desk.
 )
 wrote_scans front (Some m) told' s v payload (Err NoMem) same a = λ desk. (a, refl)
 
-pub read_ends : (front : Front) (asked : ℕ) (s : Bare) (told told' : Option Machine) (v v' : SeatRecord) (before after : List ℕ) (r : Result Took Mem) → bare_id s ≡ seat_id v
+pub read_ends : (front : Front) (asked : ℕ) (s : Bare) (told told' : Option Machine) (v v' : SeatRecord) (before after : List ℕ) (r : Result Took Mem)
+    → bare_id s ≡ seat_id v
     → size_at front s.dev s.mask ≤ asked
     → ReadEnds front s.dev s.mask s.capacity asked told told' v v' before after r
     → ReadHeld front asked told told' s v.tale v'.tale before after r

@@ -42,7 +42,8 @@ find_scope : (table : List Attr) (s : Scope) (name : List ℕ) (a : Attr) → fi
 find_scope [] s name a e = absurd (cc)
 find_scope (x ∷ xs) s name a e = by (same_scope (row_of x).scope s) refl (bytes_eq (row_of x).name name) e (find_scope xs s name a)
   where
-    by : (b : Bool) → same_scope (row_of x).scope s ≡ b → (t : Bool) → cond (b && t) (Some x) (find_in xs s name) ≡ Some a → (find_in xs s name ≡ Some a → (row_of a).scope ≡ s)
+    by : (b : Bool) → same_scope (row_of x).scope s ≡ b → (t : Bool) → cond (b && t) (Some x) (find_in xs s name) ≡ Some a
+        → (find_in xs s name ≡ Some a → (row_of a).scope ≡ s)
         → (row_of a).scope ≡ s
     by true p true e later = let same : a ≡ x = cc in ap (λ (y : Attr). (row_of y).scope) same ∙ same_scope_is _ s p
     by true p false e later = later e
@@ -91,14 +92,17 @@ named_as kind s name f x e = by (find_of s name) refl e
     had a true is own e = (a, is, own, cc)
     had a false is own e = absurd (cc)
 
-    by : (o : Option Attr) → find_of s name ≡ o → ((ok_or o ENOENT >>= (λ a. ensure (has_attribute kind a) ENOENT >>= (λ there. Ok a))) >>= (λ y. Ok (f y))) ≡ Ok x
+    by : (o : Option Attr) → find_of s name ≡ o
+        → ((ok_or o ENOENT >>= (λ a. ensure (has_attribute kind a) ENOENT >>= (λ there. Ok a))) >>= (λ y. Ok (f y))) ≡ Ok x
         → (y : Attr) × (find_of s name ≡ Some y) × (has_attribute kind y ≡ true) × (f y ≡ x)
     by None is e = absurd (cc)
     by (Some a) is e = had a (has_attribute kind a) is refl e
 
 -- an attribute of a channel of that ID
 at_word : (front : Front) (dev : ℕ) (word : Option (List ℕ)) (name : List ℕ) (x : Named)
-    → (ok_or word ENOENT >>= (λ channel. ok_or (channel_of (shape_at front dev) channel) ENOENT >>= (λ c. attribute_of (kind_at front dev) scope.Channel name >>= (λ a. Ok (record { channel = Some c; attribute = a }))))) ≡ Ok x
+    → (ok_or word ENOENT >>=
+    (λ channel. ok_or (channel_of (shape_at front dev) channel) ENOENT >>=
+    (λ c. attribute_of (kind_at front dev) scope.Channel name >>= (λ a. Ok (record { channel = Some c; attribute = a }))))) ≡ Ok x
     → MayRead front dev x.channel x.attribute
 at_word front dev None name x e = absurd (cc)
 at_word front dev (Some channel) name x e = by (channel_of (shape_at front dev) channel) refl e
@@ -113,7 +117,8 @@ at_word front dev (Some channel) name x e = by (channel_of (shape_at front dev) 
         (channel_within (shape_at front dev) channel c is, find_scope attributes scope.Channel name named.0 named.1, named.2)
 
 -- what is named at the device or at a channel may be read
-pub may_read : (front : Front) (dev : ℕ) (place : Place) (name : Option (List ℕ)) (x : Named) → named_at (kind_at front dev) (shape_at front dev) place name ≡ Ok x → is_of_buffer place name ≡ false
+pub may_read : (front : Front) (dev : ℕ) (place : Place) (name : Option (List ℕ)) (x : Named)
+    → named_at (kind_at front dev) (shape_at front dev) place name ≡ Ok x → is_of_buffer place name ≡ false
     → MayRead front dev x.channel x.attribute
 may_read front dev place None x e b = absurd (cc)
 may_read front dev AtDevice (Some name) x e b =
@@ -125,7 +130,8 @@ may_read front dev (AtInput channel) (Some name) x e b = at_word front dev (chan
 may_read front dev (AtOutput channel) (Some name) x e b = at_word front dev (channel_word (kind_at front dev) (AtOutput channel)) name x e
 
 -- what is named at the buffer stands there
-of_buffer : (kind : desc.Kind) (shape : ShapeRecord) (place : Place) (name : Option (List ℕ)) (x : Named) → named_at kind shape place name ≡ Ok x → is_of_buffer place name ≡ true
+of_buffer : (kind : desc.Kind) (shape : ShapeRecord) (place : Place) (name : Option (List ℕ)) (x : Named) → named_at kind shape place name ≡ Ok x
+    → is_of_buffer place name ≡ true
     → (row_of x.attribute).scope ≡ scope.Buffer
 of_buffer kind shape AtBuffer None x e b = absurd (cc)
 of_buffer kind shape AtBuffer (Some name) x e b =
@@ -137,7 +143,8 @@ of_buffer kind shape (AtInput channel) name x e b = absurd (cc)
 of_buffer kind shape (AtOutput channel) name x e b = absurd (cc)
 
 -- what is found is named
-pub found_named : (kind : desc.Kind) (shape : ShapeRecord) (plugged is_open : Bool) (place : Place) (name : Option (List ℕ)) (x : Named) → found kind shape plugged is_open place name ≡ Ok x → named_at kind shape place name ≡ Ok x
+pub found_named : (kind : desc.Kind) (shape : ShapeRecord) (plugged is_open : Bool) (place : Place) (name : Option (List ℕ)) (x : Named)
+    → found kind shape plugged is_open place name ≡ Ok x → named_at kind shape place name ≡ Ok x
 found_named kind shape plugged is_open place name x e = by (is_of_buffer place name) is_open plugged e
   where
     by : (b o p : Bool)
@@ -166,19 +173,24 @@ assigns kind shape true is_open place name payload x e = by (found kind shape tr
     last t (Err errno) f c e = absurd (cc)
     last t (Ok value) f c e =
         let same : record { target = t; value = value } ≡ x = cc in
-        subst (λ (y : Assignment). Assigns kind shape place name payload y) same (record { named = found_named kind shape true is_open place name t f; checked = c })
+        subst (λ (y : Assignment). Assigns kind shape place name payload y) same
+        (record { named = found_named kind shape true is_open place name t f; checked = c })
 
     by : (r : Result Named Errno) → found kind shape true is_open place name ≡ r
-        → (r >>= (λ target. check_of target.attribute payload >>= (λ value. Ok (record { target = target; value = value })))) ≡ Ok x → Assigns kind shape place name payload x
+        → (r >>= (λ target. check_of target.attribute payload >>= (λ value. Ok (record { target = target; value = value })))) ≡ Ok x
+        → Assigns kind shape place name payload x
     by (Err errno) f e = absurd (cc)
     by (Ok t) f e = last t (check_of t.attribute payload) f refl e
 
 -- what a WRITE finds may be written
 pub may_write : (front : Front) (dev : ℕ) (plugged is_open : Bool) (place : Place) (name : Option (List ℕ)) (payload : List ℕ) (x : Assignment)
-    → write_found (kind_at front dev) (shape_at front dev) plugged is_open place name payload ≡ Ok x → MayWrite front dev x.target.channel x.target.attribute x.value
-may_write front dev plugged is_open place name payload x e = by (is_of_buffer place name) refl (assigns (kind_at front dev) (shape_at front dev) plugged is_open place name payload x e)
+    → write_found (kind_at front dev) (shape_at front dev) plugged is_open place name payload ≡ Ok x
+    → MayWrite front dev x.target.channel x.target.attribute x.value
+may_write front dev plugged is_open place name payload x e =
+    by (is_of_buffer place name) refl (assigns (kind_at front dev) (shape_at front dev) plugged is_open place name payload x e)
   where
-    by : (b : Bool) → is_of_buffer place name ≡ b → Assigns (kind_at front dev) (shape_at front dev) place name payload x → MayWrite front dev x.target.channel x.target.attribute x.value
+    by : (b : Bool) → is_of_buffer place name ≡ b → Assigns (kind_at front dev) (shape_at front dev) place name payload x
+        → MayWrite front dev x.target.channel x.target.attribute x.value
     by true b is =
         let kept = queue_numbers_kept x.target.attribute (of_buffer (kind_at front dev) (shape_at front dev) place name x.target is.named b) payload in
         absurd (cc (kept, is.checked))

@@ -29,7 +29,8 @@ twice : (n : MemberId) (a b : List (List ℕ)) (ms : List Member) → with_scans
 twice n a b [] = refl
 twice n a b (x ∷ xs) = by (is_id_of n x) refl (twice n a b xs)
   where
-    by : (t : Bool) → is_id_of n x ≡ t → with_scans n b (with_scans n a xs) ≡ with_scans n b xs → with_scans n b (cond t (record x { scans = a } ∷ xs) (x ∷ with_scans n a xs)) ≡ cond t (record x { scans = b } ∷ xs) (x ∷ with_scans n b xs)
+    by : (t : Bool) → is_id_of n x ≡ t → with_scans n b (with_scans n a xs) ≡ with_scans n b xs
+        → with_scans n b (cond t (record x { scans = a } ∷ xs) (x ∷ with_scans n a xs)) ≡ cond t (record x { scans = b } ∷ xs) (x ∷ with_scans n b xs)
     by true e h = ap (λ (t : Bool). cond t (record x { scans = b } ∷ xs) (record x { scans = a } ∷ with_scans n b xs)) e
     by false e h = ap (λ (t : Bool). cond t (record x { scans = b } ∷ with_scans n a xs) (x ∷ with_scans n b (with_scans n a xs))) e ∙ ap (λ ys. x ∷ ys) h
 
@@ -48,7 +49,8 @@ twice_at n zero g h a b (d ∷ ds) =
     ∙ ap (λ (ms : List Member). record d { totals = with_given (g ++ h) d.totals; members = ms } ∷ ds) (twice n a b d.members)
 twice_at n (suc k) g h a b (d ∷ ds) = ap (λ es. d ∷ es) (twice_at n k g h a b ds)
 
-pub with_queue-twice : (m : Machine) (dev : ℕ) (n : MemberId) (g h a b : List (List ℕ)) → with_queue (with_queue m dev n g a) dev n h b ≡ with_queue m dev n (g ++ h) b
+pub with_queue-twice : (m : Machine) (dev : ℕ) (n : MemberId) (g h a b : List (List ℕ))
+    → with_queue (with_queue m dev n g a) dev n h b ≡ with_queue m dev n (g ++ h) b
 unfolding with_queue with_station
 with_queue-twice m dev n g h a b = ap (λ (ds : List Station). record m { stations = ds }) (twice_at n dev g h a b m.stations)
 
@@ -56,7 +58,8 @@ found : (n : MemberId) (a : List (List ℕ)) (ms : List Member) (s : List ℕ) (
 found n a [] s ss e = cc
 found n a (x ∷ xs) s ss e = by (is_id_of n x) refl e (found n a xs s ss)
   where
-    by : (t : Bool) → is_id_of n x ≡ t → cond t x.scans (scans_in n xs) ≡ s ∷ ss → (scans_in n xs ≡ s ∷ ss → scans_in n (with_scans n a xs) ≡ a) → scans_in n (cond t (record x { scans = a } ∷ xs) (x ∷ with_scans n a xs)) ≡ a
+    by : (t : Bool) → is_id_of n x ≡ t → cond t x.scans (scans_in n xs) ≡ s ∷ ss → (scans_in n xs ≡ s ∷ ss → scans_in n (with_scans n a xs) ≡ a)
+        → scans_in n (cond t (record x { scans = a } ∷ xs) (x ∷ with_scans n a xs)) ≡ a
     by true e h rest = ap (λ (t : Bool). cond t a (scans_in n xs)) e
     by false e h rest = ap (λ (t : Bool). cond t x.scans (scans_in n (with_scans n a xs))) e ∙ rest h
 
@@ -68,7 +71,8 @@ found_at n zero g a (d ∷ ds) s ss e = found n a d.members s ss e
 found_at n (suc k) g a (d ∷ ds) s ss e = found_at n k g a ds s ss e
 
 -- where something waits for it, the member is there
-pub queue_of-with_queue : (m : Machine) (dev : ℕ) (n : MemberId) (g a : List (List ℕ)) (s : List ℕ) (ss : List (List ℕ)) → queue_of m dev n ≡ s ∷ ss → queue_of (with_queue m dev n g a) dev n ≡ a
+pub queue_of-with_queue : (m : Machine) (dev : ℕ) (n : MemberId) (g a : List (List ℕ)) (s : List ℕ) (ss : List (List ℕ)) → queue_of m dev n ≡ s ∷ ss
+    → queue_of (with_queue m dev n g a) dev n ≡ a
 unfolding with_queue queue_of station_at with_station
 queue_of-with_queue m dev n g a s ss e = found_at n dev g a m.stations s ss e
 
@@ -84,7 +88,8 @@ unfolding with_queue queue_of station_at with_station
 stays m dev n g = ap (λ (ms : List Member). scans_in n ms) (same_left_at n dev g m.stations)
 
 -- what is left once some were taken
-pub queue_of-dropped : (m : Machine) (dev : ℕ) (n : MemberId) (g : List (List ℕ)) (k : ℕ) → queue_of (with_queue m dev n g (drop k (queue_of m dev n))) dev n ≡ drop k (queue_of m dev n)
+pub queue_of-dropped : (m : Machine) (dev : ℕ) (n : MemberId) (g : List (List ℕ)) (k : ℕ)
+    → queue_of (with_queue m dev n g (drop k (queue_of m dev n))) dev n ≡ drop k (queue_of m dev n)
 queue_of-dropped m dev n g k = by (queue_of m dev n) refl
   where
     by : (q : List (List ℕ)) → queue_of m dev n ≡ q → queue_of (with_queue m dev n g (drop k q)) dev n ≡ drop k q

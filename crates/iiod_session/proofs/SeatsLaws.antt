@@ -32,10 +32,12 @@ module _ {S : Type 0} (seen : S → SeatRecord) where
   one_more_held f [] h = refl
   one_more_held f (x ∷ xs) h = ap (λ ys. f x ∷ ys) (one_more_held f xs h)
 
-  pub joins : (front : Front) (dev capacity size : ℕ) (mask : Mask) (base : DeskRecord) (held mid held' : List (Held S)) (s : S) → IsNew front dev mask.bits capacity (seen s)
+  pub joins : (front : Front) (dev capacity size : ℕ) (mask : Mask) (base : DeskRecord) (held mid held' : List (Held S)) (s : S)
+      → IsNew front dev mask.bits capacity (seen s)
       → place_of dev (seats_of seen held) ≡ None
       → mid ≡ held → held' ≡ mid ++ record { dev = dev; mask = mask; capacity = capacity; size = size; discarded = 0; seat = s } ∷ []
-      → JoinsBy dev (record { mask = mask.bits; capacity = capacity }) (with_seats (seats_of seen held) base) (tales_of seen held) (Ok tt) (with_seats (seats_of seen held') base) (tales_of seen held')
+      → JoinsBy dev (record { mask = mask.bits; capacity = capacity }) (with_seats (seats_of seen held) base) (tales_of seen held) (Ok tt)
+      (with_seats (seats_of seen held') base) (tales_of seen held')
   joins front dev capacity size mask base held mid held' s is free z e' =
       let e : held' ≡ held ++ record { dev = dev; mask = mask; capacity = capacity; size = size; discarded = 0; seat = s } ∷ [] = rw z at e' in
       record {
@@ -51,22 +53,27 @@ module _ {S : Type 0} (seen : S → SeatRecord) where
   pub apart_joined : (held mid held' : List (Held S)) (h : Held S) → are_apart (seats_of seen held) ≡ true → place_of h.dev (seats_of seen held) ≡ None
       → mid ≡ held → held' ≡ mid ++ h ∷ [] → are_apart (seats_of seen held') ≡ true
   apart_joined held mid held' h a free z e =
-      rw (e, z, one_more_held (bare_of seen) held h) (are_apart_by (seats_of seen held ++ bare_of seen h ∷ []) (apart_last (seats_of seen held) (bare_of seen h) (apart_by (seats_of seen held) a) (none_has h.dev (seats_of seen held) free)))
+      rw (e, z, one_more_held (bare_of seen) held h)
+      (are_apart_by (seats_of seen held ++ bare_of seen h ∷ [])
+      (apart_last (seats_of seen held) (bare_of seen h) (apart_by (seats_of seen held) a) (none_has h.dev (seats_of seen held) free)))
 
-  prefix_is : (dev : ℕ) (held : List (Held S)) → prefix_len (λ (s : Bare). not (s.dev == dev)) (seats_of seen held) ≡ prefix_len (λ (h : Held S). not (h.dev == dev)) held
+  prefix_is : (dev : ℕ) (held : List (Held S))
+      → prefix_len (λ (s : Bare). not (s.dev == dev)) (seats_of seen held) ≡ prefix_len (λ (h : Held S). not (h.dev == dev)) held
   prefix_is dev [] = refl
   prefix_is dev (h ∷ hs) = ap (λ (n : ℕ). cond (not (h.dev == dev)) (1 + n) 0) (prefix_is dev hs)
 
   pub place_is : (dev : ℕ) (held : List (Held S)) → place_of dev (seats_of seen held) ≡ position (λ (h : Held S). h.dev == dev) held
   place_is dev held = rw (prefix_is dev held, length-map held (bare_of seen)) refl
 
-  pub get_is : {B : Type 0} (f : Held S → B) (held : List (Held S)) (i : ℕ) (h : Held S) → i < length held → h ≡ slice_index_or held i h → slice_get (map f held) i ≡ Some (f h)
+  pub get_is : {B : Type 0} (f : Held S → B) (held : List (Held S)) (i : ℕ) (h : Held S) → i < length held → h ≡ slice_index_or held i h
+      → slice_get (map f held) i ≡ Some (f h)
   get_is f [] i h l e = absurd (omega arith)
   get_is f (x ∷ xs) zero h l e = ap (λ y. Some (f y)) (sym e)
   get_is f (x ∷ xs) (suc i) h l e = get_is f xs i h (omega arith) e
 
   -- the seat that was found is at that device
-  pub dev_is : (dev i : ℕ) (held : List (Held S)) (h : Held S) → Some i ≡ place_of dev (seats_of seen held) → i < length held → h ≡ slice_index_or held i h → h.dev ≡ dev
+  pub dev_is : (dev i : ℕ) (held : List (Held S)) (h : Held S) → Some i ≡ place_of dev (seats_of seen held) → i < length held → h ≡ slice_index_or held i h
+      → h.dev ≡ dev
   dev_is dev i held h at l e = placed_at dev (seats_of seen held) i (bare_of seen h) (sym at) (get_is (bare_of seen) held i h l e)
 
   map_remove : {B : Type 0} (f : Held S → B) (held : List (Held S)) (i : ℕ) → map f (remove held i) ≡ remove (map f held) i
@@ -77,19 +84,23 @@ module _ {S : Type 0} (seen : S → SeatRecord) where
 
   closed_at : (front : Front) (m : Machine) (base : DeskRecord) (i : ℕ) (held held' : List (Held S)) (h : Held S) (p : Option ℕ)
       → Some i ≡ p → i < length held → h ≡ slice_index_or held i h → held' ≡ remove held i
-      → close_at front m (with_seats (seats_of seen held) base) p ≡ record { reply = zero_reply; machine = closed front m h.dev (seen h.seat).number; desk = with_seats (seats_of seen held') base }
+      → close_at front m (with_seats (seats_of seen held) base) p
+      ≡ record { reply = zero_reply; machine = closed front m h.dev (seen h.seat).number; desk = with_seats (seats_of seen held') base }
   closed_at front m base i held held' h p at l e gone =
       ap (λ q. close_at front m (with_seats (seats_of seen held) base) q) (sym at)
       ∙ ap (λ s. close_seat front m (with_seats (seats_of seen held) base) i s) (get_is (bare_of seen) held i h l e)
-      ∙ ap (λ (bs : List Bare). record { reply = zero_reply; machine = closed front m h.dev (seen h.seat).number; desk = with_seats bs base }) (sym (ap (λ hs. seats_of seen hs) gone ∙ map_remove (bare_of seen) held i))
+      ∙ ap (λ (bs : List Bare). record { reply = zero_reply; machine = closed front m h.dev (seen h.seat).number; desk = with_seats bs base })
+      (sym (ap (λ hs. seats_of seen hs) gone ∙ map_remove (bare_of seen) held i))
 
   pub closes : (front : Front) (told told' : Option Machine) (base : DeskRecord) (dev i : ℕ) (held held' : List (Held S)) (h : Held S)
       → Some i ≡ place_of dev (seats_of seen held) → i < length held → h ≡ slice_index_or held i h → held' ≡ remove held i
       → IfSome told (λ m. told' ≡ Some (closed front m h.dev (seen h.seat).number))
-      → IfSome told (λ m. Comes m (with_seats (seats_of seen held) base) (close_at front m (with_seats (seats_of seen held) base) (place_of dev (seats_of seen held)))
+      → IfSome told (λ m. Comes m (with_seats (seats_of seen held) base)
+      (close_at front m (with_seats (seats_of seen held) base) (place_of dev (seats_of seen held)))
       zero_reply told' (with_seats (seats_of seen held') base))
   closes front None told' base dev i held held' h at l e gone t = tt
-  closes front (Some m) told' base dev i held held' h at l e gone t = (closed front m h.dev (seen h.seat).number, t, closed_at front m base i held held' h _ at l e gone)
+  closes front (Some m) told' base dev i held held' h at l e gone t =
+      (closed front m h.dev (seen h.seat).number, t, closed_at front m base i held held' h _ at l e gone)
 
   pub leaves : (base : DeskRecord) (dev i : ℕ) (held held' : List (Held S)) → Some i ≡ place_of dev (seats_of seen held) → held' ≡ remove held i
       → LeavesBy dev (with_seats (seats_of seen held) base) (tales_of seen held) (Ok tt) (with_seats (seats_of seen held') base) (tales_of seen held')
@@ -106,8 +117,11 @@ module _ {S : Type 0} (seen : S → SeatRecord) where
   map_set f (x ∷ xs) zero y = refl
   map_set f (x ∷ xs) (suc i) y = ap (λ ys. f x ∷ ys) (map_set f xs i y)
 
-  pub apart_removed : (held held' : List (Held S)) (i : ℕ) → are_apart (seats_of seen held) ≡ true → held' ≡ remove held i → are_apart (seats_of seen held') ≡ true
-  apart_removed held held' i a e = rw (e, map_remove (bare_of seen) held i) (are_apart_by (remove (seats_of seen held) i) (apart_kept i (seats_of seen held) (apart_by (seats_of seen held) a)))
+  pub apart_removed : (held held' : List (Held S)) (i : ℕ) → are_apart (seats_of seen held) ≡ true → held' ≡ remove held i
+      → are_apart (seats_of seen held') ≡ true
+  apart_removed held held' i a e =
+      rw (e, map_remove (bare_of seen) held i)
+      (are_apart_by (remove (seats_of seen held) i) (apart_kept i (seats_of seen held) (apart_by (seats_of seen held) a)))
 
   pub map_set_same : {B : Type 0} (f : Held S → B) (held : List (Held S)) (i : ℕ) (y h : Held S) → i < length held → h ≡ slice_index_or held i h → f y ≡ f h
       → map f (slice_set held i y) ≡ map f held
@@ -119,17 +133,22 @@ module _ {S : Type 0} (seen : S → SeatRecord) where
       → place_of dev (seats_of seen held) ≡ Some i → i < length held → h ≡ slice_index_or held i h
       → ReadServed front asked told told' (bare_of seen h) (tale_of seen h) (tale_of seen h') reply
       → ReadServedAt front dev asked told told' (with_seats (seats_of seen held) base) (tales_of seen held) (tales_of seen (slice_set held i h')) reply
-  served_at front dev asked i told told' base held h h' reply at l e r = record { exact = by told r.exact; moves = moved (place_of dev (seats_of seen held)) at; whole = r.whole }
+  served_at front dev asked i told told' base held h h' reply at l e r =
+      record { exact = by told r.exact; moves = moved (place_of dev (seats_of seen held)) at; whole = r.whole }
     where
       by : (told : Option Machine)
-          → IfSome told (λ m. (n : Machine) × (told' ≡ Some n) × ((desk : DeskRecord) → read_at_seat front m desk (bare_of seen h) asked ≡ record { reply = reply; machine = n; desk = desk }))
-          → IfSome told (λ m. (n : Machine) × (told' ≡ Some n) × (read_at front m (with_seats (seats_of seen held) base) asked (place_of dev (seats_of seen held)) ≡ record { reply = reply; machine = n; desk = with_seats (seats_of seen held) base }))
+          → IfSome told (λ m. (n : Machine) × (told' ≡ Some n)
+          × ((desk : DeskRecord) → read_at_seat front m desk (bare_of seen h) asked ≡ record { reply = reply; machine = n; desk = desk }))
+          → IfSome told (λ m. (n : Machine) × (told' ≡ Some n)
+          × (read_at front m (with_seats (seats_of seen held) base) asked (place_of dev (seats_of seen held))
+          ≡ record { reply = reply; machine = n; desk = with_seats (seats_of seen held) base }))
       by None x = tt
       by (Some m) x = (
         x.0,
         x.1,
         ap (λ p. read_at front m (with_seats (seats_of seen held) base) asked p) at
-            ∙ ap (λ s. read_seat front m (with_seats (seats_of seen held) base) asked s) (get_is (bare_of seen) held i h l e) ∙ x.2 (with_seats (seats_of seen held) base),
+            ∙ ap (λ s. read_seat front m (with_seats (seats_of seen held) base) asked s) (get_is (bare_of seen) held i h l e)
+            ∙ x.2 (with_seats (seats_of seen held) base),
       )
 
       moved : (p : Option ℕ) → p ≡ Some i → ReadsBy front asked (seats_of seen held) (tales_of seen held) p reply (tales_of seen (slice_set held i h'))
@@ -144,25 +163,33 @@ module _ {S : Type 0} (seen : S → SeatRecord) where
         reads = r.moves;
       }
 
-  pub reads_at : (front : Front) (dev asked i : ℕ) (told told' : Option Machine) (base : DeskRecord) (held : List (Held S)) (h h' : Held S) (before after : List ℕ) (r : Result Took Mem)
+  pub reads_at : (front : Front) (dev asked i : ℕ) (told told' : Option Machine) (base : DeskRecord) (held : List (Held S)) (h h' : Held S)
+      (before after : List ℕ) (r : Result Took Mem)
       → Some i ≡ place_of dev (seats_of seen held) → i < length held → h ≡ slice_index_or held i h
       → ReadHeld front asked told told' (bare_of seen h) (tale_of seen h) (tale_of seen h') before after r
       → ReadAt front dev asked told told' (with_seats (seats_of seen held) base) (tales_of seen held) (tales_of seen (slice_set held i h')) before after r
-  reads_at front dev asked i told told' base held h h' before after (Ok Scan) at l e r = (r.0, r.1, r.2, served_at front dev asked i told told' base held h h' r.0 (sym at) l e r.3)
-  reads_at front dev asked i told told' base held h h' before after (Ok Empty) at l e r = (r.0, served_at front dev asked i told told' base held h h' _ (sym at) l e r.1)
-  reads_at front dev asked i told told' base held h h' before after (Ok Gone) at l e r = (r.0, served_at front dev asked i told told' base held h h' _ (sym at) l e r.1)
+  reads_at front dev asked i told told' base held h h' before after (Ok Scan) at l e r =
+      (r.0, r.1, r.2, served_at front dev asked i told told' base held h h' r.0 (sym at) l e r.3)
+  reads_at front dev asked i told told' base held h h' before after (Ok Empty) at l e r =
+      (r.0, served_at front dev asked i told told' base held h h' _ (sym at) l e r.1)
+  reads_at front dev asked i told told' base held h h' before after (Ok Gone) at l e r =
+      (r.0, served_at front dev asked i told told' base held h h' _ (sym at) l e r.1)
   reads_at front dev asked i told told' base held h h' before after (Err fault) at l e r = (r.0, r.1, map_set_same (tale_of seen) held i h' h l e r.2)
 
-  pub writes_at : (front : Front) (told told' : Option Machine) (base : DeskRecord) (dev i : ℕ) (payload : List ℕ) (held : List (Held S)) (h : Held S) (reply : Reply)
+  pub writes_at : (front : Front) (told told' : Option Machine) (base : DeskRecord) (dev i : ℕ) (payload : List ℕ) (held : List (Held S)) (h : Held S)
+      (reply : Reply)
       → Some i ≡ place_of dev (seats_of seen held) → i < length held → h ≡ slice_index_or held i h
       → WritesHeld front payload told (bare_of seen h) reply told'
       → IfSome told (λ m. Comes m (with_seats (seats_of seen held) base)
-      (write_at_place front m (with_seats (seats_of seen held) base) payload (place_of dev (seats_of seen held))) reply told' (with_seats (seats_of seen held) base))
+      (write_at_place front m (with_seats (seats_of seen held) base) payload (place_of dev (seats_of seen held))) reply told'
+      (with_seats (seats_of seen held) base))
   writes_at front None told' base dev i payload held h reply at l e w = tt
   writes_at front (Some m) told' base dev i payload held h reply at l e w =
       let desk = with_seats (seats_of seen held) base in
       let is : write_at_place front m desk payload (place_of dev (seats_of seen held)) ≡ write_at_seat front m desk payload (Some (bare_of seen h))
-      = ap (λ (p : Option ℕ). write_at_place front m desk payload p) (sym at) ∙ ap (λ (s : Option Bare). write_at_seat front m desk payload s) (get_is (bare_of seen) held i h l e) in
+      =
+      ap (λ (p : Option ℕ). write_at_place front m desk payload p) (sym at)
+      ∙ ap (λ (s : Option Bare). write_at_seat front m desk payload s) (get_is (bare_of seen) held i h l e) in
       subst (λ (a : Acted). Comes m desk a reply told' desk) (sym is) (w desk)
 
   -- a seat that changed nothing but its tale
@@ -180,14 +207,16 @@ module _ {S : Type 0} (seen : S → SeatRecord) where
 
   remask_found : (front : Front) (m : Machine) (base : DeskRecord) (dev i : ℕ) (text : List ℕ) (held : List (Held S)) (h : Held S)
       → Some i ≡ place_of dev (seats_of seen held) → i < length held → h ≡ slice_index_or held i h → true ≡ is_plugged m dev
-      → remask_at front m (with_seats (seats_of seen held) base) text dev ≡ remask_seat front m (with_seats (seats_of seen held) base) text i (Some (bare_of seen h))
+      → remask_at front m (with_seats (seats_of seen held) base) text dev
+      ≡ remask_seat front m (with_seats (seats_of seen held) base) text i (Some (bare_of seen h))
   remask_found front m base dev i text held h at l e plugged =
       let desk = with_seats (seats_of seen held) base in
       ap (λ (b : Bool). cond b (remask_place front m desk text (place_of dev (seats_of seen held))) (refused ENODEV m desk)) (sym plugged)
       ∙ ap (λ (p : Option ℕ). remask_place front m desk text p) (sym at)
       ∙ ap (λ (s : Option Bare). remask_seat front m desk text i s) (get_is (bare_of seen) held i h l e)
 
-  pub remask_comes : (front : Front) (told told' : Option Machine) (base : DeskRecord) (dev i : ℕ) (text : List ℕ) (held : List (Held S)) (h h' : Held S) (r : Result ⊤ No)
+  pub remask_comes : (front : Front) (told told' : Option Machine) (base : DeskRecord) (dev i : ℕ) (text : List ℕ) (held : List (Held S)) (h h' : Held S)
+      (r : Result ⊤ No)
       → Some i ≡ place_of dev (seats_of seen held) → i < length held → h ≡ slice_index_or held i h → IfSome told (λ m. true ≡ is_plugged m dev)
       → RemaskMoves front text (bare_of seen h) (tale_of seen h) r (bare_of seen h') (tale_of seen h')
       → IfSome told (λ m. RemaskTold front text m (bare_of seen h) r told' (bare_of seen h'))
@@ -204,7 +233,8 @@ module _ {S : Type 0} (seen : S → SeatRecord) where
     t.0,
     t.1,
     remask_found front m base dev i text held h at l e plugged ∙ t.2 (with_seats (seats_of seen held) base) i
-        ∙ ap (λ (bs : List Bare). record { reply = Refusal x; machine = t.0; desk = with_seats bs base }) (sym (map_set_same (bare_of seen) held i h' h l e moves.0)),
+        ∙ ap (λ (bs : List Bare). record { reply = Refusal x; machine = t.0; desk = with_seats bs base })
+        (sym (map_set_same (bare_of seen) held i h' h l e moves.0)),
   )
   remask_comes front (Some m) told' base dev i text held h h' (Err NoMem) at l e plugged moves t =
       (t, ap (λ (bs : List Bare). with_seats bs base) (map_set_same (bare_of seen) held i h' h l e moves.0))
@@ -212,7 +242,8 @@ module _ {S : Type 0} (seen : S → SeatRecord) where
   pub remasks_by : (front : Front) (base : DeskRecord) (dev i : ℕ) (text : List ℕ) (held : List (Held S)) (h h' : Held S) (r : Result ⊤ No)
       → Some i ≡ place_of dev (seats_of seen held) → i < length held → h ≡ slice_index_or held i h
       → RemaskMoves front text (bare_of seen h) (tale_of seen h) r (bare_of seen h') (tale_of seen h')
-      → RemasksBy front dev text (with_seats (seats_of seen held) base) (tales_of seen held) r (with_seats (seats_of seen (slice_set held i h')) base) (tales_of seen (slice_set held i h'))
+      → RemasksBy front dev text (with_seats (seats_of seen held) base) (tales_of seen held) r (with_seats (seats_of seen (slice_set held i h')) base)
+      (tales_of seen (slice_set held i h'))
   remasks_by front base dev i text held h h' (Ok done) at l e j =
       let here = get_is (bare_of seen) held i h l e in
       let its = placed_at dev (seats_of seen held) i (bare_of seen h) (sym at) here in
@@ -239,9 +270,15 @@ module _ {S : Type 0} (seen : S → SeatRecord) where
 
   -- what a connection has is seated
   pub seated : (front : Front) (d : Desk S) → IsDesk seen front d → AreSeated (seats_of seen d.held.items) (tales_of seen d.held.items)
-  seated front d is = record { apart = apart_by (seats_of seen d.held.items) is.apart; told = length-map d.held.items (tale_of seen) ∙ sym (length-map d.held.items (bare_of seen)) }
+  seated front d is =
+      record {
+        apart = apart_by (seats_of seen d.held.items) is.apart;
+        told = length-map d.held.items (tale_of seen)
+            ∙ sym (length-map d.held.items (bare_of seen));
+      }
 
-  closed_last : (front : Front) (m : Machine) (xs : List Bare) (s : Bare) → all_closed front m (xs ++ s ∷ []) ≡ all_closed front (closed front m s.dev s.number) xs
+  closed_last : (front : Front) (m : Machine) (xs : List Bare) (s : Bare)
+      → all_closed front m (xs ++ s ∷ []) ≡ all_closed front (closed front m s.dev s.number) xs
   closed_last front m [] s = refl
   closed_last front m (x ∷ xs) s = ap (λ n. closed front n x.dev x.number) (closed_last front m xs s)
 
@@ -253,7 +290,8 @@ module _ {S : Type 0} (seen : S → SeatRecord) where
       let now : t' ≡ Some (closed front n h.dev (seen h.seat).number) = rw told at close in (
         closed front n h.dev (seen h.seat).number,
         now,
-        sym (closed_last front n (seats_of seen after) (bare_of seen h)) ∙ ap (λ d. all_closed front n d) (sym (ap (λ hs. seats_of seen hs) split ∙ one_more_held (bare_of seen) after h)) ∙ same,
+        sym (closed_last front n (seats_of seen after) (bare_of seen h))
+            ∙ ap (λ d. all_closed front n d) (sym (ap (λ hs. seats_of seen hs) split ∙ one_more_held (bare_of seen) after h)) ∙ same,
       )
 
   pub closing_more : (front : Front) (told t t' : Option Machine) (first before after : List (Held S)) (h : Held S)
@@ -271,7 +309,8 @@ released_last m who [] dev = refl
 released_last m who (x ∷ xs) dev = ap (λ n. (ev_close_of n x who).machine) (released_last m who xs dev)
 
 -- a holding that ends, or was none: either way the state is the one that is stated
-ended : (n : Machine) (dev who : ℕ) (r : Result ⊤ No) (t' : Option Machine) → r ≢ Err NoMem → Answers (ev_close_of n dev who) n r t' → t' ≡ Some (ev_close_of n dev who).machine
+ended : (n : Machine) (dev who : ℕ) (r : Result ⊤ No) (t' : Option Machine) → r ≢ Err NoMem → Answers (ev_close_of n dev who) n r t'
+    → t' ≡ Some (ev_close_of n dev who).machine
 ended n dev who (Ok done) t' some a = a.1
 ended n dev who (Err (NoErrno e)) t' some a = a.1
 ended n dev who (Err NoMem) t' some a = absurd (some refl)
@@ -292,13 +331,16 @@ pub releasing_more : (told t t' : Option Machine) (who : ℕ) (first before afte
     → r ≢ Err NoMem → IfSome t (λ k. Answers (ev_close_of k dev who) k r t')
     → IfSome told (λ m. (n : Machine) × (t' ≡ Some n) × (all_released n who after ≡ all_released m who first))
 releasing_more None t t' who first before after dev r split inv some close = tt
-releasing_more (Some m) t t' who first before after dev r split inv some close = releasing_one m inv.0 t t' who first before after dev r split inv.1 inv.2 some close
+releasing_more (Some m) t t' who first before after dev r split inv some close =
+    releasing_one m inv.0 t t' who first before after dev r split inv.1 inv.2 some close
 
 pub read_nowhere : (front : Front) (dev asked : ℕ) (told : Option Machine) (desk : DeskRecord) (tales : List (Option Tale)) → place_of dev desk.seats ≡ None
     → ReadServedAt front dev asked told told desk tales tales (Refusal EBADF)
 read_nowhere front dev asked told desk tales at = record { exact = by told; moves = moved (place_of dev desk.seats) at; whole = tt }
   where
-    by : (told : Option Machine) → IfSome told (λ m. (n : Machine) × (told ≡ Some n) × (read_at front m desk asked (place_of dev desk.seats) ≡ record { reply = Refusal EBADF; machine = n; desk = desk }))
+    by : (told : Option Machine)
+        → IfSome told (λ m. (n : Machine) × (told ≡ Some n)
+        × (read_at front m desk asked (place_of dev desk.seats) ≡ record { reply = Refusal EBADF; machine = n; desk = desk }))
     by None = tt
     by (Some m) = (m, refl, ap (λ p. read_at front m desk asked p) at)
 
@@ -307,15 +349,18 @@ read_nowhere front dev asked told desk tales at = record { exact = by told; move
     moved (Some i) e = absurd (cc)
 
 -- what the code found is what the definitions say
-wanted_is : (front : Front) (m : Machine) (desk : DeskRecord) (dev samples : ℕ) (text : List ℕ) (cyclic is_open plugged : Bool) (shape : ShapeRecord) (buffers : ℕ) (w : Result Wanted Errno)
+wanted_is : (front : Front) (m : Machine) (desk : DeskRecord) (dev samples : ℕ) (text : List ℕ) (cyclic is_open plugged : Bool) (shape : ShapeRecord)
+    (buffers : ℕ) (w : Result Wanted Errno)
     → is_open ≡ is_some (place_of dev desk.seats) → plugged ≡ is_plugged m dev → shape ≡ shape_at front dev → buffers ≡ buffers_of dev desk.buffers
     → w ≡ wanted_of is_open plugged (kind_at front dev) shape buffers samples text cyclic
     → open_at front m desk dev samples text cyclic ≡ open_wanted front m desk dev cyclic w
 wanted_is front m desk dev samples text cyclic is_open plugged shape buffers w e0 e1 e2 e3 e =
     ap (λ x. open_wanted front m desk dev cyclic x) (rw (sym e0, sym e1, sym e2, sym e3) (sym e))
 
-pub opens : (front : Front) (told told' : Option Machine) (desk desk' : DeskRecord) (dev samples : ℕ) (text : List ℕ) (cyclic is_open plugged : Bool) (shape : ShapeRecord) (buffers : ℕ) (w : CodeWanted) (reply : Reply)
-    → is_open ≡ is_some (place_of dev desk.seats) → IfSome told (λ m. plugged ≡ is_plugged m dev) → shape ≡ shape_at front dev → buffers ≡ buffers_of dev desk.buffers
+pub opens : (front : Front) (told told' : Option Machine) (desk desk' : DeskRecord) (dev samples : ℕ) (text : List ℕ) (cyclic is_open plugged : Bool)
+    (shape : ShapeRecord) (buffers : ℕ) (w : CodeWanted) (reply : Reply)
+    → is_open ≡ is_some (place_of dev desk.seats) → IfSome told (λ m. plugged ≡ is_plugged m dev) → shape ≡ shape_at front dev
+    → buffers ≡ buffers_of dev desk.buffers
     → Ok (wanted_of_code w) ≡ wanted_of is_open plugged (kind_at front dev) shape buffers samples text cyclic
     → IfSome told (λ m. Comes m desk (joined_at front m desk dev (wanted_of_code w) cyclic) reply told' desk')
     → IfSome told (λ m. Comes m desk (open_at front m desk dev samples text cyclic) reply told' desk')
@@ -323,8 +368,10 @@ opens front None told' desk desk' dev samples text cyclic is_open plugged shape 
 opens front (Some m) told' desk desk' dev samples text cyclic is_open plugged shape buffers w reply e0 e1 e2 e3 e c =
     rw (wanted_is front m desk dev samples text cyclic is_open plugged shape buffers _ e0 e1 e2 e3 e) c
 
-pub refuses : (front : Front) (told : Option Machine) (desk : DeskRecord) (dev samples : ℕ) (text : List ℕ) (cyclic is_open plugged : Bool) (shape : ShapeRecord) (buffers : ℕ) (errno : Errno)
-    → is_open ≡ is_some (place_of dev desk.seats) → IfSome told (λ m. plugged ≡ is_plugged m dev) → shape ≡ shape_at front dev → buffers ≡ buffers_of dev desk.buffers
+pub refuses : (front : Front) (told : Option Machine) (desk : DeskRecord) (dev samples : ℕ) (text : List ℕ) (cyclic is_open plugged : Bool)
+    (shape : ShapeRecord) (buffers : ℕ) (errno : Errno)
+    → is_open ≡ is_some (place_of dev desk.seats) → IfSome told (λ m. plugged ≡ is_plugged m dev) → shape ≡ shape_at front dev
+    → buffers ≡ buffers_of dev desk.buffers
     → Err errno ≡ wanted_of is_open plugged (kind_at front dev) shape buffers samples text cyclic
     → IfSome told (λ m. Comes m desk (open_at front m desk dev samples text cyclic) (Refusal errno) told desk)
 refuses front None desk dev samples text cyclic is_open plugged shape buffers errno e0 e1 e2 e3 e = tt
@@ -332,7 +379,8 @@ refuses front (Some m) desk dev samples text cyclic is_open plugged shape buffer
     (m, refl, wanted_is front m desk dev samples text cyclic is_open plugged shape buffers _ e0 e1 e2 e3 e)
 
 -- an OPEN by what it asks for, at the shape and the buffers count that the code found
-pub opens_by : (front : Front) (dev samples : ℕ) (text : List ℕ) (cyclic : Bool) (desk desk' : DeskRecord) (tales tales' : List (Option Tale)) (shape : ShapeRecord) (buffers : ℕ) (x : Wanted) (r : Result ⊤ No)
+pub opens_by : (front : Front) (dev samples : ℕ) (text : List ℕ) (cyclic : Bool) (desk desk' : DeskRecord) (tales tales' : List (Option Tale))
+    (shape : ShapeRecord) (buffers : ℕ) (x : Wanted) (r : Result ⊤ No)
     → shape ≡ shape_at front dev → buffers ≡ buffers_of dev desk.buffers → IsWanted (kind_at front dev) shape buffers samples text cyclic x
     → JoinsBy dev x desk tales r desk' tales' → OpensBy front dev samples text cyclic desk tales r desk' tales'
 opens_by front dev samples text cyclic desk desk' tales tales' shape buffers x (Ok done) e n w j = (x, rw (e, n) at w, j)

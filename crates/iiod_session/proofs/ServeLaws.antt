@@ -27,7 +27,8 @@ use Rattle.iiod_session.specs.Performs.{AnswersRead, Comes, HasRoomAfter, IsAllo
 use Rattle.iiod_session.specs.Seat.{Tale}
 
 -- an outcome that is the item's
-pub comes_acts : (front : Front) (m : Machine) (desk desk' : DeskRecord) (item : Item) (o : Acted) (reply : Reply) (told' : Option Machine) → act front m desk item ≡ o
+pub comes_acts : (front : Front) (m : Machine) (desk desk' : DeskRecord) (item : Item) (o : Acted) (reply : Reply) (told' : Option Machine)
+    → act front m desk item ≡ o
     → Comes m desk o reply told' desk' → Acts front m desk item reply told' desk'
 comes_acts front m desk desk' item o NoMemory told' e c = c
 comes_acts front m desk desk' item o Nothing told' e c = (c.0, c.1, e ∙ c.2)
@@ -137,7 +138,8 @@ unknown front told desk tales command e alone moves =
 
 pub serves_unknown : (front : Front) (told : Option Machine) (desk : DeskRecord) (tales : List (Option Tale)) (command : Command) → IsAt front None command
     → Serves front told desk tales (Said (Ok command)) (Refusal ENODEV) told desk tales
-serves_unknown front told desk tales (Open device samples text cyclic) e = unknown front told desk tales (Open device samples text cyclic) e (rw (sym e) (inl refl)) (refl, refl)
+serves_unknown front told desk tales (Open device samples text cyclic) e =
+    unknown front told desk tales (Open device samples text cyclic) e (rw (sym e) (inl refl)) (refl, refl)
 serves_unknown front told desk tales (Close device) e = unknown front told desk tales (Close device) e (rw (sym e) (inl refl)) (refl, refl)
 serves_unknown front told desk tales (Read device place name) e = unknown front told desk tales (Read device place name) e (rw (sym e) (inl refl)) (refl, refl)
 serves_unknown front told desk tales (GetTrig device) e = unknown front told desk tales (GetTrig device) e (rw (sym e) (inl refl)) (refl, refl)
@@ -150,25 +152,35 @@ serves_unknown front told desk tales (EvClose device) e = unknown front told des
 serves_unknown front told desk tales command e = absurd e
 
 -- where it is found
-pub serves_at : (front : Front) (told told' : Option Machine) (desk desk' : DeskRecord) (tales tales' : List (Option Tale)) (command : Command) (dev : ℕ) (reply : Reply) → IsAt front (Some dev) command
+pub serves_at : (front : Front) (told told' : Option Machine) (desk desk' : DeskRecord) (tales tales' : List (Option Tale)) (command : Command) (dev : ℕ)
+    (reply : Reply) → IsAt front (Some dev) command
     → AnswersAlone front desk (Said (Ok command)) reply → AnswersAs front (Said (Ok command)) reply
     → IfSome told (λ m. Comes m desk (on_device front m desk command dev) reply told' desk')
     → Moves front desk tales (Said (Ok command)) reply desk' tales'
     → Serves front told desk tales (Said (Ok command)) reply told' desk' tales'
 serves_at front told told' desk desk' tales tales' command dev reply e alone formed c moves =
-    record { alone = alone; formed = formed; exact = all_comes front told told' desk desk' _ (λ m. on_device front m desk command dev) reply (λ m. act_at front m desk (Some dev) command e) c; moves = moves }
+    record {
+      alone = alone;
+      formed = formed;
+      exact =
+          all_comes front told told' desk desk' _ (λ m. on_device front m desk command dev) reply (λ m. act_at front m desk (Some dev) command e) c;
+      moves = moves;
+    }
 
 -- ---- OPEN
 
-pub serves_open : (front : Front) (told told' : Option Machine) (desk desk' : DeskRecord) (tales tales' : List (Option Tale)) (device : List ℕ) (samples : ℕ) (text : List ℕ) (cyclic : Bool) (dev : ℕ) (r : Result ⊤ No)
+pub serves_open : (front : Front) (told told' : Option Machine) (desk desk' : DeskRecord) (tales tales' : List (Option Tale)) (device : List ℕ) (samples : ℕ)
+    (text : List ℕ) (cyclic : Bool) (dev : ℕ) (r : Result ⊤ No)
     → Some dev ≡ find_device front device
     → IfSome told (λ m. Comes m desk (open_at front m desk dev samples text cyclic) (reply_by r) told' desk')
     → OpensBy front dev samples text cyclic desk tales r desk' tales'
     → Serves front told desk tales (Said (Ok (Open device samples text cyclic))) (reply_by r) told' desk' tales'
 serves_open front told told' desk desk' tales tales' device samples text cyclic dev r e t j =
-    serves_at front told told' desk desk' tales tales' (Open device samples text cyclic) dev (reply_by r) e (rw (sym e) tt) (settles front (Said (Ok (Open device samples text cyclic))) r refl) t (moved r j)
+    serves_at front told told' desk desk' tales tales' (Open device samples text cyclic) dev (reply_by r) e (rw (sym e) tt)
+    (settles front (Said (Ok (Open device samples text cyclic))) r refl) t (moved r j)
   where
-    moved : (r : Result ⊤ No) → OpensBy front dev samples text cyclic desk tales r desk' tales' → Moves front desk tales (Said (Ok (Open device samples text cyclic))) (reply_by r) desk' tales'
+    moved : (r : Result ⊤ No) → OpensBy front dev samples text cyclic desk tales r desk' tales'
+        → Moves front desk tales (Said (Ok (Open device samples text cyclic))) (reply_by r) desk' tales'
     moved (Ok n) j = record {
       s = record { dev = dev; number = j.2.number; mask = j.0.mask; capacity = j.0.capacity; discarded = 0 };
       t = j.2.t;
@@ -184,14 +196,16 @@ serves_open front told told' desk desk' tales tales' device samples text cyclic 
 
 -- ---- CLOSE
 
-pub serves_close : (front : Front) (told told' : Option Machine) (desk desk' : DeskRecord) (tales tales' : List (Option Tale)) (device : List ℕ) (dev : ℕ) (r : Result ⊤ No)
+pub serves_close : (front : Front) (told told' : Option Machine) (desk desk' : DeskRecord) (tales tales' : List (Option Tale)) (device : List ℕ) (dev : ℕ)
+    (r : Result ⊤ No)
     → Some dev ≡ find_device front device
     → IfSome told (λ m. Comes m desk (close_at front m desk (place_of dev desk.seats)) (reply_by r) told' desk')
     → (place_of dev desk.seats ≡ None → r ≡ Err (NoErrno EBADF))
     → LeavesBy dev desk tales r desk' tales'
     → Serves front told desk tales (Said (Ok (Close device))) (reply_by r) told' desk' tales'
 serves_close front told told' desk desk' tales tales' device dev r e t none j =
-    serves_at front told told' desk desk' tales tales' (Close device) dev (reply_by r) e (rw (sym e) (seatless (place_of dev desk.seats) (reply_by r) (λ n. ap reply_by (none n)))) (settles front (Said (Ok (Close device))) r refl) t (moved r j)
+    serves_at front told told' desk desk' tales tales' (Close device) dev (reply_by r) e
+    (rw (sym e) (seatless (place_of dev desk.seats) (reply_by r) (λ n. ap reply_by (none n)))) (settles front (Said (Ok (Close device))) r refl) t (moved r j)
   where
     moved : (r : Result ⊤ No) → LeavesBy dev desk tales r desk' tales' → Moves front desk tales (Said (Ok (Close device))) (reply_by r) desk' tales'
     moved (Ok n) j = record { dev = dev; i = j.0; named = sym e; at = j.1; gone = j.2; told = j.3 }
@@ -200,33 +214,45 @@ serves_close front told told' desk desk' tales tales' device dev r e t none j =
 
 -- ---- REMASK
 
-pub serves_remask : (front : Front) (told told' : Option Machine) (desk desk' : DeskRecord) (tales tales' : List (Option Tale)) (device text : List ℕ) (dev : ℕ) (r : Result ⊤ No)
+pub serves_remask : (front : Front) (told told' : Option Machine) (desk desk' : DeskRecord) (tales tales' : List (Option Tale)) (device text : List ℕ) (dev : ℕ)
+    (r : Result ⊤ No)
     → Some dev ≡ find_device front device
     → IfSome told (λ m. Comes m desk (remask_known front m desk text dev) (reply_by r) told' desk')
     → RemasksBy front dev text desk tales r desk' tales'
     → Serves front told desk tales (Said (Ok (Remask device text))) (reply_by r) told' desk' tales'
 serves_remask front told told' desk desk' tales tales' device text dev r e t j =
-    serves_at front told told' desk desk' tales tales' (Remask device text) dev (reply_by r) e (rw (sym e) tt) (settles front (Said (Ok (Remask device text))) r refl) t (moved r j)
+    serves_at front told told' desk desk' tales tales' (Remask device text) dev (reply_by r) e (rw (sym e) tt)
+    (settles front (Said (Ok (Remask device text))) r refl) t (moved r j)
   where
-    moved : (r : Result ⊤ No) → RemasksBy front dev text desk tales r desk' tales' → Moves front desk tales (Said (Ok (Remask device text))) (reply_by r) desk' tales'
+    moved : (r : Result ⊤ No) → RemasksBy front dev text desk tales r desk' tales'
+        → Moves front desk tales (Said (Ok (Remask device text))) (reply_by r) desk' tales'
     moved (Ok n) j = (dev, sym e, j)
     moved (Err (NoErrno x)) j = j
     moved (Err NoMem) j = j
 
 -- ---- READBUF
 
-read_is : (front : Front) (desk : DeskRecord) (device : List ℕ) (asked dev : ℕ) → find_device front device ≡ Some dev → is_output (kind_at front dev) ≡ false → (m : Machine)
+read_is : (front : Front) (desk : DeskRecord) (device : List ℕ) (asked dev : ℕ) → find_device front device ≡ Some dev → is_output (kind_at front dev) ≡ false
+    → (m : Machine)
     → act front m desk (Said (Ok (ReadBuf device asked))) ≡ read_at front m desk asked (place_of dev desk.seats)
 unfolding act
 read_is front desk device asked dev e read m =
-    ap (λ o. at_device m desk (read_buffer_at front m desk asked) o) e ∙ ap (λ (b : Bool). where_known (not b) m desk dev (read_at front m desk asked (place_of dev desk.seats))) read
+    ap (λ o. at_device m desk (read_buffer_at front m desk asked) o) e
+    ∙ ap (λ (b : Bool). where_known (not b) m desk dev (read_at front m desk asked (place_of dev desk.seats))) read
 
-pub serves_read : (front : Front) (told told' : Option Machine) (desk desk' : DeskRecord) (tales tales' : List (Option Tale)) (device : List ℕ) (asked dev : ℕ) (reply : Reply)
+pub serves_read : (front : Front) (told told' : Option Machine) (desk desk' : DeskRecord) (tales tales' : List (Option Tale)) (device : List ℕ) (asked dev : ℕ)
+    (reply : Reply)
     → find_device front device ≡ Some dev → is_output (kind_at front dev) ≡ false → desk' ≡ desk
     → ReadServedAt front dev asked told told' desk tales tales' reply
     → Serves front told desk tales (Said (Ok (ReadBuf device asked))) reply told' desk' tales'
 serves_read front told told' desk desk' tales tales' device asked dev reply e read same r =
-    record { alone = rw (e, read) (unseated (place_of dev desk.seats) r.moves); formed = formed reply; exact = by told r.exact; moves = moved reply r.whole r.moves }
+    record {
+      alone = rw (e, read) (unseated (place_of dev desk.seats) r.moves);
+      formed = formed reply;
+      exact = by told r.exact;
+      moves =
+          moved reply r.whole r.moves;
+    }
   where
     unseated : (p : Option ℕ) → ReadsBy front asked desk.seats tales p reply tales' → IfSome (at_seat p) (λ answer. IsOrShort answer reply)
     unseated None x = inl x.0
@@ -237,7 +263,8 @@ serves_read front told told' desk desk' tales tales' device asked dev reply e re
     formed NoMemory = tt
     formed reply = tt
 
-    moved : (reply : Reply) → IsWhole reply → ReadsBy front asked desk.seats tales (place_of dev desk.seats) reply tales' → Moves front desk tales (Said (Ok (ReadBuf device asked))) reply desk' tales'
+    moved : (reply : Reply) → IsWhole reply → ReadsBy front asked desk.seats tales (place_of dev desk.seats) reply tales'
+        → Moves front desk tales (Said (Ok (ReadBuf device asked))) reply desk' tales'
     moved NoMemory w x = absurd w
     moved Nothing w x = (same, rw (e, read) x)
     moved (Number n) w x = (same, rw (e, read) x)
@@ -247,7 +274,8 @@ serves_read front told told' desk desk' tales tales' device asked dev reply e re
     moved (Raw t) w x = (same, rw (e, read) x)
     moved (Block a b c d) w x = (same, rw (e, read) x)
 
-    acts : (m n : Machine) (reply : Reply) → IsWhole reply → told' ≡ Some n → read_at front m desk asked (place_of dev desk.seats) ≡ record { reply = reply; machine = n; desk = desk }
+    acts : (m n : Machine) (reply : Reply) → IsWhole reply → told' ≡ Some n
+        → read_at front m desk asked (place_of dev desk.seats) ≡ record { reply = reply; machine = n; desk = desk }
         → Comes m desk (read_at front m desk asked (place_of dev desk.seats)) reply told' desk'
     acts m n NoMemory w t x = absurd w
     acts m n Nothing w t x = (n, t, rw same x)
@@ -259,25 +287,36 @@ serves_read front told told' desk desk' tales tales' device asked dev reply e re
     acts m n (Block a b c d) w t x = (n, t, rw same x)
 
     by : (told : Option Machine)
-        → IfSome told (λ m. (n : Machine) × (told' ≡ Some n) × (read_at front m desk asked (place_of dev desk.seats) ≡ record { reply = reply; machine = n; desk = desk }))
+        → IfSome told (λ m. (n : Machine) × (told' ≡ Some n)
+        × (read_at front m desk asked (place_of dev desk.seats) ≡ record { reply = reply; machine = n; desk = desk }))
         → IfSome told (λ m. Acts front m desk (Said (Ok (ReadBuf device asked))) reply told' desk')
     by None x = tt
-    by (Some m) x = comes_acts front m desk desk' (Said (Ok (ReadBuf device asked))) _ reply told' (read_is front desk device asked dev e read m) (acts m x.0 reply r.whole x.1 x.2)
+    by (Some m) x =
+        comes_acts front m desk desk' (Said (Ok (ReadBuf device asked))) _ reply told' (read_is front desk device asked dev e read m)
+        (acts m x.0 reply r.whole x.1 x.2)
 
 unknown_read : (front : Front) (desk : DeskRecord) (device : List ℕ) (asked : ℕ) → find_device front device ≡ None → (m : Machine)
     → act front m desk (Said (Ok (ReadBuf device asked))) ≡ refused ENODEV m desk
 unfolding act
 unknown_read front desk device asked e m = ap (λ o. at_device m desk (read_buffer_at front m desk asked) o) e
 
-pub no_read : (front : Front) (told : Option Machine) (desk : DeskRecord) (tales : List (Option Tale)) (device : List ℕ) (asked : ℕ) → find_device front device ≡ None
+pub no_read : (front : Front) (told : Option Machine) (desk : DeskRecord) (tales : List (Option Tale)) (device : List ℕ) (asked : ℕ)
+    → find_device front device ≡ None
     → Serves front told desk tales (Said (Ok (ReadBuf device asked))) (Refusal ENODEV) told desk tales
 no_read front told desk tales device asked e =
-    record { alone = rw e (inl refl); formed = tt; exact = all_refused front told desk _ ENODEV (unknown_read front desk device asked e); moves = (refl, rw e (refl, refl)) }
+    record {
+      alone = rw e (inl refl);
+      formed = tt;
+      exact = all_refused front told desk _ ENODEV (unknown_read front desk device asked e);
+      moves =
+          (refl, rw e (refl, refl));
+    }
 
 -- want of memory, before which nothing had changed
 short_read : (front : Front) (told told' : Option Machine) (desk desk' : DeskRecord) (tales tales' : List (Option Tale)) (device : List ℕ) (asked : ℕ)
     → told' ≡ told → desk' ≡ desk → tales' ≡ tales → Serves front told desk tales (Said (Ok (ReadBuf device asked))) NoMemory told' desk' tales'
-short_read front told told' desk desk' tales tales' device asked t d s = record { alone = short_reader front desk.seats (find_device front device); formed = tt; exact = by told t; moves = (d, s) }
+short_read front told told' desk desk' tales tales' device asked t d s =
+    record { alone = short_reader front desk.seats (find_device front device); formed = tt; exact = by told t; moves = (d, s) }
   where
     by : (told : Option Machine) → told' ≡ told → IfSome told (λ m. (told' ≡ Some m) × (desk' ≡ desk))
     by None t = tt
@@ -291,7 +330,8 @@ short_answer (Said (Ok (ReadBuf device asked))) Script = tt
 short_answer (Said (Ok (ReadBuf device asked))) Server = tt
 short_answer item manner = tt
 
-pub finished : (manner : Manner) (front : Front) (told told' : Option Machine) (desk : DeskRecord) (tales : List (Option Tale)) (item : Item) (desk' : DeskRecord) (tales' : List (Option Tale))
+pub finished : (manner : Manner) (front : Front) (told told' : Option Machine) (desk : DeskRecord) (tales : List (Option Tale)) (item : Item)
+    (desk' : DeskRecord) (tales' : List (Option Tale))
     (before after : List ℕ) (reply : Reply) (r : Result Performed Mem)
     → Serves front told desk tales item reply told' desk' tales'
     → IfOk r (λ p. p ≡ Done) → OnOk r (after ≡ before ++ text_of reply) → OnOk r (IsAllowed manner reply) → IsAnswerOf item manner reply
@@ -329,44 +369,78 @@ found_answer device asked Server (Raw t) f = tt
 found_answer device asked Server (Block a b c d) f = tt
 found_answer device asked Server NoMemory f = tt
 
-pub unread_answer : (device : List ℕ) (asked : ℕ) (manner : Manner) (e : Errno) → (e ≡ ENODEV) ⊎ (e ≡ ENOSYS) → IsAnswerOf (Said (Ok (ReadBuf device asked))) manner (Refusal e)
+pub unread_answer : (device : List ℕ) (asked : ℕ) (manner : Manner) (e : Errno) → (e ≡ ENODEV) ⊎ (e ≡ ENOSYS)
+    → IsAnswerOf (Said (Ok (ReadBuf device asked))) manner (Refusal e)
 unread_answer device asked manner e (inl is) = rw is (found_answer device asked manner (Refusal ENODEV) tt)
 unread_answer device asked manner e (inr is) = rw is (found_answer device asked manner (Refusal ENOSYS) tt)
 
-answered : (manner : Manner) (front : Front) (told told' : Option Machine) (desk desk' : DeskRecord) (tales tales' : List (Option Tale)) (device : List ℕ) (asked dev : ℕ)
+answered : (manner : Manner) (front : Front) (told told' : Option Machine) (desk desk' : DeskRecord) (tales tales' : List (Option Tale)) (device : List ℕ)
+    (asked dev : ℕ)
     (before mid after : List ℕ) (took : Result Took Mem) (p : Performed)
     → find_device front device ≡ Some dev → is_output (kind_at front dev) ≡ false → desk' ≡ desk
     → ReadAt front dev asked told told' desk tales tales' before mid took
     → AnswersRead manner dev took mid after p
     → Performs manner front told told' desk tales (Said (Ok (ReadBuf device asked))) desk' tales' before after p
 answered manner front told told' desk desk' tales tales' device asked dev before mid after (Ok Scan) p e read same r a =
-    rw a.1 (r.0, a.0 ∙ r.1, allowed manner r.0 r.3.whole, found_answer device asked manner r.0 r.2, serves_read front told told' desk desk' tales tales' device asked dev r.0 e read same r.3)
+    rw a.1 (
+      r.0,
+      a.0 ∙ r.1,
+      allowed manner r.0 r.3.whole,
+      found_answer device asked manner r.0 r.2,
+      serves_read front told told' desk desk' tales tales' device
+          asked dev r.0 e read same r.3,
+    )
 answered manner front told told' desk desk' tales tales' device asked dev before mid after (Ok Gone) p e read same r a =
-    rw a.1 (Refusal ENODEV, a.0 ∙ ap (λ (xs : List ℕ). xs ++ text_of (Refusal ENODEV)) r.0, allowed manner (Refusal ENODEV) tt, found_answer device asked manner (Refusal ENODEV) tt, serves_read front told told' desk desk' tales tales' device asked dev _ e read same r.1)
+    rw a.1 (
+      Refusal ENODEV,
+      a.0
+          ∙ ap (λ (xs : List ℕ). xs ++ text_of (Refusal ENODEV)) r.0,
+      allowed manner (Refusal ENODEV) tt,
+      found_answer device asked manner (Refusal ENODEV) tt,
+      serves_read front told told' desk desk' tales tales' device asked dev _ e read same r.1,
+    )
 answered Server front told told' desk desk' tales tales' device asked dev before mid after (Ok Empty) p e read same r a =
     rw a.1 (a.0 ∙ r.0, refl, e, serves_read front told told' desk desk' tales tales' device asked dev _ e read same r.1)
 answered Script front told told' desk desk' tales tales' device asked dev before mid after (Ok Empty) p e read same r a =
-    rw a.1 (Refusal EAGAIN, a.0 ∙ ap (λ (xs : List ℕ). xs ++ text_of (Refusal EAGAIN)) r.0, tt, tt, serves_read front told told' desk desk' tales tales' device asked dev _ e read same r.1)
+    rw a.1 (
+      Refusal EAGAIN,
+      a.0
+          ∙ ap (λ (xs : List ℕ). xs ++ text_of (Refusal EAGAIN)) r.0,
+      tt,
+      tt,
+      serves_read front told told' desk desk' tales tales' device asked dev _ e read same r.1,
+    )
 answered manner front told told' desk desk' tales tales' device asked dev before mid after (Err fault) p e read same r a =
-    rw a.1 (NoMemory, a.0 ∙ ap (λ (xs : List ℕ). xs ++ text_of NoMemory) r.0, a.2, found_answer device asked manner NoMemory tt, short_read front told told' desk desk' tales tales' device asked r.1 same r.2)
+    rw a.1 (
+      NoMemory,
+      a.0 ∙ ap (λ (xs : List ℕ). xs ++ text_of NoMemory) r.0,
+      a.2,
+      found_answer device asked manner NoMemory tt,
+      short_read front told told'
+          desk desk' tales tales' device asked r.1 same r.2,
+    )
 
-pub answers : (manner : Manner) (front : Front) (told told' : Option Machine) (desk desk' : DeskRecord) (tales tales' : List (Option Tale)) (device : List ℕ) (asked dev : ℕ)
+pub answers : (manner : Manner) (front : Front) (told told' : Option Machine) (desk desk' : DeskRecord) (tales tales' : List (Option Tale)) (device : List ℕ)
+    (asked dev : ℕ)
     (before mid after : List ℕ) (took : Result Took Mem) (r : Result Performed Mem)
     → find_device front device ≡ Some dev → is_output (kind_at front dev) ≡ false → desk' ≡ desk
     → ReadAt front dev asked told told' desk tales tales' before mid took
     → IfOk r (AnswersRead manner dev took mid after)
     → IfOk r (Performs manner front told told' desk tales (Said (Ok (ReadBuf device asked))) desk' tales' before after)
-answers manner front told told' desk desk' tales tales' device asked dev before mid after took (Ok p) e read same r a = answered manner front told told' desk desk' tales tales' device asked dev before mid after took p e read same r a
+answers manner front told told' desk desk' tales tales' device asked dev before mid after took (Ok p) e read same r a =
+    answered manner front told told' desk desk' tales tales' device asked dev before mid after took p e read same r a
 answers manner front told told' desk desk' tales tales' device asked dev before mid after took (Err fault) e read same r a = tt
 
 -- ---- SETTRIG
 
-pub serves_set_trigger : (front : Front) (told told' : Option Machine) (desk : DeskRecord) (tales : List (Option Tale)) (device : List ℕ) (name : Option (List ℕ)) (dev : ℕ) (r : Result ⊤ No)
+pub serves_set_trigger : (front : Front) (told told' : Option Machine) (desk : DeskRecord) (tales : List (Option Tale)) (device : List ℕ)
+    (name : Option (List ℕ)) (dev : ℕ) (r : Result ⊤ No)
     → Some dev ≡ find_device front device
     → IfSome told (λ m. Comes m desk (set_trigger_known front m desk name dev) (reply_by r) told' desk)
     → Serves front told desk tales (Said (Ok (SetTrig device name))) (reply_by r) told' desk tales
 serves_set_trigger front told told' desk tales device name dev r e c =
-    serves_at front told told' desk desk tales tales (SetTrig device name) dev (reply_by r) e (rw (sym e) tt) (settles front (Said (Ok (SetTrig device name))) r refl) c (moved r)
+    serves_at front told told' desk desk tales tales (SetTrig device name) dev (reply_by r) e (rw (sym e) tt)
+    (settles front (Said (Ok (SetTrig device name))) r refl) c (moved r)
   where
     moved : (r : Result ⊤ No) → Moves front desk tales (Said (Ok (SetTrig device name))) (reply_by r) desk tales
     moved (Ok done) = (refl, refl)
@@ -375,13 +449,15 @@ serves_set_trigger front told told' desk tales device name dev r e c =
 
 -- ---- SET
 
-pub serves_set_buffers : (front : Front) (told : Option Machine) (desk desk' : DeskRecord) (tales tales' : List (Option Tale)) (device : List ℕ) (n dev : ℕ) (r : Result ⊤ No)
+pub serves_set_buffers : (front : Front) (told : Option Machine) (desk desk' : DeskRecord) (tales tales' : List (Option Tale)) (device : List ℕ) (n dev : ℕ)
+    (r : Result ⊤ No)
     → Some dev ≡ find_device front device
     → IfSome told (λ m. Comes m desk (set_buffers_at m desk n dev) (reply_by r) told desk')
     → desk' ≡ desk_by (with_count dev n) desk r → tales' ≡ tales
     → Serves front told desk tales (Said (Ok (SetBuffers device n))) (reply_by r) told desk' tales'
 serves_set_buffers front told desk desk' tales tales' device n dev r e c a t =
-    serves_at front told told desk desk' tales tales' (SetBuffers device n) dev (reply_by r) e (rw (sym e) tt) (settles front (Said (Ok (SetBuffers device n))) r refl) c (moved r a)
+    serves_at front told told desk desk' tales tales' (SetBuffers device n) dev (reply_by r) e (rw (sym e) tt)
+    (settles front (Said (Ok (SetBuffers device n))) r refl) c (moved r a)
   where
     moved : (r : Result ⊤ No) → desk' ≡ desk_by (with_count dev n) desk r → Moves front desk tales (Said (Ok (SetBuffers device n))) (reply_by r) desk' tales'
     moved (Ok done) a = record { dev = dev; named = sym e; made = a; told = t }
@@ -399,13 +475,15 @@ serves_get_trigger front told desk tales device dev reply e c formed =
 
 -- ---- EVOPEN
 
-pub serves_ev_open : (front : Front) (told told' : Option Machine) (desk desk' : DeskRecord) (tales tales' : List (Option Tale)) (device : List ℕ) (dev : ℕ) (r : Result ⊤ No)
+pub serves_ev_open : (front : Front) (told told' : Option Machine) (desk desk' : DeskRecord) (tales tales' : List (Option Tale)) (device : List ℕ) (dev : ℕ)
+    (r : Result ⊤ No)
     → Some dev ≡ find_device front device
     → IfSome told (λ m. Comes m desk (ev_open_known front m desk dev) (reply_by r) told' desk')
     → desk' ≡ desk_by (with_holding dev) desk r → tales' ≡ tales
     → Serves front told desk tales (Said (Ok (EvOpen device))) (reply_by r) told' desk' tales'
 serves_ev_open front told told' desk desk' tales tales' device dev r e c a t =
-    serves_at front told told' desk desk' tales tales' (EvOpen device) dev (reply_by r) e (rw (sym e) tt) (settles front (Said (Ok (EvOpen device))) r refl) c (moved r a)
+    serves_at front told told' desk desk' tales tales' (EvOpen device) dev (reply_by r) e (rw (sym e) tt) (settles front (Said (Ok (EvOpen device))) r refl) c
+    (moved r a)
   where
     moved : (r : Result ⊤ No) → desk' ≡ desk_by (with_holding dev) desk r → Moves front desk tales (Said (Ok (EvOpen device))) (reply_by r) desk' tales'
     moved (Ok done) a = record { dev = dev; named = sym e; made = a; told = t }
@@ -414,13 +492,15 @@ serves_ev_open front told told' desk desk' tales tales' device dev r e c a t =
 
 -- ---- EVCLOSE
 
-pub serves_ev_close : (front : Front) (told told' : Option Machine) (desk desk' : DeskRecord) (tales tales' : List (Option Tale)) (device : List ℕ) (dev : ℕ) (r : Result ⊤ No)
+pub serves_ev_close : (front : Front) (told told' : Option Machine) (desk desk' : DeskRecord) (tales tales' : List (Option Tale)) (device : List ℕ) (dev : ℕ)
+    (r : Result ⊤ No)
     → Some dev ≡ find_device front device
     → IfSome told (λ m. Comes m desk (ev_close_known front m desk dev) (reply_by r) told' desk')
     → desk' ≡ desk_by (without_holding dev) desk r → tales' ≡ tales
     → Serves front told desk tales (Said (Ok (EvClose device))) (reply_by r) told' desk' tales'
 serves_ev_close front told told' desk desk' tales tales' device dev r e c a t =
-    serves_at front told told' desk desk' tales tales' (EvClose device) dev (reply_by r) e (rw (sym e) tt) (settles front (Said (Ok (EvClose device))) r refl) c (moved r a)
+    serves_at front told told' desk desk' tales tales' (EvClose device) dev (reply_by r) e (rw (sym e) tt) (settles front (Said (Ok (EvClose device))) r refl) c
+    (moved r a)
   where
     moved : (r : Result ⊤ No) → desk' ≡ desk_by (without_holding dev) desk r → Moves front desk tales (Said (Ok (EvClose device))) (reply_by r) desk' tales'
     moved (Ok done) a = record { dev = dev; named = sym e; made = a; told = t }
@@ -438,11 +518,13 @@ serves_ev_read front told told' desk tales device dev reply e c formed =
 
 -- ---- READBUF of an output device, which is refused
 
-output_is : (front : Front) (desk : DeskRecord) (device : List ℕ) (asked dev : ℕ) → find_device front device ≡ Some dev → is_output (kind_at front dev) ≡ true → (m : Machine)
+output_is : (front : Front) (desk : DeskRecord) (device : List ℕ) (asked dev : ℕ) → find_device front device ≡ Some dev → is_output (kind_at front dev) ≡ true
+    → (m : Machine)
     → act front m desk (Said (Ok (ReadBuf device asked))) ≡ where_known false m desk dev (read_at front m desk asked (place_of dev desk.seats))
 unfolding act
 output_is front desk device asked dev e output m =
-    ap (λ o. at_device m desk (read_buffer_at front m desk asked) o) e ∙ ap (λ (b : Bool). where_known (not b) m desk dev (read_at front m desk asked (place_of dev desk.seats))) output
+    ap (λ o. at_device m desk (read_buffer_at front m desk asked) o) e
+    ∙ ap (λ (b : Bool). where_known (not b) m desk dev (read_at front m desk asked (place_of dev desk.seats))) output
 
 pub serves_unread : (front : Front) (told : Option Machine) (desk : DeskRecord) (tales : List (Option Tale)) (device : List ℕ) (asked dev : ℕ) (e : Errno)
     → find_device front device ≡ Some dev → is_output (kind_at front dev) ≡ true → (e ≡ ENODEV) ⊎ (e ≡ ENOSYS)
@@ -462,7 +544,9 @@ serves_unread front told desk tales device asked dev e named output one u = reco
     by : (told : Option Machine) → ((d : DeskRecord) (a : Acted) → IfSome told (λ m. Comes m d (where_known false m d dev a) (Refusal e) told d))
         → IfSome told (λ m. Acts front m desk (Said (Ok (ReadBuf device asked))) (Refusal e) told desk)
     by None u = tt
-    by (Some m) u = comes_acts front m desk desk (Said (Ok (ReadBuf device asked))) _ (Refusal e) (Some m) (output_is front desk device asked dev named output m) (u desk (read_at front m desk asked (place_of dev desk.seats)))
+    by (Some m) u =
+        comes_acts front m desk desk (Said (Ok (ReadBuf device asked))) _ (Refusal e) (Some m) (output_is front desk device asked dev named output m)
+        (u desk (read_at front m desk asked (place_of dev desk.seats)))
 
 -- ---- WRITEBUF
 
@@ -471,7 +555,8 @@ streamed_at : (front : Front) (m : Machine) (desk : DeskRecord) (o : Option ℕ)
 unfolding act
 streamed_at front m desk o device payload e = ap (λ x. at_device m desk (write_buffer_at front m desk payload) x) (sym e)
 
-pub serves_streamed : (front : Front) (told told' : Option Machine) (desk desk' : DeskRecord) (tales tales' : List (Option Tale)) (device payload : List ℕ) (dev : ℕ) (r : Result ℕ No)
+pub serves_streamed : (front : Front) (told told' : Option Machine) (desk desk' : DeskRecord) (tales tales' : List (Option Tale)) (device payload : List ℕ)
+    (dev : ℕ) (r : Result ℕ No)
     → Some dev ≡ find_device front device
     → IfSome told (λ m. Comes m desk (write_buffer_at front m desk payload dev) (taken_by r) told' desk)
     → desk' ≡ desk → tales' ≡ tales → IfOk r (λ taken. taken ≤ length payload)
@@ -479,7 +564,9 @@ pub serves_streamed : (front : Front) (told told' : Option Machine) (desk desk' 
 serves_streamed front told told' desk desk' tales tales' device payload dev r e c d t within = record {
   alone = rw (sym e) tt;
   formed = formed r within;
-  exact = rw d (all_comes front told told' desk desk _ (λ m. write_buffer_at front m desk payload dev) (taken_by r) (λ m. streamed_at front m desk (Some dev) device payload e) c);
+  exact =
+      rw d (all_comes front told told' desk desk _ (λ m. write_buffer_at front m desk payload dev) (taken_by r)
+      (λ m. streamed_at front m desk (Some dev) device payload e) c);
   moves = moved r;
 }
   where
@@ -493,7 +580,8 @@ serves_streamed front told told' desk desk' tales tales' device payload dev r e 
     moved (Err (NoErrno e)) = (d, t)
     moved (Err NoMem) = (d, t)
 
-pub serves_unstreamed : (front : Front) (told : Option Machine) (desk : DeskRecord) (tales : List (Option Tale)) (device payload : List ℕ) → None ≡ find_device front device
+pub serves_unstreamed : (front : Front) (told : Option Machine) (desk : DeskRecord) (tales : List (Option Tale)) (device payload : List ℕ)
+    → None ≡ find_device front device
     → Serves front told desk tales (Streamed device payload) (Refusal ENODEV) told desk tales
 serves_unstreamed front told desk tales device payload e = record {
   alone = rw (sym e) (inl refl);
@@ -504,16 +592,21 @@ serves_unstreamed front told desk tales device payload e = record {
 
 -- ---- the room for an answer
 
-unchanged : (before after : List ℕ) (capacity capacity' : ℕ) → after ≡ before → capacity ≤ capacity' → length before + SHORT_ANSWER ≤ capacity → length after + SHORT_ANSWER ≤ capacity'
+unchanged : (before after : List ℕ) (capacity capacity' : ℕ) → after ≡ before → capacity ≤ capacity' → length before + SHORT_ANSWER ≤ capacity
+    → length after + SHORT_ANSWER ≤ capacity'
 unchanged before after capacity capacity' same grows room =
     let long : length after ≡ length before = ap (λ (xs : List ℕ). length xs) same in
     omega (arith, long, grows, room)
 
 -- after a take there is the room for what is left of READBUF's answer, where it was there before
-pub room_after : (front : Front) (dev asked : ℕ) (told told' : Option Machine) (desk : DeskRecord) (tales tales' : List (Option Tale)) (before after : List ℕ) (capacity capacity' : ℕ) (took : Result Took Mem)
+pub room_after : (front : Front) (dev asked : ℕ) (told told' : Option Machine) (desk : DeskRecord) (tales tales' : List (Option Tale)) (before after : List ℕ)
+    (capacity capacity' : ℕ) (took : Result Took Mem)
     → ReadAt front dev asked told told' desk tales tales' before after took → capacity ≤ capacity' → length before + SHORT_ANSWER ≤ capacity
     → HasRoomAfter took after capacity'
 room_after front dev asked told told' desk tales tales' before after capacity capacity' (Ok Scan) read grows room = tt
-room_after front dev asked told told' desk tales tales' before after capacity capacity' (Ok Empty) read grows room = unchanged before after capacity capacity' read.0 grows room
-room_after front dev asked told told' desk tales tales' before after capacity capacity' (Ok Gone) read grows room = unchanged before after capacity capacity' read.0 grows room
-room_after front dev asked told told' desk tales tales' before after capacity capacity' (Err mem) read grows room = unchanged before after capacity capacity' read.0 grows room
+room_after front dev asked told told' desk tales tales' before after capacity capacity' (Ok Empty) read grows room =
+    unchanged before after capacity capacity' read.0 grows room
+room_after front dev asked told told' desk tales tales' before after capacity capacity' (Ok Gone) read grows room =
+    unchanged before after capacity capacity' read.0 grows room
+room_after front dev asked told told' desk tales tales' before after capacity capacity' (Err mem) read grows room =
+    unchanged before after capacity capacity' read.0 grows room

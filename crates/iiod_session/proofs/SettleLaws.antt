@@ -7,7 +7,8 @@ use Rattle.iiod_session.specs.Machine.{Machine, is_plugged}
 use Rattle.iiod_session.specs.Performs.{Comes}
 
 -- SET at a device that is plugged, with a count within its limits
-pub buffers_set : (told : Option Machine) (desk desk' : DeskRecord) (dev n : ℕ) (plugged : Bool) → IfSome told (λ m. plugged ≡ is_plugged m dev) → plugged ≡ true
+pub buffers_set : (told : Option Machine) (desk desk' : DeskRecord) (dev n : ℕ) (plugged : Bool) → IfSome told (λ m. plugged ≡ is_plugged m dev)
+    → plugged ≡ true
     → 1 ≤ n → n ≤ 64 → desk' ≡ with_count dev n desk → IfSome told (λ m. Comes m desk (set_buffers_at m desk n dev) zero_reply told desk')
 buffers_set None desk desk' dev n plugged p t some few e = tt
 buffers_set (Some m) desk desk' dev n plugged p t some few e =

@@ -21,7 +21,8 @@ scan_more items scanner x a b =
     (append_assoc x.items (items_from x.next a) (items_from (scanner_after x.next a) b) ∙ ap (λ is. x.items ++ is) (sym (items x.next a b)))
     (sym (scanner x.next a b))
 
-pub scan_rest : ItemsCutAnywhere → ScannerCutAnywhere → (x : Scanned) (n : ℕ) (bytes : List ℕ) → scan_on x bytes ≡ scan_on (scan_on x (take n bytes)) (drop n bytes)
+pub scan_rest : ItemsCutAnywhere → ScannerCutAnywhere → (x : Scanned) (n : ℕ) (bytes : List ℕ)
+    → scan_on x bytes ≡ scan_on (scan_on x (take n bytes)) (drop n bytes)
 scan_rest items scanner x n bytes = ap (λ bs. scan_on x bs) (sym (take-append-drop n bytes)) ∙ sym (scan_more items scanner x (take n bytes) (drop n bytes))
 
 -- at the end further bytes mean nothing
@@ -53,7 +54,8 @@ payload_waits pending count begun less = by (length begun == count) refl
     by true e = absurd (grind arith)
 
 more_by : (x : LinesRecord) (bytes : List ℕ) (pending : Pending) (wanted : Option ℕ) → x.wanted ≡ wanted
-    → (feed_of_cut x bytes (cut wanted (x.begun ++ bytes))).ready ≡ More → (scanner_at (feed_of_cut x bytes (cut wanted (x.begun ++ bytes))).lines pending).items ≡ []
+    → (feed_of_cut x bytes (cut wanted (x.begun ++ bytes))).ready ≡ More
+    → (scanner_at (feed_of_cut x bytes (cut wanted (x.begun ++ bytes))).lines pending).items ≡ []
 more_by x bytes pending None is ready = by (cut None (x.begun ++ bytes)) ready
   where
     by : (c : Cut) → (feed_of_cut x bytes c).ready ≡ More → (scanner_at (feed_of_cut x bytes c).lines pending).items ≡ []
@@ -63,12 +65,14 @@ more_by x bytes pending None is ready = by (cut None (x.begun ++ bytes)) ready
     by Overlong r = cc
 more_by x bytes pending (Some count) is ready = by (nat_lt (length (x.begun ++ bytes)) count) refl
   where
-    by : (b : Bool) → nat_lt (length (x.begun ++ bytes)) count ≡ b → (scanner_at (feed_of_cut x bytes (cut (Some count) (x.begun ++ bytes))).lines pending).items ≡ []
+    by : (b : Bool) → nat_lt (length (x.begun ++ bytes)) count ≡ b
+        → (scanner_at (feed_of_cut x bytes (cut (Some count) (x.begun ++ bytes))).lines pending).items ≡ []
     by true e = rw (e, is) (payload_waits pending count (x.begun ++ bytes) e)
     by false e = let n : Payload ≡ More = rw e at ready in cc
 
 is_cut : (x : LinesRecord) (bytes : List ℕ) → x.overlong ≡ false → feed_of x bytes ≡ feed_of_cut x bytes (cut x.wanted (x.begun ++ bytes))
-is_cut x bytes going = ap (λ (b : Bool). if b then record { taken = 0; ready = TooLong; lines = x } else feed_of_cut x bytes (cut x.wanted (x.begun ++ bytes))) going
+is_cut x bytes going =
+    ap (λ (b : Bool). if b then record { taken = 0; ready = TooLong; lines = x } else feed_of_cut x bytes (cut x.wanted (x.begun ++ bytes))) going
 
 pub more_waits : (x : LinesRecord) (bytes : List ℕ) (pending : Pending) → x.overlong ≡ false → (feed_of x bytes).ready ≡ More
     → (scanner_at (feed_of x bytes).lines pending).items ≡ []

@@ -20,10 +20,12 @@ record Acting (front : Front) (a mid : State) (m : Machine) (item : Item) (reply
   desk : mid.desk ≡ (act front m a.desk item).desk
   answer : reply ≡ (act front m a.desk item).reply
 
-step_tells : (front : Front) (a mid : State) (m : Machine) (item : Item) (reply : Reply) → IsAnswered Script front a item reply mid → a.told ≡ Some m → Acting front a mid m item reply
+step_tells : (front : Front) (a mid : State) (m : Machine) (item : Item) (reply : Reply) → IsAnswered Script front a item reply mid → a.told ≡ Some m
+    → Acting front a mid m item reply
 step_tells front a mid m item reply one told = by reply one.allowed (rw told at one.served.exact)
   where
-    so : (reply : Reply) → (n : Machine) × (mid.told ≡ Some n) × (act front m a.desk item ≡ record { reply = reply; machine = n; desk = mid.desk }) → Acting front a mid m item reply
+    so : (reply : Reply) → (n : Machine) × (mid.told ≡ Some n) × (act front m a.desk item ≡ record { reply = reply; machine = n; desk = mid.desk })
+        → Acting front a mid m item reply
     so reply x = record {
       machine = x.1 ∙ ap (λ (o : Acted). Some o.machine) (sym x.2);
       desk = ap (λ (o : Acted). o.desk) (sym x.2);
@@ -66,7 +68,8 @@ all_tell front a b all left before after going (Some m) is none f same =
 feeds_tell : (front : Front) (a b : State) (all left : Scanned) (before after : List ℕ) (going : Going) → (going ≡ On → left.items ≡ [])
     → Carries Script front a all before after b left going → FeedTells Script front a all.items before after b
 feeds_tell front a b all left before after On none f = all_tell front a b all left before after On a.told refl (none refl) f f.stands.0
-feeds_tell front a b all left before after Ended none f = all_tell front a b all left before after Ended a.told refl (ap (λ (x : Scanned). x.items) f.stands.1) f f.stands.0
+feeds_tell front a b all left before after Ended none f =
+    all_tell front a b all left before after Ended a.told refl (ap (λ (x : Scanned). x.items) f.stands.1) f f.stands.0
 feeds_tell front a b all left before after (Waits dev) none f = let never : Script ≡ Server = f.stands.server in cc
 
 pub feed_tells : (manner : Manner) (front : Front) (a b : State) (all left : Scanned) (before after : List ℕ) (r : Result Going Mem)

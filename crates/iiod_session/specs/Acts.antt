@@ -50,7 +50,12 @@ refused e m desk = only (Refusal e) m desk
 abbrev pub opened : DeskRecord → ℕ → Wanted → Machine → Result ℕ Errno → Acted
 opened desk dev x m (Err e) = refused e m desk
 opened desk dev x m (Ok number) =
-    record { reply = zero_reply; machine = m; desk = with_seats (desk.seats ++ record { dev = dev; number = number; mask = x.mask; capacity = x.capacity; discarded = 0 } ∷ []) desk }
+    record {
+      reply = zero_reply;
+      machine = m;
+      desk =
+          with_seats (desk.seats ++ record { dev = dev; number = number; mask = x.mask; capacity = x.capacity; discarded = 0 } ∷ []) desk;
+    }
 
 abbrev pub joined_at : Front → Machine → DeskRecord → ℕ → Wanted → Bool → Acted
 joined_at front m desk dev x cyclic = let o = open_of front m dev x.mask x.capacity cyclic in opened desk dev x o.machine o.answer
@@ -62,7 +67,8 @@ open_wanted front m desk dev cyclic (Ok x) = joined_at front m desk dev x cyclic
 abbrev pub open_at : Front → Machine → DeskRecord → ℕ → ℕ → List ℕ → Bool → Acted
 open_at front m desk dev samples text cyclic =
     open_wanted front m desk dev cyclic
-    (wanted_of (is_some (place_of dev desk.seats)) (is_plugged m dev) (kind_at front dev) (shape_at front dev) (buffers_of dev desk.buffers) samples text cyclic)
+    (wanted_of (is_some (place_of dev desk.seats)) (is_plugged m dev) (kind_at front dev) (shape_at front dev) (buffers_of dev desk.buffers) samples text
+    cyclic)
 
 -- ---- CLOSE
 
@@ -79,7 +85,8 @@ close_at front m desk (Some i) = close_seat front m desk i (slice_get desk.seats
 -- the seat in place i under its new mask
 abbrev pub remasked_seat : DeskRecord → ℕ → Bare → ℕ → Machine → Result ℕ Errno → Acted
 remasked_seat desk i s mask m (Err e) = refused e m desk
-remasked_seat desk i s mask m (Ok waiting) = record { reply = zero_reply; machine = m; desk = with_seats (slice_set desk.seats i (bare_remasked mask waiting s)) desk }
+remasked_seat desk i s mask m (Ok waiting) =
+    record { reply = zero_reply; machine = m; desk = with_seats (slice_set desk.seats i (bare_remasked mask waiting s)) desk }
 
 -- a REMASK, by what its text asks for
 abbrev pub remask_wanted : Front → Machine → DeskRecord → ℕ → Bare → Result ℕ Errno → Acted
@@ -258,7 +265,8 @@ read_named front m desk dev false (Ok target) = read_device_attribute front m de
 
 abbrev pub read_attribute_at : Front → Machine → DeskRecord → Place → Option (List ℕ) → ℕ → Acted
 read_attribute_at front m desk place name dev =
-    read_named front m desk dev (is_of_buffer place name) (found (kind_at front dev) (shape_at front dev) (is_plugged m dev) (is_some (place_of dev desk.seats)) place name)
+    read_named front m desk dev (is_of_buffer place name)
+    (found (kind_at front dev) (shape_at front dev) (is_plugged m dev) (is_some (place_of dev desk.seats)) place name)
 
 -- a WRITE is answered by the number of the payload's bytes
 abbrev pub written : DeskRecord → (count : ℕ) → Machine → Result ⊤ Errno → Acted
@@ -271,7 +279,8 @@ write_assignment m desk dev count (Ok x) = let o = write_attr_of m dev x.target.
 
 abbrev pub write_attribute_at : Front → Machine → DeskRecord → Place → Option (List ℕ) → (payload : List ℕ) → ℕ → Acted
 write_attribute_at front m desk place name payload dev =
-    write_assignment m desk dev (length payload) (write_found (kind_at front dev) (shape_at front dev) (is_plugged m dev) (is_some (place_of dev desk.seats)) place name payload)
+    write_assignment m desk dev (length payload)
+    (write_found (kind_at front dev) (shape_at front dev) (is_plugged m dev) (is_some (place_of dev desk.seats)) place name payload)
 
 -- ---- the end of a connection
 
@@ -307,7 +316,8 @@ at_device m desk on (Some dev) = on dev
 
 -- what an item is answered, and what stands then
 unfoldable pub act : Front → Machine → DeskRecord → Item → Acted
-act front m desk (Said (Ok (Open device samples text cyclic))) = at_device m desk (λ dev. open_at front m desk dev samples text cyclic) (find_device front device)
+act front m desk (Said (Ok (Open device samples text cyclic))) =
+    at_device m desk (λ dev. open_at front m desk dev samples text cyclic) (find_device front device)
 act front m desk (Said (Ok (Close device))) = at_device m desk (λ dev. close_at front m desk (place_of dev desk.seats)) (find_device front device)
 act front m desk (Said (Ok (ReadBuf device asked))) = at_device m desk (read_buffer_at front m desk asked) (find_device front device)
 act front m desk (Said (Ok Help)) = only help_reply m desk

@@ -87,7 +87,8 @@ has_no_number st = st.next == 2 ^ 64 - 1
 -- whether there is no place for one member more: the first one wants one at the trigger, and numbers end
 abbrev pub is_full : Front → List Station → Host → Station → Bool
 is_full front stations host st =
-    host.joins && is_empty host.station.members && has_no_place front stations host.station.site.trigger || has_no_number st || host.joins && has_no_number host.station
+    host.joins && is_empty host.station.members && has_no_place front stations host.station.site.trigger || has_no_number st || host.joins
+    && has_no_number host.station
 
 -- why a member of that mask can't join, in this order; an output device has one writer
 abbrev pub open_refusals : Front → List Station → Kind → Host → Station → List (Bool × Errno)
@@ -133,7 +134,12 @@ window_left before after w = if not (is_empty before) && is_empty after then no_
 -- a device with the member of that number less; what it lost is counted
 abbrev pub left : ℕ → Station → Station
 left number st =
-    record st { totals = with_left (lost_by number st.members) st.totals; members = without number st.members; window = window_left st.members (without number st.members) st.window }
+    record st {
+      totals = with_left (lost_by number st.members) st.totals;
+      members = without number st.members;
+      window =
+          window_left st.members (without number st.members) st.window;
+    }
 
 -- the base without the inner members of averaging device j; what they lost is counted
 abbrev pub with_inner_lost : ℕ → List Member → Totals → Totals

@@ -83,7 +83,8 @@ wanted_of is_open plugged kind shape buffers samples text cyclic =
     let mask = unwrap_or (mask_of text (count_of shape)) 0 in
     let capacity = samples * buffers in
     unless_refused (record { mask = mask; capacity = capacity })
-    (first_refusal (asked_refusals (not plugged) (cyclic && not (is_output kind)) (is_none (mask_of text (count_of shape))) (not (has_data shape mask)) (is_excess capacity (scan_size shape mask)) is_open))
+    (first_refusal (asked_refusals (not plugged) (cyclic && not (is_output kind)) (is_none (mask_of text (count_of shape))) (not (has_data shape mask))
+    (is_excess capacity (scan_size shape mask)) is_open))
 
 -- what an OPEN asks for, where that isn't refused: the mask of its text, the samples times the buffers count as the capacity,
 -- and CYCLIC at an output device alone

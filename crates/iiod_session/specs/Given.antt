@@ -38,6 +38,7 @@ given_in None = []
 given_in (Some t) = t.given
 
 -- for each device whose seat tells: the scans that it gave are those before and those of the answers
-abbrev pub GivenIs : Front → List Item → List Reply → (seats : List Bare) → (tales : List (Option Tale)) → (seats' : List Bare) → (tales' : List (Option Tale)) → Type 0
+abbrev pub GivenIs : Front → List Item → List Reply → (seats : List Bare) → (tales : List (Option Tale)) → (seats' : List Bare) → (tales' : List (Option Tale))
+    → Type 0
 GivenIs front items replies seats tales seats' tales' = (dev : ℕ) (t : Tale) → tale_at dev seats' tales' ≡ Some t
     → t.given ≡ given_after front dev items replies (given_in (tale_at dev seats tales))

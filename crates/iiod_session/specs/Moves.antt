@@ -32,7 +32,8 @@ ReadMoves front s asked reply tale tale' = MatchBool (nat_lt asked (size_at fron
     (ReadsAs (channel_count front s.dev) s.mask (most_scans asked (size_at front s.dev s.mask) s.capacity) asked reply tale tale')
 
 -- at the seat in place i
-pub record ReadsAt (front : Front) (asked : ℕ) (seats : List Bare) (tales : List (Option Tale)) (i : ℕ) (reply : Reply) (tales' : List (Option Tale)) : Type 0 where
+pub record ReadsAt (front : Front) (asked : ℕ) (seats : List Bare) (tales : List (Option Tale)) (i : ℕ) (reply : Reply) (tales' : List (Option Tale)) : Type
+    0 where
   pub s : Bare
   pub at : slice_get seats i ≡ Some s
   pub tale : Option Tale
@@ -53,18 +54,21 @@ ReadsFrom front asked seats tales (Some dev) reply tales' = MatchBool (is_output
 
 -- a seat more at a device where there was none, under the mask of the OPEN's text, of a capacity that is its samples times the
 -- buffers count of the device. Nothing was taken of it yet
-pub record Joins (front : Front) (device : List ℕ) (samples : ℕ) (text : List ℕ) (cyclic : Bool) (desk : DeskRecord) (tales : List (Option Tale)) (desk' : DeskRecord) (tales' : List (Option Tale)) : Type 0 where
+pub record Joins (front : Front) (device : List ℕ) (samples : ℕ) (text : List ℕ) (cyclic : Bool) (desk : DeskRecord) (tales : List (Option Tale))
+    (desk' : DeskRecord) (tales' : List (Option Tale)) : Type 0 where
   pub s : Bare
   pub t : Option Tale
   pub named : find_device front device ≡ Some s.dev
   pub free : place_of s.dev desk.seats ≡ None
-  pub wanted : IsWanted (kind_at front s.dev) (shape_at front s.dev) (buffers_of s.dev desk.buffers) samples text cyclic (record { mask = s.mask; capacity = s.capacity })
+  pub wanted : IsWanted (kind_at front s.dev) (shape_at front s.dev) (buffers_of s.dev desk.buffers) samples text cyclic
+      (record { mask = s.mask; capacity = s.capacity })
   pub added : desk' ≡ with_seats (desk.seats ++ s ∷ []) desk
   pub told : tales' ≡ tales ++ t ∷ []
   pub fresh : t ≡ option_map (λ (x : Tale). first_tale) t
 
 -- a seat less
-pub record Leaves (front : Front) (device : List ℕ) (desk : DeskRecord) (tales : List (Option Tale)) (desk' : DeskRecord) (tales' : List (Option Tale)) : Type 0 where
+pub record Leaves (front : Front) (device : List ℕ) (desk : DeskRecord) (tales : List (Option Tale)) (desk' : DeskRecord) (tales' : List (Option Tale)) : Type
+    0 where
   pub dev : ℕ
   pub i : ℕ
   pub named : find_device front device ≡ Some dev
@@ -73,7 +77,8 @@ pub record Leaves (front : Front) (device : List ℕ) (desk : DeskRecord) (tales
   pub told : tales' ≡ remove tales i
 
 -- a seat of the device under another mask, that of the REMASK's text, with its capacity as it was; what it tells begins anew
-pub record RemasksAt (front : Front) (dev : ℕ) (text : List ℕ) (desk : DeskRecord) (tales : List (Option Tale)) (desk' : DeskRecord) (tales' : List (Option Tale)) : Type 0 where
+pub record RemasksAt (front : Front) (dev : ℕ) (text : List ℕ) (desk : DeskRecord) (tales : List (Option Tale)) (desk' : DeskRecord)
+    (tales' : List (Option Tale)) : Type 0 where
   pub s : Bare
   pub i : ℕ
   pub mask : ℕ
@@ -92,7 +97,8 @@ abbrev pub Remasks : Front → (device text : List ℕ) → DeskRecord → List 
 Remasks front device text desk tales desk' tales' = (dev : ℕ) × (find_device front device ≡ Some dev) × RemasksAt front dev text desk tales desk' tales'
 
 -- what the connection has besides is altered
-pub record Alters (front : Front) (device : List ℕ) (change : ℕ → DeskRecord → DeskRecord) (desk : DeskRecord) (tales : List (Option Tale)) (desk' : DeskRecord) (tales' : List (Option Tale)) : Type 0 where
+pub record Alters (front : Front) (device : List ℕ) (change : ℕ → DeskRecord → DeskRecord) (desk : DeskRecord) (tales : List (Option Tale)) (desk' : DeskRecord)
+    (tales' : List (Option Tale)) : Type 0 where
   pub dev : ℕ
   pub named : find_device front device ≡ Some dev
   pub made : desk' ≡ change dev desk
@@ -143,7 +149,8 @@ answer_alone front desk (Said (Ok (Open device samples text cyclic))) = of_devic
 answer_alone front desk (Said (Ok (Close device))) = of_seat front desk device
 answer_alone front desk (Said (Ok (Read device place name))) = of_device front device
 answer_alone front desk (Said (Ok (Write device target count))) = Some Nothing
-answer_alone front desk (Said (Ok (ReadBuf device asked))) = at_known (λ dev. if is_output (kind_at front dev) then None else at_seat (place_of dev desk.seats)) (find_device front device)
+answer_alone front desk (Said (Ok (ReadBuf device asked))) =
+    at_known (λ dev. if is_output (kind_at front dev) then None else at_seat (place_of dev desk.seats)) (find_device front device)
 answer_alone front desk (Said (Ok (WriteBuf device count))) = Some Nothing
 answer_alone front desk (Said (Ok (GetTrig device))) = of_device front device
 answer_alone front desk (Said (Ok (SetTrig device name))) = of_device front device

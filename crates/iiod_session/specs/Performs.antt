@@ -70,7 +70,8 @@ JoinsBy dev x desk tales (Ok done) desk' tales' = JoinsAt dev x desk tales desk'
 JoinsBy dev x desk tales (Err e) desk' tales' = (desk' ≡ desk) × (tales' ≡ tales)
 
 -- a seat more by an OPEN's words, or nothing more
-abbrev pub OpensBy : Front → (dev samples : ℕ) → (text : List ℕ) → (cyclic : Bool) → DeskRecord → List (Option Tale) → Result ⊤ No → DeskRecord → List (Option Tale) → Type 0
+abbrev pub OpensBy : Front → (dev samples : ℕ) → (text : List ℕ) → (cyclic : Bool) → DeskRecord → List (Option Tale) → Result ⊤ No → DeskRecord
+    → List (Option Tale) → Type 0
 OpensBy front dev samples text cyclic desk tales (Ok done) desk' tales' =
     (x : Wanted) × IsWanted (kind_at front dev) (shape_at front dev) (buffers_of dev desk.buffers) samples text cyclic x × JoinsAt dev x desk tales desk' tales'
 OpensBy front dev samples text cyclic desk tales (Err e) desk' tales' = (desk' ≡ desk) × (tales' ≡ tales)
@@ -110,7 +111,8 @@ taken_by (Err why) = reply_by (Err why)
 
 -- at a seat, over a told state
 abbrev pub WritesHeld : Front → (payload : List ℕ) → Option Machine → Bare → Reply → Option Machine → Type 0
-WritesHeld front payload told s reply told' = IfSome told (λ m. (desk : DeskRecord) → Comes m desk (write_at_seat front m desk payload (Some s)) reply told' desk)
+WritesHeld front payload told s reply told' =
+    IfSome told (λ m. (desk : DeskRecord) → Comes m desk (write_at_seat front m desk payload (Some s)) reply told' desk)
 
 -- ---- READBUF
 
@@ -133,13 +135,15 @@ ReadHeld front asked told told' s tale tale' before after (Err mem) =
     (after ≡ before) × (told' ≡ told) × (tale' ≡ tale)
 
 -- at a device
-pub record ReadServedAt (front : Front) (dev asked : ℕ) (told told' : Option Machine) (desk : DeskRecord) (tales tales' : List (Option Tale)) (reply : Reply) : Type 0 where
+pub record ReadServedAt (front : Front) (dev asked : ℕ) (told told' : Option Machine) (desk : DeskRecord) (tales tales' : List (Option Tale)) (reply : Reply) :
+    Type 0 where
   pub exact : IfSome told (λ m. (n : Machine) × (told' ≡ Some n)
       × (read_at front m desk asked (place_of dev desk.seats) ≡ record { reply = reply; machine = n; desk = desk }))
   pub moves : ReadsBy front asked desk.seats tales (place_of dev desk.seats) reply tales'
   pub whole : IsWhole reply
 
-abbrev pub ReadAt : Front → ℕ → ℕ → Option Machine → Option Machine → DeskRecord → List (Option Tale) → List (Option Tale) → List ℕ → List ℕ → Result Took Mem → Type 0
+abbrev pub ReadAt : Front → ℕ → ℕ → Option Machine → Option Machine → DeskRecord → List (Option Tale) → List (Option Tale) → List ℕ → List ℕ → Result Took Mem
+    → Type 0
 ReadAt front dev asked told told' desk tales tales' before after (Ok Scan) =
     (reply : Reply) × (after ≡ before ++ text_of reply) × IsFound reply × ReadServedAt front dev asked told told' desk tales tales' reply
 ReadAt front dev asked told told' desk tales tales' before after (Ok Empty) =
@@ -167,7 +171,8 @@ IsReadOf front dev (Said (Ok (ReadBuf device asked))) = find_device front device
 IsReadOf front dev item = ⊥
 
 -- the item was answered, or it is a READBUF for which nothing waits, and is tried again
-abbrev pub Performs : Manner → Front → Option Machine → Option Machine → DeskRecord → List (Option Tale) → Item → DeskRecord → List (Option Tale) → List ℕ → List ℕ → Performed → Type 0
+abbrev pub Performs : Manner → Front → Option Machine → Option Machine → DeskRecord → List (Option Tale) → Item → DeskRecord → List (Option Tale) → List ℕ
+    → List ℕ → Performed → Type 0
 Performs manner front told told' desk tales item desk' tales' before after Done =
     (reply : Reply) × (after ≡ before ++ text_of reply) × IsAllowed manner reply × IsAnswerOf item manner reply
     × Serves front told desk tales item reply told' desk' tales'

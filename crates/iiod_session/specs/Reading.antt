@@ -51,7 +51,8 @@ ReadsBlock channels dev most mask asked told told' s s' before after Gone = (aft
 
 -- a READBUF of `asked` bytes for at least one scan: the block of the scans that its takes gave, or the first take's
 -- answer. Before memory ran out no take was made
-abbrev pub ReadEnds : Front → (dev mask capacity asked : ℕ) → (told told' : Option Machine) → (s s' : SeatRecord) → (before after : List ℕ) → Result Took Mem → Type 0
+abbrev pub ReadEnds : Front → (dev mask capacity asked : ℕ) → (told told' : Option Machine) → (s s' : SeatRecord) → (before after : List ℕ) → Result Took Mem
+    → Type 0
 ReadEnds front dev mask capacity asked told told' s s' before after (Ok took) =
     ReadsBlock (channel_count front dev) dev (most_scans asked (size_at front dev mask) capacity) mask asked told told' s s' before after took
 ReadEnds front dev mask capacity asked told told' s s' before after (Err mem) = (after ≡ before) × (told' ≡ told) × (s' ≡ s)

@@ -95,7 +95,8 @@ abbrev pub Carries : Manner → Front → State → Scanned → List ℕ → Lis
 Carries manner front = CarriesBy (IsAnswered manner front) (FindsNone front) manner front
 
 -- and what the seats gave is what was answered
-pub record Feeds (manner : Manner) (front : Front) (a : State) (all : Scanned) (before after : List ℕ) (b : State) (left : Scanned) (going : Going) : Type 0 where
+pub record Feeds (manner : Manner) (front : Front) (a : State) (all : Scanned) (before after : List ℕ) (b : State) (left : Scanned) (going : Going) : Type
+    0 where
   pub carried : Carries manner front a all before after b left going
   pub given : GivenIs front carried.fed.items carried.fed.replies a.desk.seats a.tales b.desk.seats b.tales
 

@@ -55,7 +55,8 @@ fn end<I: Iio, W: Watch<I>>(
     ensures kept { I.kept iio.new ≡ I.kept iio.old }
     ensures desk { IsDesk I.seen (I.front (I.kept iio.new)) desk.new }
     ensures ended { IfOk result (λ going. going ≡ Going.Ended) }
-    ensures hears { (manner : Manner) → IfOk result (λ going. Hears W.makes manner (I.front (I.kept iio.old)) (scene_of I.seen (I.told iio.old) desk.old watch.old false)
+    ensures hears { (manner : Manner)
+        → IfOk result (λ going. Hears W.makes manner (I.front (I.kept iio.old)) (scene_of I.seen (I.told iio.old) desk.old watch.old false)
         (ended_by error) out.old.items out.new.items (scene_of I.seen (I.told iio.new) desk.new watch.new false) (no_item AtEnd) going) }
 {
     watch.before(iio, desk.who, seen);
@@ -329,7 +330,8 @@ fn carry_on<I: Iio, W: Watch<I>>(
     ensures within { IfOk result (λ r. r.0 ≤ length bytes.now) }
     ensures ready { IfOk result (λ r. IsReady r.1 lines.new pending.new) }
     ensures hears { IfOk result (λ r. Hears W.makes manner (I.front (I.kept iio.old)) (scene_of I.seen (I.told iio.old) desk.old watch.old false)
-        (scan_on (stream_by Going.On lines.old pending.old) bytes.now) out.old.items out.new.items (scene_of I.seen (I.told iio.new) desk.new watch.new (is_waiting r.1))
+        (scan_on (stream_by Going.On lines.old pending.old) bytes.now) out.old.items out.new.items
+        (scene_of I.seen (I.told iio.new) desk.new watch.new (is_waiting r.1))
         (scan_on (stream_by r.1 lines.new pending.new) (drop r.0 bytes.now)) r.1) }
     ensures all { IfOk result (λ r. r.1 ≡ Going.On → (r.0 ≡ length bytes.now) × ((stream_by Going.On lines.new pending.new).items ≡ [])) }
 {
@@ -369,7 +371,8 @@ pub(crate) fn carry_out<I: Iio, W: Watch<I>>(
     ensures within { IfOk result (λ r. r.0 ≤ length bytes.now) }
     ensures ready { IfOk result (λ r. IsReady r.1 lines.new pending.new) }
     ensures hears { IfOk result (λ r. Hears W.makes manner (I.front (I.kept iio.old)) (scene_of I.seen (I.told iio.old) desk.old watch.old (is_waiting going))
-        (scan_on (stream_by going lines.old pending.old) bytes.now) out.old.items out.new.items (scene_of I.seen (I.told iio.new) desk.new watch.new (is_waiting r.1))
+        (scan_on (stream_by going lines.old pending.old) bytes.now) out.old.items out.new.items
+        (scene_of I.seen (I.told iio.new) desk.new watch.new (is_waiting r.1))
         (scan_on (stream_by r.1 lines.new pending.new) (drop r.0 bytes.now)) r.1) }
     ensures all { IfOk result (λ r. r.1 ≡ Going.On → (r.0 ≡ length bytes.now) × ((stream_by Going.On lines.new pending.new).items ≡ [])) }
 {
@@ -431,7 +434,8 @@ pub(crate) fn hear<I: Iio, W: Watch<I>>(
     ensures desk { IsDesk I.seen (I.front (I.kept iio.new)) desk.new }
     ensures ready { IfOk result (λ going. IsKept going lines.new pending.new left.new.items) }
     ensures hears { IfOk result (λ going. Hears W.makes manner (I.front (I.kept iio.old)) (scene_of I.seen (I.told iio.old) desk.old watch.old (is_waiting was))
-        (scan_on (scan_on (stream_by was lines.old pending.old) left.old.items) bytes.now) out.old.items out.new.items (scene_of I.seen (I.told iio.new) desk.new watch.new (is_waiting going))
+        (scan_on (scan_on (stream_by was lines.old pending.old) left.old.items) bytes.now) out.old.items out.new.items
+        (scene_of I.seen (I.told iio.new) desk.new watch.new (is_waiting going))
         (scan_on (stream_by going lines.new pending.new) left.new.items) going) }
     ensures all { IfOk result (λ going. going ≡ Going.On → (scan_on (stream_by going lines.new pending.new) left.new.items).items ≡ []) }
 {

@@ -127,7 +127,8 @@ pub trait Iio {
         requires read { is_output (kind_at (front (kept self.old)) dev) ≡ false }
         ensures kept { kept self.new ≡ kept self.old }
         ensures seat { IfOk result (λ s. IsNew (front (kept self.old)) dev mask.bits capacity (seen s)) }
-        ensures told { IfSome (told self.old) (λ m. Answers (open_of (front (kept self.old)) m dev mask.bits capacity false) m (number_by seen result) (told self.new)) };
+        ensures told { IfSome (told self.old)
+            (λ m. Answers (open_of (front (kept self.old)) m dev mask.bits capacity false) m (number_by seen result) (told self.new)) };
 
     /// The writer of an output device, with a queue for `capacity` scans; those of a cyclic one come round again. `ENODEV`
     /// comes where the device is unplugged, then `EBUSY` where it has a writer, `EINVAL` where it has no trigger, `ENOSPC`
@@ -143,7 +144,8 @@ pub trait Iio {
         requires written { is_output (kind_at (front (kept self.old)) dev) ≡ true }
         ensures kept { kept self.new ≡ kept self.old }
         ensures seat { IfOk result (λ s. IsNew (front (kept self.old)) dev mask.bits capacity (seen s)) }
-        ensures told { IfSome (told self.old) (λ m. Answers (open_of (front (kept self.old)) m dev mask.bits capacity cyclic) m (number_by seen result) (told self.new)) };
+        ensures told { IfSome (told self.old)
+            (λ m. Answers (open_of (front (kept self.old)) m dev mask.bits capacity cyclic) m (number_by seen result) (told self.new)) };
 
     /// Writes scans to an output device: how many of the bytes were taken, the first ones. `ENODEV` comes where the device is
     /// unplugged, then `EINVAL` where they aren't whole scans, or not as many as can be a cycle, `EBUSY` where a cyclic writer
@@ -155,7 +157,8 @@ pub trait Iio {
         ensures kept { kept self.new ≡ kept self.old }
         ensures seat { seen seat.new ≡ seen seat.old }
         ensures within { IfOk result (λ taken. taken ≤ length bytes.now) }
-        ensures told { IfSome (told self.old) (λ m. Answers (write_scans_of (front (kept self.old)) m dev (seat_id (seen seat.old)) bytes.now) m result (told self.new)) };
+        ensures told { IfSome (told self.old)
+            (λ m. Answers (write_scans_of (front (kept self.old)) m dev (seat_id (seen seat.old)) bytes.now) m result (told self.new)) };
 
     /// The member of an input device begins anew under another mask: how many scans waited, which are gone. The seat keeps
     /// its capacity, and what it tells begins anew. `ENODEV` comes where the device is unplugged, then `EBADF` where the
@@ -167,7 +170,8 @@ pub trait Iio {
         requires owned { IsOfDevice (front (kept self.old)) dev (seen seat.old) }
         ensures kept { kept self.new ≡ kept self.old }
         ensures seat { Remasks (front (kept self.old)) dev mask.bits result (seen seat.old) (seen seat.new) }
-        ensures told { IfSome (told self.old) (λ m. Answers (remask_of (front (kept self.old)) m dev (seat_id (seen seat.old)) mask.bits (seen seat.old).capacity) m result (told self.new)) };
+        ensures told { IfSome (told self.old)
+            (λ m. Answers (remask_of (front (kept self.old)) m dev (seat_id (seen seat.old)) mask.bits (seen seat.old).capacity) m result (told self.new)) };
 
     /// The member leaves; scans that wait are gone with it. An averaging device's last one leaves its base besides.
     fn close(&mut self, dev: u32, seat: Self::Seat)

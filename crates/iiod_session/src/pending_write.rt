@@ -95,7 +95,8 @@ impl PendingWrite {
         device: &[u8],
         target: Option<(Place<'_>, Option<&[u8]>)>,
     ) -> Result<(), Mem>
-        ensures { OnOk result (self.new ≡ record { device = device.now; target = option_map target_view target.entry; is_scans = false; asked = self.old.asked }) }
+        ensures { OnOk result (self.new
+            ≡ record { device = device.now; target = option_map target_view target.entry; is_scans = false; asked = self.old.asked }) }
     {
         self.device.set(device)?;
         self.is_scans = false;

@@ -117,7 +117,8 @@ pub(crate) fn found(
     place: Place<'_>,
     name: Option<&[u8]>,
 ) -> Result<Named, Errno>
-    ensures { (k : desc.Kind) → kind ≡ kind_code k → named_view result ≡ found k shape.now is_plugged is_open (place_view place.entry) (option_copied name.entry) }
+    ensures { (k : desc.Kind) → kind ≡ kind_code k
+        → named_view result ≡ found k shape.now is_plugged is_open (place_view place.entry) (option_copied name.entry) }
 {
     let of_buffer = is_of_buffer(place, name);
     if !(of_buffer && is_open) {
@@ -139,7 +140,8 @@ pub(crate) fn write_found(
     name: Option<&[u8]>,
     payload: &[u8],
 ) -> Result<Assignment, Errno>
-    ensures { (k : desc.Kind) → kind ≡ kind_code k → assignment_view result ≡ write_found k shape.now is_plugged is_open (place_view place.entry) (option_copied name.entry) payload.now }
+    ensures { (k : desc.Kind) → kind ≡ kind_code k
+        → assignment_view result ≡ write_found k shape.now is_plugged is_open (place_view place.entry) (option_copied name.entry) payload.now }
 {
     ensure(is_plugged, Errno::ENODEV)?;
     let target = found(kind, shape, is_plugged, is_open, place, name)?;

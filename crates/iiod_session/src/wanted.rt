@@ -58,11 +58,13 @@ pub(crate) fn wanted_by(
     cyclic: bool,
 ) -> Result<Wanted, Errno>
     ensures value { (kind : Kind) → may_cycle ≡ is_output kind → wanted_view result ≡ wanted_of is_open plugged kind shape.now buffers samples text.now cyclic }
-    ensures wanted { (kind : Kind) → may_cycle ≡ is_output kind → IfOk result (λ x. IsWanted kind shape.now buffers samples text.now cyclic (wanted_of_code x)) }
+    ensures wanted { (kind : Kind) → may_cycle ≡ is_output kind
+        → IfOk result (λ x. IsWanted kind shape.now buffers samples text.now cyclic (wanted_of_code x)) }
     ensures free { IfOk result (λ x. is_open ≡ false) }
     ensures size { IfOk result (λ x. x.size ≡ scan_size shape.now x.mask.bits) }
     ensures some { IfOk result (λ x. 1 ≤ x.size) }
-    ensures may_open { (front : Front) (dev : ℕ) → shape.now ≡ shape_at front dev → dev < length front.devices → IfOk result (λ x. MayOpen front dev x.mask.bits x.capacity) }
+    ensures may_open { (front : Front) (dev : ℕ) → shape.now ≡ shape_at front dev → dev < length front.devices
+        → IfOk result (λ x. MayOpen front dev x.mask.bits x.capacity) }
 {
     ensure(plugged, Errno::ENODEV)?;
     ensure(!(cyclic && !may_cycle), Errno::ENOSYS)?;

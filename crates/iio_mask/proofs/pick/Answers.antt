@@ -22,5 +22,7 @@ matching_mask-listed (m ∷ ms) wanted h = find-map (λ bits. is_within wanted b
 
 pub returns : goal.returns
 returns c =
-    let found = find_from_yields_List (λ m. is_within c.args.wanted.bits m.bits) _ _ c.find.result c.find.ensures.ran (YieldsList-from_slice c.args.listed.now cc) (λ x b q k. search (rules, tests)) in
+    let found =
+    find_from_yields_List (λ m. is_within c.args.wanted.bits m.bits) _ _ c.find.result c.find.ensures.ran (YieldsList-from_slice c.args.listed.now cc)
+    (λ x b q k. search (rules, tests)) in
     ap (option_map (λ m. m.bits)) (c.copied.ensures ∙ found) ∙ matching_mask-listed c.args.listed.now c.args.wanted.bits c.if-is_empty.ensures

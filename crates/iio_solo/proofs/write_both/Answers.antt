@@ -10,20 +10,26 @@ returns-in_err-write_whole-clause-part g c =
 
 pub returns-in_err-write_whole-2-clause-part : goal.returns-in_err-write_whole-2-clause-part
 returns-in_err-write_whole-2-clause-part g c =
-    failed_part c.from_residual-in_err-write_whole-2.result c.args.text.now between (g.K.Sink.written c.args.output.now) (g.K.Sink.written c.write_whole-2.new.sink)
-    (line_part c.args.text.now between (g.K.Sink.written c.args.output.now) (g.K.Sink.written c.write_whole.new.sink) (g.K.Sink.written c.write_whole-2.new.sink)
+    failed_part c.from_residual-in_err-write_whole-2.result c.args.text.now between (g.K.Sink.written c.args.output.now)
+    (g.K.Sink.written c.write_whole-2.new.sink)
+    (line_part c.args.text.now between (g.K.Sink.written c.args.output.now) (g.K.Sink.written c.write_whole.new.sink)
+    (g.K.Sink.written c.write_whole-2.new.sink)
     c.in_ok-write_whole.ensures.whole c.in_err-write_whole-2.ensures.part)
 
 pub returns-clause-part : goal.returns-clause-part
 returns-clause-part g c =
     on_err c.write_whole-3.result
-    (λ failed. left_part c.args.text.now between (g.K.Sink.written c.args.output.now) (g.K.Sink.written c.write_whole-3.new.sink) (last_part c.args.text.now between (g.K.Sink.written c.args.output.now) (g.K.Sink.written c.write_whole.new.sink) (g.K.Sink.written c.write_whole-2.new.sink)
+    (λ failed. left_part c.args.text.now between (g.K.Sink.written c.args.output.now) (g.K.Sink.written c.write_whole-3.new.sink)
+    (last_part c.args.text.now between (g.K.Sink.written c.args.output.now) (g.K.Sink.written c.write_whole.new.sink)
+    (g.K.Sink.written c.write_whole-2.new.sink)
     (g.K.Sink.written c.write_whole-3.new.sink) c.in_ok-write_whole.ensures.whole c.in_ok-write_whole-2.ensures.whole failed)) c.write_whole-3.ensures.part
 
 pub returns-clause-whole : goal.returns-clause-whole
 returns-clause-whole g c =
     on_ok c.write_whole-3.result
-    (λ sent. all_sent c.args.text.now between (g.K.Sink.written c.args.output.now) (g.K.Sink.written c.write_whole-3.new.sink) (last_whole c.args.text.now between (g.K.Sink.written c.args.output.now) (g.K.Sink.written c.write_whole.new.sink) (g.K.Sink.written c.write_whole-2.new.sink)
+    (λ sent. all_sent c.args.text.now between (g.K.Sink.written c.args.output.now) (g.K.Sink.written c.write_whole-3.new.sink)
+    (last_whole c.args.text.now between (g.K.Sink.written c.args.output.now) (g.K.Sink.written c.write_whole.new.sink)
+    (g.K.Sink.written c.write_whole-2.new.sink)
     (g.K.Sink.written c.write_whole-3.new.sink) c.in_ok-write_whole.ensures.whole c.in_ok-write_whole-2.ensures.whole sent)) c.write_whole-3.ensures.whole
 
 pub returns-in_err-write_whole-2-clause-silent : goal.returns-in_err-write_whole-2-clause-silent

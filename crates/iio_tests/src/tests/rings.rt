@@ -28,7 +28,8 @@ fn is_right(writer: &mut Writer, reader: &mut Reader, call: &Call) -> bool
     requires fewer { length (accepted writer.old.knows.offers) + lost_in writer.old.knows.offers < 2 ^ 64 - 1 }
     ensures ring { (writer.new.ring ≡ writer.old.ring) × (reader.new.ring ≡ reader.old.ring) }
     ensures size { (writer.new.size ≡ 1) × (reader.new.size ≡ 1) }
-    ensures most { length (accepted writer.new.knows.offers) + lost_in writer.new.knows.offers ≤ length (accepted writer.old.knows.offers) + lost_in writer.old.knows.offers + 1 }
+    ensures most { length (accepted writer.new.knows.offers) + lost_in writer.new.knows.offers ≤ length (accepted writer.old.knows.offers)
+        + lost_in writer.old.knows.offers + 1 }
 {
     let mut scan = [0];
     match call {
@@ -147,7 +148,8 @@ fn offer_two(writer: &mut Writer, scan: &[u8; 2])
     requires fewer { length (accepted writer.old.knows.offers) + lost_in writer.old.knows.offers < 2 ^ 64 - 1 }
     ensures ring { writer.new.ring ≡ writer.old.ring }
     ensures size { writer.new.size ≡ 2 }
-    ensures most { length (accepted writer.new.knows.offers) + lost_in writer.new.knows.offers ≤ length (accepted writer.old.knows.offers) + lost_in writer.old.knows.offers + 1 }
+    ensures most { length (accepted writer.new.knows.offers) + lost_in writer.new.knows.offers ≤ length (accepted writer.old.knows.offers)
+        + lost_in writer.old.knows.offers + 1 }
 {
     writer.offer(scan);
 }

@@ -26,4 +26,5 @@ returns-else-head-room-clause-items c =
     let same : head_length c.args.channels c.args.came ≡ head_length c.args.channels c.args.most =
     omega (arith, less, c.if-head-room.false, c.put_head-head.ensures.length, c.head_length-room.ensures.value) in
     c.put_head-head.ensures.items
-    ∙ ap (λ k. take c.args.start c.args.out.now.items ++ (head_text c.args.channels c.args.mask.bits c.args.came ++ drop (c.args.start + k) c.args.out.now.items)) same
+    ∙ ap (λ k. take c.args.start c.args.out.now.items
+    ++ (head_text c.args.channels c.args.mask.bits c.args.came ++ drop (c.args.start + k) c.args.out.now.items)) same

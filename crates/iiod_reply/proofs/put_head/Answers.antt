@@ -16,10 +16,12 @@ returns-clause-items c =
     let count : c.as_bytes-count.result.now ≡ decimal c.args.came = c.as_bytes-count.ensures.value ∙ c.format.ensures.text in
     let digits : take c.digit_count.result c.digits-digits.result ≡ text =
     ap (λ k. take k c.digits-digits.result) c.digit_count.ensures.value ∙ ap (take (digit_count channels)) c.digits-digits.ensures.text
-    ∙ ap (λ k. take k (text ++ replicate (16 - digit_count channels) 0)) (sym (length_mask channels mask)) ∙ take-append_seam text (replicate (16 - digit_count channels) 0) in
+    ∙ ap (λ k. take k (text ++ replicate (16 - digit_count channels) 0)) (sym (length_mask channels mask))
+    ∙ take-append_seam text (replicate (16 - digit_count channels) 0) in
     let first = rw count at c.put_line-length.ensures.items in
     let width : c.put_line-length.result ≡ length number = rw count at c.put_line-length.ensures.length in
     let second = rw (digits, width) at c.put_line.ensures.items in
-    let size : length number + length (line text) ≡ head_length channels c.args.came = sym (length-append number (line text)) ∙ length_head channels mask c.args.came in
+    let size : length number + length (line text) ≡ head_length channels c.args.came =
+    sym (length-append number (line text)) ∙ length_head channels mask c.args.came in
     put_beside c.args.at old number (line text) c.put_line-length.new.out.items c.put_line.new.out.items (omega (arith, size, c.requires.room)) first second
     ∙ ap (λ k. take c.args.at old ++ (head_text channels mask c.args.came ++ drop (c.args.at + k) old)) (length_head channels mask c.args.came)

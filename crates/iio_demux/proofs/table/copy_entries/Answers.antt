@@ -28,7 +28,8 @@ loop-entry-preserved c =
       ordered = rw c.copy-end.ensures.end order.2;
       bytes = λ j.
           c.loop-entry.invariant.bytes j ∙ ap (λ es. so_far c.loop-entry.out c.loop-entry.end es c.args.scan.now j) more
-          ∙ copied_more (length c.args.scan.now) (length c.args.out.now) c.loop-entry.end c.copy-end.result entry later c.args.scan.now c.loop-entry.out c.copy-end.new.out j order c.copy-end.ensures.end (c.copy-end.ensures.kept j)
+          ∙ copied_more (length c.args.scan.now) (length c.args.out.now) c.loop-entry.end c.copy-end.result entry later c.args.scan.now c.loop-entry.out
+          c.copy-end.new.out j order c.copy-end.ensures.end (c.copy-end.ensures.kept j)
           (c.copy-end.ensures.gap j) (c.copy-end.ensures.bytes j);
       zero = λ j past. c.copy-end.ensures.later j (omega (arith, past, c.copy-end.ensures.end));
     }

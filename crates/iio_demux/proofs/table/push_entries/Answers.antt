@@ -50,7 +50,8 @@ loop-c-preserved c =
     let active_largest = c.max-active_largest.ensures ∙ largest_more shape active n c.loop-c.active_largest length selected so_far.active_largest size in
     let active_most : c.max-active_largest.result ≤ MAX_CHANNEL_SIZE = omega (arith, c.max-active_largest.ensures, most, so_far.active_most) in
     let power = c.size-length.ensures.power in
-    let active_power : c.max-active_largest.result ≢ 0 → IsPowerOfTwo c.max-active_largest.result = rw (c.max-active_largest.ensures) (max-power c.loop-c.active_largest length so_far.active_power power) in
+    let active_power : c.max-active_largest.result ≢ 0 → IsPowerOfTwo c.max-active_largest.result =
+    rw (c.max-active_largest.ensures) (max-power c.loop-c.active_largest length so_far.active_power power) in
     elim c.if-contains.branch [
       | then-contains w ↦
           let own = sym c.contains-in-loop-c.ensures ∙ w.if-contains.true in
@@ -63,7 +64,8 @@ loop-c-preserved c =
             active_power = active_power;
             buffer_end = w.buffer_end-is ∙ end_more shape buffer n c.loop-c.buffer_end w.aligned-to.result length own so_far.buffer_end size to;
             buffer_few = omega (arith, most);
-            buffer_largest = w.buffer_largest-is ∙ w.max-buffer_largest.ensures ∙ largest_more shape buffer n c.loop-c.buffer_largest length own so_far.buffer_largest size;
+            buffer_largest =
+                w.buffer_largest-is ∙ w.max-buffer_largest.ensures ∙ largest_more shape buffer n c.loop-c.buffer_largest length own so_far.buffer_largest size;
             buffer_most = rw w.buffer_largest-is (omega (arith, w.max-buffer_largest.ensures, most, so_far.buffer_most));
             buffer_power = rw (w.buffer_largest-is, w.max-buffer_largest.ensures) (max-power c.loop-c.buffer_largest length so_far.buffer_power power);
             entries =

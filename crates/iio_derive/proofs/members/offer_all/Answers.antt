@@ -16,7 +16,10 @@ loop-i-preserved c =
     elim c.match-index_mut.branch [
       | in-Some w ↦
           let is = member_read seats i c.index_mut.result.now _ less c.index_mut.ensures.value w.in-Some.is in
-          rw w.seats-is (record { offering = offered_more shape values _ i old seats w.in-Some.member w.offer_one.new.member less before is w.offer_one.ensures; all = c.loop-i.invariant.all })
+          rw w.seats-is (record {
+            offering = offered_more shape values _ i old seats w.in-Some.member w.offer_one.new.member less before is w.offer_one.ensures;
+            all = c.loop-i.invariant.all;
+          })
       | in_default w ↦
           let is = member_read seats i c.index_mut.result.now _ less c.index_mut.ensures.value w.in_default.is in
           rw (w.seats-is, w.in_default.is) (record { offering = offered_none shape values _ i old seats before is; all = c.loop-i.invariant.all })

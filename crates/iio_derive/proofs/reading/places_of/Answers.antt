@@ -16,5 +16,7 @@ loop-c-preserved c =
     let within = rw c.full_mask-full.ensures.value at c.place.ensures.within in
     record {
       room = length-set c.loop-c.places c.loop-c.c c.place.result ∙ room;
-      below = places_more c.args.shape.now c.loop-c.c c.place.result c.loop-c.places (omega (arith, room, few)) (record { is = value; within = within }) c.loop-c.invariant.below;
+      below =
+          places_more c.args.shape.now c.loop-c.c c.place.result c.loop-c.places (omega (arith, room, few)) (record { is = value; within = within })
+          c.loop-c.invariant.below;
     }

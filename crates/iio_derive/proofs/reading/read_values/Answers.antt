@@ -8,7 +8,9 @@ loop-c-preserved c =
     let shape = c.args.shape.now in
     let place = (c.requires.places c.loop-c.c (data_channel shape c.loop-c.c (omega arith))).is in
     record {
-      read = values_more shape c.args.scan.now c.loop-c.c _ _ c.data_type-ty.result.now _ _ c.data_type-ty.ensures.value c.size.ensures.value place c.loop-c.invariant.read c.read_channel.ensures.values;
+      read =
+          values_more shape c.args.scan.now c.loop-c.c _ _ c.data_type-ty.result.now _ _ c.data_type-ty.ensures.value c.size.ensures.value place
+          c.loop-c.invariant.read c.read_channel.ensures.values;
       few = omega arith;
       room = omega arith;
     }

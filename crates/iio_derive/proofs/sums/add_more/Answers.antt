@@ -26,7 +26,9 @@ loop-i-preserved c =
     let plain = simp to_z-of_z at c.sum_with.ensures.value in
     let value = plain ∙ ap (λ (z : ℤ). slice_index_or values i (pos 0) +ℤ z) here in
     rw (to_z-of_z w128 c.sum_with.result fits) (record {
-      written = written_more (λ k x. (x ≡ slice_index_or values k (pos 0) +ℤ slice_index_or sums k (pos 0)) × IsSum (c.args.count + 1) x) i c.sum_with.result c.loop-i.sums (omega arith)
+      written =
+          written_more (λ k x. (x ≡ slice_index_or values k (pos 0) +ℤ slice_index_or sums k (pos 0)) × IsSum (c.args.count + 1) x) i c.sum_with.result
+          c.loop-i.sums (omega arith)
           (value, c.sum_with.ensures.sum) c.loop-i.invariant.written;
       left = left_more i c.sum_with.result sums c.loop-i.sums c.loop-i.invariant.left;
     })

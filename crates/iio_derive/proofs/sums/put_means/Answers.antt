@@ -15,7 +15,9 @@ loop-i-preserved c =
     let before : SFits w128 (slice_index_or sums i (pos 0)) = search rules in
     let value = c.mean_of.ensures ∙ ap (λ (z : ℤ). int_div z (pos c.args.size)) (to_z-of_z w128 (slice_index_or sums i (pos 0)) before) in
     rw (to_z-of_z w64 c.mean_of.result fits) (record {
-      written = written_more (λ k x. x ≡ int_div (slice_index_or sums k (pos 0)) (pos c.args.size)) i c.mean_of.result c.loop-i.values (omega arith) value c.loop-i.invariant.written;
+      written =
+          written_more (λ k x. x ≡ int_div (slice_index_or sums k (pos 0)) (pos c.args.size)) i c.mean_of.result c.loop-i.values (omega arith) value
+          c.loop-i.invariant.written;
       left = left_more i c.mean_of.result c.args.values.now c.loop-i.values c.loop-i.invariant.left;
     })
 

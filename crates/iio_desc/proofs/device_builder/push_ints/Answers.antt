@@ -35,4 +35,8 @@ loop-word-preserved c =
     let told = inv.told ∙ ap (λ (ws : List (List ℕ)). option_map (λ (vs : List ℤ). done ++ vs) (ints_of ws)) c.in-Some.ensures.found.words
     ∙ ap (option_map (λ (vs : List ℤ). done ++ vs)) (ints_of-cons c.in-Some.word.now left v read)
     ∙ regroup done v (ints_of left) in
-    record { told = rw pushed told; before = rw pushed (front_kept c.args.ints.now.items done v (vec_len c.args.ints.now) (omega (arith, c.args.ints.now.ok.0)) inv.before) }
+    record {
+      told = rw pushed told;
+      before =
+          rw pushed (front_kept c.args.ints.now.items done v (vec_len c.args.ints.now) (omega (arith, c.args.ints.now.ok.0)) inv.before);
+    }

@@ -16,7 +16,8 @@ returns-in-Ok-clause-ok c =
     let fits : SFits w64 m = search rules in
     let read : row_of c.args.moments.now ws ≡ Ok (m, drop (vec_len c.args.values.now) new) = c.in-Ok.ensures.ok in
     let row = reads_row c.args.moments.now ws m (drop (vec_len c.args.values.now) new) read in
-    let size : length ws ≡ c.args.width + 1 = omega (arith, row.size, length-drop (vec_len c.args.values.now) new, c.len.ensures, c.len-start.ensures, c.if-len-start.true, c.read_row.new.values.ok.0) in
+    let size : length ws ≡ c.args.width + 1 =
+    omega (arith, row.size, length-drop (vec_len c.args.values.now) new, c.len.ensures, c.len-start.ensures, c.if-len-start.true, c.read_row.new.values.ok.0) in
     simp to_z-of_z (counted_row-right c.args.width c.args.moments.now ws size ∙ read)
 
 pub returns-clause-err : goal.returns-clause-err
@@ -28,7 +29,17 @@ returns-clause-err c =
           rw (w.row-is, counted_row-right c.args.width c.args.moments.now ws size) w.in-Err.ensures.err
       | in_default w ↦
           let row = reads_row c.args.moments.now ws _ _ w.in-Ok.ensures.ok in
-          let size : ¬ (length ws ≡ c.args.width + 1) = λ same. w.if-len-start.false (omega (arith, same, row.size, length-drop (vec_len c.args.values.now) c.read_row.new.values.items, w.len.ensures, c.len-start.ensures, c.read_row.new.values.ok.0)) in
+          let size : ¬ (length ws ≡ c.args.width + 1) =
+          λ same. w.if-len-start.false
+          (omega (
+            arith,
+            same,
+            row.size,
+            length-drop (vec_len c.args.values.now) c.read_row.new.values.items,
+            w.len.ensures,
+            c.len-start.ensures,
+            c.read_row.new.values.ok.0,
+          )) in
           rw w.row-is (counted_row-wrong c.args.width c.args.moments.now ws size)
       | in_default-2 w ↦
           let size : ¬ (length ws ≡ c.args.width + 1) = λ same. w.if-count_words-width.false (w.count_words.ensures ∙ same) in

@@ -5,7 +5,8 @@ use Rattle.iio_desc.proofs.device_builder.read_masks.Given as goal
 
 abbrev pub invariant-loop-word : goal.invariant-loop-word
 invariant-loop-word l = record {
-  told : masks_of l.channels l.count (words_of is_space l.fn.words) ≡ option_map (λ (ms : List ℕ). map (λ mask. mask.bits) l.masks.items ++ ms) (masks_of l.channels l.count (words_of is_space l.rest));
+  told : masks_of l.channels l.count (words_of is_space l.fn.words)
+      ≡ option_map (λ (ms : List ℕ). map (λ mask. mask.bits) l.masks.items ++ ms) (masks_of l.channels l.count (words_of is_space l.rest));
   room : length l.masks.items + length (words_of is_space l.rest) ≤ vec_capacity l.masks;
 }
 

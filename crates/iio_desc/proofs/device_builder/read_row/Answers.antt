@@ -16,7 +16,8 @@ returns-clause-ok c =
     let fits : SFits w64 m = search rules in
     let told : c.rises.result ≡ rises c.args.moments.now m = simp to_z-of_z at c.rises.ensures in
     let risen : rises c.args.moments.now m ≡ true = sym told ∙ ensured c.rises.result _ _ _ c.ensure.ensures c.in_ok-ensure.was in
-    let first : IsFirstWord is_space c.args.words.now c.in_ok-moment.moment.now c.in_ok-moment.rest.now = rw c.in_ok-moment.ensures.ok_part at c.next_word.ensures.found in
+    let first : IsFirstWord is_space c.args.words.now c.in_ok-moment.moment.now c.in_ok-moment.rest.now =
+    rw c.in_ok-moment.ensures.ok_part at c.next_word.ensures.found in
     let parted : words_of is_space c.args.words.now ≡ c.in_ok-moment.moment.now ∷ words_of is_space c.in_ok-moment.rest.now = first.words in
     let len : vec_len c.args.values.now ≡ length c.args.values.now.items = omega (arith, c.args.values.now.ok.0) in
     simp to_z-of_z (rw len (row_of-read c.args.moments.now _ _ _ m c.args.values.now.items _ parted read risen c.in_ok-push_ints.ensures.ok))

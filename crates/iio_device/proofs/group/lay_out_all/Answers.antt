@@ -15,7 +15,9 @@ lay_out_under-requires-clause-room c =
 
 pub loop-i-preserved : goal.loop-i-preserved
 loop-i-preserved c = record {
-  moved = moved_more (λ x y. y ≡ laid_out c.args.active.bits c.args.union.now x) _ _ _ c.index_mut.result.now _ _ c.loop-i.invariant.moved (search rules) c.index_mut.ensures.value c.lay_out_under.ensures;
+  moved =
+      moved_more (λ x y. y ≡ laid_out c.args.active.bits c.args.union.now x) _ _ _ c.index_mut.result.now _ _ c.loop-i.invariant.moved (search rules)
+      c.index_mut.ensures.value c.lay_out_under.ensures;
   all = c.loop-i.invariant.all;
 }
 

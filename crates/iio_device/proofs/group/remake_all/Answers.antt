@@ -11,7 +11,9 @@ remake-requires-clause-within c =
 
 pub loop-i-preserved : goal.loop-i-preserved
 loop-i-preserved c = record {
-  moved = moved_more (λ x y. y ≡ remade c.args.shape.now c.args.active.bits x) _ _ _ c.index_mut.result.now _ _ c.loop-i.invariant.moved (search rules) c.index_mut.ensures.value c.remake.ensures;
+  moved =
+      moved_more (λ x y. y ≡ remade c.args.shape.now c.args.active.bits x) _ _ _ c.index_mut.result.now _ _ c.loop-i.invariant.moved (search rules)
+      c.index_mut.ensures.value c.remake.ensures;
   all = c.loop-i.invariant.all;
   capacity = c.loop-i.invariant.capacity;
 }

@@ -5,5 +5,6 @@ use Rattle.iio_device.proofs.roster.active_for.Goals as goal
 
 pub returns-clause-below : goal.returns-clause-below
 returns-clause-below g c =
-    let low : c.args.wanted.bits < 2 ^ count_of c.args.shape.now = rw c.requires.wanted (union_below (count_of c.args.shape.now) c.args.members.now c.requires.each) in
+    let low : c.args.wanted.bits < 2 ^ count_of c.args.shape.now =
+    rw c.requires.wanted (union_below (count_of c.args.shape.now) c.args.members.now c.requires.each) in
     c.active.ensures.below low

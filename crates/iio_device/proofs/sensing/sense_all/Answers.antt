@@ -5,12 +5,14 @@ use Rattle.iio_device.proofs.SensingLemmas.{Fails, channel_fails, channel_more}
 use Rattle.iio_device.proofs.sensing.sense_all.Given.{Over}
 use Rattle.iio_device.proofs.sensing.sense_all.Goals as goal
 
-failed : (g : Over) (c : goal.After-from_residual g) → Fails (channels_sensed c.args.shape.now c.args.t (length c.args.shape.now.channels) (begun (g.P.Sensor.driver c.args.plug.now) c.args.monitor.now))
+failed : (g : Over) (c : goal.After-from_residual g)
+    → Fails (channels_sensed c.args.shape.now c.args.t (length c.args.shape.now.channels) (begun (g.P.Sensor.driver c.args.plug.now) c.args.monitor.now))
     (g.P.Sensor.driver c.sense_one.new.plug) c.sense_one.new.monitor
 failed g c =
     let t = to_z-of_z w64 c.args.t c.ranges.t in
     let within : suc c.loop-c.c ≤ length c.args.shape.now.channels = omega (arith, c.loop-c-test.true, c.loop-c.invariant.all) in
-    let answer : Err c.in_err-count.field-0.0 ≡ sense_result (channel_sensed c.args.shape.now c.args.t c.loop-c.c (begun (g.P.Sensor.driver c.loop-c.plug) c.loop-c.monitor)) =
+    let answer : Err c.in_err-count.field-0.0
+    ≡ sense_result (channel_sensed c.args.shape.now c.args.t c.loop-c.c (begun (g.P.Sensor.driver c.loop-c.plug) c.loop-c.monitor)) =
     sym c.in_err-count.was ∙ rw t at c.sense_one.ensures.answer in
     channel_fails c.args.shape.now c.args.t c.loop-c.c (length c.args.shape.now.channels) (begun (g.P.Sensor.driver c.args.plug.now) c.args.monitor.now)
     (g.P.Sensor.driver c.loop-c.plug) _ c.loop-c.monitor _ c.loop-c.count _ (rw t at c.loop-c.invariant.looked) within
@@ -28,7 +30,8 @@ returns-in_err-count-clause-answer g c = let f = failed g c in f.answer c.from_r
 pub loop-c-preserved : goal.loop-c-preserved
 loop-c-preserved g c =
     let t = to_z-of_z w64 c.args.t c.ranges.t in
-    let answer : Ok c.in_ok-count.field-0 ≡ sense_result (channel_sensed c.args.shape.now c.args.t c.loop-c.c (begun (g.P.Sensor.driver c.loop-c.plug) c.loop-c.monitor)) =
+    let answer : Ok c.in_ok-count.field-0
+    ≡ sense_result (channel_sensed c.args.shape.now c.args.t c.loop-c.c (begun (g.P.Sensor.driver c.loop-c.plug) c.loop-c.monitor)) =
     sym c.in_ok-count.was ∙ rw t at c.sense_one.ensures.answer in
     record {
       looked = rw (t, add-one) (channel_more c.args.shape.now c.args.t c.loop-c.c (begun (g.P.Sensor.driver c.args.plug.now) c.args.monitor.now)

@@ -4,4 +4,5 @@ use Rattle.iio_event.proofs.monitor.idle_channels.Goals as goal
 
 pub loop-c-preserved : goal.loop-c-preserved
 loop-c-preserved c =
-    rw ((c.in_ok-push.ensures {u = tt}).items, c.loop-c.invariant, c.idle.ensures) (map-take-more idle_channel c.args.shape.now.channels c.loop-c.c c.channel.result.now c.channel.ensures)
+    rw ((c.in_ok-push.ensures {u = tt}).items, c.loop-c.invariant, c.idle.ensures)
+    (map-take-more idle_channel c.args.shape.now.channels c.loop-c.c c.channel.result.now c.channel.ensures)

@@ -12,7 +12,8 @@ returns c =
     let bytes = c.draw-bytes.result in record {
       appended =
           read_appended connection bytes out c.begin_feed.new.out.items c.extend_from_slice.new.self.items c.push_number.new.out.items c.end_feed.new.out.items
-          (let below = c.draw-bytes.ensures.below in omega arith) c.in_ok-begin_feed.ensures c.in_ok-extend_from_slice.ensures.items c.in_ok-push_number.ensures c.in_ok-end_feed.ensures
+          (let below = c.draw-bytes.ensures.below in omega arith) c.in_ok-begin_feed.ensures c.in_ok-extend_from_slice.ensures.items c.in_ok-push_number.ensures
+          c.in_ok-end_feed.ensures
           ∙ ap (λ n. out ++ feed_line n (codes "READBUF dev0 " ++ decimal bytes)) c.draw-connection.ensures.number
           ∙ ap (λ n. out ++ feed_line (next_state c.args.draws.now.state / 2 ^ 33 % 4) (codes "READBUF dev0 " ++ decimal n))
           (c.draw-bytes.ensures.number ∙ ap (λ y. next_state y / 2 ^ 33 % 400) c.draw-connection.ensures.state);

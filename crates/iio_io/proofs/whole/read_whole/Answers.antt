@@ -11,7 +11,9 @@ loop-piece-preserved g c =
     let grown = c.in_ok-extend_from_slice.ensures in
     record {
       within = omega (arith, grown.len, new.fits, length-take {A = ℕ});
-      told = ReadSoFar-more _ (g.S.Source.left c.loop-piece.source) (g.S.Source.left c.read.new.self) c.loop-piece.bytes.items c.read.new.out (drop c.min-room.result c.loop-piece.piece) _ _ _ _
+      told =
+          ReadSoFar-more _ (g.S.Source.left c.loop-piece.source) (g.S.Source.left c.read.new.self) c.loop-piece.bytes.items c.read.new.out
+          (drop c.min-room.result c.loop-piece.piece) _ _ _ _
           old.told new.fits new.next grown.items grown.len;
       silent = silent_more _ _ _ old.silent new.silent;
       counted = omega (arith, old.counted, new.counted);

@@ -6,8 +6,12 @@ use Rattle.iio_kfifo.proofs.reader.take_run.Goals as goal
 
 pub load-found-requires : goal.load-found-requires
 load-found-requires c =
-    let h = c.requires.rests in
-    (h.rests.ring, omega (arith, h.rests.words), look_in_at c.args.shared.now.key c.args.seat.now.id c.args.shared.now.table_id.slots c.args.seat.now.me.0 c.args.seat.now.me.1 h.rests.held h.rests.is h.idle h.rests.slots)
+    let h = c.requires.rests in (
+      h.rests.ring,
+      omega (arith, h.rests.words),
+      look_in_at c.args.shared.now.key c.args.seat.now.id c.args.shared.now.table_id.slots c.args.seat.now.me.0
+          c.args.seat.now.me.1 h.rests.held h.rests.is h.idle h.rests.slots,
+    )
 
 pub store-requires : goal.store-requires
 store-requires c =
@@ -21,11 +25,13 @@ store-requires c =
     let run = c.min-run.result in
     let few : run ≤ length g.hand = omega (arith, g.found, c.requires.count, c.min-run.ensures) in
     let from_view = rw g.view at c.append_run.ensures.held in
-    let turned : Turned z a.0.size (length a.0.reading.received) run g.hand d.1 = subst (λ s. Turned s a.0.size (length a.0.reading.received) run g.hand d.1) (sym c.requires.slots ∙ sym h.rests.slots) from_view in (
+    let turned : Turned z a.0.size (length a.0.reading.received) run g.hand d.1 =
+    subst (λ s. Turned s a.0.size (length a.0.reading.received) run g.hand d.1) (sym c.requires.slots ∙ sym h.rests.slots) from_view in (
       c.append_run.ensures.ring ∙ c.load-found.ensures.0 ∙ h.rests.ring,
       omega (arith, h.rests.words),
       receive_at k c.append_run.new.seat.id z (c.args.count + run) d.0 d.1
-          (may_receive k z c.load-found.result run run a.0 b d.0 d.1 c.args.count g h.rests.is h.rests.slots h.rests.size c.append_run.ensures.view turned c.requires.count few),
+          (may_receive k z c.load-found.result run run a.0 b d.0 d.1 c.args.count g h.rests.is h.rests.slots h.rests.size c.append_run.ensures.view turned
+          c.requires.count few),
     )
 
 pub returns-clause-sized : goal.returns-clause-sized

@@ -35,7 +35,9 @@ loop-c-preserved c =
           let selected = sym c.contains.ensures ∙ w.if-contains.true in
           record {
             end = w.end-is ∙ end_more (formats_of shape) mask n c.loop-c.end c.aligned.result c.size-size.result selected so_far.end is_size c.aligned.ensures;
-            largest = w.largest-is ∙ c.max-larger.ensures ∙ largest_more (formats_of shape) mask n c.loop-c.largest c.size-size.result selected so_far.largest is_size;
+            largest =
+                w.largest-is ∙ c.max-larger.ensures
+                ∙ largest_more (formats_of shape) mask n c.loop-c.largest c.size-size.result selected so_far.largest is_size;
             few = omega (arith, w.end-is, few, size.few, c.aligned.ensures);
             small = rw w.largest-is (omega (arith, c.max-larger.ensures, size.few, so_far.small));
             power = rw (w.largest-is, c.max-larger.ensures) (max-power c.loop-c.largest c.size-size.result so_far.power size.power);

@@ -8,7 +8,8 @@ use Rattle.iio_layout.proofs.scan.fill.Goals as goal
 
 scan : goal.returns-clause-scan
 scan c =
-    rw (to_z-of_z w64 c.args.t c.ranges.t) at c.fill_from.ensures ∙ ap (λ values. scan_of c.args.shape.now c.args.mask.bits values c.args.t) (values_by-list c.args.shape.now c.args.values.now c.requires.width)
+    rw (to_z-of_z w64 c.args.t c.ranges.t) at c.fill_from.ensures
+    ∙ ap (λ values. scan_of c.args.shape.now c.args.mask.bits values c.args.t) (values_by-list c.args.shape.now c.args.values.now c.requires.width)
 
 pub returns-clause-scan : goal.returns-clause-scan
 returns-clause-scan c = scan c

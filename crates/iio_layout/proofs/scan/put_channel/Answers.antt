@@ -18,6 +18,8 @@ pub returns-else-c-inputs-clause-bytes : goal.returns-else-c-inputs-clause-bytes
 returns-else-c-inputs-clause-bytes g c =
     let value = g.V.Values.value c.args.values.now in
     let front = padded (take c.args.end c.args.out.now) (size_at (formats_of c.args.shape.now) c.args.c) in
-    let field = stamp_field c.args.shape.now (values_by c.args.shape.now value) c.args.t c.args.c (length-values_by c.args.shape.now value) (omega arith) c.requires.channel in
+    let field =
+    stamp_field c.args.shape.now (values_by c.args.shape.now value) c.args.t c.args.c (length-values_by c.args.shape.now value) (omega arith) c.requires.channel
+    in
     (rw (to_z-of_z w64 c.args.t c.ranges.t) at c.put_stamp.ensures.bytes)
     ∙ ap (λ bytes. front ++ bytes) (sym (append-nil (element_bytes (format_at (formats_of c.args.shape.now) c.args.c) c.args.t)) ∙ field.1)

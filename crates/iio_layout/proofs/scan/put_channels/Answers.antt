@@ -22,7 +22,8 @@ loop-c-init g c =
     })
 
 pub put_channel-end-requires-clause-channel : goal.put_channel-end-requires-clause-channel
-put_channel-end-requires-clause-channel g c = has-below c.loop-c.rest.bits (count_of c.args.shape.now) c.in-Some.c c.loop-c.invariant.below c.in-Some.ensures.member
+put_channel-end-requires-clause-channel g c =
+    has-below c.loop-c.rest.bits (count_of c.args.shape.now) c.in-Some.c c.loop-c.invariant.below c.in-Some.ensures.member
 
 pub put_channel-end-requires-clause-room : goal.put_channel-end-requires-clause-room
 put_channel-end-requires-clause-room g c =

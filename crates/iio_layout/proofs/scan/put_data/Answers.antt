@@ -24,4 +24,5 @@ returns-clause-bytes g c =
     ∙ ap (λ bytes. bytes ++ take size part) c.padded_place-place.ensures.bytes
     ∙ ap (λ bytes. padded front size ++ bytes) (ap (λ n. take n part) c.size-size.ensures.value ∙ c.put_values.ensures)
     ∙ ap (λ (f : Format). padded front size ++ channel_bytes f (elements_below value f.repeat)) c.data_type-ty.ensures.value
-    ∙ ap (λ n. padded front n ++ channel_bytes (format_at (formats_of c.args.shape.now) c.args.c) (elements_below value (format_at (formats_of c.args.shape.now) c.args.c).repeat)) sized
+    ∙ ap (λ n. padded front n
+    ++ channel_bytes (format_at (formats_of c.args.shape.now) c.args.c) (elements_below value (format_at (formats_of c.args.shape.now) c.args.c).repeat)) sized

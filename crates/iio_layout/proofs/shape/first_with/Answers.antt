@@ -7,4 +7,5 @@ use Rattle.iio_layout.proofs.shape.first_with.Goals as goal
 
 pub returns : goal.returns
 returns c =
-    position_from_yields_List (λ channel. same_id (id_at channel) (c.args.kind, c.args.suffix)) _ _ _ c.position.ensures.ran (YieldsList-from_slice c.args.channels.now cc) (λ x b q k. search (rules, tests))
+    position_from_yields_List (λ channel. same_id (id_at channel) (c.args.kind, c.args.suffix)) _ _ _ c.position.ensures.ran
+    (YieldsList-from_slice c.args.channels.now cc) (λ x b q k. search (rules, tests))

@@ -23,7 +23,8 @@ loop-c-preserved c =
           let ty = format_at (formats_of c.args.shape.now) c.loop-c.c in
           let value : w.element_at.result ≡ element_in c.args.shape.now x c.loop-c.c
           = w.element_at.ensures ∙ ap (λ (p : ℕ). value_at ty (take (size_of ty) (drop p c.args.scan.now)) 0) place in
-          let choice : w.element_at.result ≡ (if has x.mask c.loop-c.c then element_in c.args.shape.now x c.loop-c.c else slice_index_or c.loop-c.last c.loop-c.c (pos 0))
+          let choice : w.element_at.result
+          ≡ (if has x.mask c.loop-c.c then element_in c.args.shape.now x c.loop-c.c else slice_index_or c.loop-c.last c.loop-c.c (pos 0))
           = rw selected value in
           let fits : SFits w64 w.element_at.result = search rules in
           let stored = w.last-is ∙ ap (λ (v : ℤ). set c.loop-c.last c.loop-c.c v) (to_z-of_z w64 w.element_at.result fits) in
@@ -32,7 +33,8 @@ loop-c-preserved c =
           (drop-set-lt (c.loop-c.c + 1) c.loop-c.last c.loop-c.c w.element_at.result (omega arith)) c.loop-c.invariant)
       | else-contains w ↦
           let unselected = sym c.contains.ensures ∙ w.if-contains.false in
-          let choice : slice_index_or c.loop-c.last c.loop-c.c (pos 0) ≡ (if has x.mask c.loop-c.c then element_in c.args.shape.now x c.loop-c.c else slice_index_or c.loop-c.last c.loop-c.c (pos 0))
+          let choice : slice_index_or c.loop-c.last c.loop-c.c (pos 0)
+          ≡ (if has x.mask c.loop-c.c then element_in c.args.shape.now x c.loop-c.c else slice_index_or c.loop-c.last c.loop-c.c (pos 0))
           = rw unselected refl in
           rw w.last-is (kept_more c.args.shape.now x c.loop-c.c c.loop-c.last _ _ (pos 0) less
           (take_more c.loop-c.last c.loop-c.c (pos 0) less ∙ ap (λ (v : ℤ). take c.loop-c.c c.loop-c.last ++ v ∷ []) choice) refl c.loop-c.invariant)

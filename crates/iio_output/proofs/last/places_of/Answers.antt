@@ -22,6 +22,7 @@ loop-c-preserved c = elim c.if-contains.branch [
   | else-contains w ↦
       rw w.places-is (record {
         room = c.loop-c.invariant.room;
-        below = places_same c.args.shape.now c.args.mask.bits c.loop-c.c c.loop-c.places (sym c.contains.ensures ∙ w.if-contains.false) c.loop-c.invariant.below;
+        below =
+            places_same c.args.shape.now c.args.mask.bits c.loop-c.c c.loop-c.places (sym c.contains.ensures ∙ w.if-contains.false) c.loop-c.invariant.below;
       })
 ]

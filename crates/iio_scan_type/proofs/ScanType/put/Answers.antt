@@ -17,7 +17,8 @@ loop-k-preserved c =
     let n : ℕ = c.self.inside.storagebits / 8 in
     let size : n ≡ element_size c.args.self.now = ap element_size c.self.view_is in
     let room : (c.loop-k.k + 1) * n ≤ length c.loop-k.out = grind (arith, rows) in
-    put_more c.args.self.now c.args.values.now c.loop-k.k n c.loop-k.out c.put_element.new.out v size c.loop-k-test.true (search rules) room (simp to_z-of_z at c.put_element.ensures) c.loop-k.invariant
+    put_more c.args.self.now c.args.values.now c.loop-k.k n c.loop-k.out c.put_element.new.out v size c.loop-k-test.true (search rules) room
+    (simp to_z-of_z at c.put_element.ensures) c.loop-k.invariant
 
 written : goal.returns-clause-bytes
 written c =

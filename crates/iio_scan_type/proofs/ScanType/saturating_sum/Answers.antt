@@ -32,4 +32,5 @@ returns-clause-value c =
     let fits_b = c.ranges.bias in
     let is : sum ≡ saturate_signed w64 z = simp to_z-of_z at c.saturating_add-sum.ensures in
     let clamped : c.clamp.result ≡ int_max l (int_min sum g) = simp to_z-of_z at c.clamp.ensures.value in
-    to_z-of_z w64 c.clamp.result fits_r ∙ clamped ∙ rw (c.range-least.ensures.least, c.range-least.ensures.greatest) (ap (saturated f) is ∙ saturated_first f z c.carries.ensures.profile)
+    to_z-of_z w64 c.clamp.result fits_r ∙ clamped
+    ∙ rw (c.range-least.ensures.least, c.range-least.ensures.greatest) (ap (saturated f) is ∙ saturated_first f z c.carries.ensures.profile)

@@ -6,12 +6,14 @@ use Rattle.iio_system.proofs.calls.handle_due.Goals as goal
 pub returns-clause-answer : goal.returns-clause-answer
 returns-clause-answer g c =
     let drive = driver_of (λ b. (g.dyn-1.0.entry b.vtable).1.driver b.value) in
-    (handled_any c.args.due.now c.handle.result (view_by drive c.args.device.now) (view_by drive c.handle.new.self) c.handle.ensures c.requires c.args.device.now.core.roster.sound.ruled).0
+    (handled_any c.args.due.now c.handle.result (view_by drive c.args.device.now) (view_by drive c.handle.new.self) c.handle.ensures c.requires
+    c.args.device.now.core.roster.sound.ruled).0
 
 pub returns-clause-station : goal.returns-clause-station
 returns-clause-station g c =
     let drive = driver_of (λ b. (g.dyn-1.0.entry b.vtable).1.driver b.value) in
-    (handled_any c.args.due.now c.handle.result (view_by drive c.args.device.now) (view_by drive c.handle.new.self) c.handle.ensures c.requires c.args.device.now.core.roster.sound.ruled).1
+    (handled_any c.args.due.now c.handle.result (view_by drive c.args.device.now) (view_by drive c.handle.new.self) c.handle.ensures c.requires
+    c.args.device.now.core.roster.sound.ruled).1
 
 pub returns-clause-keeps : goal.returns-clause-keeps
 returns-clause-keeps g c =

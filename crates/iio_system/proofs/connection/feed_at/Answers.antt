@@ -18,8 +18,10 @@ returns-else-ended-clause-fed g c =
 
 pub returns-in_ok-end-clause-watches : goal.returns-in_ok-end-clause-watches
 returns-in_ok-end-clause-watches g c =
-    watches_as g.I.Iio.seen g.W.Watch.makes _ _ c.args.connection.now.name c.args.bytes.now c.in-Some.session _ _ _ (search rules) (c.in_ok-ended.ensures.watches c.args.connection.now.name)
+    watches_as g.I.Iio.seen g.W.Watch.makes _ _ c.args.connection.now.name c.args.bytes.now c.in-Some.session _ _ _ (search rules)
+    (c.in_ok-ended.ensures.watches c.args.connection.now.name)
 
 pub returns-else-ended-clause-watches : goal.returns-else-ended-clause-watches
 returns-else-ended-clause-watches g c =
-    watches_as g.I.Iio.seen g.W.Watch.makes _ _ c.args.connection.now.name c.args.bytes.now c.in-Some.session _ _ _ (search rules) (c.in_ok-ended.ensures.watches c.args.connection.now.name)
+    watches_as g.I.Iio.seen g.W.Watch.makes _ _ c.args.connection.now.name c.args.bytes.now c.in-Some.session _ _ _ (search rules)
+    (c.in_ok-ended.ensures.watches c.args.connection.now.name)

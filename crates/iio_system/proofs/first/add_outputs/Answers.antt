@@ -10,7 +10,8 @@ loop-desc-preserved g c = (
   tt,
   tt,
   added (any_station (driver_of (λ b. (g.dyn-1.0.entry b.vtable).1.driver b.value))) any_front number_by captures_by c.args.descs.items c.args.devices.now.items
-      c.loop-desc.yielded _ c.next.new.self.rest.items c.loop-desc.devices.items c.push.new.self.items c.in-Some.desc c.in-Some.ensures.steps.0 c.loop-desc.invariant.2
+      c.loop-desc.yielded _ c.next.new.self.rest.items c.loop-desc.devices.items c.push.new.self.items c.in-Some.desc c.in-Some.ensures.steps.0
+      c.loop-desc.invariant.2
       (any.Output c.in_ok-new.field-0) c.in_ok-push.ensures.items c.in_ok-new.ensures.station c.in_ok-new.ensures.head
       (c.in_ok-new.ensures.number ∙ c.len-number.ensures ∙ c.loop-desc.devices.ok.0) refl,
 )

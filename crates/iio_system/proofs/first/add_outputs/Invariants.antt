@@ -7,4 +7,5 @@ abbrev pub invariant-loop-desc : goal.invariant-loop-desc
 invariant-loop-desc g l =
     (goal.iterator-loop-desc g).can_next l.desc-iterator ×
     (goal.iterator-loop-desc g).is_finite l.desc-iterator ×
-    Adding (any_station (driver_of (λ b. (g.dyn-1.0.entry b.vtable).1.driver b.value))) any_front number_by captures_by l.fn.descs.items l.fn.devices.items l.yielded l.desc-iterator.rest.items l.devices.items
+    Adding (any_station (driver_of (λ b. (g.dyn-1.0.entry b.vtable).1.driver b.value))) any_front number_by captures_by l.fn.descs.items l.fn.devices.items
+    l.yielded l.desc-iterator.rest.items l.devices.items

@@ -11,11 +11,14 @@ use Rattle.iio_system.proofs.guard.may_say.Goals as goal
 
 pub returns-in-Refused : goal.returns-in-Refused
 returns-in-Refused g c x told = elim c.in-Refused.is [
-  | inl is ↦ refused_said (λ (device : List ℕ). by_number (find_device (front_of c.args.bench.now) device) (own_input (front_of c.args.bench.now) (desk_by seen_of c.args.own))) x (subst (λ (z : Seen). IsSeen x z) is told)
-  | inr is ↦ long_said (λ (device : List ℕ). by_number (find_device (front_of c.args.bench.now) device) (own_input (front_of c.args.bench.now) (desk_by seen_of c.args.own))) x (subst (λ (z : Seen). IsSeen x z) is told)
+  | inl is ↦ refused_said (λ (device : List ℕ). by_number (find_device (front_of c.args.bench.now) device)
+      (own_input (front_of c.args.bench.now) (desk_by seen_of c.args.own))) x (subst (λ (z : Seen). IsSeen x z) is told)
+  | inr is ↦ long_said (λ (device : List ℕ). by_number (find_device (front_of c.args.bench.now) device)
+      (own_input (front_of c.args.bench.now) (desk_by seen_of c.args.own))) x (subst (λ (z : Seen). IsSeen x z) is told)
 ]
 
 pub returns-in-Command : goal.returns-in-Command
 returns-in-Command g c x told =
     c.may_ask.ensures
-    ∙ command_said (λ (device : List ℕ). by_number (find_device (front_of c.args.bench.now) device) (own_input (front_of c.args.bench.now) (desk_by seen_of c.args.own))) x c.in-Command.command (subst (λ (z : Seen). IsSeen x z) c.in-Command.is told)
+    ∙ command_said (λ (device : List ℕ). by_number (find_device (front_of c.args.bench.now) device)
+    (own_input (front_of c.args.bench.now) (desk_by seen_of c.args.own))) x c.in-Command.command (subst (λ (z : Seen). IsSeen x z) c.in-Command.is told)

@@ -5,7 +5,10 @@ use Rattle.iio_system.specs.Seat.{seen_of}
 use Rattle.iio_system.proofs.guard.one_has.Goals as goal
 
 pub returns-in-None : goal.returns-in-None
-returns-in-None g c = ap (λ (o : Option ℕ). by_number o (one_seated (desks_besides seen_of c.args.watched.now (connections_of c.args.others.now)))) c.in-None.ensures.value
+returns-in-None g c =
+    ap (λ (o : Option ℕ). by_number o (one_seated (desks_besides seen_of c.args.watched.now (connections_of c.args.others.now)))) c.in-None.ensures.value
 
 pub returns-in-Some : goal.returns-in-Some
-returns-in-Some g c = c.one_holds.ensures ∙ ap (λ (o : Option ℕ). by_number o (one_seated (desks_besides seen_of c.args.watched.now (connections_of c.args.others.now)))) c.in-Some.ensures.value
+returns-in-Some g c =
+    c.one_holds.ensures ∙ ap (λ (o : Option ℕ). by_number o (one_seated (desks_besides seen_of c.args.watched.now (connections_of c.args.others.now))))
+    c.in-Some.ensures.value

@@ -18,66 +18,115 @@ host-requires-clause-hosted g c =
     (hosted_by_states drive _ _ _ c.args.bench.now.sound _ _ (element_at any_front _ _ _ c.requires.may_open.known c.index.ensures))
 
 pub host-requires-clause-below : goal.host-requires-clause-below
-host-requires-clause-below g c = (open_fits (driver_of (λ b. (g.dyn-1.0.entry b.vtable).1.driver b.value)) c.args.bench.now.context.items c.args.bench.now.described.items c.args.bench.now.triggers.items c.args.bench.now.devices.items c.args.bench.now.clock c.args.dev c.args.capacity c.args.cyclic c.index.result.now c.args.bench.now.sound c.args.bench.now.numbered (element_at any_front _ _ _ c.requires.may_open.known c.index.ensures) c.args.mask.bits c.requires.may_open).0
+host-requires-clause-below g c =
+    (open_fits (driver_of (λ b. (g.dyn-1.0.entry b.vtable).1.driver b.value)) c.args.bench.now.context.items c.args.bench.now.described.items
+    c.args.bench.now.triggers.items c.args.bench.now.devices.items c.args.bench.now.clock c.args.dev c.args.capacity c.args.cyclic c.index.result.now
+    c.args.bench.now.sound c.args.bench.now.numbered (element_at any_front _ _ _ c.requires.may_open.known c.index.ensures) c.args.mask.bits
+    c.requires.may_open).0
 
 pub host-requires-clause-channel : goal.host-requires-clause-channel
-host-requires-clause-channel g c = (open_fits (driver_of (λ b. (g.dyn-1.0.entry b.vtable).1.driver b.value)) c.args.bench.now.context.items c.args.bench.now.described.items c.args.bench.now.triggers.items c.args.bench.now.devices.items c.args.bench.now.clock c.args.dev c.args.capacity c.args.cyclic c.index.result.now c.args.bench.now.sound c.args.bench.now.numbered (element_at any_front _ _ _ c.requires.may_open.known c.index.ensures) c.args.mask.bits c.requires.may_open).1
+host-requires-clause-channel g c =
+    (open_fits (driver_of (λ b. (g.dyn-1.0.entry b.vtable).1.driver b.value)) c.args.bench.now.context.items c.args.bench.now.described.items
+    c.args.bench.now.triggers.items c.args.bench.now.devices.items c.args.bench.now.clock c.args.dev c.args.capacity c.args.cyclic c.index.result.now
+    c.args.bench.now.sound c.args.bench.now.numbered (element_at any_front _ _ _ c.requires.may_open.known c.index.ensures) c.args.mask.bits
+    c.requires.may_open).1
 
 pub join-requires-clause-may : goal.join-requires-clause-may
 join-requires-clause-may g c =
     let at = element_at any_front _ _ _ c.requires.may_open.known c.index_mut.ensures.value in
-    let hosts = hosts_along (driver_of (λ b. (g.dyn-1.0.entry b.vtable).1.driver b.value)) c.deref.result.now c.args.bench.now.triggers.items c.args.bench.now.devices.items c.args.dev c.index.result.now c.index_mut.result.now c.args.mask.bits (Ok c.in-Ok.trigger) c.deref.ensures.value (element_at any_front _ _ _ c.requires.may_open.known c.index.ensures) at c.in-Ok.ensures in
-    open_may (driver_of (λ b. (g.dyn-1.0.entry b.vtable).1.driver b.value)) c.args.bench.now.context.items c.args.bench.now.described.items c.args.bench.now.triggers.items c.args.bench.now.devices.items c.args.bench.now.clock c.args.dev c.args.capacity c.args.cyclic c.index_mut.result.now c.args.bench.now.sound c.args.bench.now.numbered at c.args.mask.bits c.in-Ok.trigger c.index_mut-in-Ok.result.now hosts
+    let hosts =
+    hosts_along (driver_of (λ b. (g.dyn-1.0.entry b.vtable).1.driver b.value)) c.deref.result.now c.args.bench.now.triggers.items c.args.bench.now.devices.items
+    c.args.dev c.index.result.now c.index_mut.result.now c.args.mask.bits (Ok c.in-Ok.trigger) c.deref.ensures.value
+    (element_at any_front _ _ _ c.requires.may_open.known c.index.ensures) at c.in-Ok.ensures in
+    open_may (driver_of (λ b. (g.dyn-1.0.entry b.vtable).1.driver b.value)) c.args.bench.now.context.items c.args.bench.now.described.items
+    c.args.bench.now.triggers.items c.args.bench.now.devices.items c.args.bench.now.clock c.args.dev c.args.capacity c.args.cyclic c.index_mut.result.now
+    c.args.bench.now.sound c.args.bench.now.numbered at c.args.mask.bits c.in-Ok.trigger c.index_mut-in-Ok.result.now hosts
     (slice_get_read _ _ _ _ refl hosts.1 c.index_mut-in-Ok.ensures.value)
 
 pub join-requires-clause-cycles : goal.join-requires-clause-cycles
 join-requires-clause-cycles g c =
-    ap (λ (kind : Kind). c.args.cyclic && not (is_output kind)) (sym (kind_is any_front c.args.bench.now.context.items c.args.bench.now.described.items c.args.bench.now.devices.items c.args.dev c.index_mut.result.now (element_at any_front _ _ _ c.requires.may_open.known c.index_mut.ensures.value)))
+    ap (λ (kind : Kind). c.args.cyclic && not (is_output kind))
+    (sym (kind_is any_front c.args.bench.now.context.items c.args.bench.now.described.items c.args.bench.now.devices.items c.args.dev c.index_mut.result.now
+    (element_at any_front _ _ _ c.requires.may_open.known c.index_mut.ensures.value)))
     ∙ c.requires.cycles
 
 pub join-requires-clause-below : goal.join-requires-clause-below
-join-requires-clause-below g c = (open_fits (driver_of (λ b. (g.dyn-1.0.entry b.vtable).1.driver b.value)) c.args.bench.now.context.items c.args.bench.now.described.items c.args.bench.now.triggers.items c.args.bench.now.devices.items c.args.bench.now.clock c.args.dev c.args.capacity c.args.cyclic c.index_mut.result.now c.args.bench.now.sound c.args.bench.now.numbered (element_at any_front _ _ _ c.requires.may_open.known c.index_mut.ensures.value) c.args.mask.bits c.requires.may_open).0
+join-requires-clause-below g c =
+    (open_fits (driver_of (λ b. (g.dyn-1.0.entry b.vtable).1.driver b.value)) c.args.bench.now.context.items c.args.bench.now.described.items
+    c.args.bench.now.triggers.items c.args.bench.now.devices.items c.args.bench.now.clock c.args.dev c.args.capacity c.args.cyclic c.index_mut.result.now
+    c.args.bench.now.sound c.args.bench.now.numbered (element_at any_front _ _ _ c.requires.may_open.known c.index_mut.ensures.value) c.args.mask.bits
+    c.requires.may_open).0
 
 pub join-requires-clause-channel : goal.join-requires-clause-channel
-join-requires-clause-channel g c = (open_fits (driver_of (λ b. (g.dyn-1.0.entry b.vtable).1.driver b.value)) c.args.bench.now.context.items c.args.bench.now.described.items c.args.bench.now.triggers.items c.args.bench.now.devices.items c.args.bench.now.clock c.args.dev c.args.capacity c.args.cyclic c.index_mut.result.now c.args.bench.now.sound c.args.bench.now.numbered (element_at any_front _ _ _ c.requires.may_open.known c.index_mut.ensures.value) c.args.mask.bits c.requires.may_open).1
+join-requires-clause-channel g c =
+    (open_fits (driver_of (λ b. (g.dyn-1.0.entry b.vtable).1.driver b.value)) c.args.bench.now.context.items c.args.bench.now.described.items
+    c.args.bench.now.triggers.items c.args.bench.now.devices.items c.args.bench.now.clock c.args.dev c.args.capacity c.args.cyclic c.index_mut.result.now
+    c.args.bench.now.sound c.args.bench.now.numbered (element_at any_front _ _ _ c.requires.may_open.known c.index_mut.ensures.value) c.args.mask.bits
+    c.requires.may_open).1
 
 pub join-requires-clause-bytes : goal.join-requires-clause-bytes
-join-requires-clause-bytes g c = open_bytes (driver_of (λ b. (g.dyn-1.0.entry b.vtable).1.driver b.value)) c.args.bench.now.context.items c.args.bench.now.described.items c.args.bench.now.triggers.items c.args.bench.now.devices.items c.args.bench.now.clock c.args.dev c.args.capacity c.args.cyclic c.index_mut.result.now c.args.bench.now.sound c.args.bench.now.numbered (element_at any_front _ _ _ c.requires.may_open.known c.index_mut.ensures.value) c.args.mask.bits c.requires.may_open
+join-requires-clause-bytes g c =
+    open_bytes (driver_of (λ b. (g.dyn-1.0.entry b.vtable).1.driver b.value)) c.args.bench.now.context.items c.args.bench.now.described.items
+    c.args.bench.now.triggers.items c.args.bench.now.devices.items c.args.bench.now.clock c.args.dev c.args.capacity c.args.cyclic c.index_mut.result.now
+    c.args.bench.now.sound c.args.bench.now.numbered (element_at any_front _ _ _ c.requires.may_open.known c.index_mut.ensures.value) c.args.mask.bits
+    c.requires.may_open
 
 pub invariant_of-bench-in-Ok : goal.invariant_of-bench-in-Ok
 invariant_of-bench-in-Ok g c =
     let at = element_at any_front _ _ _ c.requires.may_open.known c.index_mut.ensures.value in
-    let hosts = hosts_along (driver_of (λ b. (g.dyn-1.0.entry b.vtable).1.driver b.value)) c.deref.result.now c.args.bench.now.triggers.items c.args.bench.now.devices.items c.args.dev c.index.result.now c.index_mut.result.now c.args.mask.bits (Ok c.in-Ok.trigger) c.deref.ensures.value (element_at any_front _ _ _ c.requires.may_open.known c.index.ensures) at c.in-Ok.ensures in
+    let hosts =
+    hosts_along (driver_of (λ b. (g.dyn-1.0.entry b.vtable).1.driver b.value)) c.deref.result.now c.args.bench.now.triggers.items c.args.bench.now.devices.items
+    c.args.dev c.index.result.now c.index_mut.result.now c.args.mask.bits (Ok c.in-Ok.trigger) c.deref.ensures.value
+    (element_at any_front _ _ _ c.requires.may_open.known c.index.ensures) at c.in-Ok.ensures in
     record {
       sound =
-          sound_joins (driver_of (λ b. (g.dyn-1.0.entry b.vtable).1.driver b.value)) _ _ _ _ _ _ c.join.new.self c.index_mut-in-Ok.result.now c.join.new.trigger c.args.bench.now.sound c.args.bench.now.numbered at
-          (slice_get_read _ _ _ _ refl hosts.1 c.index_mut-in-Ok.ensures.value) hosts.0 hosts.1 c.args.mask c.args.capacity c.args.cyclic c.join.result c.join.ensures.joins;
+          sound_joins (driver_of (λ b. (g.dyn-1.0.entry b.vtable).1.driver b.value)) _ _ _ _ _ _ c.join.new.self c.index_mut-in-Ok.result.now c.join.new.trigger
+          c.args.bench.now.sound c.args.bench.now.numbered at
+          (slice_get_read _ _ _ _ refl hosts.1 c.index_mut-in-Ok.ensures.value) hosts.0 hosts.1 c.args.mask c.args.capacity c.args.cyclic c.join.result
+          c.join.ensures.joins;
       numbered = numbered_after _ _ _ _ _ c.args.bench.now.numbered at c.join.ensures.keeps.head.number;
     }
 
 pub returns-in-Err-clause-told : goal.returns-in-Err-clause-told
 returns-in-Err-clause-told g c =
     let at = element_at any_front _ _ _ c.requires.may_open.known c.index.ensures in
-    let hosts = hosts_along (driver_of (λ b. (g.dyn-1.0.entry b.vtable).1.driver b.value)) c.deref.result.now c.args.bench.now.triggers.items c.args.bench.now.devices.items c.args.dev c.index.result.now c.index.result.now c.args.mask.bits (Err c.in-Err.no) c.deref.ensures.value at at c.in-Err.ensures in
-    open_refused (driver_of (λ b. (g.dyn-1.0.entry b.vtable).1.driver b.value)) c.args.bench.now.context.items c.args.bench.now.described.items c.args.bench.now.triggers.items c.args.bench.now.devices.items c.args.bench.now.clock c.args.dev c.args.capacity c.args.cyclic c.index.result.now c.args.bench.now.sound c.args.bench.now.numbered at c.args.mask.bits c.in-Err.no hosts
+    let hosts =
+    hosts_along (driver_of (λ b. (g.dyn-1.0.entry b.vtable).1.driver b.value)) c.deref.result.now c.args.bench.now.triggers.items c.args.bench.now.devices.items
+    c.args.dev c.index.result.now c.index.result.now c.args.mask.bits (Err c.in-Err.no) c.deref.ensures.value at at c.in-Err.ensures in
+    open_refused (driver_of (λ b. (g.dyn-1.0.entry b.vtable).1.driver b.value)) c.args.bench.now.context.items c.args.bench.now.described.items
+    c.args.bench.now.triggers.items c.args.bench.now.devices.items c.args.bench.now.clock c.args.dev c.args.capacity c.args.cyclic c.index.result.now
+    c.args.bench.now.sound c.args.bench.now.numbered at c.args.mask.bits c.in-Err.no hosts
 
 pub returns-in-Ok-clause-kept : goal.returns-in-Ok-clause-kept
 returns-in-Ok-clause-kept g c =
     let drive = driver_of (λ b. (g.dyn-1.0.entry b.vtable).1.driver b.value) in
     let at = element_at any_front _ _ _ c.requires.may_open.known c.index_mut.ensures.value in
-    let hosts = hosts_along (driver_of (λ b. (g.dyn-1.0.entry b.vtable).1.driver b.value)) c.deref.result.now c.args.bench.now.triggers.items c.args.bench.now.devices.items c.args.dev c.index.result.now c.index_mut.result.now c.args.mask.bits (Ok c.in-Ok.trigger) c.deref.ensures.value (element_at any_front _ _ _ c.requires.may_open.known c.index.ensures) at c.in-Ok.ensures in
-    device_and_trigger_keep _ _ _ _ _ _ _ at c.join.ensures.keeps c.in-Ok.trigger c.index_mut-in-Ok.result.now c.join.new.trigger (slice_get_read _ _ _ _ refl hosts.1 c.index_mut-in-Ok.ensures.value)
-    (joins_tell c.args.mask c.args.capacity c.args.cyclic (number_by c.index_mut.result.now) (any_front c.index_mut.result.now).shape c.join.result (any_station drive c.index_mut.result.now) (any_station drive c.join.new.self)
+    let hosts =
+    hosts_along (driver_of (λ b. (g.dyn-1.0.entry b.vtable).1.driver b.value)) c.deref.result.now c.args.bench.now.triggers.items c.args.bench.now.devices.items
+    c.args.dev c.index.result.now c.index_mut.result.now c.args.mask.bits (Ok c.in-Ok.trigger) c.deref.ensures.value
+    (element_at any_front _ _ _ c.requires.may_open.known c.index.ensures) at c.in-Ok.ensures in
+    device_and_trigger_keep _ _ _ _ _ _ _ at c.join.ensures.keeps c.in-Ok.trigger c.index_mut-in-Ok.result.now c.join.new.trigger
+    (slice_get_read _ _ _ _ refl hosts.1 c.index_mut-in-Ok.ensures.value)
+    (joins_tell c.args.mask c.args.capacity c.args.cyclic (number_by c.index_mut.result.now) (any_front c.index_mut.result.now).shape c.join.result
+    (any_station drive c.index_mut.result.now) (any_station drive c.join.new.self)
     c.index_mut-in-Ok.result.now c.join.new.trigger c.join.ensures.joins)
 
 pub returns-in-Ok-clause-seat : goal.returns-in-Ok-clause-seat
 returns-in-Ok-clause-seat g c =
-    open_seat (driver_of (λ b. (g.dyn-1.0.entry b.vtable).1.driver b.value)) c.args.bench.now.context.items c.args.bench.now.described.items c.args.bench.now.triggers.items c.args.bench.now.devices.items c.args.bench.now.clock c.args.dev c.args.capacity c.args.cyclic c.index_mut.result.now c.args.bench.now.sound c.args.bench.now.numbered
-    (element_at any_front _ _ _ c.requires.may_open.known c.index_mut.ensures.value) c.args.mask _ _ c.index_mut-in-Ok.result.now c.join.new.trigger c.join.result c.join.ensures.joins
+    open_seat (driver_of (λ b. (g.dyn-1.0.entry b.vtable).1.driver b.value)) c.args.bench.now.context.items c.args.bench.now.described.items
+    c.args.bench.now.triggers.items c.args.bench.now.devices.items c.args.bench.now.clock c.args.dev c.args.capacity c.args.cyclic c.index_mut.result.now
+    c.args.bench.now.sound c.args.bench.now.numbered
+    (element_at any_front _ _ _ c.requires.may_open.known c.index_mut.ensures.value) c.args.mask _ _ c.index_mut-in-Ok.result.now c.join.new.trigger
+    c.join.result c.join.ensures.joins
 
 pub returns-in-Ok-clause-told : goal.returns-in-Ok-clause-told
 returns-in-Ok-clause-told g c =
     let at = element_at any_front _ _ _ c.requires.may_open.known c.index_mut.ensures.value in
-    let hosts = hosts_along (driver_of (λ b. (g.dyn-1.0.entry b.vtable).1.driver b.value)) c.deref.result.now c.args.bench.now.triggers.items c.args.bench.now.devices.items c.args.dev c.index.result.now c.index_mut.result.now c.args.mask.bits (Ok c.in-Ok.trigger) c.deref.ensures.value (element_at any_front _ _ _ c.requires.may_open.known c.index.ensures) at c.in-Ok.ensures in
-    open_joins (driver_of (λ b. (g.dyn-1.0.entry b.vtable).1.driver b.value)) c.args.bench.now.context.items c.args.bench.now.described.items c.args.bench.now.triggers.items c.args.bench.now.devices.items c.args.bench.now.clock c.args.dev c.args.capacity c.args.cyclic c.index_mut.result.now c.args.bench.now.sound c.args.bench.now.numbered at c.args.mask c.in-Ok.trigger c.join.new.self
+    let hosts =
+    hosts_along (driver_of (λ b. (g.dyn-1.0.entry b.vtable).1.driver b.value)) c.deref.result.now c.args.bench.now.triggers.items c.args.bench.now.devices.items
+    c.args.dev c.index.result.now c.index_mut.result.now c.args.mask.bits (Ok c.in-Ok.trigger) c.deref.ensures.value
+    (element_at any_front _ _ _ c.requires.may_open.known c.index.ensures) at c.in-Ok.ensures in
+    open_joins (driver_of (λ b. (g.dyn-1.0.entry b.vtable).1.driver b.value)) c.args.bench.now.context.items c.args.bench.now.described.items
+    c.args.bench.now.triggers.items c.args.bench.now.devices.items c.args.bench.now.clock c.args.dev c.args.capacity c.args.cyclic c.index_mut.result.now
+    c.args.bench.now.sound c.args.bench.now.numbered at c.args.mask c.in-Ok.trigger c.join.new.self
     c.index_mut-in-Ok.result.now c.join.new.trigger c.join.result hosts c.join.ensures.joins

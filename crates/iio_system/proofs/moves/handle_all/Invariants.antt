@@ -15,6 +15,7 @@ invariant-loop-turn g l = let drive = driver_of (λ b. (g.dyn-1.0.entry b.vtable
   front : front_of l.bench ≡ front_of l.fn.bench;
   within : l._turn ≤ l.devices;
   captures : RiseBy l._turn (captures_of l.fn.bench) (captures_of l.bench);
-  left : (cs : List (Connection Seat)) (s : Setup) (m : Told) → Holds drive s m l.fn.bench cs → InOrder 0 (length (front_of l.fn.bench).devices) (entries_at m.triggers l.fn.trigger)
+  left : (cs : List (Connection Seat)) (s : Setup) (m : Told) → Holds drive s m l.fn.bench cs
+      → InOrder 0 (length (front_of l.fn.bench).devices) (entries_at m.triggers l.fn.trigger)
       → IsLeft drive s m l.fn.trigger l._turn (length (front_of l.fn.bench).devices) l.bench cs l.fn.out.items l.out.items;
 }

@@ -6,4 +6,5 @@ use Rattle.iio_system.proofs.moves.trigger_name.Goals as goal
 
 pub returns : goal.returns
 returns g c =
-    name_there (front_of c.args.bench.now) c.args.trigger c.index.result.now (slice_get_read _ (length c.args.bench.now.described.items) _ _ refl c.requires c.index.ensures)
+    name_there (front_of c.args.bench.now) c.args.trigger c.index.result.now
+    (slice_get_read _ (length c.args.bench.now.described.items) _ _ refl c.requires c.index.ensures)

@@ -5,4 +5,5 @@ use Rattle.iio_system.specs.Seat.{seen_of}
 use Rattle.iio_system.proofs.others.none_holds.Given as goal
 
 abbrev pub invariant-loop-connection : goal.invariant-loop-connection
-invariant-loop-connection l = none_seated (desks_besides seen_of l.watched (drop l.connection-index l.connections)) ≡ none_seated (desks_besides seen_of l.watched l.connections)
+invariant-loop-connection l =
+    none_seated (desks_besides seen_of l.watched (drop l.connection-index l.connections)) ≡ none_seated (desks_besides seen_of l.watched l.connections)

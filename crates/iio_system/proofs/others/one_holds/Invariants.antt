@@ -5,4 +5,6 @@ use Rattle.iio_system.specs.Seat.{seen_of}
 use Rattle.iio_system.proofs.others.one_holds.Given as goal
 
 abbrev pub invariant-loop-connection : goal.invariant-loop-connection
-invariant-loop-connection l = one_seated (desks_besides seen_of l.watched (drop l.connection-index l.connections)) l.dev ≡ one_seated (desks_besides seen_of l.watched l.connections) l.dev
+invariant-loop-connection l =
+    one_seated (desks_besides seen_of l.watched (drop l.connection-index l.connections)) l.dev
+    ≡ one_seated (desks_besides seen_of l.watched l.connections) l.dev

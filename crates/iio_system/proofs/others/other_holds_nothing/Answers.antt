@@ -11,4 +11,5 @@ returns-in-None c = ended_none seen_of c.args.watched.now c.args.connection.now 
 
 pub returns-in-Some : goal.returns-in-Some
 returns-in-Some c =
-    live_none seen_of c.args.watched.now c.args.connection.now c.in-Some.session c.holds_nothing.result (sym c.is.ensures ∙ c.if-is.false) c.in-Some.is (c.holds_nothing.ensures seen_of)
+    live_none seen_of c.args.watched.now c.args.connection.now c.in-Some.session c.holds_nothing.result (sym c.is.ensures ∙ c.if-is.false) c.in-Some.is
+    (c.holds_nothing.ensures seen_of)

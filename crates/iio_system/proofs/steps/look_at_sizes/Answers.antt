@@ -20,12 +20,15 @@ loop-device-preserved g c = λ k d h. elim (cases_lt k c.loop-device.device-inde
   | inl before ↦ c.loop-device.invariant k d before
   | inr here ↦
       let same : k ≡ c.loop-device.device-index = omega (arith, h, here) in
-      let is : slice_index_or (map any_front c.args.devices.now) c.loop-device.device-index d ≡ any_front c.device-item.result = front_at any_front c.args.devices.now c.loop-device.device-index c.device-item.result d c.device-item.is (omega (arith, c.loop-device-test.true)) in
+      let is : slice_index_or (map any_front c.args.devices.now) c.loop-device.device-index d ≡ any_front c.device-item.result =
+      front_at any_front c.args.devices.now c.loop-device.device-index c.device-item.result d c.device-item.is (omega (arith, c.loop-device-test.true)) in
       let sizes : HasBytes (any_front c.device-item.result).shape = subst HasBytes c.shape.ensures c.look_at_channels.ensures in
-      subst (λ (n : ℕ). HasBytes (slice_index_or (map any_front c.args.devices.now) n d).shape) (sym same) (subst (λ (x : DeviceHead). HasBytes x.shape) (sym is) sizes)
+      subst (λ (n : ℕ). HasBytes (slice_index_or (map any_front c.args.devices.now) n d).shape) (sym same)
+      (subst (λ (x : DeviceHead). HasBytes x.shape) (sym is) sizes)
 ]
 
 pub returns : goal.returns
 returns g c =
     every_size (map any_front c.args.devices.now) c.requires
-    (λ k d h. c.loop-device.invariant k d (let at = c.loop-device-test.false in let within = within_map any_front c.args.devices.now k h in omega (arith, within, at)))
+    (λ k d h. c.loop-device.invariant k d
+    (let at = c.loop-device-test.false in let within = within_map any_front c.args.devices.now k h in omega (arith, within, at)))

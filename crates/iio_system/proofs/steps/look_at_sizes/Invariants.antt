@@ -7,4 +7,5 @@ use Rattle.iio_system.proofs.steps.look_at_sizes.Given as goal
 
 abbrev pub invariant-loop-device : goal.invariant-loop-device
 invariant-loop-device g l =
-    (k : ℕ) (d : DeviceHead) → k < l.device-index → All (λ (channel : Channel). 1 ≤ size_of channel.ty) (slice_index_or (map any_front l.fn.devices) k d).shape.channels
+    (k : ℕ) (d : DeviceHead) → k < l.device-index
+    → All (λ (channel : Channel). 1 ≤ size_of channel.ty) (slice_index_or (map any_front l.fn.devices) k d).shape.channels

@@ -11,6 +11,8 @@ overflow_add-value c = omega (arith, small_power c.loop-i.i (omega arith))
 
 pub loop-i-preserved : goal.loop-i-preserved
 loop-i-preserved c = record {
-  value = ap (λ n. n * 10 + c.digit_at.result) c.loop-i.invariant.value ∙ sym (part_more c.args.digits.now c.args.places c.loop-i.i c.digit_at.result c.loop-i-test.true c.digit_at.ensures.here c.digit_at.ensures.past);
+  value =
+      ap (λ n. n * 10 + c.digit_at.result) c.loop-i.invariant.value
+      ∙ sym (part_more c.args.digits.now c.args.places c.loop-i.i c.digit_at.result c.loop-i-test.true c.digit_at.ensures.here c.digit_at.ensures.past);
   within = grind (arith, common_steps);
 }

@@ -7,7 +7,8 @@ returns-clause-ok c =
     let start = c.len-start.result in
     let len = c.put_all_escaped-len.result in
     let grown = c.deref_mut.result.now in
-    let kept : take start grown ≡ c.args.out.now.items = rw (c.deref_mut.ensures.value, c.in_ok-resize.ensures.items) (take_kept c.args.out.now.items _ start (4 * length c.args.bytes.now) (search rules)) in
+    let kept : take start grown ≡ c.args.out.now.items =
+    rw (c.deref_mut.ensures.value, c.in_ok-resize.ensures.items) (take_kept c.args.out.now.items _ start (4 * length c.args.bytes.now) (search rules)) in
     c.truncate.ensures.items
     ∙ take_grown start (length grown - start) len c.resize.new.self.len grown c.put_all_escaped-len.new.room _ (search rules) (search rules) (search rules)
     ∙ rw (kept, c.put_all_escaped-len.ensures.text) refl

@@ -19,4 +19,5 @@ returns-clause-found c =
     let n = c.line_len-len.result in
     let within : n < length text = omega (arith, c.line_len-len.ensures.within, c.if-len-text.false) in
     rw (take_all (length text - (n + 1)) (drop (n + 1) text) (omega (arith, length-drop (n + 1) text)))
-    (subst (λ (k : ℕ). lines_of text ≡ take k text ∷ lines_of (drop (k + 1) text)) (sym c.line_len-len.ensures.value) (lines_of-split text (omega (arith, c.line_len-len.ensures.value))))
+    (subst (λ (k : ℕ). lines_of text ≡ take k text ∷ lines_of (drop (k + 1) text)) (sym c.line_len-len.ensures.value)
+    (lines_of-split text (omega (arith, c.line_len-len.ensures.value))))

@@ -11,7 +11,8 @@ returns-then-passing-ne0-clause-within g c =
     let text = c.args.text.now in
     let place = c.loop-place.place in
     let q : ℕ → Bool = g.T.ByteTest.passes c.args.test.now in
-    let found = masked_place q text place c.passing_in_lanes-passing.result c.first_set.result (omega arith) c.passing_in_lanes-passing.ensures c.first_set.ensures in
+    let found =
+    masked_place q text place c.passing_in_lanes-passing.result c.first_set.result (omega arith) c.passing_in_lanes-passing.ensures c.first_set.ensures in
     omega (arith, found, prefix_len-le-length (λ b. not (q b)) (chunk place 16 text), length-chunk place 16 text (omega arith))
 
 pub returns-then-passing-ne0-clause-value : goal.returns-then-passing-ne0-clause-value
@@ -31,8 +32,10 @@ returns-then-passing-ne0-clause-copied g c =
     let text = c.args.text.now in
     let place = c.loop-place.place in
     let q : ℕ → Bool = g.T.ByteTest.passes c.args.test.now in
-    let found = masked_place q text place c.passing_in_lanes-passing.result c.first_set.result (omega arith) c.passing_in_lanes-passing.ensures c.first_set.ensures in
-    let most : c.first_set.result ≤ 16 = omega (arith, found, prefix_len-le-length (λ b. not (q b)) (chunk place 16 text), length-chunk place 16 text (omega arith)) in
+    let found =
+    masked_place q text place c.passing_in_lanes-passing.result c.first_set.result (omega arith) c.passing_in_lanes-passing.ensures c.first_set.ensures in
+    let most : c.first_set.result ≤ 16 =
+    omega (arith, found, prefix_len-le-length (λ b. not (q b)) (chunk place 16 text), length-chunk place 16 text (omega arith)) in
     copied_on text c.loop-place.room place c.first_set.result (omega arith) (omega arith) most c.loop-place.invariant.copied
 
 pub loop-place-preserved : goal.loop-place-preserved

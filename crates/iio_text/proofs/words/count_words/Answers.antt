@@ -22,7 +22,8 @@ loop-byte-preserved c =
     let text = c.args.text.now in
     let i = c.loop-byte.byte-index in
     let begins : Bool = c.loop-byte.after_space && not (is_space (get_or text i 0)) in
-    let more : c.from-count.result ≡ cond begins 1 0 = c.from-count.ensures ∙ one_where c.begins_word.result ∙ ap (λ (t : Bool). cond t 1 0) c.begins_word.ensures in
+    let more : c.from-count.result ≡ cond begins 1 0 =
+    c.from-count.ensures ∙ one_where c.begins_word.result ∙ ap (λ (t : Bool). cond t 1 0) c.begins_word.ensures in
     let step : begun_words c.loop-byte.after_space (drop i text) ≡ cond begins 1 0 + begun_words (is_space (get_or text i 0)) (drop (i + 1) text) =
     at_drop_more (begun_words c.loop-byte.after_space) text i 0 c.loop-byte-test.true in
     let one = at_most_one begins in

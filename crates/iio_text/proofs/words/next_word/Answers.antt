@@ -7,7 +7,8 @@ use Rattle.iio_text.proofs.words.next_word.Goals as goal
 found_at : (c : goal.After-split_at-2) → IsFirstWord is_space c.args.text.now c.split_at-2.result.0.now c.split_at-2.result.1.now
 found_at c =
     let some : 0 < length c.split_at.result.1.now = grind (arith, nat_tests, c.if-is_empty.ensures) in
-    first_word_is _ _ c.split_at.result.1.now _ _ (rw c.spaces_len.ensures.value at c.split_at.ensures.back) some (rw c.word_len.ensures.value at c.split_at-2.ensures.front) (rw c.word_len.ensures.value at c.split_at-2.ensures.back)
+    first_word_is _ _ c.split_at.result.1.now _ _ (rw c.spaces_len.ensures.value at c.split_at.ensures.back) some
+    (rw c.word_len.ensures.value at c.split_at-2.ensures.front) (rw c.word_len.ensures.value at c.split_at-2.ensures.back)
 
 pub returns-then-is_empty-clause-none : goal.returns-then-is_empty-clause-none
 returns-then-is_empty-clause-none c =

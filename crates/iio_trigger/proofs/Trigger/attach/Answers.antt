@@ -46,7 +46,8 @@ returns-in-Ok-clause-ok c =
     let s = rw c.as_slice.ensures.value at c.in-Ok.ensures in
     let ps = c.self.inside.attached.items in
     let place : Place = record { dev = c.args.dev; attachment = c.args.attachment } in
-    rw (← c.self.view_is) (rw (refill-set ps c.deref_mut.result.now c.in-Ok.at place c.deref_mut.ensures.value, with_place-set c.args.dev c.in-Ok.at ps s c.args.attachment))
+    rw (← c.self.view_is) (rw
+    (refill-set ps c.deref_mut.result.now c.in-Ok.at place c.deref_mut.ensures.value, with_place-set c.args.dev c.in-Ok.at ps s c.args.attachment))
 
 pub returns-else-len-self-clause-ok : goal.returns-else-len-self-clause-ok
 returns-else-len-self-clause-ok c =

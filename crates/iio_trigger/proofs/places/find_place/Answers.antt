@@ -11,5 +11,7 @@ pub returns-else-at-places : goal.returns-else-at-places
 returns-else-at-places c =
     elim c.else-at-places.branch [
       | else-at-places-via-then-at-places+else-places-at w ↦ would_stand place_dev _ _ _ _ 0 c.requires c.place_index-at.ensures (λ _. w.if-places-at.false)
-      | else-at-places-via-else-at-places w ↦ would_stand place_dev _ _ _ (record { dev = 0; attachment = 0 }) 0 c.requires c.place_index-at.ensures (λ within. absurd (omega (arith, within, w.if-at-places.false)))
+      | else-at-places-via-else-at-places w ↦
+          would_stand place_dev _ _ _ (record { dev = 0; attachment = 0 }) 0 c.requires c.place_index-at.ensures
+          (λ within. absurd (omega (arith, within, w.if-at-places.false)))
     ]

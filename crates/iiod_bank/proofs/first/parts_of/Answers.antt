@@ -6,5 +6,6 @@ use Rattle.iiod_bank.proofs.first.parts_of.Goals as goal
 
 pub returns-clause-fits : goal.returns-clause-fits
 returns-clause-fits g c =
-    parts_fit (driver_of (λ p. (g.dyn-1.0.entry p.vtable).1.driver p.value)) (map (λ d. driver_of (λ p. (g.dyn-1.0.entry p.vtable).1.driver p.value) (Given d)) c.args.drivers.items) c.args.desc _ c.made_of.result
+    parts_fit (driver_of (λ p. (g.dyn-1.0.entry p.vtable).1.driver p.value))
+    (map (λ d. driver_of (λ p. (g.dyn-1.0.entry p.vtable).1.driver p.value) (Given d)) c.args.drivers.items) c.args.desc _ c.made_of.result
     c.requires c.made_of.ensures.front c.made_of.ensures.devices c.made_of.ensures.triggers

@@ -28,7 +28,8 @@ returns-in_err-exchange_plain-clause-reads g c =
     let a = point l c.args.incoming.now s o in
     let d = point (g.L.Link.left c.exchange_plain.new.link) c.exchange_plain.new.incoming (g.L.Link.written c.exchange_plain.new.link) o in
     at_err (λ r. ReadsAll w r a d) c.from_residual-in_err-exchange_plain.result p.0 c.in_err-exchange_plain.field-0.0 p.1 p.2
-    (stage_fails w Opening c.deref.result.now c.in_err-exchange_plain.field-0.0 a a d tt (goes_none l c.args.incoming.now s o) (c.deref.ensures.value ∙ c.in_ok-put_open.ensures) (c.in_err-exchange_plain.ensures.exchanges o))
+    (stage_fails w Opening c.deref.result.now c.in_err-exchange_plain.field-0.0 a a d tt (goes_none l c.args.incoming.now s o)
+    (c.deref.ensures.value ∙ c.in_ok-put_open.ensures) (c.in_err-exchange_plain.ensures.exchanges o))
 
 pub returns-clause-reads : goal.returns-clause-reads
 returns-clause-reads g c =

@@ -18,7 +18,8 @@ loop-k-preserved g c =
     record {
       told = subst (λ xs. Wrote (g.K.Sink.written c.args.output.now) xs (g.K.Sink.written c.print_scan.new.output))
           (lines_more c.args.shape.now c.args.mask.bits c.args.body.now k size (k * size) n c.requires.size refl one)
-          (wrote_more (g.K.Sink.written c.args.output.now) (g.K.Sink.written c.loop-k.output) (g.K.Sink.written c.print_scan.new.output) (lines_below c.args.shape.now c.args.mask.bits c.args.body.now k)
+          (wrote_more (g.K.Sink.written c.args.output.now) (g.K.Sink.written c.loop-k.output) (g.K.Sink.written c.print_scan.new.output)
+          (lines_below c.args.shape.now c.args.mask.bits c.args.body.now k)
           (scan_line c.args.shape.now c.args.mask.bits (take n (drop (k * size) c.args.body.now))) old.told c.in_ok-print_scan.ensures.prints);
       steady = c.in_ok-print_scan.ensures.faults.1 ∙ old.steady;
     }
@@ -41,5 +42,6 @@ returns-in_err-print_scan-clause-part g c =
     (subst (λ xs. WroteFront out xs new) (sym all.1)
     (front_on out new (lines_below c.args.shape.now c.args.mask.bits c.args.body.now (k + 1)) all.0
     (subst (λ xs. WroteFront out xs new) more
-    (wrote_front out (g.K.Sink.written c.loop-k.output) new (lines_below c.args.shape.now c.args.mask.bits c.args.body.now k) (scan_line c.args.shape.now c.args.mask.bits (take n (drop (k * size) c.args.body.now))) old.told
+    (wrote_front out (g.K.Sink.written c.loop-k.output) new (lines_below c.args.shape.now c.args.mask.bits c.args.body.now k)
+    (scan_line c.args.shape.now c.args.mask.bits (take n (drop (k * size) c.args.body.now))) old.told
     c.in_err-print_scan.ensures.part))))

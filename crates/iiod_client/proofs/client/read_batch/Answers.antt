@@ -20,7 +20,8 @@ returns-in_err-put_readbuf-clause-reads g c =
     let s = g.L.Link.written c.args.link.now in
     let o = g.K.Sink.written c.args.output.now in
     let a = point l c.args.incoming.now s o in
-    at_err (λ r. Reads w c.args.got r a a) c.from_residual.result p.0 Memory p.1 p.2 (inl (stops_none l c.args.incoming.now s o (readbuf_line w (batch w c.args.got))))
+    at_err (λ r. Reads w c.args.got r a a) c.from_residual.result p.0 Memory p.1 p.2
+    (inl (stops_none l c.args.incoming.now s o (readbuf_line w (batch w c.args.got))))
 
 pub returns-in_err-answer-clause-reads : goal.returns-in_err-answer-clause-reads
 returns-in_err-answer-clause-reads g c =
@@ -30,7 +31,8 @@ returns-in_err-answer-clause-reads g c =
     let s = g.L.Link.written c.args.link.now in
     let o = g.K.Sink.written c.args.output.now in
     let a = point l c.args.incoming.now s o in
-    at_err (λ r. Reads w c.args.got r a a) c.from_residual-in_err-answer.result p.0 Memory p.1 p.2 (inl (stops_none l c.args.incoming.now s o (readbuf_line w (batch w c.args.got))))
+    at_err (λ r. Reads w c.args.got r a a) c.from_residual-in_err-answer.result p.0 Memory p.1 p.2
+    (inl (stops_none l c.args.incoming.now s o (readbuf_line w (batch w c.args.got))))
 
 pub returns-in_err-exchange_scans-clause-reads : goal.returns-in_err-exchange_scans-clause-reads
 returns-in_err-exchange_scans-clause-reads g c =
@@ -59,7 +61,8 @@ returns-in_err-print_scans-clause-reads g c =
     let asked = ap (λ (x : AnswerRecord). x.asked) c.in_ok-answer.ensures.new in
     let line = c.deref.ensures.value ∙ c.in_ok-put_readbuf.ensures ∙ ap (λ n. readbuf_line w n) c.batch_of.ensures.value in
     let heard = subst (λ (q : Asked). Exchanges {A = ⊤} (Scans q) c.deref.result.now body (Ok tt) a b) asked (c.in_ok-exchange_scans.ensures.exchanges o) in
-    at_err (λ r. Reads w c.args.got r a (point l c.exchange_scans.new.incoming s t)) c.from_residual-in_err-print_scans.result p.0 c.in_err-print_scans.field-0.0 p.1 p.2
+    at_err (λ r. Reads w c.args.got r a (point l c.exchange_scans.new.incoming s t)) c.from_residual-in_err-print_scans.result p.0
+    c.in_err-print_scans.field-0.0 p.1 p.2
     (print_fails w c.args.got c.deref.result.now body c.in_err-print_scans.field-0.0 a l c.exchange_scans.new.incoming s o t line heard
     (subst (λ xs. WroteFront o (scan_lines w.shape w.mask xs) t) c.body.ensures c.in_err-print_scans.ensures.part) c.in_err-print_scans.ensures.fails)
 
@@ -73,7 +76,8 @@ overflow_cast-result-2 g c =
     let asked = ap (λ (x : AnswerRecord). x.asked) c.in_ok-answer.ensures.new in
     let heard = subst (λ (q : Asked). Exchanges {A = ⊤} (Scans q) c.deref.result.now body (Ok tt) a b) asked (c.in_ok-exchange_scans.ensures.exchanges o) in
     let few = answer_few w c.args.got heard.0 body heard.1 in
-    let same : length c.body-2.result.now / c.size_of-size.result ≡ length body / size_for w = ap (λ xs. length xs / c.size_of-size.result) c.body-2.ensures ∙ ap (λ n. length body / n) c.size_of-size.ensures.value in
+    let same : length c.body-2.result.now / c.size_of-size.result ≡ length body / size_for w =
+    ap (λ xs. length xs / c.size_of-size.result) c.body-2.ensures ∙ ap (λ n. length body / n) c.size_of-size.ensures.value in
     omega (arith, few, same)
 
 pub returns-clause-some : goal.returns-clause-some
@@ -88,7 +92,8 @@ returns-clause-some g c =
     let few = answer_few w c.args.got heard.0 body heard.1 in
     let size : 1 ≤ size_for w = omega (arith, c.size_of-size.ensures.value, c.size_of-size.ensures.some) in
     let some = answer_some w c.args.got heard.0 body size heard.1 in
-    let same : length c.body-2.result.now / c.size_of-size.result ≡ length body / size_for w = ap (λ xs. length xs / c.size_of-size.result) c.body-2.ensures ∙ ap (λ n. length body / n) c.size_of-size.ensures.value in
+    let same : length c.body-2.result.now / c.size_of-size.result ≡ length body / size_for w =
+    ap (λ xs. length xs / c.size_of-size.result) c.body-2.ensures ∙ ap (λ n. length body / n) c.size_of-size.ensures.value in
     (omega (arith, some, same), omega (arith, few, same, c.requires.more))
 
 pub returns-clause-reads : goal.returns-clause-reads
@@ -104,6 +109,7 @@ returns-clause-reads g c =
     let asked = ap (λ (x : AnswerRecord). x.asked) c.in_ok-answer.ensures.new in
     let line = c.deref.ensures.value ∙ c.in_ok-put_readbuf.ensures ∙ ap (λ n. readbuf_line w n) c.batch_of.ensures.value in
     let heard = subst (λ (q : Asked). Exchanges {A = ⊤} (Scans q) c.deref.result.now body (Ok tt) a b) asked (c.in_ok-exchange_scans.ensures.exchanges o) in
-    let same : length c.body-2.result.now / c.size_of-size.result ≡ length body / size_for w = ap (λ xs. length xs / c.size_of-size.result) c.body-2.ensures ∙ ap (λ n. length body / n) c.size_of-size.ensures.value in
+    let same : length c.body-2.result.now / c.size_of-size.result ≡ length body / size_for w =
+    ap (λ xs. length xs / c.size_of-size.result) c.body-2.ensures ∙ ap (λ n. length body / n) c.size_of-size.ensures.value in
     print_ends w c.args.got (length c.body-2.result.now / c.size_of-size.result) c.deref.result.now body a l c.exchange_scans.new.incoming s o t line heard
     (subst (λ xs. Wrote o (scan_lines w.shape w.mask xs) t) c.body.ensures c.in_ok-print_scans.ensures.prints) same

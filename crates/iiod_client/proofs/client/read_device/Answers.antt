@@ -22,4 +22,5 @@ returns-clause-exact g c =
     let s = g.L.Link.written c.args.link.now in
     let o = g.K.Sink.written c.args.output.now in
     ends_from (wanted_by c.args.ask.now) Done l c.new-incoming.result s o
-    (point (g.L.Link.left c.talk.new.link) c.talk.new.incoming (g.L.Link.written c.talk.new.link) (g.K.Sink.written c.talk.new.output)) c.new-incoming.ensures c.in_default.ensures.talks
+    (point (g.L.Link.left c.talk.new.link) c.talk.new.incoming (g.L.Link.written c.talk.new.link) (g.K.Sink.written c.talk.new.output)) c.new-incoming.ensures
+    c.in_default.ensures.talks

@@ -24,7 +24,8 @@ returns-in_err-fill-clause-hears g c =
     let old = c.loop-answer.invariant in
     let (text, stands, heard) = old.heard in
     let part : IsUnfinished (Scans c.loop-answer.answer.asked) text = (c.loop-answer.answer.body, stands_partial c.loop-answer.answer text old.more stands) in
-    hears_end (Scans c.args.answer.now.asked) c.loop-answer.answer.body text c.from_residual.result p.0 c.in_err-fill.field-0.0 (point (g.L.Link.left c.args.link.now) c.args.incoming.now None None)
+    hears_end (Scans c.args.answer.now.asked) c.loop-answer.answer.body text c.from_residual.result p.0 c.in_err-fill.field-0.0
+    (point (g.L.Link.left c.args.link.now) c.args.incoming.now None None)
     (point (g.L.Link.left c.loop-answer.link) c.loop-answer.incoming None None) (point (g.L.Link.left c.fill.new.link) c.fill.new.self None None)
     p.1 p.2 (subst (λ (q : Asked). IsUnfinished (Scans q) text) old.asked part) heard c.in_err-fill.ensures.heard c.in_err-fill.ensures.end
 
@@ -33,7 +34,9 @@ loop-answer-preserved g c =
     let old = c.loop-answer.invariant in
     let (text, stands, heard) = old.heard in
     let n = c.feed-taken.result.0 in
-    let fed = heard_fed (point (g.L.Link.left c.args.link.now) c.args.incoming.now None None) (g.L.Link.left c.loop-answer.link) (g.L.Link.left c.fill.new.link) c.loop-answer.incoming c.fill.new.self c.skip.new.self c.pending.result.now text n
+    let fed =
+    heard_fed (point (g.L.Link.left c.args.link.now) c.args.incoming.now None None) (g.L.Link.left c.loop-answer.link) (g.L.Link.left c.fill.new.link)
+    c.loop-answer.incoming c.fill.new.self c.skip.new.self c.pending.result.now text n
     heard c.in_ok-fill.ensures.heard c.pending.ensures c.skip.ensures in
     record {
       asked = c.feed-taken.ensures.asked ∙ old.asked;
@@ -48,7 +51,9 @@ returns-in-Done-clause-hears g c =
     let old = c.loop-answer.invariant in
     let (text, stands, heard) = old.heard in
     let n = c.feed-taken.result.0 in
-    let fed = heard_fed (point (g.L.Link.left c.args.link.now) c.args.incoming.now None None) (g.L.Link.left c.loop-answer.link) (g.L.Link.left c.fill.new.link) c.loop-answer.incoming c.fill.new.self c.skip.new.self c.pending.result.now text n
+    let fed =
+    heard_fed (point (g.L.Link.left c.args.link.now) c.args.incoming.now None None) (g.L.Link.left c.loop-answer.link) (g.L.Link.left c.fill.new.link)
+    c.loop-answer.incoming c.fill.new.self c.skip.new.self c.pending.result.now text n
     heard c.in_ok-fill.ensures.heard c.pending.ensures c.skip.ensures in
     let heard_all = text ++ take n c.pending.result.now in
     let reads = subst (λ (q : Asked). Reads q c.feed-taken.result.1 heard_all c.feed-taken.new.self.body) old.asked (c.feed-taken.ensures.reads text stands) in
@@ -59,7 +64,9 @@ returns-in-Refused-clause-hears g c =
     let old = c.loop-answer.invariant in
     let (text, stands, heard) = old.heard in
     let n = c.feed-taken.result.0 in
-    let fed = heard_fed (point (g.L.Link.left c.args.link.now) c.args.incoming.now None None) (g.L.Link.left c.loop-answer.link) (g.L.Link.left c.fill.new.link) c.loop-answer.incoming c.fill.new.self c.skip.new.self c.pending.result.now text n
+    let fed =
+    heard_fed (point (g.L.Link.left c.args.link.now) c.args.incoming.now None None) (g.L.Link.left c.loop-answer.link) (g.L.Link.left c.fill.new.link)
+    c.loop-answer.incoming c.fill.new.self c.skip.new.self c.pending.result.now text n
     heard c.in_ok-fill.ensures.heard c.pending.ensures c.skip.ensures in
     let heard_all = text ++ take n c.pending.result.now in
     let reads = subst (λ (q : Asked). Reads q c.feed-taken.result.1 heard_all c.feed-taken.new.self.body) old.asked (c.feed-taken.ensures.reads text stands) in
@@ -70,7 +77,9 @@ returns-in-Malformed-clause-hears g c =
     let old = c.loop-answer.invariant in
     let (text, stands, heard) = old.heard in
     let n = c.feed-taken.result.0 in
-    let fed = heard_fed (point (g.L.Link.left c.args.link.now) c.args.incoming.now None None) (g.L.Link.left c.loop-answer.link) (g.L.Link.left c.fill.new.link) c.loop-answer.incoming c.fill.new.self c.skip.new.self c.pending.result.now text n
+    let fed =
+    heard_fed (point (g.L.Link.left c.args.link.now) c.args.incoming.now None None) (g.L.Link.left c.loop-answer.link) (g.L.Link.left c.fill.new.link)
+    c.loop-answer.incoming c.fill.new.self c.skip.new.self c.pending.result.now text n
     heard c.in_ok-fill.ensures.heard c.pending.ensures c.skip.ensures in
     let heard_all = text ++ take n c.pending.result.now in
     let reads = subst (λ (q : Asked). Reads q c.feed-taken.result.1 heard_all c.feed-taken.new.self.body) old.asked (c.feed-taken.ensures.reads text stands) in

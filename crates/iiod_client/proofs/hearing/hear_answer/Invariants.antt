@@ -8,7 +8,8 @@ abbrev pub invariant-loop-answer : goal.invariant-loop-answer
 invariant-loop-answer g l = record {
   asked : l.answer.asked ≡ l.fn.answer.asked;
   more : state_of l.answer.place ≡ More;
-  heard : (text : List ℕ) × Stands l.answer text × Heard (point (g.L.Link.left l.fn.link) l.fn.incoming None None) text (point (g.L.Link.left l.link) l.incoming None None);
+  heard : (text : List ℕ) × Stands l.answer text
+      × Heard (point (g.L.Link.left l.fn.link) l.fn.incoming None None) text (point (g.L.Link.left l.link) l.incoming None None);
   written : g.L.Link.written l.link ≡ g.L.Link.written l.fn.link;
   steady : g.L.Link.faults l.link ≡ g.L.Link.faults l.fn.link;
 }

@@ -11,8 +11,10 @@ loop-c-preserved c =
     let before = c.args.out.now.items in
     elim c.if-contains.branch [
       | then-contains+in_ok-push_field w ↦
-          rw w.out-is (said_selected line (has c.args.mask.bits) c.loop-c.c before c.loop-c.out.items w.push_field.new.out.items (sym c.contains.ensures ∙ w.if-contains.true)
+          rw w.out-is (said_selected line (has c.args.mask.bits) c.loop-c.c before c.loop-c.out.items w.push_field.new.out.items
+          (sym c.contains.ensures ∙ w.if-contains.true)
           c.loop-c.invariant w.in_ok-push_field.ensures)
       | else-contains w ↦
-          rw w.out-is (said_other line (has c.args.mask.bits) c.loop-c.c before c.loop-c.out.items (sym c.contains.ensures ∙ w.if-contains.false) c.loop-c.invariant)
+          rw w.out-is (said_other line (has c.args.mask.bits) c.loop-c.c before c.loop-c.out.items (sym c.contains.ensures ∙ w.if-contains.false)
+          c.loop-c.invariant)
     ]

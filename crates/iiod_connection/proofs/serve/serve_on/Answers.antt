@@ -16,9 +16,12 @@ returns-clause-served g c =
     let told = g.B.Iio.told c.args.iio.now in
     let s = c.talk-end.ensures.served in (
       s.0,
-      served_all c.cut_anywhere.ensures.items c.cut_anywhere.ensures.scanner (g.B.Iio.front (g.B.Iio.kept c.args.iio.now)) (first_place c.args.who told) (place_of g.B.Iio.seen told c.in-Ok.session) s.0 c.talk-end.result
+      served_all c.cut_anywhere.ensures.items c.cut_anywhere.ensures.scanner (g.B.Iio.front (g.B.Iio.kept c.args.iio.now)) (first_place c.args.who told)
+          (place_of g.B.Iio.seen told c.in-Ok.session) s.0 c.talk-end.result
           (g.L.Link.left c.args.link.now) (g.L.Link.written c.args.link.now) (g.L.Link.left c.talk-end.new.link) (g.L.Link.written c.talk-end.new.link)
           (is_first_place g.B.Iio.seen told c.args.who c.in-Ok.session c.in-Ok.ensures) s.1,
       closed_by (g.B.Iio.front (g.B.Iio.kept c.args.iio.now)) c.talk-end.result s.0 last (g.B.Iio.told c.end.new.iio) s.2
-          (subst (λ k. IfSome (g.B.Iio.told c.talk-end.new.iio) (λ m. g.B.Iio.told c.end.new.iio ≡ Some (left_machine (g.B.Iio.front k) m (desk_of g.B.Iio.seen c.talk-end.new.session.desk)))) c.talk-end.ensures.kept c.end.ensures.told),
+          (subst (λ k. IfSome (g.B.Iio.told c.talk-end.new.iio)
+          (λ m. g.B.Iio.told c.end.new.iio ≡ Some (left_machine (g.B.Iio.front k) m (desk_of g.B.Iio.seen c.talk-end.new.session.desk))))
+          c.talk-end.ensures.kept c.end.ensures.told),
     )

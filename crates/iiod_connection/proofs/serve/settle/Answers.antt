@@ -7,13 +7,23 @@ use Rattle.iiod_connection.proofs.serve.settle.Goals as goal
 
 pub returns-in-On-clause-turns : goal.returns-in-On-clause-turns
 returns-in-On-clause-turns g c =
-    let inv = c.loop.invariant in
-    (inv.sends, subst (λ (w : Going). StandsBy (g.B.Iio.front (g.B.Iio.kept c.args.iio.now)) w (place_of g.B.Iio.seen (g.B.Iio.told c.loop.iio) c.loop.session)) c.in-On.is inv.stands)
+    let inv = c.loop.invariant in (
+      inv.sends,
+      subst (λ (w : Going). StandsBy (g.B.Iio.front (g.B.Iio.kept c.args.iio.now)) w (place_of g.B.Iio.seen (g.B.Iio.told c.loop.iio) c.loop.session))
+          c.in-On.is inv.stands,
+    )
 
 pub returns-in-Ended-clause-turns : goal.returns-in-Ended-clause-turns
 returns-in-Ended-clause-turns g c =
-    let inv = c.loop.invariant in
-    ([], [], refl, inv.sends, subst (λ (w : Going). StandsBy (g.B.Iio.front (g.B.Iio.kept c.args.iio.now)) w (place_of g.B.Iio.seen (g.B.Iio.told c.loop.iio) c.loop.session)) c.in-Ended.is inv.stands)
+    let inv = c.loop.invariant in (
+      [],
+      [],
+      refl,
+      inv.sends,
+      subst
+          (λ (w : Going). StandsBy (g.B.Iio.front (g.B.Iio.kept c.args.iio.now)) w (place_of g.B.Iio.seen (g.B.Iio.told c.loop.iio) c.loop.session)) c.in-Ended.is
+          inv.stands,
+    )
 
 pub returns-in_err-going-clause-turns : goal.returns-in_err-going-clause-turns
 returns-in_err-going-clause-turns g c =

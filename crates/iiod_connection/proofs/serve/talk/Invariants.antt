@@ -13,6 +13,7 @@ invariant-loop g l = record {
   look : IfSome l.carried.look (λ k. k.dev < length (g.B.Iio.front (g.B.Iio.kept l.iio)).devices);
   settled : l.session.stream.items ≡ [];
   faults : g.L.Link.faults l.link ≡ g.L.Link.faults l.fn.link;
-  so_far : SoFar (g.B.Iio.front (g.B.Iio.kept l.fn.iio)) (place_of g.B.Iio.seen (g.B.Iio.told l.fn.iio) l.fn.session) (g.L.Link.left l.fn.link) (g.L.Link.written l.fn.link)
+  so_far : SoFar (g.B.Iio.front (g.B.Iio.kept l.fn.iio)) (place_of g.B.Iio.seen (g.B.Iio.told l.fn.iio) l.fn.session) (g.L.Link.left l.fn.link)
+      (g.L.Link.written l.fn.link)
       (place_of g.B.Iio.seen (g.B.Iio.told l.iio) l.session) (g.L.Link.left l.link) (g.L.Link.written l.link);
 }

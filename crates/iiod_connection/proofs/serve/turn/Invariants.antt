@@ -15,7 +15,8 @@ invariant-loop-done g l = record {
   left : g.L.Link.left l.link ≡ g.L.Link.left l.fn.link;
   faults : g.L.Link.faults l.link ≡ g.L.Link.faults l.fn.link;
   within : l.done ≤ length l.bytes;
-  sends : SendsAll (g.B.Iio.front (g.B.Iio.kept l.fn.iio)) (place_of g.B.Iio.seen (g.B.Iio.told l.fn.iio) l.fn.session) (take l.done l.bytes) (g.L.Link.written l.fn.link)
+  sends : SendsAll (g.B.Iio.front (g.B.Iio.kept l.fn.iio)) (place_of g.B.Iio.seen (g.B.Iio.told l.fn.iio) l.fn.session) (take l.done l.bytes)
+      (g.L.Link.written l.fn.link)
       (place_of g.B.Iio.seen (g.B.Iio.told l.iio) l.session) (g.L.Link.written l.link);
 }
 

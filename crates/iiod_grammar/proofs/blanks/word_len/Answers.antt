@@ -12,4 +12,8 @@ loop-place-preserved c =
     let place = c.loop-place.place in
     let on = place_on is_blank text 16 place c.first_in_lanes-before.result c.first_in_lanes-before.ensures in
     let long = length-chunk place 16 text (omega arith) in
-    record { within = omega (arith, prefix_len-le-length (λ b. not (is_blank b)) (chunk place 16 text), long); value = omega (arith, on, c.loop-place.invariant.value) }
+    record {
+      within = omega (arith, prefix_len-le-length (λ b. not (is_blank b)) (chunk place 16 text), long);
+      value =
+          omega (arith, on, c.loop-place.invariant.value);
+    }

@@ -9,6 +9,7 @@ returns-clause-bytes c =
     let room = c.copy_line.new.room in
     let rest = length grown - c.args.at in
     let n = c.copy_line.result in
-    take_grown c.args.at rest n c.args.room.now.len grown room (drop (length (put_mid c.args.at rest grown room)) c.args.room.now.items) (search rules) (search rules) (search rules)
+    take_grown c.args.at rest n c.args.room.now.len grown room (drop (length (put_mid c.args.at rest grown room)) c.args.room.now.items) (search rules)
+    (search rules) (search rules)
     ∙ ap (λ t. take c.args.at t ++ take n room) c.deref_mut.ensures.value
     ∙ ap (λ t. take c.args.at c.args.room.now.items ++ t) c.copy_line.ensures.copied

@@ -17,7 +17,8 @@ returns-then-begun-end-gt-MAX_LINE-clause-takes c =
     let over : 1024 < length kept + position_or_len is_lf bytes =
     omega (arith, c.len-begun.ensures, c.keep_line-end.ensures.value, before, c.if-begun-end-gt-MAX_LINE.true) in
     let same = c.truncate.ensures ∙ ap (take c.len-begun.result) c.keep_line-end.ensures.kept
-    ∙ take-append-le c.len-begun.result kept (take end (take n bytes)) (omega (arith, c.len-begun.ensures)) ∙ take_all c.len-begun.result kept (omega (arith, c.len-begun.ensures)) in
+    ∙ take-append-le c.len-begun.result kept (take end (take n bytes)) (omega (arith, c.len-begun.ensures))
+    ∙ take_all c.len-begun.result kept (omega (arith, c.len-begun.ensures)) in
     (line_overlong kept bytes c.requires.begun over, refl, same)
 
 pub returns-then-end-bytes-clause-takes : goal.returns-then-end-bytes-clause-takes
@@ -30,7 +31,8 @@ returns-then-end-bytes-clause-takes c =
     let place = front_place bytes n end c.keep_line-end.ensures.value (λ past. omega (arith, past, c.if-end-bytes.true)) in
     let cut = line_not_yet kept bytes c.requires.begun few (place ∙ c.if-end-bytes.true) in
     let part : end ≤ n = omega (arith, c.keep_line-end.ensures.within, length-take n bytes) in
-    let items = c.keep_line-end.ensures.kept ∙ ap (λ more. kept ++ more) (take-take end n bytes part ∙ take_all end bytes (omega (arith, c.if-end-bytes.true))) in
+    let items =
+    c.keep_line-end.ensures.kept ∙ ap (λ more. kept ++ more) (take-take end n bytes part ∙ take_all end bytes (omega (arith, c.if-end-bytes.true))) in
     (cut.0, c.if-end-bytes.true, items, ap (is_begun None) items ∙ cut.1)
 
 pub returns-clause-takes : goal.returns-clause-takes

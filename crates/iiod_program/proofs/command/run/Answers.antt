@@ -12,10 +12,13 @@ use Rattle.iiod_program.proofs.command.run.Goals as goal
 
 pub returns-in-Play-clause-does : goal.returns-in-Play-clause-does
 returns-in-Play-clause-does g c =
-    does_asked g.S.Source.left g.S.Source.faults g.K.Sink.written g.K.Sink.faults c.args.words.now Play _ c.play.result c.args.input.now c.play.new.input c.args.output.now c.play.new.output
+    does_asked g.S.Source.left g.S.Source.faults g.K.Sink.written g.K.Sink.faults c.args.words.now Play _ c.play.result c.args.input.now c.play.new.input
+    c.args.output.now c.play.new.output
     (subst (λ r. Asks c.args.words.now (request_view r)) c.in-Play.is c.request_of.ensures) (record {
       transcript = c.play.ensures.transcript;
-      complete = λ reads writes. completes_told (outcome_of _) _ _ _ _ _ _ _ _ c.play.ensures.transcript c.play.ensures.faults.read_fault c.play.ensures.faults.write_fault reads writes;
+      complete =
+          λ reads writes. completes_told (outcome_of _) _ _ _ _ _ _ _ _ c.play.ensures.transcript c.play.ensures.faults.read_fault
+          c.play.ensures.faults.write_fault reads writes;
       status = c.play.ensures.status;
       words = c.play.ensures.words;
       taken = c.play.ensures.taken;
@@ -26,12 +29,17 @@ returns-in-Play-clause-does g c =
 
 pub returns-in-Solo-clause-does : goal.returns-in-Solo-clause-does
 returns-in-Solo-clause-does g c =
-    does_asked g.S.Source.left g.S.Source.faults g.K.Sink.written g.K.Sink.faults c.args.words.now (Solo c.in-Solo.name.now) _ c.solo.result c.args.input.now c.solo.new.input c.args.output.now c.solo.new.output
+    does_asked g.S.Source.left g.S.Source.faults g.K.Sink.written g.K.Sink.faults c.args.words.now (Solo c.in-Solo.name.now) _ c.solo.result c.args.input.now
+    c.solo.new.input c.args.output.now c.solo.new.output
     (subst (λ r. Asks c.args.words.now (request_view r)) c.in-Solo.is c.request_of.ensures) (record {
       alike = each_input (λ xs. AreAlike c.in-Solo.name.now _ xs) (g.S.Source.left c.args.input.now) (λ xs. c.solo_law.ensures.alike c.in-Solo.name.now _ xs);
-      beside = each_input (λ xs. IsRefusedBeside c.in-Solo.name.now _ xs) (g.S.Source.left c.args.input.now) (λ xs. c.solo_law.ensures.offender c.in-Solo.name.now _ xs);
+      beside =
+          each_input (λ xs. IsRefusedBeside c.in-Solo.name.now _ xs) (g.S.Source.left c.args.input.now)
+          (λ xs. c.solo_law.ensures.offender c.in-Solo.name.now _ xs);
       worlds = c.solo.ensures.worlds;
-      complete = λ reads writes. completes_told (λ xs. solo_outcome_of c.in-Solo.name.now _ xs) _ _ _ _ _ _ _ _ c.solo.ensures.worlds c.solo.ensures.faults.read_fault c.solo.ensures.faults.write_fault reads writes;
+      complete =
+          λ reads writes. completes_told (λ xs. solo_outcome_of c.in-Solo.name.now _ xs) _ _ _ _ _ _ _ _ c.solo.ensures.worlds c.solo.ensures.faults.read_fault
+          c.solo.ensures.faults.write_fault reads writes;
       status = c.solo.ensures.status;
       words = c.solo.ensures.words;
       taken = c.solo.ensures.taken;
@@ -40,10 +48,13 @@ returns-in-Solo-clause-does g c =
 
 pub returns-in-Gen-clause-does : goal.returns-in-Gen-clause-does
 returns-in-Gen-clause-does g c =
-    does_asked g.S.Source.left g.S.Source.faults g.K.Sink.written g.K.Sink.faults c.args.words.now (Gen c.in-Gen.n) _ c.gen_.result c.args.input.now c.args.input.now c.args.output.now c.gen_.new.output
+    does_asked g.S.Source.left g.S.Source.faults g.K.Sink.written g.K.Sink.faults c.args.words.now (Gen c.in-Gen.n) _ c.gen_.result c.args.input.now
+    c.args.input.now c.args.output.now c.gen_.new.output
     (subst (λ r. Asks c.args.words.now (request_view r)) c.in-Gen.is c.request_of.ensures) (record {
       lines = c.gen_.ensures.lines;
-      complete = λ writes. gen_completes (summarized c.in-Gen.n) (g.K.Sink.written c.args.output.now) c.gen_.result (g.K.Sink.written c.gen_.new.output) _ _ c.gen_.ensures.status c.gen_.ensures.lines c.gen_.ensures.write_fault writes;
+      complete =
+          λ writes. gen_completes (summarized c.in-Gen.n) (g.K.Sink.written c.args.output.now) c.gen_.result (g.K.Sink.written c.gen_.new.output) _ _
+          c.gen_.ensures.status c.gen_.ensures.lines c.gen_.ensures.write_fault writes;
       status = c.gen_.ensures.status;
       words = λ is. subst EndsGen is c.gen_.ensures.status;
       unread = refl;
@@ -52,12 +63,16 @@ returns-in-Gen-clause-does g c =
 pub returns-in-Ok-clause-does : goal.returns-in-Ok-clause-does
 returns-in-Ok-clause-does g c =
     let many : c.in-Ok.count ≡ length c.args.drivers.items = c.in-Ok.ensures.1 ∙ c.len.ensures ∙ c.args.drivers.ok.0 in
-    does_asked g.S.Source.left g.S.Source.faults g.K.Sink.written g.K.Sink.faults c.args.words.now (Layout c.in-Layout.device.now c.in-Layout.mask.now) _ c.layout.result c.args.input.now c.layout.new.input c.args.output.now c.layout.new.output
+    does_asked g.S.Source.left g.S.Source.faults g.K.Sink.written g.K.Sink.faults c.args.words.now (Layout c.in-Layout.device.now c.in-Layout.mask.now) _
+    c.layout.result c.args.input.now c.layout.new.input c.args.output.now c.layout.new.output
     (subst (λ r. Asks c.args.words.now (request_view r)) c.in-Layout.is c.request_of.ensures)
-    (subst (λ (n : ℕ). PrintsLayout g.S.Source.left g.S.Source.faults g.K.Sink.written g.K.Sink.faults n c.in-Layout.device.now c.in-Layout.mask.now c.layout.result c.args.input.now c.layout.new.input c.args.output.now c.layout.new.output)
+    (subst (λ (n : ℕ). PrintsLayout g.S.Source.left g.S.Source.faults g.K.Sink.written g.K.Sink.faults n c.in-Layout.device.now c.in-Layout.mask.now
+    c.layout.result c.args.input.now c.layout.new.input c.args.output.now c.layout.new.output)
     (many ∙ sym (length-map c.args.drivers.items _)) (record {
       lines = c.layout.ensures.lines;
-      complete = λ reads writes. completes_told (λ left. layout_of c.in-Ok.count left c.in-Layout.device.now c.in-Layout.mask.now) _ _ _ _ _ _ _ _ c.layout.ensures.lines c.layout.ensures.faults.read_fault c.layout.ensures.faults.write_fault reads writes;
+      complete =
+          λ reads writes. completes_told (λ left. layout_of c.in-Ok.count left c.in-Layout.device.now c.in-Layout.mask.now) _ _ _ _ _ _ _ _
+          c.layout.ensures.lines c.layout.ensures.faults.read_fault c.layout.ensures.faults.write_fault reads writes;
       status = c.layout.ensures.status;
       words = c.layout.ensures.words;
       taken = c.layout.ensures.taken;

@@ -22,5 +22,6 @@ returns-in-Ok-clause-exact g c = λ due comes.
 
 pub returns-in-Err-clause-exact : goal.returns-in-Err-clause-exact
 returns-in-Err-clause-exact g c = λ due comes.
-    words_due c.in-Err.why c.end_refused.result _ c.of_run.result due (g.L.Link.left c.args.link.now) (g.K.Sink.written c.args.output.now) (g.K.Sink.written c.end_refused.new.output) c.of_run.ensures c.in-Err.ensures.refused
+    words_due c.in-Err.why c.end_refused.result _ c.of_run.result due (g.L.Link.left c.args.link.now) (g.K.Sink.written c.args.output.now)
+    (g.K.Sink.written c.end_refused.new.output) c.of_run.ensures c.in-Err.ensures.refused
     c.end_refused.ensures.prints comes

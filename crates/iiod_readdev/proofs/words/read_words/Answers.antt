@@ -11,7 +11,10 @@ returns-clause-found c = record {
   scans = string_bytes c.scans-item.result;
   is_samples = sym (c.in_ok-samples.ensures.value ∙ ap amount_of c.as_str-2.ensures.value);
   is_scans = sym (c.in_ok-scans.ensures.value ∙ ap amount_of c.as_str-3.ensures.value);
-  words_are = says_six c.args.words.now c.word-item.result c.address-item.result c.device-item.result c.samples-item.result c.mask-item.result c.scans-item.result (codes "readdev") c.as_str-4.result.now c.as_bytes.result.now c.as_bytes-2.result.now c.ne.result
+  words_are =
+      says_six c.args.words.now c.word-item.result c.address-item.result c.device-item.result c.samples-item.result c.mask-item.result c.scans-item.result
+      (codes "readdev") c.as_str-4.result.now c.as_bytes.result.now c.as_bytes-2.result.now c.ne.result
       c.in-len6.len_at_least c.in-len6.len_below c.word-item.is c.address-item.is c.device-item.is c.samples-item.is c.mask-item.is c.scans-item.is
-      (c.ne.ensures ∙ ap (λ bs. not (bytes_eq bs (codes "readdev"))) c.as_str.ensures.value) c.if-ne.false c.as_str-4.ensures.value c.as_bytes.ensures.value c.as_bytes-2.ensures.value;
+      (c.ne.ensures ∙ ap (λ bs. not (bytes_eq bs (codes "readdev"))) c.as_str.ensures.value) c.if-ne.false c.as_str-4.ensures.value c.as_bytes.ensures.value
+      c.as_bytes-2.ensures.value;
 }

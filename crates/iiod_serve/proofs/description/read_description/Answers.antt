@@ -12,25 +12,34 @@ returns-in_default-clause-taken g c = taken_none (g.S.Source.left c.args.input.n
 
 pub returns-in-Ok-open-clause-described : goal.returns-in-Ok-open-clause-described
 returns-in-Ok-open-clause-described g c =
-    head_says c.args.drivers c.in-Ok-open.opening c.described.result c.open.new.lines (g.S.Source.left c.args.input.now) (g.S.Source.left c.open.new.source) c.described.ensures.described c.in-Ok-open.ensures.opening
+    head_says c.args.drivers c.in-Ok-open.opening c.described.result c.open.new.lines (g.S.Source.left c.args.input.now) (g.S.Source.left c.open.new.source)
+    c.described.ensures.described c.in-Ok-open.ensures.opening
 
 pub returns-in-Ok-open-clause-steady : goal.returns-in-Ok-open-clause-steady
 returns-in-Ok-open-clause-steady g c = whatever _ c.described.result c.in-Ok-open.ensures.steady
 
 pub returns-in-Ok-open-clause-lines : goal.returns-in-Ok-open-clause-lines
 returns-in-Ok-open-clause-lines g c =
-    head_writes c.args.drivers c.in-Ok-open.opening (ended c.described.result) c.open.new.lines (g.S.Source.left c.args.input.now) (g.S.Source.left c.open.new.source) (g.K.Sink.written c.args.output.now) (g.K.Sink.written c.described.new.output) c.described.ensures.prints c.in-Ok-open.ensures.opening
+    head_writes c.args.drivers c.in-Ok-open.opening (ended c.described.result) c.open.new.lines (g.S.Source.left c.args.input.now)
+    (g.S.Source.left c.open.new.source) (g.K.Sink.written c.args.output.now) (g.K.Sink.written c.described.new.output) c.described.ensures.prints
+    c.in-Ok-open.ensures.opening
 
 pub returns-in-Ok-open-clause-status : goal.returns-in-Ok-open-clause-status
 returns-in-Ok-open-clause-status g c =
-    head_status c.args.drivers c.in-Ok-open.opening (ended c.described.result) c.open.new.lines (g.S.Source.left c.args.input.now) (g.S.Source.left c.open.new.source) (g.K.Sink.written c.args.output.now) (g.K.Sink.written c.described.new.output) c.described.ensures.prints c.in-Ok-open.ensures.opening
+    head_status c.args.drivers c.in-Ok-open.opening (ended c.described.result) c.open.new.lines (g.S.Source.left c.args.input.now)
+    (g.S.Source.left c.open.new.source) (g.K.Sink.written c.args.output.now) (g.K.Sink.written c.described.new.output) c.described.ensures.prints
+    c.in-Ok-open.ensures.opening
 
 pub returns-in-Ok-open-clause-near : goal.returns-in-Ok-open-clause-near
 returns-in-Ok-open-clause-near g c =
-    head_near c.args.drivers c.in-Ok-open.opening (ended c.described.result) c.open.new.lines (g.S.Source.left c.args.input.now) (g.S.Source.left c.open.new.source) (g.K.Sink.written c.args.output.now) (g.K.Sink.written c.described.new.output) c.described.ensures.prints c.in-Ok-open.ensures.opening
+    head_near c.args.drivers c.in-Ok-open.opening (ended c.described.result) c.open.new.lines (g.S.Source.left c.args.input.now)
+    (g.S.Source.left c.open.new.source) (g.K.Sink.written c.args.output.now) (g.K.Sink.written c.described.new.output) c.described.ensures.prints
+    c.in-Ok-open.ensures.opening
 
 pub returns-in-Ok-open-clause-nothing : goal.returns-in-Ok-open-clause-nothing
-returns-in-Ok-open-clause-nothing g c = λ is. let run = c.described.ensures.prints 0 [] in absurd (no_read_fault (read_head (told 0 [] c.in-Ok-open.opening)) (ended c.described.result) run.0 run.2 is)
+returns-in-Ok-open-clause-nothing g c =
+    λ is. let run =
+    c.described.ensures.prints 0 [] in absurd (no_read_fault (read_head (told 0 [] c.in-Ok-open.opening)) (ended c.described.result) run.0 run.2 is)
 
 pub returns-in-Ok-open-clause-faults : goal.returns-in-Ok-open-clause-faults
 returns-in-Ok-open-clause-faults g c =

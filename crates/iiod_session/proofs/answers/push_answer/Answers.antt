@@ -14,7 +14,8 @@ returns-in-Ok-push_text-clause-prints g c = rw c.in-Ok.is (prints_text _ _ c.in-
 pub returns-in-Err-push_text-clause-prints : goal.returns-in-Err-push_text-clause-prints
 returns-in-Err-push_text-clause-prints g c =
     rw c.in-Ok.is
-    (prints_short _ _ c.in-Ok.answer _ _ _ _ c.in-Err-push_text.ensures.room c.in-Err-push_text.ensures.text c.push_no-in-Err-push_text.ensures.text c.push_no-in-Err-push_text.ensures.allowed)
+    (prints_short _ _ c.in-Ok.answer _ _ _ _ c.in-Err-push_text.ensures.room c.in-Err-push_text.ensures.text c.push_no-in-Err-push_text.ensures.text
+    c.push_no-in-Err-push_text.ensures.allowed)
 
 pub returns-in-Err-push_text-clause-answers : goal.returns-in-Err-push_text-clause-answers
 returns-in-Err-push_text-clause-answers g c server =

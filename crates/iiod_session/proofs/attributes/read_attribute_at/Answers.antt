@@ -11,7 +11,9 @@ use Rattle.iiod_session.proofs.attributes.read_attribute_at.Goals as goal
 pub read_device-requires-clause-may_read : goal.read_device-requires-clause-may_read
 read_device-requires-clause-may_read g c =
     may_read _ _ (place_view c.args.place) (option_copied c.args.name) (named_of_code c.in-Ok.target)
-    (found_named (kind_at (g.I.Iio.front (g.I.Iio.kept c.args.iio.now)) c.args.dev) (shape_at (g.I.Iio.front (g.I.Iio.kept c.args.iio.now)) c.args.dev) c.plugged-plugged.result c.is_some-is_open.result (place_view c.args.place) (option_copied c.args.name) (named_of_code c.in-Ok.target) (sym (rw c.shape.ensures at (c.in-Ok.ensures (kind_at (g.I.Iio.front (g.I.Iio.kept c.args.iio.now)) c.args.dev) c.kind_of-kind.ensures))))
+    (found_named (kind_at (g.I.Iio.front (g.I.Iio.kept c.args.iio.now)) c.args.dev) (shape_at (g.I.Iio.front (g.I.Iio.kept c.args.iio.now)) c.args.dev)
+    c.plugged-plugged.result c.is_some-is_open.result (place_view c.args.place) (option_copied c.args.name) (named_of_code c.in-Ok.target)
+    (sym (rw c.shape.ensures at (c.in-Ok.ensures (kind_at (g.I.Iio.front (g.I.Iio.kept c.args.iio.now)) c.args.dev) c.kind_of-kind.ensures))))
     (sym c.is_of_buffer-of_buffer.ensures ∙ c.if-of_buffer.false)
 
 pub returns-in-Err-clause-told : goal.returns-in-Err-clause-told
@@ -21,11 +23,14 @@ returns-in-Err-clause-told g c =
 
 pub returns-then-of_buffer-clause-told : goal.returns-then-of_buffer-clause-told
 returns-then-of_buffer-clause-told g c =
-    reads_found _ _ _ (desk_of g.I.Iio.seen c.args.desk.now) _ _ _ c.is_some-is_open.result c.plugged-plugged.result c.is_of_buffer-of_buffer.result c.shape.result.now (named_view (Ok c.in-Ok.target)) _
-    (search rules) c.plugged-plugged.ensures c.shape.ensures c.is_of_buffer-of_buffer.ensures (c.in-Ok.ensures (kind_at _ c.args.dev) c.kind_of-kind.ensures) (rw c.if-of_buffer.true c.read_buffer.ensures.told)
+    reads_found _ _ _ (desk_of g.I.Iio.seen c.args.desk.now) _ _ _ c.is_some-is_open.result c.plugged-plugged.result c.is_of_buffer-of_buffer.result
+    c.shape.result.now (named_view (Ok c.in-Ok.target)) _
+    (search rules) c.plugged-plugged.ensures c.shape.ensures c.is_of_buffer-of_buffer.ensures (c.in-Ok.ensures (kind_at _ c.args.dev) c.kind_of-kind.ensures)
+    (rw c.if-of_buffer.true c.read_buffer.ensures.told)
 
 pub returns-else-of_buffer-clause-told : goal.returns-else-of_buffer-clause-told
 returns-else-of_buffer-clause-told g c =
-    reads_found _ _ _ (desk_of g.I.Iio.seen c.args.desk.now) _ _ _ c.is_some-is_open.result c.plugged-plugged.result c.is_of_buffer-of_buffer.result c.shape.result.now (named_view (Ok c.in-Ok.target)) _
+    reads_found _ _ _ (desk_of g.I.Iio.seen c.args.desk.now) _ _ _ c.is_some-is_open.result c.plugged-plugged.result c.is_of_buffer-of_buffer.result
+    c.shape.result.now (named_view (Ok c.in-Ok.target)) _
     (search rules) c.plugged-plugged.ensures c.shape.ensures c.is_of_buffer-of_buffer.ensures (c.in-Ok.ensures (kind_at _ c.args.dev) c.kind_of-kind.ensures)
     (rw c.if-of_buffer.false (c.read_device.ensures.told (desk_of g.I.Iio.seen c.args.desk.now)))

@@ -8,19 +8,24 @@ use Rattle.iiod_session.proofs.attributes.read_buffer.Goals as goal
 pub returns-in-Some-clause-desk : goal.returns-in-Some-clause-desk
 returns-in-Some-clause-desk g c = record {
   seats = rw c.buffer_number.ensures.kept
-      (All-set (IsHeld g.I.Iio.seen (g.I.Iio.front (g.I.Iio.kept c.args.iio.now))) c.args.desk.now.held.items c.in-Some.i c.buffer_number.new.h (rw c.buffer_number.ensures.kept at c.buffer_number.ensures.held) c.requires.desk.seats);
-  apart = apart_set g.I.Iio.seen c.args.desk.now.held.items c.in-Some.i c.buffer_number.new.h c.index_mut.result.now (search rules) c.index_mut.ensures.value c.buffer_number.ensures.bare c.requires.desk.apart;
+      (All-set (IsHeld g.I.Iio.seen (g.I.Iio.front (g.I.Iio.kept c.args.iio.now))) c.args.desk.now.held.items c.in-Some.i c.buffer_number.new.h
+      (rw c.buffer_number.ensures.kept at c.buffer_number.ensures.held) c.requires.desk.seats);
+  apart =
+      apart_set g.I.Iio.seen c.args.desk.now.held.items c.in-Some.i c.buffer_number.new.h c.index_mut.result.now (search rules) c.index_mut.ensures.value
+      c.buffer_number.ensures.bare c.requires.desk.apart;
   holdings = rw c.buffer_number.ensures.kept c.requires.desk.holdings;
 }
 
 pub returns-in-Some-clause-same : goal.returns-in-Some-clause-same
 returns-in-Some-clause-same g c =
     ap (λ (bs : List Bare). with_seats bs (desk_of g.I.Iio.seen c.args.desk.now))
-    (map_set_same g.I.Iio.seen (bare_of g.I.Iio.seen) c.args.desk.now.held.items c.in-Some.i c.buffer_number.new.h c.index_mut.result.now (search rules) c.index_mut.ensures.value c.buffer_number.ensures.bare)
+    (map_set_same g.I.Iio.seen (bare_of g.I.Iio.seen) c.args.desk.now.held.items c.in-Some.i c.buffer_number.new.h c.index_mut.result.now (search rules)
+    c.index_mut.ensures.value c.buffer_number.ensures.bare)
 
 pub returns-in-Some-clause-tales : goal.returns-in-Some-clause-tales
 returns-in-Some-clause-tales g c =
-    map_set_same g.I.Iio.seen (tale_of g.I.Iio.seen) c.args.desk.now.held.items c.in-Some.i c.buffer_number.new.h c.index_mut.result.now (search rules) c.index_mut.ensures.value c.buffer_number.ensures.tale
+    map_set_same g.I.Iio.seen (tale_of g.I.Iio.seen) c.args.desk.now.held.items c.in-Some.i c.buffer_number.new.h c.index_mut.result.now (search rules)
+    c.index_mut.ensures.value c.buffer_number.ensures.tale
 
 pub returns-in-Some-clause-told : goal.returns-in-Some-clause-told
 returns-in-Some-clause-told g c =

@@ -14,4 +14,5 @@ pub returns-in-Some-find-clause-served : goal.returns-in-Some-find-clause-served
 returns-in-Some-find-clause-served g c =
     let told = c.write_attribute_at-written.ensures.told (desk_of g.I.Iio.seen c.args.desk.now) (search rules) in
     rw (c.in-Some.is, c.answered.ensures.value)
-    (by_count _ _ _ _ _ _ _ _ _ c.write_attribute_at-written.result (serves_write_attribute _ _ _ _ _ _ _ _ _ _ c.write_attribute_at-written.result (sym (search rules)) told))
+    (by_count _ _ _ _ _ _ _ _ _ c.write_attribute_at-written.result
+    (serves_write_attribute _ _ _ _ _ _ _ _ _ _ c.write_attribute_at-written.result (sym (search rules)) told))

@@ -7,13 +7,16 @@ use Rattle.iiod_session.proofs.attributes.write_attribute_at.Goals as goal
 
 pub write_attr-requires-clause-may_write : goal.write_attr-requires-clause-may_write
 write_attr-requires-clause-may_write g c =
-    may_write _ _ c.plugged-plugged.result c.args.is_open _ _ _ (assignment_of_code c.in-Ok.x) (sym (rw c.shape.ensures at (c.in-Ok.ensures (kind_at _ c.args.dev) c.kind_of-kind.ensures)))
+    may_write _ _ c.plugged-plugged.result c.args.is_open _ _ _ (assignment_of_code c.in-Ok.x)
+    (sym (rw c.shape.ensures at (c.in-Ok.ensures (kind_at _ c.args.dev) c.kind_of-kind.ensures)))
 
 pub returns-in-Err-clause-told : goal.returns-in-Err-clause-told
 returns-in-Err-clause-told g c = λ desk same.
-    writes_refused _ _ desk _ _ _ _ c.args.is_open c.plugged-plugged.result c.shape.result.now _ same c.plugged-plugged.ensures c.shape.ensures (c.in-Err.ensures (kind_at _ c.args.dev) c.kind_of-kind.ensures)
+    writes_refused _ _ desk _ _ _ _ c.args.is_open c.plugged-plugged.result c.shape.result.now _ same c.plugged-plugged.ensures c.shape.ensures
+    (c.in-Err.ensures (kind_at _ c.args.dev) c.kind_of-kind.ensures)
 
 pub returns-in-Ok-clause-told : goal.returns-in-Ok-clause-told
 returns-in-Ok-clause-told g c = λ desk same.
-    writes _ _ _ desk _ _ _ _ c.args.is_open c.plugged-plugged.result c.shape.result.now (assignment_of_code c.in-Ok.x) _ same c.plugged-plugged.ensures c.shape.ensures (c.in-Ok.ensures (kind_at _ c.args.dev) c.kind_of-kind.ensures)
+    writes _ _ _ desk _ _ _ _ c.args.is_open c.plugged-plugged.result c.shape.result.now (assignment_of_code c.in-Ok.x) _ same c.plugged-plugged.ensures
+    c.shape.ensures (c.in-Ok.ensures (kind_at _ c.args.dev) c.kind_of-kind.ensures)
     c.write_attr.ensures.told

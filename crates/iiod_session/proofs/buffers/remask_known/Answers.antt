@@ -9,10 +9,12 @@ pub returns-then-not-is_input-clause-told : goal.returns-then-not-is_input-claus
 returns-then-not-is_input-clause-told g c =
     let front = g.I.Iio.front (g.I.Iio.kept c.args.iio.now) in
     let desk = desk_of g.I.Iio.seen c.args.desk.now in
-    not_known _ _ desk c.args.dev (λ m. remask_at front m desk c.args.text.now c.args.dev) (Refusal c.unknown_refusal.result) (sym c.is_input.ensures ∙ c.if-not-is_input.true) c.unknown_refusal.ensures.told
+    not_known _ _ desk c.args.dev (λ m. remask_at front m desk c.args.text.now c.args.dev) (Refusal c.unknown_refusal.result)
+    (sym c.is_input.ensures ∙ c.if-not-is_input.true) c.unknown_refusal.ensures.told
 
 pub returns-clause-told : goal.returns-clause-told
 returns-clause-told g c =
     let front = g.I.Iio.front (g.I.Iio.kept c.args.iio.now) in
     let desk = desk_of g.I.Iio.seen c.args.desk.now in
-    known _ _ _ desk _ c.args.dev (λ m. remask_at front m desk c.args.text.now c.args.dev) _ (sym c.is_input.ensures ∙ c.if-not-is_input.false) c.remask_at.ensures.told
+    known _ _ _ desk _ c.args.dev (λ m. remask_at front m desk c.args.text.now c.args.dev) _ (sym c.is_input.ensures ∙ c.if-not-is_input.false)
+    c.remask_at.ensures.told

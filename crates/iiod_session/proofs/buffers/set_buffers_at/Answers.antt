@@ -4,4 +4,6 @@ use Rattle.iiod_session.proofs.SettleLaws.{buffers_set}
 use Rattle.iiod_session.proofs.buffers.set_buffers_at.Goals as goal
 
 pub returns-clause-told : goal.returns-clause-told
-returns-clause-told g c = buffers_set _ (desk_of g.I.Iio.seen c.args.desk.now) _ c.args.dev c.args.count c.plugged.result c.plugged.ensures (search rules) (omega arith) (omega arith) (search rules)
+returns-clause-told g c =
+    buffers_set _ (desk_of g.I.Iio.seen c.args.desk.now) _ c.args.dev c.args.count c.plugged.result c.plugged.ensures (search rules) (omega arith) (omega arith)
+    (search rules)

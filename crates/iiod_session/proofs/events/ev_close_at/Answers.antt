@@ -8,5 +8,6 @@ returns-in-Ok-clause-desk g c = record {
   seats = rw c.ev_close.ensures.kept c.requires.desk.seats;
   apart = c.requires.desk.apart;
   holdings = rw (c.ev_close.ensures.kept, c.forget_holding.ensures)
-      (All-filter (λ d. not (d == c.args.dev)) (IsHolding (g.I.Iio.front (g.I.Iio.kept c.args.iio.now))) c.args.desk.now.holdings.items c.requires.desk.holdings);
+      (All-filter (λ d. not (d == c.args.dev)) (IsHolding (g.I.Iio.front (g.I.Iio.kept c.args.iio.now))) c.args.desk.now.holdings.items
+      c.requires.desk.holdings);
 }

@@ -8,7 +8,8 @@ use Rattle.iiod_session.proofs.events.ev_close_known.Goals as goal
 pub returns-then-not-is_input-clause-told : goal.returns-then-not-is_input-clause-told
 returns-then-not-is_input-clause-told g c =
     let desk = desk_of g.I.Iio.seen c.args.desk.now in
-    not_known _ _ desk c.args.dev (λ m. ev_close_at m desk c.args.dev) (Refusal c.unknown_refusal.result) (sym c.is_input.ensures ∙ c.if-not-is_input.true) c.unknown_refusal.ensures.told
+    not_known _ _ desk c.args.dev (λ m. ev_close_at m desk c.args.dev) (Refusal c.unknown_refusal.result) (sym c.is_input.ensures ∙ c.if-not-is_input.true)
+    c.unknown_refusal.ensures.told
 
 pub returns-clause-told : goal.returns-clause-told
 returns-clause-told g c =

@@ -13,7 +13,8 @@ invariant-loop-desk g l = let iio = g.I.Iio in let makes = g.W.Watch.makes in re
   desk : IsDesk iio.seen (iio.front (iio.kept l.fn.iio)) l.desk;
   within : l.at ≤ length l.bytes;
   ready : IsReady On l.lines l.pending;
-  fed : Heard makes l.manner (iio.front (iio.kept l.fn.iio)) (scene_of iio.seen (iio.told l.fn.iio) l.fn.desk l.fn.watch false) (scan_on (stream_by On l.fn.lines l.fn.pending) l.bytes)
+  fed : Heard makes l.manner (iio.front (iio.kept l.fn.iio)) (scene_of iio.seen (iio.told l.fn.iio) l.fn.desk l.fn.watch false)
+      (scan_on (stream_by On l.fn.lines l.fn.pending) l.bytes)
       l.fn.out.items l.out.items (scene_of iio.seen (iio.told l.iio) l.desk l.watch false) (scan_on (stream_by On l.lines l.pending) (drop l.at l.bytes));
 }
 

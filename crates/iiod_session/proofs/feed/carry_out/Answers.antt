@@ -16,7 +16,8 @@ pub returns-then-is_empty-clause-hears : goal.returns-then-is_empty-clause-hears
 returns-then-is_empty-clause-hears g c =
     let kept = rw c.in-Waits.is at c.requires.ready in
     let none : c.args.bytes.now ≡ [] = grind (arith, common_steps) in
-    rw c.in-Waits.is (again_feeds _ _ _ _ _ _ _ _ c.args.bytes.now On none (rw c.in-On-2.is at (c.in_ok-going-in-Waits.ensures.hears c.args.lines.now kept.0 kept.1)))
+    rw c.in-Waits.is (again_feeds _ _ _ _ _ _ _ _ c.args.bytes.now On none
+    (rw c.in-On-2.is at (c.in_ok-going-in-Waits.ensures.hears c.args.lines.now kept.0 kept.1)))
 
 pub returns-then-is_empty-clause-ready : goal.returns-then-is_empty-clause-ready
 returns-then-is_empty-clause-ready g c = let kept = rw c.in-Waits.is at c.requires.ready in ap (λ (z : LinesRecord). z.overlong) kept.0
@@ -31,11 +32,14 @@ pub returns-else-is_empty-clause-hears : goal.returns-else-is_empty-clause-hears
 returns-else-is_empty-clause-hears g c =
     let kept = rw c.in-Waits.is at c.requires.ready in
     rw c.in-Waits.is
-    (resumed _ _ _ _ (λ r. scene_of g.I.Iio.seen (g.I.Iio.told c.carry_on-in-On-2.new.iio) c.carry_on-in-On-2.new.desk c.carry_on-in-On-2.new.watch (is_waiting r.1)) _ _ _ _ _ c.args.bytes.now
+    (resumed _ _ _ _ (λ r. scene_of g.I.Iio.seen (g.I.Iio.told c.carry_on-in-On-2.new.iio) c.carry_on-in-On-2.new.desk c.carry_on-in-On-2.new.watch
+    (is_waiting r.1)) _ _ _ _ _ c.args.bytes.now
     (λ r. scan_on (stream_by r.1 c.carry_on-in-On-2.new.lines c.carry_on-in-On-2.new.pending) (drop r.0 c.args.bytes.now)) _
-    (rw c.in-On-2.is at (c.in_ok-going-in-Waits.ensures.hears c.args.lines.now kept.0 kept.1)) (rw c.hear_again.ensures.kept at c.carry_on-in-On-2.ensures.hears))
+    (rw c.in-On-2.is at (c.in_ok-going-in-Waits.ensures.hears c.args.lines.now kept.0 kept.1))
+    (rw c.hear_again.ensures.kept at c.carry_on-in-On-2.ensures.hears))
 
 pub returns-in_default-clause-hears : goal.returns-in_default-clause-hears
 returns-in_default-clause-hears g c =
     let kept = rw c.in-Waits.is at c.requires.ready in
-    rw c.in-Waits.is (feeds_more _ _ _ _ _ _ _ _ c.args.bytes.now c.in_ok-going-in-Waits.going c.in_default.not-On (c.in_ok-going-in-Waits.ensures.hears c.args.lines.now kept.0 kept.1))
+    rw c.in-Waits.is (feeds_more _ _ _ _ _ _ _ _ c.args.bytes.now c.in_ok-going-in-Waits.going c.in_default.not-On
+    (c.in_ok-going-in-Waits.ensures.hears c.args.lines.now kept.0 kept.1))

@@ -7,5 +7,7 @@ pub loop-h-preserved : goal.loop-h-preserved
 loop-h-preserved g c = record {
   kept = search rules;
   held = grind (arith, common_steps);
-  told = closing_more g.I.Iio.seen (g.I.Iio.front (g.I.Iio.kept c.args.iio.now)) _ _ _ _ _ _ c.in-Some.h c.in-Some.ensures.items c.loop-h.invariant.told (rw c.loop-h.invariant.kept at c.close.ensures.told);
+  told =
+      closing_more g.I.Iio.seen (g.I.Iio.front (g.I.Iio.kept c.args.iio.now)) _ _ _ _ _ _ c.in-Some.h c.in-Some.ensures.items c.loop-h.invariant.told
+      (rw c.loop-h.invariant.kept at c.close.ensures.told);
 }

@@ -8,7 +8,10 @@ abbrev pub invariant-loop-h : goal.invariant-loop-h
 invariant-loop-h g l = let iio = g.I.Iio in record {
   kept : iio.kept l.iio ≡ iio.kept l.fn.iio;
   held : AllHeld iio.seen (iio.front (iio.kept l.fn.iio)) l.held.items;
-  told : IfSome (iio.told l.fn.iio) (λ m. (n : Machine) × (iio.told l.iio ≡ Some n) × (all_closed (iio.front (iio.kept l.fn.iio)) n (seats_of iio.seen l.held.items) ≡ all_closed (iio.front (iio.kept l.fn.iio)) m (seats_of iio.seen l.fn.held.items)));
+  told : IfSome (iio.told l.fn.iio)
+      (λ m. (n : Machine) × (iio.told l.iio ≡ Some n)
+      × (all_closed (iio.front (iio.kept l.fn.iio)) n (seats_of iio.seen l.held.items)
+      ≡ all_closed (iio.front (iio.kept l.fn.iio)) m (seats_of iio.seen l.fn.held.items)));
 }
 
 abbrev pub decreases-loop-h : goal.decreases-loop-h

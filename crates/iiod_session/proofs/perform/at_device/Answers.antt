@@ -14,20 +14,23 @@ pub returns-in-Open-clause-served : goal.returns-in-Open-clause-served
 returns-in-Open-clause-served g c =
     let here = rw (c.in-Some.is, c.in-Open.is) at c.requires.at in
     rw (c.in-Open.is, c.answered.ensures.value)
-    (by_zero _ _ _ _ _ _ _ _ c.open_at.result (serves_open _ _ _ _ _ _ _ _ _ _ _ c.in-Some.dev c.open_at.result here c.open_at.ensures.told c.open_at.ensures.moves))
+    (by_zero _ _ _ _ _ _ _ _ c.open_at.result
+    (serves_open _ _ _ _ _ _ _ _ _ _ _ c.in-Some.dev c.open_at.result here c.open_at.ensures.told c.open_at.ensures.moves))
 
 pub returns-in-Close-clause-served : goal.returns-in-Close-clause-served
 returns-in-Close-clause-served g c =
     let here = rw (c.in-Some.is, c.in-Close.is) at c.requires.at in
     rw (c.in-Close.is, c.answered-in-Close.ensures.value)
-    (by_zero _ _ _ _ _ _ _ _ c.close_at.result (serves_close _ _ _ _ _ _ _ _ c.in-Some.dev c.close_at.result here c.close_at.ensures.told c.close_at.ensures.none c.close_at.ensures.moves))
+    (by_zero _ _ _ _ _ _ _ _ c.close_at.result
+    (serves_close _ _ _ _ _ _ _ _ c.in-Some.dev c.close_at.result here c.close_at.ensures.told c.close_at.ensures.none c.close_at.ensures.moves))
 
 pub returns-in-Read-clause-served : goal.returns-in-Read-clause-served
 returns-in-Read-clause-served g c =
     let here = rw (c.in-Some.is, c.in-Read.is) at c.requires.at in
     rw c.in-Read.is
     (by_text _ _ _ _ _ _ _ _ c.read_attribute_at.result c.read_attribute_at.ensures.text
-    (serves_read_attribute _ _ _ _ _ _ _ _ _ _ c.in-Some.dev _ here c.read_attribute_at.ensures.told c.read_attribute_at.ensures.same c.read_attribute_at.ensures.tales
+    (serves_read_attribute _ _ _ _ _ _ _ _ _ _ c.in-Some.dev _ here c.read_attribute_at.ensures.told c.read_attribute_at.ensures.same
+    c.read_attribute_at.ensures.tales
     (text_formed _ c.in-Read.dev.now (place_view c.in-Read.place) (option_copied c.in-Read.attr)
     c.read_attribute_at.result c.read_attribute_at.ensures.text)))
 
@@ -50,20 +53,23 @@ pub returns-in-SetTrig-clause-served : goal.returns-in-SetTrig-clause-served
 returns-in-SetTrig-clause-served g c =
     let here = rw (c.in-Some.is, c.in-SetTrig.is) at c.requires.at in
     rw (c.in-SetTrig.is, c.answered-in-SetTrig.ensures.value)
-    (by_zero _ _ _ _ _ _ _ _ c.set_trigger_known.result (serves_set_trigger _ _ _ _ _ _ _ c.in-Some.dev c.set_trigger_known.result here (c.set_trigger_known.ensures.told (desk_of g.I.Iio.seen c.args.desk.now))))
+    (by_zero _ _ _ _ _ _ _ _ c.set_trigger_known.result
+    (serves_set_trigger _ _ _ _ _ _ _ c.in-Some.dev c.set_trigger_known.result here (c.set_trigger_known.ensures.told (desk_of g.I.Iio.seen c.args.desk.now))))
 
 pub returns-in-SetBuffers-clause-served : goal.returns-in-SetBuffers-clause-served
 returns-in-SetBuffers-clause-served g c =
     let here = rw (c.in-Some.is, c.in-SetBuffers.is) at c.requires.at in
     rw (c.in-SetBuffers.is, c.answered-in-SetBuffers.ensures.value)
     (by_zero _ _ _ _ _ _ _ _ c.set_buffers_at.result
-    (serves_set_buffers _ _ _ _ _ _ _ _ c.in-Some.dev c.set_buffers_at.result here c.set_buffers_at.ensures.told c.set_buffers_at.ensures.alters (search rules)))
+    (serves_set_buffers _ _ _ _ _ _ _ _ c.in-Some.dev c.set_buffers_at.result here c.set_buffers_at.ensures.told c.set_buffers_at.ensures.alters
+    (search rules)))
 
 pub returns-in-Remask-clause-served : goal.returns-in-Remask-clause-served
 returns-in-Remask-clause-served g c =
     let here = rw (c.in-Some.is, c.in-Remask.is) at c.requires.at in
     rw (c.in-Remask.is, c.answered-in-Remask.ensures.value)
-    (by_zero _ _ _ _ _ _ _ _ c.remask_known.result (serves_remask _ _ _ _ _ _ _ _ _ c.in-Some.dev c.remask_known.result here c.remask_known.ensures.told c.remask_known.ensures.moves))
+    (by_zero _ _ _ _ _ _ _ _ c.remask_known.result
+    (serves_remask _ _ _ _ _ _ _ _ _ c.in-Some.dev c.remask_known.result here c.remask_known.ensures.told c.remask_known.ensures.moves))
 
 pub returns-in-EvOpen-clause-served : goal.returns-in-EvOpen-clause-served
 returns-in-EvOpen-clause-served g c =
@@ -77,7 +83,8 @@ returns-in-EvRead-clause-served g c =
     let here = rw (c.in-Some.is, c.in-EvRead.is) at c.requires.at in
     rw c.in-EvRead.is
     (by_event _ _ _ _ _ _ _ _ c.ev_read_known.result c.ev_read_known.ensures.event
-    (serves_ev_read _ _ _ _ _ _ c.in-Some.dev _ here c.ev_read_known.ensures.told (event_formed _ c.in-EvRead.dev.now c.ev_read_known.result c.ev_read_known.ensures.event)))
+    (serves_ev_read _ _ _ _ _ _ c.in-Some.dev _ here c.ev_read_known.ensures.told
+    (event_formed _ c.in-EvRead.dev.now c.ev_read_known.result c.ev_read_known.ensures.event)))
 
 pub returns-in-EvRead-clause-fits : goal.returns-in-EvRead-clause-fits
 returns-in-EvRead-clause-fits g c = event_fits c.ev_read_known.result c.ev_read_known.ensures.event

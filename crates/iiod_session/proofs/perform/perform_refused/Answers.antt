@@ -7,4 +7,5 @@ returns-in-Empty-clause-served g c = rw c.in-Empty.is (empty_performs _ _ _ _ _ 
 
 pub returns-in-Unknown-clause-served : goal.returns-in-Unknown-clause-served
 returns-in-Unknown-clause-served g c =
-    finished _ _ _ _ _ _ _ _ _ _ _ _ _ (serves_refused _ _ _ _ c.args.why (has_word c.args.why c.in-Unknown.is)) c.finish.ensures.done c.finish.ensures.text c.finish.ensures.allowed tt
+    finished _ _ _ _ _ _ _ _ _ _ _ _ _ (serves_refused _ _ _ _ c.args.why (has_word c.args.why c.in-Unknown.is)) c.finish.ensures.done c.finish.ensures.text
+    c.finish.ensures.allowed tt

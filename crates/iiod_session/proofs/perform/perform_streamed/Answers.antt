@@ -8,7 +8,8 @@ use Rattle.iiod_session.proofs.perform.perform_streamed.Goals as goal
 pub returns-then-is_err-clause-served : goal.returns-then-is_err-clause-served
 returns-then-is_err-clause-served g c =
     finished _ _ _ _ _ _ _ _ _ _ _ _ _
-    (serves_short _ _ _ _ (Streamed c.args.device.now c.args.payload.now) (short_at (find_device (g.I.Iio.front (g.I.Iio.kept c.args.iio.now)) c.args.device.now)) (refl, refl))
+    (serves_short _ _ _ _ (Streamed c.args.device.now c.args.payload.now)
+    (short_at (find_device (g.I.Iio.front (g.I.Iio.kept c.args.iio.now)) c.args.device.now)) (refl, refl))
     c.finish.ensures.done (rw c.reserve.ensures.items at c.finish.ensures.text) c.finish.ensures.allowed tt
 
 pub returns-clause-served : goal.returns-clause-served

@@ -15,7 +15,8 @@ pub block_head-requires-clause-fewer : goal.block_head-requires-clause-fewer
 block_head-requires-clause-fewer g c =
     let first : c.len-first.result ≡ length c.block_room.new.out.items = search rules in
     let all : c.len.result ≡ length c.take_scans-took.new.out.items = search rules in
-    let most : length c.take_scans-took.new.out.items ≤ length c.block_room.new.out.items + c.args.want * c.args.size = rw (c.requires.size) c.take_scans-took.ensures.most in
+    let most : length c.take_scans-took.new.out.items ≤ length c.block_room.new.out.items + c.args.want * c.args.size =
+    rw (c.requires.size) c.take_scans-took.ensures.most in
     omega (arith, first, all, most)
 
 pub block_head-requires-clause-room : goal.block_head-requires-clause-room
@@ -24,7 +25,15 @@ block_head-requires-clause-room g c =
     let h = room_stands _ _ _ _ _ _ c.block_room.ensures.room c.block_room.ensures.fits short (omega (arith, c.requires.space)) in
     let start : c.len-start.result ≡ length c.args.out.now.items = search rules in
     let read = c.in-Scan.ensures.takes in
-    omega (arith, start, ap length h.stands ∙ length-append c.args.out.now.items h.room, h.size, ap length read.1, length-append c.block_room.new.out.items (joined_scans read.0))
+    omega (
+      arith,
+      start,
+      ap length h.stands
+          ∙ length-append c.args.out.now.items h.room,
+      h.size,
+      ap length read.1,
+      length-append c.block_room.new.out.items (joined_scans read.0),
+    )
 
 pub returns-in-Scan-clause-read : goal.returns-in-Scan-clause-read
 returns-in-Scan-clause-read g c =
@@ -43,9 +52,14 @@ returns-in-Scan-clause-read g c =
     let many : came ≡ length scans = omega (arith, all, first, ap length read.1, length-append c.block_room.new.out.items scans) in
     let within : length c.take_scans-took.new.out.items ≤ length c.block_room.new.out.items + most = rw (c.requires.size) c.take_scans-took.ensures.most in
     let few : came ≤ most = omega (arith, all, first, within) in
-    let named = headed channels mask most came c.len-start.result old c.block_room.new.out.items scans c.take_scans-took.new.out.items c.block_head.new.out.items h start read.1 c.block_head.ensures.items in
-    let kept : vec_capacity c.args.out.now ≤ vec_capacity c.block_head.new.out = omega (arith, c.block_room.ensures.capacity, c.take_scans-took.ensures.room, c.block_head.ensures.capacity) in
-    let ended = closed channels mask came c.args.asked old scans c.block_head.new.out.items c.block_closing.new.out.items (vec_capacity c.block_head.new.out) c.block_closing.result
+    let named =
+    headed channels mask most came c.len-start.result old c.block_room.new.out.items scans c.take_scans-took.new.out.items c.block_head.new.out.items h start
+    read.1 c.block_head.ensures.items in
+    let kept : vec_capacity c.args.out.now ≤ vec_capacity c.block_head.new.out =
+    omega (arith, c.block_room.ensures.capacity, c.take_scans-took.ensures.room, c.block_head.ensures.capacity) in
+    let ended =
+    closed channels mask came c.args.asked old scans c.block_head.new.out.items c.block_closing.new.out.items (vec_capacity c.block_head.new.out)
+    c.block_closing.result
     many (omega (arith, few, short)) named (omega (arith, few, c.requires.space, kept)) c.block_closing.ensures.text c.block_closing.ensures.room in
     let width : channels ≡ channel_count (g.I.Iio.front (g.I.Iio.kept c.args.iio.now)) c.args.dev = search rules in
     rw (c.in-Scan.is) (read.0, ended ∙ ap (λ n. old ++ block_text n mask scans c.args.asked) width, read.2)

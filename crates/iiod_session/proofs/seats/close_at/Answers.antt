@@ -17,7 +17,8 @@ returns-in-Some-clause-desk g c =
 
 pub returns-in-Some-clause-told : goal.returns-in-Some-clause-told
 returns-in-Some-clause-told g c =
-    closes g.I.Iio.seen _ _ _ (desk_of g.I.Iio.seen c.args.desk.now) c.args.dev c.in-Some.i c.args.desk.now.held.items _ c.remove-at.result (search rules) (search rules)
+    closes g.I.Iio.seen _ _ _ (desk_of g.I.Iio.seen c.args.desk.now) c.args.dev c.in-Some.i c.args.desk.now.held.items _ c.remove-at.result (search rules)
+    (search rules)
     c.remove-at.ensures.value c.remove-at.ensures.items c.close.ensures.told
 
 pub returns-in-Some-clause-moves : goal.returns-in-Some-clause-moves

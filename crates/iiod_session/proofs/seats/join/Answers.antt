@@ -13,10 +13,12 @@ returns-in-Ok-clause-desk g c = record {
         some = c.requires.some;
         owned = c.in-Ok.ensures.seat.owned;
       }));
-  apart = apart_joined g.I.Iio.seen c.args.desk.now.held.items _ _ _ c.requires.desk.apart c.requires.free c.reserve.ensures.items c.push_reserved.ensures.items;
+  apart =
+      apart_joined g.I.Iio.seen c.args.desk.now.held.items _ _ _ c.requires.desk.apart c.requires.free c.reserve.ensures.items c.push_reserved.ensures.items;
   holdings = rw c.in-Ok.ensures.kept c.requires.desk.holdings;
 }
 
 pub returns-in-Ok-clause-moves : goal.returns-in-Ok-clause-moves
 returns-in-Ok-clause-moves g c =
-    joins g.I.Iio.seen _ _ _ _ _ (desk_of g.I.Iio.seen c.args.desk.now) _ _ _ _ c.in-Ok.ensures.seat c.requires.free c.reserve.ensures.items c.push_reserved.ensures.items
+    joins g.I.Iio.seen _ _ _ _ _ (desk_of g.I.Iio.seen c.args.desk.now) _ _ _ _ c.in-Ok.ensures.seat c.requires.free c.reserve.ensures.items
+    c.push_reserved.ensures.items

@@ -14,19 +14,24 @@ returns-in_ok-push_refusal-in-None-clause-read g c = (Refusal EBADF, search rule
 pub returns-in-Some-clause-desk : goal.returns-in-Some-clause-desk
 returns-in-Some-clause-desk g c = record {
   seats = rw c.read_held.ensures.kept
-      (All-set (IsHeld g.I.Iio.seen (g.I.Iio.front (g.I.Iio.kept c.args.iio.now))) c.args.desk.now.held.items c.in-Some.i c.read_held.new.h (rw c.read_held.ensures.kept at c.read_held.ensures.held) c.requires.desk.seats);
-  apart = apart_set g.I.Iio.seen c.args.desk.now.held.items c.in-Some.i c.read_held.new.h c.index_mut.result.now (search rules) c.index_mut.ensures.value c.read_held.ensures.bare c.requires.desk.apart;
+      (All-set (IsHeld g.I.Iio.seen (g.I.Iio.front (g.I.Iio.kept c.args.iio.now))) c.args.desk.now.held.items c.in-Some.i c.read_held.new.h
+      (rw c.read_held.ensures.kept at c.read_held.ensures.held) c.requires.desk.seats);
+  apart =
+      apart_set g.I.Iio.seen c.args.desk.now.held.items c.in-Some.i c.read_held.new.h c.index_mut.result.now (search rules) c.index_mut.ensures.value
+      c.read_held.ensures.bare c.requires.desk.apart;
   holdings = rw c.read_held.ensures.kept c.requires.desk.holdings;
 }
 
 pub returns-in-Some-clause-same : goal.returns-in-Some-clause-same
 returns-in-Some-clause-same g c =
     ap (λ (bs : List Bare). with_seats bs (desk_of g.I.Iio.seen c.args.desk.now))
-    (map_set_same g.I.Iio.seen (bare_of g.I.Iio.seen) c.args.desk.now.held.items c.in-Some.i c.read_held.new.h c.index_mut.result.now (search rules) c.index_mut.ensures.value c.read_held.ensures.bare)
+    (map_set_same g.I.Iio.seen (bare_of g.I.Iio.seen) c.args.desk.now.held.items c.in-Some.i c.read_held.new.h c.index_mut.result.now (search rules)
+    c.index_mut.ensures.value c.read_held.ensures.bare)
 
 pub returns-in-Some-clause-read : goal.returns-in-Some-clause-read
 returns-in-Some-clause-read g c =
-    reads_at g.I.Iio.seen _ c.args.dev _ c.in-Some.i _ _ (desk_of g.I.Iio.seen c.args.desk.now) c.args.desk.now.held.items c.index_mut.result.now c.read_held.new.h _ _ _
+    reads_at g.I.Iio.seen _ c.args.dev _ c.in-Some.i _ _ (desk_of g.I.Iio.seen c.args.desk.now) c.args.desk.now.held.items c.index_mut.result.now
+    c.read_held.new.h _ _ _
     (search rules) (search rules) c.index_mut.ensures.value c.read_held.ensures.read
 
 pub read_held-requires-clause-read : goal.read_held-requires-clause-read

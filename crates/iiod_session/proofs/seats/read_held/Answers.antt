@@ -8,4 +8,6 @@ pub returns-then-asked-h-clause-read : goal.returns-then-asked-h-clause-read
 returns-then-asked-h-clause-read g c = (zero_reply, search rules, tt, served_less _ _ _ _ _ (search rules))
 
 pub returns-clause-read : goal.returns-clause-read
-returns-clause-read g c = read_ends _ _ (bare_of g.I.Iio.seen c.args.h.now) _ _ _ _ _ _ _ (id_is (bare_of g.I.Iio.seen c.args.h.now) (g.I.Iio.seen c.args.h.now.seat) refl c.requires.held.owned.under) (search rules) c.read_sized.ensures.ends
+returns-clause-read g c =
+    read_ends _ _ (bare_of g.I.Iio.seen c.args.h.now) _ _ _ _ _ _ _
+    (id_is (bare_of g.I.Iio.seen c.args.h.now) (g.I.Iio.seen c.args.h.now.seat) refl c.requires.held.owned.under) (search rules) c.read_sized.ensures.ends

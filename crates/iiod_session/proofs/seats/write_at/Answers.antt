@@ -9,23 +9,29 @@ use Rattle.iiod_session.proofs.seats.write_at.Goals as goal
 pub returns-clause-desk : goal.returns-clause-desk
 returns-clause-desk g c = record {
   seats = rw c.write_held.ensures.kept
-      (All-set (IsHeld g.I.Iio.seen (g.I.Iio.front (g.I.Iio.kept c.args.iio.now))) c.args.desk.now.held.items c.in-Some.i c.write_held.new.h (rw c.write_held.ensures.kept at c.write_held.ensures.held) c.requires.desk.seats);
-  apart = apart_set g.I.Iio.seen c.args.desk.now.held.items c.in-Some.i c.write_held.new.h c.index_mut.result.now (search rules) c.index_mut.ensures.value c.write_held.ensures.bare c.requires.desk.apart;
+      (All-set (IsHeld g.I.Iio.seen (g.I.Iio.front (g.I.Iio.kept c.args.iio.now))) c.args.desk.now.held.items c.in-Some.i c.write_held.new.h
+      (rw c.write_held.ensures.kept at c.write_held.ensures.held) c.requires.desk.seats);
+  apart =
+      apart_set g.I.Iio.seen c.args.desk.now.held.items c.in-Some.i c.write_held.new.h c.index_mut.result.now (search rules) c.index_mut.ensures.value
+      c.write_held.ensures.bare c.requires.desk.apart;
   holdings = rw c.write_held.ensures.kept c.requires.desk.holdings;
 }
 
 pub returns-clause-same : goal.returns-clause-same
 returns-clause-same g c =
     ap (λ (bs : List Bare). with_seats bs (desk_of g.I.Iio.seen c.args.desk.now))
-    (map_set_same g.I.Iio.seen (bare_of g.I.Iio.seen) c.args.desk.now.held.items c.in-Some.i c.write_held.new.h c.index_mut.result.now (search rules) c.index_mut.ensures.value c.write_held.ensures.bare)
+    (map_set_same g.I.Iio.seen (bare_of g.I.Iio.seen) c.args.desk.now.held.items c.in-Some.i c.write_held.new.h c.index_mut.result.now (search rules)
+    c.index_mut.ensures.value c.write_held.ensures.bare)
 
 pub returns-clause-tales : goal.returns-clause-tales
 returns-clause-tales g c =
-    map_set_same g.I.Iio.seen (tale_of g.I.Iio.seen) c.args.desk.now.held.items c.in-Some.i c.write_held.new.h c.index_mut.result.now (search rules) c.index_mut.ensures.value c.write_held.ensures.tale
+    map_set_same g.I.Iio.seen (tale_of g.I.Iio.seen) c.args.desk.now.held.items c.in-Some.i c.write_held.new.h c.index_mut.result.now (search rules)
+    c.index_mut.ensures.value c.write_held.ensures.tale
 
 pub returns-clause-told : goal.returns-clause-told
 returns-clause-told g c =
-    writes_at g.I.Iio.seen _ _ _ (desk_of g.I.Iio.seen c.args.desk.now) c.args.dev c.in-Some.i c.args.payload.now c.args.desk.now.held.items c.index_mut.result.now _
+    writes_at g.I.Iio.seen _ _ _ (desk_of g.I.Iio.seen c.args.desk.now) c.args.dev c.in-Some.i c.args.payload.now c.args.desk.now.held.items
+    c.index_mut.result.now _
     (search rules) (search rules) c.index_mut.ensures.value c.write_held.ensures.told
 
 pub write_held-requires-clause-written : goal.write_held-requires-clause-written

@@ -14,4 +14,5 @@ invariant_of-self c =
 pub returns-clause-scans : goal.returns-clause-scans
 returns-clause-scans c = λ values t wide.
     let within = c.within-holds.ensures.places.0 (c.within-holds.ensures.value ∙ c.requires.within) in
-    rw (c.push_entries-sizes.ensures.items, c.push_entries-sizes.ensures.buffer) (table_scans c.args.shape.now c.args.active.bits c.args.buffer.bits values t within wide)
+    rw (c.push_entries-sizes.ensures.items, c.push_entries-sizes.ensures.buffer)
+    (table_scans c.args.shape.now c.args.active.bits c.args.buffer.bits values t within wide)

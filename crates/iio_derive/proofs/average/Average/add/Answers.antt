@@ -76,8 +76,10 @@ returns-clause-adds c =
       filled_at a.size a.count a.sums.items full,
       c.member_count-count.ensures.value ∙ ap (λ (seats : List (Option Membership)). member_count seats) c.deref-3.ensures.value,
       λ number.
-          subst (λ (vs : List ℤ). SeatOffered shape vs (moment_in shape c.args.scan.now) (member_at number a.seats.items) (member_at number c.offer_all.new.seats.items)) given
-          (subst (λ (t : ℤ). SeatOffered shape c.deref-4.result.now t (member_at number a.seats.items) (member_at number c.offer_all.new.seats.items)) moment (c.offer_all.ensures.offered number)),
+          subst (λ (vs : List ℤ). SeatOffered shape vs (moment_in shape c.args.scan.now) (member_at number a.seats.items)
+          (member_at number c.offer_all.new.seats.items)) given
+          (subst (λ (t : ℤ). SeatOffered shape c.deref-4.result.now t (member_at number a.seats.items) (member_at number c.offer_all.new.seats.items)) moment
+          (c.offer_all.ensures.offered number)),
       refl,
     )
 

@@ -18,11 +18,14 @@ invariant_of-self-in-Some c =
     let before : inside.current ≡ Some s = sym c.replace-before.ensures.value ∙ c.in-Some.is in
     let begun : PartialDevice = new_device c.args.direction c.args.name c.args.trigger in
     let next : c.replace-before.new.dest ≡ Some begun = c.replace-before.ensures.after ∙ ap (λ (n : PartialDevice). Some n) c.new-next.ensures in
-    let pushed : c.put.new.devices.items ≡ devices ++ devices_of (Some s) = c.put.ensures.devices ∙ ap (λ (ds : List DeviceRecord). ds ++ devices_of (Some s)) c.in_ok-reserve.ensures.items in
-    let pushed_outputs : c.put.new.outputs.items ≡ outputs ++ outputs_of (Some s) = c.put.ensures.outputs ∙ ap (λ (os : List OutputRecord). os ++ outputs_of (Some s)) c.in_ok-reserve-2.ensures.items in
+    let pushed : c.put.new.devices.items ≡ devices ++ devices_of (Some s) =
+    c.put.ensures.devices ∙ ap (λ (ds : List DeviceRecord). ds ++ devices_of (Some s)) c.in_ok-reserve.ensures.items in
+    let pushed_outputs : c.put.new.outputs.items ≡ outputs ++ outputs_of (Some s) =
+    c.put.ensures.outputs ∙ ap (λ (os : List OutputRecord). os ++ outputs_of (Some s)) c.in_ok-reserve-2.ensures.items in
     let fits : FitsCurrent (length inside.triggers.items) inside.drivers inside.earlier devices s = rw before at inv.current in
     let some : has_channels s ≡ true = rw (← c.self.view_is, before) at c.requires.whole in
-    let few : length (devices ++ devices_of (Some s)) + length (outputs ++ outputs_of (Some s)) < MAX_DEVICES = rw (← c.self.view_is, before) at c.requires.few in
+    let few : length (devices ++ devices_of (Some s)) + length (outputs ++ outputs_of (Some s)) < MAX_DEVICES =
+    rw (← c.self.view_is, before) at c.requires.few in
     let attached : IfSome c.args.trigger (λ n. n < length inside.triggers.items) = rw (← c.self.view_is) at c.requires.attached in
     let one : length (devices_of (Some begun)) + length (outputs_of (Some begun)) ≡ 1 = one_of_kind begun c.args.direction in
     let ds : List DeviceRecord = devices ++ devices_of (Some s) in
@@ -30,11 +33,18 @@ invariant_of-self-in-Some c =
     record {
       triggers = inv.triggers;
       places = inv.places;
-      devices = rw (pushed, pushed_outputs, next) (omega (arith, few, one, length-append ds (devices_of (Some begun)), length-append os (outputs_of (Some begun))));
-      sound = rw pushed (sound_push (length inside.triggers.items) inside.drivers inside.earlier devices s s.direction inv.sound fits (ltb-true _ _ some) c.put.ensures.recording c.put.ensures.writes);
-      outputs = rw pushed_outputs (outputs_push (length inside.triggers.items) inside.drivers inside.earlier devices s s.direction outputs inv.outputs fits (ltb-true _ _ some));
+      devices =
+          rw (pushed, pushed_outputs, next) (omega (arith, few, one, length-append ds (devices_of (Some begun)), length-append os (outputs_of (Some begun))));
+      sound =
+          rw pushed (sound_push (length inside.triggers.items) inside.drivers inside.earlier devices s s.direction inv.sound fits (ltb-true _ _ some)
+          c.put.ensures.recording c.put.ensures.writes);
+      outputs =
+          rw pushed_outputs (outputs_push (length inside.triggers.items) inside.drivers inside.earlier devices s s.direction outputs inv.outputs fits
+          (ltb-true _ _ some));
       apart = rw pushed (apart_push (length inside.triggers.items) inside.drivers inside.earlier devices s s.direction inv.apart fits);
-      earlier = rw pushed (ap (λ n. inside.earlier + n) c.rows_of.ensures.value ∙ rows_push (length inside.triggers.items) inside.drivers inside.earlier devices s s.direction inv.earlier);
+      earlier =
+          rw pushed (ap (λ n. inside.earlier + n) c.rows_of.ensures.value
+          ∙ rows_push (length inside.triggers.items) inside.drivers inside.earlier devices s s.direction inv.earlier);
       rows = omega (arith, fits.rows, c.rows_of.ensures.within);
       current = rw next (record { attached = attached; driven = tt; rows = omega (arith, fits.rows, c.rows_of.ensures.within) });
     }

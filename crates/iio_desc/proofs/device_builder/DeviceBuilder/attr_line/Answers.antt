@@ -23,5 +23,7 @@ invariant_of-self-2 c =
       listed = c.self.invariant.listed;
       rises = c.self.invariant.rises;
       whole = c.self.invariant.whole;
-      writes = rw pushed (All-push (IsWrite (length inside.channels.items)) inside.attrs.items _ c.self.invariant.writes (record { channel = rw (← c.self.view_is) at within; writable = can }));
+      writes =
+          rw pushed (All-push (IsWrite (length inside.channels.items)) inside.attrs.items _ c.self.invariant.writes
+          (record { channel = rw (← c.self.view_is) at within; writable = can }));
     }

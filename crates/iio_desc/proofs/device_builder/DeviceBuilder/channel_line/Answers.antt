@@ -32,5 +32,6 @@ returns-clause-line c =
     sym c.two_words.ensures ∙ ap (option_map (λ w. (w.0.now, w.1.now))) c.in_ok-id.ensures.ok_part in
     let named : id_of c.in_ok-id.id.now ≡ Some c.in_ok-id-2.id = sym c.read_id.ensures.value ∙ c.in_ok-id-2.ensures.ok_part in
     let typed : type_of c.in_ok-id.format.now ≡ Some c.in_ok-format.format = sym c.read_type.ensures.value ∙ c.in_ok-format.ensures.ok_part in
-    rw (channel_line_is c.args.self.now (words_of is_space c.args.words.now) c.in_ok-id.id.now c.in_ok-id.format.now c.in_ok-id-2.id c.in_ok-format.format only two named other typed)
+    rw (channel_line_is c.args.self.now (words_of is_space c.args.words.now) c.in_ok-id.id.now c.in_ok-id.format.now c.in_ok-id-2.id c.in_ok-format.format only
+    two named other typed)
     c.add_channel.ensures.line

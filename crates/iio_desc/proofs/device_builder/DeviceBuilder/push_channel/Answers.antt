@@ -21,7 +21,9 @@ invariant_of-self-2 c =
       width = rw pushed (omega (arith, c.self.invariant.width, wider));
       narrow = rw pushed (omega (arith, count));
       few = rw (pushed, only.stamp) (omega (arith, count));
-      distinct = rw pushed (distinct_push inside.channels.items c.args.id inside.direction c.args.ty c.self.invariant.distinct (rw (← c.self.view_is) at c.requires.own));
+      distinct =
+          rw pushed (distinct_push inside.channels.items c.args.id inside.direction c.args.ty c.self.invariant.distinct
+          (rw (← c.self.view_is) at c.requires.own));
       listed = rw only.listed (All-nil _);
       rises = c.self.invariant.rises;
       whole = unvalued ∙ sym (rw none (zero-mul _));

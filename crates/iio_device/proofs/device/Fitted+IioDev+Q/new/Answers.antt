@@ -6,4 +6,5 @@ first_stored-requires g c = rw c.deref.ensures.value (right_writes _ c.args.desc
 
 pub returns : goal.returns
 returns g c =
-    made _ c.args.desc c.args.number _ _ _ _ _ c.desc.view_is c.in_ok-new.ensures c.new-2.ensures (c.in_ok-stored.ensures.site c.desc.inside.trigger) c.deref.ensures.value
+    made _ c.args.desc c.args.number _ _ _ _ _ c.desc.view_is c.in_ok-new.ensures c.new-2.ensures (c.in_ok-stored.ensures.site c.desc.inside.trigger)
+    c.deref.ensures.value

@@ -18,10 +18,13 @@ invariant_of-self c =
     let within : at < length members = rw (sym c.deref.ensures.value) c.in_ok-at.ensures.within in
     record {
       sound = sound_takes roster.shape roster.active roster.captures roster.next members c.take_at.new.members.items roster.groups.items at old new
-          roster.sound within (ap (λ d. slice_index_or members at d) c.index.ensures) (keeps_drained _ _ _ old new (c.take_at.ensures.moved c.index.result.now)) (c.take_at.ensures.others c.index.result.now);
+          roster.sound within (ap (λ d. slice_index_or members at d) c.index.ensures) (keeps_drained _ _ _ old new (c.take_at.ensures.moved c.index.result.now))
+          (c.take_at.ensures.others c.index.result.now);
       sized = roster.sized;
       roomy = roster.roomy;
-      united = roster.united ∙ set_union members c.take_at.new.members.items at old new within (ap (λ d. slice_index_or members at d) c.index.ensures) (c.take_at.ensures.others c.index.result.now)
+      united =
+          roster.united ∙ set_union members c.take_at.new.members.items at old new within (ap (λ d. slice_index_or members at d) c.index.ensures)
+          (c.take_at.ensures.others c.index.result.now)
           (ap (λ (m : Membership Queue). m.mask.bits) (c.take_at.ensures.moved c.index.result.now).same);
       placed = roster.placed ∙ sym (ap length (c.take_at.ensures.others c.index.result.now) ∙ search rules);
     }
@@ -36,7 +39,9 @@ returns c =
     let within : at < length members = rw (sym c.deref.ensures.value) c.in_ok-at.ensures.within in
     let found : member_of c.args.number members ≡ Some old = rw (sym c.deref.ensures.value) (c.in_ok-at.ensures.member c.index.result.now) in
     let sized : old.tail.size ≡ scan_size roster.shape old.mask.bits = (roster.sound.each at c.index.result.now within).sized in (
-      rw (found) (eq_same (length c.args.out.now) (scan_size roster.shape old.mask.bits) (c.if-out-size.false ∙ c.size.ensures ∙ ap (λ (m : Membership Queue). m.tail.size) c.index.ensures ∙ sized)),
+      rw (found) (eq_same (length c.args.out.now) (scan_size roster.shape old.mask.bits)
+          (c.if-out-size.false ∙ c.size.ensures ∙ ap (λ (m : Membership Queue). m.tail.size) c.index.ensures ∙ sized)),
       refl,
-      changes_one c.args.number _ members c.take_at.new.members.items at old new within (ap (λ d. slice_index_or members at d) c.index.ensures) found (c.take_at.ensures.moved c.index.result.now) (c.take_at.ensures.others c.index.result.now),
+      changes_one c.args.number _ members c.take_at.new.members.items at old new within (ap (λ d. slice_index_or members at d) c.index.ensures) found
+          (c.take_at.ensures.moved c.index.result.now) (c.take_at.ensures.others c.index.result.now),
     )

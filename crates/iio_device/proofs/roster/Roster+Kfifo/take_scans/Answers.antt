@@ -36,10 +36,13 @@ invariant_of-self c =
     let within : at < length members = rw (sym c.deref.ensures.value) c.in_ok-at.ensures.within in
     record {
       sound = sound_takes roster.shape roster.active roster.captures roster.next members c.take_scans_at.new.members.items roster.groups.items at old new
-          roster.sound within (ap (λ d. slice_index_or members at d) c.index.ensures) (keeps_drained_scans _ _ _ _ old new (c.take_scans_at.ensures.moved c.index.result.now)) (c.take_scans_at.ensures.others c.index.result.now);
+          roster.sound within (ap (λ d. slice_index_or members at d) c.index.ensures)
+          (keeps_drained_scans _ _ _ _ old new (c.take_scans_at.ensures.moved c.index.result.now)) (c.take_scans_at.ensures.others c.index.result.now);
       sized = roster.sized;
       roomy = roster.roomy;
-      united = roster.united ∙ set_union members c.take_scans_at.new.members.items at old new within (ap (λ d. slice_index_or members at d) c.index.ensures) (c.take_scans_at.ensures.others c.index.result.now)
+      united =
+          roster.united ∙ set_union members c.take_scans_at.new.members.items at old new within (ap (λ d. slice_index_or members at d) c.index.ensures)
+          (c.take_scans_at.ensures.others c.index.result.now)
           (ap (λ (m : Membership Queue). m.mask.bits) (c.take_scans_at.ensures.moved c.index.result.now).same);
       placed = roster.placed ∙ sym (ap length (c.take_scans_at.ensures.others c.index.result.now) ∙ search rules);
     }
@@ -59,7 +62,8 @@ returns-clause-takes c =
     let same : (member.mask.bits == c.args.mask.bits) ≡ true = not-false _ (sym c.if-ne.ensures) in (
       (rw number at passes) ∙ ap (λ (m : Membership Queue). m.mask.bits == c.args.mask.bits) (sym c.index.ensures) ∙ same,
       refl,
-      changes_one c.args.number _ members c.take_scans_at.new.members.items at old new within (ap (λ d. slice_index_or members at d) c.index.ensures) found (c.take_scans_at.ensures.moved member) (c.take_scans_at.ensures.others member),
+      changes_one c.args.number _ members c.take_scans_at.new.members.items at old new within (ap (λ d. slice_index_or members at d) c.index.ensures) found
+          (c.take_scans_at.ensures.moved member) (c.take_scans_at.ensures.others member),
     )
 
 pub returns-clause-sized : goal.returns-clause-sized

@@ -17,7 +17,8 @@ offer_all-requires-clause-sized g c =
     let tail = g.Q.Tail in
     let roster = c.args.self.now in
     rw (c.deref-2.ensures.value, c.lay_out_all.ensures, c.asked-active.ensures.value)
-    (all_sized tail.taken tail.lost tail.size tail.capacity tail.offer_gives roster.shape roster.active roster.captures roster.next roster.members.items roster.groups.items (take c.args.size c.deref.result.now) roster.sound
+    (all_sized tail.taken tail.lost tail.size tail.capacity tail.offer_gives roster.shape roster.active roster.captures roster.next roster.members.items
+    roster.groups.items (take c.args.size c.deref.result.now) roster.sound
     (rw (c.deref.ensures.value) (length-take-le c.args.size roster.room.items c.requires.room ∙ c.requires.size)))
 
 pub offer_all-requires-clause-apart : goal.offer_all-requires-clause-apart
@@ -25,7 +26,8 @@ offer_all-requires-clause-apart g c =
     let roster = c.args.self.now in
     let union = take c.args.size c.deref.result.now in
     rw (c.deref-2.ensures.value, c.lay_out_all.ensures)
-    (distinct_map (λ (g : GroupRecord). g.mask) (laid_out c.asked-active.result.bits union) (laid_mask c.asked-active.result.bits union) roster.groups.items roster.sound.grouped.apart)
+    (distinct_map (λ (g : GroupRecord). g.mask) (laid_out c.asked-active.result.bits union) (laid_mask c.asked-active.result.bits union) roster.groups.items
+    roster.sound.grouped.apart)
 
 pub invariant_of-self : goal.invariant_of-self
 invariant_of-self g c =
@@ -35,11 +37,15 @@ invariant_of-self g c =
     record {
       sized = roster.sized;
       roomy = roster.roomy;
-      united = roster.united ∙ zip_union (λ a b. WasOffered tail.taken tail.lost tail.size tail.capacity tail.offer_gives (scan_for c.asked-active.result.bits union c.deref-2.result.now a.mask.bits) a b)
+      united =
+          roster.united ∙ zip_union
+          (λ a b. WasOffered tail.taken tail.lost tail.size tail.capacity tail.offer_gives
+          (scan_for c.asked-active.result.bits union c.deref-2.result.now a.mask.bits) a b)
           roster.members.items c.offer_all.new.members.items (λ a b r. ap (λ (m : Membership g.row.Q.Denot). m.mask.bits) r.same) c.offer_all.ensures.offered;
       placed = c.offer_all.ensures.placed ∙ roster.placed ∙ length_all_zip _ _ _ c.offer_all.ensures.offered;
       sound = rw (c.lay_out_all.ensures, c.asked-active.ensures.value)
-          (sound_captures tail.taken tail.lost tail.size tail.capacity tail.offer_gives (λ mask. scan_for c.asked-active.result.bits union c.deref-2.result.now mask) roster.shape roster.active roster.captures
+          (sound_captures tail.taken tail.lost tail.size tail.capacity tail.offer_gives
+          (λ mask. scan_for c.asked-active.result.bits union c.deref-2.result.now mask) roster.shape roster.active roster.captures
           roster.next roster.members.items c.offer_all.new.members.items roster.groups.items union roster.sound c.offer_all.ensures.offered);
     }
 
@@ -59,9 +65,11 @@ returns-clause-offered g c =
     subst (λ s. WasOffered tail.taken tail.lost tail.size tail.capacity tail.offer_gives s a b)
     (ap (λ gs. scan_for asked union gs a.mask.bits) (c.deref-2.ensures.value ∙ c.lay_out_all.ensures)
     ∙ rw (c.asked-active.ensures.value)
-    (scan_found-is roster.shape active a.mask.bits union roster.groups.items values t roster.sound.grouped.each own.0 own.1 wide (ap (take c.args.size) c.deref.ensures.value ∙ is))) r)
+    (scan_found-is roster.shape active a.mask.bits union roster.groups.items values t roster.sound.grouped.each own.0 own.1 wide
+    (ap (take c.args.size) c.deref.ensures.value ∙ is))) r)
     c.offer_all.ensures.offered
     (λ k d within. (
       roster.sound.grouped.there k d within,
-      member_within tail.taken tail.lost tail.size tail.capacity tail.offer_gives roster.shape roster.active roster.captures roster.next roster.members.items roster.groups.items roster.sound k d within,
+      member_within tail.taken tail.lost tail.size tail.capacity tail.offer_gives roster.shape roster.active roster.captures roster.next roster.members.items
+          roster.groups.items roster.sound k d within,
     ))

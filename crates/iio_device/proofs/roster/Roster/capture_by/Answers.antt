@@ -15,7 +15,8 @@ returns-clause-captures g c =
     let values = values_of driver roster.shape c.args.t in
     let wide = length-values_by roster.shape (value_of driver roster.shape c.args.t) in
     let same : length c.ask.new.room ≡ roster.room.len = search rules in
-    let asked : take c.args.self.now.size c.ask.new.room ≡ scan_of roster.shape c.asked-active.result.bits values c.args.t = simp (to_z-of_z, c.ranges.t) at c.in_ok-ask.ensures.scan in
+    let asked : take c.args.self.now.size c.ask.new.room ≡ scan_of roster.shape c.asked-active.result.bits values c.args.t =
+    simp (to_z-of_z, c.ranges.t) at c.in_ok-ask.ensures.scan in
     let scan = asked ∙ ap (λ mask. scan_of roster.shape mask values c.args.t) c.asked-active.ensures.value in
     let zip = c.capture.ensures.offered values c.args.t wide (room_front _ _ _ _ same ∙ scan) in
     let many : length roster.members.items ≡ length c.capture.new.self.members.items = length_all_zip _ _ _ zip in

@@ -6,7 +6,8 @@ pub overflow_cast-result : goal.overflow_cast-result
 overflow_cast-result g c =
     let tail = g.Q.Tail in
     let roster = c.args.self.now in
-    let few : length roster.groups.items < 2 ^ 32 = group_few tail.taken tail.lost tail.size roster.shape _ roster.members.items roster.groups.items roster.sound.grouped roster.sound.few in
+    let few : length roster.groups.items < 2 ^ 32 =
+    group_few tail.taken tail.lost tail.size roster.shape _ roster.members.items roster.groups.items roster.sound.grouped roster.sound.few in
     search rules
 
 pub returns : goal.returns

@@ -14,5 +14,7 @@ returns-in-Some g c =
     let member = c.index.result.now in
     let within : c.in-Some.at < length members = rw (sym c.deref.ensures.value) c.in-Some.ensures.within in
     let number : (slice_index_or members c.in-Some.at member).number ≡ c.args.number = rw (sym c.deref.ensures.value) (c.in-Some.ensures.at member) in
-    let passes = passes_at (λ (m : Membership g.row.Q.Denot). m.number) (λ m. m.mask.bits == c.args.mask.bits) members c.in-Some.at member c.args.self.now.sound.numbers within in
+    let passes =
+    passes_at (λ (m : Membership g.row.Q.Denot). m.number) (λ m. m.mask.bits == c.args.mask.bits) members c.in-Some.at member c.args.self.now.sound.numbers
+    within in
     ap (λ (m : Membership g.row.Q.Denot). m.mask.bits == c.args.mask.bits) c.index.ensures ∙ sym (rw number at passes)

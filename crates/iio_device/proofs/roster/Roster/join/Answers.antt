@@ -20,7 +20,8 @@ invariant_of-self g c =
     let tail = g.Q.Tail in
     let roster = c.prepare.new.self in
     let m : Membership g.row.Q.Denot = record { number = roster.next; mask = c.args.mask; joined = roster.captures; tail = c.args.tail } in
-    let found : bits_of (Some c.in-Ok.made.0) ≡ active_of roster.shape (union_of c.args.mask.bits (union_of_all (masks_of roster.members.items))) = search rules in
+    let found : bits_of (Some c.in-Ok.made.0) ≡ active_of roster.shape (union_of c.args.mask.bits (union_of_all (masks_of roster.members.items))) =
+    search rules in
     let fresh = c.requires.fresh in
     let small : length roster.members.items < 2 ^ 32 - 1 = search rules in
     let longer = length-append roster.members.items (m ∷ []) in
@@ -28,7 +29,8 @@ invariant_of-self g c =
     record { numbered = omega arith; below = search rules; channel = search rules; counted = omega (arith, fresh); sized = search rules } in
     record {
       sound = rw (c.push_reserved.ensures.items, c.add_group.ensures, c.remake_for.ensures.remade)
-          (sound_joins tail.taken tail.lost tail.size roster.shape roster.active c.in-Ok.made.0 roster.captures roster.next roster.members.items roster.groups.items m c.in-Ok.made.1
+          (sound_joins tail.taken tail.lost tail.size roster.shape roster.active c.in-Ok.made.0 roster.captures roster.next roster.members.items
+          roster.groups.items m c.in-Ok.made.1
           roster.sound found (search rules) (omega (arith, small, longer)) refl is c.in-Ok.ensures.group c.in-Ok.ensures.none);
       sized = c.asked_size_after-self.ensures;
       roomy = roster.roomy;

@@ -17,10 +17,12 @@ pub keep_wanted-requires : goal.keep_wanted-requires
 keep_wanted-requires g c =
     let roster = c.prepare_remask.new.self in
     let was = c.index.result.now in
-    let same : c.deref.result.now ≡ roster.members.items = c.deref.ensures.value ∙ sym (ap (λ (s : Standing g.row.Q.Denot). s.members) c.prepare_remask.ensures.same) in
+    let same : c.deref.result.now ≡ roster.members.items =
+    c.deref.ensures.value ∙ sym (ap (λ (s : Standing g.row.Q.Denot). s.members) c.prepare_remask.ensures.same) in
     let inside : c.in-Some.at < length roster.members.items = rw (sym same) c.in-Some.ensures.within in
     rw c.deref-2.ensures.value
-    (wanted_set roster.members.items c.begin_anew_at-before.new.members.items c.in-Some.at was (begun_anew c.args.mask roster.captures c.args.tail (slice_index_or roster.members.items c.in-Some.at was)) roster.groups.items
+    (wanted_set roster.members.items c.begin_anew_at-before.new.members.items c.in-Some.at was
+    (begun_anew c.args.mask roster.captures c.args.tail (slice_index_or roster.members.items c.in-Some.at was)) roster.groups.items
     inside c.index.ensures (c.begin_anew_at-before.ensures.members was) roster.sound.grouped.used)
 
 pub remake_for-requires-clause-within : goal.remake_for-requires-clause-within
@@ -28,11 +30,13 @@ remake_for-requires-clause-within g c =
     let tail = g.Q.Tail in
     let roster = c.prepare_remask.new.self in
     let d : Membership g.row.Q.Denot = record { number = 0; mask = c.args.mask; joined = 0; tail = c.args.tail } in
-    let same : c.deref.result.now ≡ roster.members.items = c.deref.ensures.value ∙ sym (ap (λ (s : Standing g.row.Q.Denot). s.members) c.prepare_remask.ensures.same) in
+    let same : c.deref.result.now ≡ roster.members.items =
+    c.deref.ensures.value ∙ sym (ap (λ (s : Standing g.row.Q.Denot). s.members) c.prepare_remask.ensures.same) in
     let inside : c.in-Some.at < length roster.members.items = rw (sym same) c.in-Some.ensures.within in
     let number : (slice_index_or roster.members.items c.in-Some.at d).number ≡ c.args.number = rw (sym same) (c.in-Some.ensures.at d) in
     rw (c.keep_wanted.ensures.kept, c.deref-2.ensures.value)
-    (anew_within tail.taken tail.lost tail.size roster.shape roster.active roster.captures roster.next roster.members.items c.begin_anew_at-before.new.members.items c.in-Some.at c.args.number c.args.mask c.args.tail roster.groups.items d
+    (anew_within tail.taken tail.lost tail.size roster.shape roster.active roster.captures roster.next roster.members.items
+    c.begin_anew_at-before.new.members.items c.in-Some.at c.args.number c.args.mask c.args.tail roster.groups.items d
     roster.sound inside number (c.begin_anew_at-before.ensures.members d) c.in-Ok.made.0.bits
     (rw (ap (λ (s : Standing g.row.Q.Denot). s.members) c.prepare_remask.ensures.same) c.in-Ok.ensures.within))
 
@@ -40,21 +44,25 @@ pub remake_for-requires-clause-made : goal.remake_for-requires-clause-made
 remake_for-requires-clause-made g c =
     let roster = c.prepare_remask.new.self in
     rw (c.keep_wanted.ensures.kept, c.deref-2.ensures.value)
-    (All-filter (λ (x : GroupRecord). is_wanted c.begin_anew_at-before.new.members.items x.mask) (IsGroup roster.shape (unwrap_or (bits_of roster.active) 0)) roster.groups.items roster.sound.grouped.each)
+    (All-filter (λ (x : GroupRecord). is_wanted c.begin_anew_at-before.new.members.items x.mask) (IsGroup roster.shape (unwrap_or (bits_of roster.active) 0))
+    roster.groups.items roster.sound.grouped.each)
 
 pub invariant_of-self-2 : goal.invariant_of-self-2
 invariant_of-self-2 g c =
     let tail = g.Q.Tail in
     let roster = c.prepare_remask.new.self in
     let d : Membership g.row.Q.Denot = record { number = 0; mask = c.args.mask; joined = 0; tail = c.args.tail } in
-    let same : c.deref.result.now ≡ roster.members.items = c.deref.ensures.value ∙ sym (ap (λ (s : Standing g.row.Q.Denot). s.members) c.prepare_remask.ensures.same) in
+    let same : c.deref.result.now ≡ roster.members.items =
+    c.deref.ensures.value ∙ sym (ap (λ (s : Standing g.row.Q.Denot). s.members) c.prepare_remask.ensures.same) in
     let inside : c.in-Some.at < length roster.members.items = rw (sym same) c.in-Some.ensures.within in
     let number : (slice_index_or roster.members.items c.in-Some.at d).number ≡ c.args.number = rw (sym same) (c.in-Some.ensures.at d) in
-    let found : bits_of (Some c.in-Ok.made.0) ≡ active_of roster.shape (union_of c.args.mask.bits (union_of_all (masks_of (without c.args.number roster.members.items))))
+    let found : bits_of (Some c.in-Ok.made.0)
+    ≡ active_of roster.shape (union_of c.args.mask.bits (union_of_all (masks_of (without c.args.number roster.members.items))))
     = c.in-Ok.ensures.active ∙ ap (λ (s : Standing g.row.Q.Denot). active_under c.args.number c.args.mask.bits s) (sym c.prepare_remask.ensures.same) in
     record {
       sound = rw (c.add_group.ensures, c.remake_for.ensures.remade, c.keep_wanted.ensures.kept, c.deref-2.ensures.value)
-          (anew_sound tail.taken tail.lost tail.size roster.shape roster.active roster.captures roster.next roster.members.items c.begin_anew_at-before.new.members.items c.in-Some.at c.args.number c.args.mask c.args.tail roster.groups.items d
+          (anew_sound tail.taken tail.lost tail.size roster.shape roster.active roster.captures roster.next roster.members.items
+          c.begin_anew_at-before.new.members.items c.in-Some.at c.args.number c.args.mask c.args.tail roster.groups.items d
           roster.sound inside number (c.begin_anew_at-before.ensures.members d) c.in-Ok.made.0 c.in-Ok.made.1 found
           (search rules) (search rules) (search rules) (search rules) c.requires.fresh c.in-Ok.ensures.group c.in-Ok.ensures.none);
       sized = c.asked_size_after-self.ensures;
@@ -74,16 +82,22 @@ returns g c =
     let same : c.deref.result.now ≡ roster.members.items = c.deref.ensures.value ∙ sym members in
     let inside : at < length roster.members.items = rw (sym same) c.in-Some.ensures.within in
     let number : (slice_index_or roster.members.items at d).number ≡ c.args.number = rw (sym same) (c.in-Some.ensures.at d) in
-    let found : member_of c.args.number c.args.self.now.members.items ≡ Some (slice_index_or c.args.self.now.members.items at d) = rw (sym c.deref.ensures.value) (c.in-Some.ensures.member d) in
+    let found : member_of c.args.number c.args.self.now.members.items ≡ Some (slice_index_or c.args.self.now.members.items at d) =
+    rw (sym c.deref.ensures.value) (c.in-Some.ensures.member d) in
     let after : c.begin_anew_at-before.new.members.items ≡ remasked c.args.number c.args.mask roster.captures c.args.tail roster.members.items
-    = anew_members tail.taken tail.lost tail.size roster.shape roster.active roster.captures roster.next roster.members.items c.begin_anew_at-before.new.members.items at c.args.number c.args.mask c.args.tail roster.groups.items d
+    =
+    anew_members tail.taken tail.lost tail.size roster.shape roster.active roster.captures roster.next roster.members.items
+    c.begin_anew_at-before.new.members.items at c.args.number c.args.mask c.args.tail roster.groups.items d
     roster.sound inside number (c.begin_anew_at-before.ensures.members d) in (
       c.in-Ok.ensures.accepted,
       ap (option_map (λ (m : Membership g.row.Q.Denot). m.tail)) found
           ∙ ap (λ (ms : _). Some (slice_index_or ms at d).tail) (sym members)
           ∙ ap Some (sym (c.begin_anew_at-before.ensures.before d)),
-      ap (λ (s : Standing g.row.Q.Denot). (let z : Standing g.row.Q.Denot = record s { active = Some c.in-Ok.made.0.bits; members = c.begin_anew_at-before.new.members.items } in z)) stood
-          ∙ ap (λ (a : _). (let z : Standing g.row.Q.Denot = record (standing_of c.args.self.now) { active = a; members = c.begin_anew_at-before.new.members.items } in z)) c.in-Ok.ensures.active
-          ∙ ap (λ (ms : _). (let z : Standing g.row.Q.Denot = record (standing_of c.args.self.now) { active = active_under c.args.number c.args.mask.bits (standing_of c.args.self.now); members = ms } in z))
+      ap (λ (s : Standing g.row.Q.Denot).
+          (let z : Standing g.row.Q.Denot = record s { active = Some c.in-Ok.made.0.bits; members = c.begin_anew_at-before.new.members.items } in z)) stood
+          ∙ ap (λ (a : _). (let z : Standing g.row.Q.Denot =
+          record (standing_of c.args.self.now) { active = a; members = c.begin_anew_at-before.new.members.items } in z)) c.in-Ok.ensures.active
+          ∙ ap (λ (ms : _). (let z : Standing g.row.Q.Denot =
+          record (standing_of c.args.self.now) { active = active_under c.args.number c.args.mask.bits (standing_of c.args.self.now); members = ms } in z))
           (after ∙ ap (λ (s : Standing g.row.Q.Denot). remasked c.args.number c.args.mask s.captures c.args.tail s.members) stood),
     )

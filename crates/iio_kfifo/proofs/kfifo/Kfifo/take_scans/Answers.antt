@@ -15,7 +15,8 @@ pub invariant_of-self : goal.invariant_of-self
 invariant_of-self c =
     let q = c.self.inside in
     let there : c.min-count.result ≤ q.waiting = omega arith in
-    rw (c.first_after-self-inside.ensures.value) (less_ring q.first q.waiting c.min-count.result q.size q.capacity (vec_capacity q.bytes) q.bytes.items c.self.invariant there)
+    rw (c.first_after-self-inside.ensures.value)
+    (less_ring q.first q.waiting c.min-count.result q.size q.capacity (vec_capacity q.bytes) q.bytes.items c.self.invariant there)
 
 pub returns-clause-gives : goal.returns-clause-gives
 returns-clause-gives c =
@@ -52,7 +53,8 @@ returns-clause-gives c =
     rw (← c.self.view_is) (rw c.first_after-self-inside.ensures.value (record {
       count = omega (arith, some, length-scans_in q.size q.waiting (bytes_from start bytes));
       bytes = added' ∙ ap (λ xs. xs ++ second) added ∙ append_assoc out.items first second
-          ∙ ap (λ xs. out.items ++ xs) (parts ∙ sym (given_bytes q.first q.waiting c.args.most count q.size q.capacity (vec_capacity q.bytes) bytes c.self.invariant some));
+          ∙ ap (λ xs. out.items ++ xs)
+          (parts ∙ sym (given_bytes q.first q.waiting c.args.most count q.size q.capacity (vec_capacity q.bytes) bytes c.self.invariant some));
       same = ap (λ (xs : List (List ℕ)). record { scans = xs; taken = q.taken; lost = q.lost; size = q.size; capacity = q.capacity })
           (sym (scans_left q.first q.waiting c.args.most count q.size q.capacity (vec_capacity q.bytes) bytes c.self.invariant some));
     }))
@@ -62,4 +64,5 @@ returns-clause-sized c =
     let q = c.self.inside in
     let given = (returns-clause-gives c).bytes in
     ap length given ∙ length-append c.args.out.now.items _
-    ∙ rw (← c.self.view_is) (ap (λ n. length c.args.out.now.items + n) (length-given q.first q.waiting c.args.most c.min-count.result q.size q.capacity (vec_capacity q.bytes) q.bytes.items c.self.invariant c.min-count.ensures))
+    ∙ rw (← c.self.view_is) (ap (λ n. length c.args.out.now.items + n)
+    (length-given q.first q.waiting c.args.most c.min-count.result q.size q.capacity (vec_capacity q.bytes) q.bytes.items c.self.invariant c.min-count.ensures))

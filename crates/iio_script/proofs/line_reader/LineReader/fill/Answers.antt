@@ -34,8 +34,10 @@ returns-clause-follows g c = λ input front follows.
     let same : c.args.self.now ≡ the_view inside = sym c.close_up.ensures.same ∙ sym c.self.view_is in
     let needs : NeedsMore (the_view inside) = subst NeedsMore same c.requires in
     let few : inside.begin ≤ length inside.bytes.items = omega (arith, c.self.invariant.0, inside.bytes.ok.0) in
-    filled input front (the_view inside) (g.S.Source.left c.args.source.now) (g.S.Source.left c.read_piece.new.source) (drop inside.begin c.read_piece.new.bytes.items) c.in_ok-count.count needs.going
-    (piece_behind inside.bytes.items c.read_piece.new.bytes.items inside.begin c.in_ok-count.count (g.S.Source.left c.args.source.now) (g.S.Source.left c.read_piece.new.source) few c.in_ok-count.ensures.next)
+    filled input front (the_view inside) (g.S.Source.left c.args.source.now) (g.S.Source.left c.read_piece.new.source)
+    (drop inside.begin c.read_piece.new.bytes.items) c.in_ok-count.count needs.going
+    (piece_behind inside.bytes.items c.read_piece.new.bytes.items inside.begin c.in_ok-count.count (g.S.Source.left c.args.source.now)
+    (g.S.Source.left c.read_piece.new.source) few c.in_ok-count.ensures.next)
     (subst (λ (h : Hand). Follows input front h (g.S.Source.left c.args.source.now)) same follows)
 
 pub returns-clause-hand : goal.returns-clause-hand

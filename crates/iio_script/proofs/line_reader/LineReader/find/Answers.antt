@@ -6,7 +6,8 @@ pub loop-found-preserved : goal.loop-found-preserved
 loop-found-preserved g c =
     record {
       follows = λ input front follows.
-          c.fill.ensures.follows input front (c.look.ensures.follows input front (g.S.Source.left c.loop-found.source) (c.loop-found.invariant.follows input front follows));
+          c.fill.ensures.follows input front
+          (c.look.ensures.follows input front (g.S.Source.left c.loop-found.source) (c.loop-found.invariant.follows input front follows));
       given = c.fill.ensures.given ∙ c.look.ensures.given ∙ c.loop-found.invariant.given;
       over = c.fill.ensures.over ∙ c.look.ensures.over ∙ c.loop-found.invariant.over;
       silent = silent_more _ _ _ c.loop-found.invariant.silent c.fill.ensures.silent;
@@ -16,4 +17,5 @@ loop-found-preserved g c =
 
 pub returns-in_err-fill-clause-follows : goal.returns-in_err-fill-clause-follows
 returns-in_err-fill-clause-follows g c = λ input front follows.
-    c.fill.ensures.follows input front (c.look.ensures.follows input front (g.S.Source.left c.loop-found.source) (c.loop-found.invariant.follows input front follows))
+    c.fill.ensures.follows input front
+    (c.look.ensures.follows input front (g.S.Source.left c.loop-found.source) (c.loop-found.invariant.follows input front follows))

@@ -22,7 +22,8 @@ returns-clause-follows c = λ input front left follows.
       | then-end-len w ↦
           passed input front (the_view inside) (the_view now) left c.self.invariant.2 (subst HasLine (sym c.self.view_is) c.requires)
           (λ some. ap (λ (x : Inside). the_view (record x { looked = 0 })) w.self-inside-is
-          ∙ ap (λ (bytes : List ℕ). record { bytes = bytes; looked = 0; given = inside.given + (inside.looked + 1); ended = inside.ended; over = inside.over }) (behind inside.bytes.items inside.begin inside.looked _ refl))
+          ∙ ap (λ (bytes : List ℕ). record { bytes = bytes; looked = 0; given = inside.given + (inside.looked + 1); ended = inside.ended; over = inside.over })
+          (behind inside.bytes.items inside.begin inside.looked _ refl))
           (λ all. absurd (omega (arith, all, w.if-end-len.true, c.len.ensures, long)))
           (subst (λ (h : Hand). Follows input front h left) (sym c.self.view_is) follows)
       | else-end-len w ↦

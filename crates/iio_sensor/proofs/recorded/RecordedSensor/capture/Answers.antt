@@ -18,8 +18,10 @@ returns-clause-scan c =
     let rows : RowsRecord = c.self.inside.rows in
     let scan = λ (row biases : List ℤ). scan_of shape c.args.active.bits (values_by shape (value_in row biases (formats_of shape))) c.args.t in
     let come : c.come_near-self-inside-inside.result ≡ come_by rows.moments c.args.t =
-    (rw (to_z-of_z w64 c.args.t c.ranges.t) at c.come_near-self-inside-inside.ensures.value) ∙ ap (λ (xs : List ℤ). come_by xs c.args.t) (c.deref.ensures.value ∙ ap (λ (i : Inside). i.rows.moments) c.self-inside.view_is) in
-    let row : c.row_before-row.result.now ≡ row_at rows c.args.t = c.row_before-row.ensures ∙ ap (λ (i : Inside). row_before i.rows c.come_near-self-inside-inside.result) c.self-inside.view_is ∙ ap (row_before rows) come in
+    (rw (to_z-of_z w64 c.args.t c.ranges.t) at c.come_near-self-inside-inside.ensures.value)
+    ∙ ap (λ (xs : List ℤ). come_by xs c.args.t) (c.deref.ensures.value ∙ ap (λ (i : Inside). i.rows.moments) c.self-inside.view_is) in
+    let row : c.row_before-row.result.now ≡ row_at rows c.args.t =
+    c.row_before-row.ensures ∙ ap (λ (i : Inside). row_before i.rows c.come_near-self-inside-inside.result) c.self-inside.view_is ∙ ap (row_before rows) come in
     (rw (to_z-of_z w64 c.args.t c.ranges.t) at c.fill_row.ensures)
     ∙ ap (λ (row : List ℤ). scan row c.count_capture.new.self.biases) row
     ∙ ap (λ (asks : Asks). scan (row_at rows c.args.t) asks.biases) c.count_capture.ensures
@@ -39,7 +41,8 @@ returns-then-is_for-clause-scan c =
     let gives : (value : ℕ → ℕ → ℤ) → IsScanOf held shape value → c.give.new.out ≡ scan_of shape held.mask.bits (values_by shape value) c.args.t =
     rw (to_z-of_z w64 c.args.t c.ranges.t, inside) at c.give.ensures in
     let come : c.come_near-self-inside-inside.result ≡ come_by rows.moments c.args.t =
-    (rw (to_z-of_z w64 c.args.t c.ranges.t) at c.come_near-self-inside-inside.ensures.value) ∙ ap (λ (xs : List ℤ). come_by xs c.args.t) (c.deref.ensures.value ∙ ap (λ (i : Inside). i.rows.moments) c.self-inside.view_is) in
+    (rw (to_z-of_z w64 c.args.t c.ranges.t) at c.come_near-self-inside-inside.ensures.value)
+    ∙ ap (λ (xs : List ℤ). come_by xs c.args.t) (c.deref.ensures.value ∙ ap (λ (i : Inside). i.rows.moments) c.self-inside.view_is) in
     let scan = λ (bits n : ℕ). scan_of shape bits (values_by shape (value_in (row_before rows n) biases (formats_of shape))) c.args.t in
     gives (value_in (row_before rows held.come) biases (formats_of shape)) is
     ∙ ap (λ (m : Mask). scan m.bits held.come) mask

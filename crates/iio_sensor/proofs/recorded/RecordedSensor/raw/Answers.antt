@@ -13,8 +13,10 @@ returns-clause-value c =
     let rows : RowsRecord = c.self.inside.rows in
     let fits : FitsSigned w64 c.row_value.result = search rules in
     let come : c.come_near-self-inside-inside.result ≡ come_by rows.moments c.args.t =
-    (rw (to_z-of_z w64 c.args.t c.ranges.t) at c.come_near-self-inside-inside.ensures.value) ∙ ap (λ (xs : List ℤ). come_by xs c.args.t) (c.deref.ensures.value ∙ ap (λ (i : Inside). i.rows.moments) c.self-inside.view_is) in
-    let row : c.row_before-row.result.now ≡ row_at rows c.args.t = c.row_before-row.ensures ∙ ap (λ (i : Inside). row_before i.rows c.come_near-self-inside-inside.result) c.self-inside.view_is ∙ ap (row_before rows) come in
+    (rw (to_z-of_z w64 c.args.t c.ranges.t) at c.come_near-self-inside-inside.ensures.value)
+    ∙ ap (λ (xs : List ℤ). come_by xs c.args.t) (c.deref.ensures.value ∙ ap (λ (i : Inside). i.rows.moments) c.self-inside.view_is) in
+    let row : c.row_before-row.result.now ≡ row_at rows c.args.t =
+    c.row_before-row.ensures ∙ ap (λ (i : Inside). row_before i.rows c.come_near-self-inside-inside.result) c.self-inside.view_is ∙ ap (row_before rows) come in
     to_z-of_z w64 c.row_value.result fits ∙ c.row_value.ensures
     ∙ ap (λ (row : List ℤ). value_in row c.count.new.self.biases (formats_of shape) c.args.c 0) row
     ∙ ap (λ (asks : Asks). value_in (row_at rows c.args.t) asks.biases (formats_of shape) c.args.c 0) c.count.ensures

@@ -10,11 +10,15 @@ handle_due-became-requires g c = due_dev c.args.dev c.args.trigger.now.outstandi
 
 pub returns-in-None-clause-answer : goal.returns-in-None-clause-answer
 returns-in-None-clause-answer g c =
-    ap (λ o. entry_answer (any_front c.args.self.now).kind o (is_last (captures_by c.args.self.now)) (any_station (driver_of (λ b. (g.dyn-1.0.entry b.vtable).1.driver b.value)) c.args.self.now)) (c.in-None.ensures.due ∙ due_is c.args.dev c.args.trigger.now.outstanding c.requires.idle)
+    ap (λ o. entry_answer (any_front c.args.self.now).kind o (is_last (captures_by c.args.self.now))
+    (any_station (driver_of (λ b. (g.dyn-1.0.entry b.vtable).1.driver b.value)) c.args.self.now))
+    (c.in-None.ensures.due ∙ due_is c.args.dev c.args.trigger.now.outstanding c.requires.idle)
 
 pub returns-in-None-clause-station : goal.returns-in-None-clause-station
 returns-in-None-clause-station g c =
-    ap (λ o. entry_station (any_front c.args.self.now).kind o (is_last (captures_by c.args.self.now)) (any_front c.args.self.now).shape (any_station (driver_of (λ b. (g.dyn-1.0.entry b.vtable).1.driver b.value)) c.args.self.now)) (c.in-None.ensures.due ∙ due_is c.args.dev c.args.trigger.now.outstanding c.requires.idle)
+    ap (λ o. entry_station (any_front c.args.self.now).kind o (is_last (captures_by c.args.self.now)) (any_front c.args.self.now).shape
+    (any_station (driver_of (λ b. (g.dyn-1.0.entry b.vtable).1.driver b.value)) c.args.self.now))
+    (c.in-None.ensures.due ∙ due_is c.args.dev c.args.trigger.now.outstanding c.requires.idle)
 
 pub returns-in-None-clause-trigger : goal.returns-in-None-clause-trigger
 returns-in-None-clause-trigger g c = none_off c.args.dev c.args.trigger.now c.due.new.self c.requires.idle c.in-None.ensures.due c.in-None.ensures.after
@@ -22,12 +26,18 @@ returns-in-None-clause-trigger g c = none_off c.args.dev c.args.trigger.now c.du
 pub returns-in-Some-clause-answer : goal.returns-in-Some-clause-answer
 returns-in-Some-clause-answer g c =
     c.handle_due-became.ensures.answer
-    ∙ ap (λ o. entry_answer (any_front c.args.self.now).kind o (is_last (captures_by c.args.self.now)) (any_station (driver_of (λ b. (g.dyn-1.0.entry b.vtable).1.driver b.value)) c.args.self.now)) (c.in-Some.ensures.due ∙ due_is c.args.dev c.args.trigger.now.outstanding c.requires.idle)
+    ∙ ap (λ o. entry_answer (any_front c.args.self.now).kind o (is_last (captures_by c.args.self.now))
+    (any_station (driver_of (λ b. (g.dyn-1.0.entry b.vtable).1.driver b.value)) c.args.self.now))
+    (c.in-Some.ensures.due ∙ due_is c.args.dev c.args.trigger.now.outstanding c.requires.idle)
 
 pub returns-in-Some-clause-station : goal.returns-in-Some-clause-station
 returns-in-Some-clause-station g c =
     c.handle_due-became.ensures.station
-    ∙ ap (λ o. entry_station (any_front c.args.self.now).kind o (is_last (captures_by c.args.self.now)) (any_front c.args.self.now).shape (any_station (driver_of (λ b. (g.dyn-1.0.entry b.vtable).1.driver b.value)) c.args.self.now)) (c.in-Some.ensures.due ∙ due_is c.args.dev c.args.trigger.now.outstanding c.requires.idle)
+    ∙ ap (λ o. entry_station (any_front c.args.self.now).kind o (is_last (captures_by c.args.self.now)) (any_front c.args.self.now).shape
+    (any_station (driver_of (λ b. (g.dyn-1.0.entry b.vtable).1.driver b.value)) c.args.self.now))
+    (c.in-Some.ensures.due ∙ due_is c.args.dev c.args.trigger.now.outstanding c.requires.idle)
 
 pub returns-in-Some-clause-trigger : goal.returns-in-Some-clause-trigger
-returns-in-Some-clause-trigger g c = done_off c.args.dev c.in-Some.due c.done.result c.args.trigger.now c.due.new.self c.done.new.self c.in-Some.ensures.due c.in-Some.ensures.after c.done.ensures.found c.done.ensures.taken
+returns-in-Some-clause-trigger g c =
+    done_off c.args.dev c.in-Some.due c.done.result c.args.trigger.now c.due.new.self c.done.new.self c.in-Some.ensures.due c.in-Some.ensures.after
+    c.done.ensures.found c.done.ensures.taken

@@ -10,7 +10,9 @@ returns-in-Input-clause-station g c = rw c.in-Input.is (ap station_of c.unplug.e
 
 pub returns-in-Input-clause-keeps : goal.returns-in-Input-clause-keeps
 returns-in-Input-clause-keeps g c =
-    rw c.in-Input.is (keeps_in (driver_of (λ b. (g.dyn-1.0.entry b.vtable).1.driver b.value)) _ _ (unplug_keeps_all (view_by (driver_of (λ b. (g.dyn-1.0.entry b.vtable).1.driver b.value)) c.in-Input.device) (view_by (driver_of (λ b. (g.dyn-1.0.entry b.vtable).1.driver b.value)) c.unplug.new.self) c.unplug.ensures.state))
+    rw c.in-Input.is (keeps_in (driver_of (λ b. (g.dyn-1.0.entry b.vtable).1.driver b.value)) _ _
+    (unplug_keeps_all (view_by (driver_of (λ b. (g.dyn-1.0.entry b.vtable).1.driver b.value)) c.in-Input.device)
+    (view_by (driver_of (λ b. (g.dyn-1.0.entry b.vtable).1.driver b.value)) c.unplug.new.self) c.unplug.ensures.state))
 
 pub returns-in-Output-clause-keeps : goal.returns-in-Output-clause-keeps
 returns-in-Output-clause-keeps g c = rw c.in-Output.is (keeps_out _ _ c.unplug-in-Output.ensures.keeps)

@@ -9,10 +9,28 @@ use Rattle.iio_system.proofs.OpenLemmas.{as_many, sound_any}
 use Rattle.iio_system.proofs.bench.Bench.poll.Goals as goal
 
 pub invariant_of-self : goal.invariant_of-self
-invariant_of-self g c = record { sound = poll_bench c.args.self.now.described.items c.args.self.now.triggers.items (stations_by (λ p. no_driver) c.args.self.now.devices.items) c.args.trigger c.args.t c.index_mut.result.now c.poll.new.self c.poll.result c.args.self.now.sound (slice_get_read _ (length c.args.self.now.described.items) _ _ (sym (as_many _ _ c.args.self.now.sound.places)) c.requires c.index_mut.ensures.value) (rw (to_z-of_z w64 c.args.t c.ranges.t) at c.poll.ensures); numbered = c.args.self.now.numbered }
+invariant_of-self g c =
+    record {
+      sound =
+          poll_bench c.args.self.now.described.items c.args.self.now.triggers.items (stations_by (λ p. no_driver) c.args.self.now.devices.items) c.args.trigger
+          c.args.t c.index_mut.result.now c.poll.new.self c.poll.result c.args.self.now.sound
+          (slice_get_read _ (length c.args.self.now.described.items) _ _ (sym (as_many _ _ c.args.self.now.sound.places)) c.requires
+          c.index_mut.ensures.value) (rw (to_z-of_z w64 c.args.t c.ranges.t) at c.poll.ensures);
+      numbered = c.args.self.now.numbered;
+    }
 
 pub returns-clause-triggers : goal.returns-clause-triggers
-returns-clause-triggers g c = poll_triggers c.args.self.now.described.items c.args.self.now.triggers.items (stations_by (driver_of (λ b. (g.dyn-1.0.entry b.vtable).1.driver b.value)) c.args.self.now.devices.items) c.args.trigger c.args.t c.index_mut.result.now c.poll.new.self c.poll.result (sound_any (driver_of (λ b. (g.dyn-1.0.entry b.vtable).1.driver b.value)) _ _ _ c.args.self.now.sound) (slice_get_read _ (length c.args.self.now.described.items) _ _ (sym (as_many _ _ c.args.self.now.sound.places)) c.requires c.index_mut.ensures.value) (rw (to_z-of_z w64 c.args.t c.ranges.t) at c.poll.ensures)
+returns-clause-triggers g c =
+    poll_triggers c.args.self.now.described.items c.args.self.now.triggers.items
+    (stations_by (driver_of (λ b. (g.dyn-1.0.entry b.vtable).1.driver b.value)) c.args.self.now.devices.items) c.args.trigger c.args.t c.index_mut.result.now
+    c.poll.new.self c.poll.result (sound_any (driver_of (λ b. (g.dyn-1.0.entry b.vtable).1.driver b.value)) _ _ _ c.args.self.now.sound)
+    (slice_get_read _ (length c.args.self.now.described.items) _ _ (sym (as_many _ _ c.args.self.now.sound.places)) c.requires c.index_mut.ensures.value)
+    (rw (to_z-of_z w64 c.args.t c.ranges.t) at c.poll.ensures)
 
 pub returns-clause-answer : goal.returns-clause-answer
-returns-clause-answer g c = poll_answer_is c.args.self.now.described.items c.args.self.now.triggers.items (stations_by (driver_of (λ b. (g.dyn-1.0.entry b.vtable).1.driver b.value)) c.args.self.now.devices.items) c.args.trigger c.args.t c.index_mut.result.now c.poll.new.self c.poll.result (sound_any (driver_of (λ b. (g.dyn-1.0.entry b.vtable).1.driver b.value)) _ _ _ c.args.self.now.sound) (slice_get_read _ (length c.args.self.now.described.items) _ _ (sym (as_many _ _ c.args.self.now.sound.places)) c.requires c.index_mut.ensures.value) (rw (to_z-of_z w64 c.args.t c.ranges.t) at c.poll.ensures)
+returns-clause-answer g c =
+    poll_answer_is c.args.self.now.described.items c.args.self.now.triggers.items
+    (stations_by (driver_of (λ b. (g.dyn-1.0.entry b.vtable).1.driver b.value)) c.args.self.now.devices.items) c.args.trigger c.args.t c.index_mut.result.now
+    c.poll.new.self c.poll.result (sound_any (driver_of (λ b. (g.dyn-1.0.entry b.vtable).1.driver b.value)) _ _ _ c.args.self.now.sound)
+    (slice_get_read _ (length c.args.self.now.described.items) _ _ (sym (as_many _ _ c.args.self.now.sound.places)) c.requires c.index_mut.ensures.value)
+    (rw (to_z-of_z w64 c.args.t c.ranges.t) at c.poll.ensures)

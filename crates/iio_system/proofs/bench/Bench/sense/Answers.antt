@@ -17,7 +17,10 @@ invariant_of-self g c =
     let drive = (driver_of (λ b. (g.dyn-1.0.entry b.vtable).1.driver b.value)) in
     let at = element_at any_front _ _ _ c.requires c.index_mut.ensures.value in
     record {
-      sound = sound_kept drive _ _ _ _ c.index_mut.result.now c.sense.new.self c.args.self.now.sound at (sense_kept (any_front c.index_mut.result.now).shape c.args.t (any_station drive c.index_mut.result.now) (any_station drive c.sense.new.self) (rw (to_z-of_z w64 c.args.t c.ranges.t) at c.sense.ensures.station));
+      sound =
+          sound_kept drive _ _ _ _ c.index_mut.result.now c.sense.new.self c.args.self.now.sound at
+          (sense_kept (any_front c.index_mut.result.now).shape c.args.t (any_station drive c.index_mut.result.now) (any_station drive c.sense.new.self)
+          (rw (to_z-of_z w64 c.args.t c.ranges.t) at c.sense.ensures.station));
       numbered = numbered_after _ _ _ _ _ c.args.self.now.numbered at c.sense.ensures.keeps.head.number;
     }
 
@@ -28,20 +31,28 @@ pub returns-clause-told : goal.returns-clause-told
 returns-clause-told g c =
     let drive = (driver_of (λ b. (g.dyn-1.0.entry b.vtable).1.driver b.value)) in
     let at = element_at any_front _ _ _ c.requires c.index_mut.ensures.value in
-    let shape = shape_is any_front c.args.self.now.context.items c.args.self.now.described.items c.args.self.now.devices.items c.args.dev c.index_mut.result.now at in
-    told_changed (any_station drive) c.args.self.now.clock c.args.self.now.devices.items c.args.dev c.index_mut.result.now c.sense.new.self at (sensed_station (any_front c.index_mut.result.now).shape c.args.t)
+    let shape =
+    shape_is any_front c.args.self.now.context.items c.args.self.now.described.items c.args.self.now.devices.items c.args.dev c.index_mut.result.now at in
+    told_changed (any_station drive) c.args.self.now.clock c.args.self.now.devices.items c.args.dev c.index_mut.result.now c.sense.new.self at
+    (sensed_station (any_front c.index_mut.result.now).shape c.args.t)
     (rw (to_z-of_z w64 c.args.t c.ranges.t) at c.sense.ensures.station)
-    ∙ ap (λ (s : ShapeRecord). with_station (sensed_station s c.args.t) c.args.dev (machine_by (any_station drive) c.args.self.now.clock c.args.self.now.devices.items)) (sym shape)
+    ∙ ap (λ (s : ShapeRecord). with_station (sensed_station s c.args.t) c.args.dev
+    (machine_by (any_station drive) c.args.self.now.clock c.args.self.now.devices.items)) (sym shape)
 
 pub returns-clause-answer : goal.returns-clause-answer
 returns-clause-answer g c =
     let drive = (driver_of (λ b. (g.dyn-1.0.entry b.vtable).1.driver b.value)) in
     let at = element_at any_front _ _ _ c.requires c.index_mut.ensures.value in
-    let shape = shape_is any_front c.args.self.now.context.items c.args.self.now.described.items c.args.self.now.devices.items c.args.dev c.index_mut.result.now at in
+    let shape =
+    shape_is any_front c.args.self.now.context.items c.args.self.now.described.items c.args.self.now.devices.items c.args.dev c.index_mut.result.now at in
     let here = station_is (any_station drive) c.args.self.now.clock c.args.self.now.devices.items c.args.dev c.index_mut.result.now at in
     (rw (to_z-of_z w64 c.args.t c.ranges.t) at c.sense.ensures.answer)
     ∙ ap (λ (s : ShapeRecord). sensed_answer s c.args.t (any_station drive c.index_mut.result.now)) (sym shape)
-    ∙ ap (λ (st : Station). sensed_answer (shape_at (fronts_by any_front c.args.self.now.context.items c.args.self.now.described.items c.args.self.now.devices.items) c.args.dev) c.args.t st) (sym here)
+    ∙ ap (λ (st : Station). sensed_answer
+    (shape_at (fronts_by any_front c.args.self.now.context.items c.args.self.now.described.items c.args.self.now.devices.items) c.args.dev) c.args.t st)
+    (sym here)
 
 pub returns-clause-captures : goal.returns-clause-captures
-returns-clause-captures g c = map_same captures_by c.args.self.now.devices.items c.args.dev c.index_mut.result.now c.sense.new.self (element_at any_front _ _ _ c.requires c.index_mut.ensures.value) c.sense.ensures.keeps.captures
+returns-clause-captures g c =
+    map_same captures_by c.args.self.now.devices.items c.args.dev c.index_mut.result.now c.sense.new.self
+    (element_at any_front _ _ _ c.requires c.index_mut.ensures.value) c.sense.ensures.keeps.captures

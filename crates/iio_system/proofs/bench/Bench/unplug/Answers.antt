@@ -12,7 +12,9 @@ invariant_of-self g c =
     let drive = (driver_of (λ b. (g.dyn-1.0.entry b.vtable).1.driver b.value)) in
     let at = element_at any_front _ _ _ c.requires c.index_mut.ensures.value in
     record {
-      sound = sound_kept drive _ _ _ _ c.index_mut.result.now c.unplug.new.self c.args.self.now.sound at (unplug_kept (any_station drive c.index_mut.result.now) (any_station drive c.unplug.new.self) c.unplug.ensures.station);
+      sound =
+          sound_kept drive _ _ _ _ c.index_mut.result.now c.unplug.new.self c.args.self.now.sound at
+          (unplug_kept (any_station drive c.index_mut.result.now) (any_station drive c.unplug.new.self) c.unplug.ensures.station);
       numbered = numbered_after _ _ _ _ _ c.args.self.now.numbered at c.unplug.ensures.keeps.head.number;
     }
 
@@ -20,10 +22,17 @@ pub returns-clause-front : goal.returns-clause-front
 returns-clause-front g c = fronts_keep _ _ _ _ _ _ (element_at any_front _ _ _ c.requires c.index_mut.ensures.value) c.unplug.ensures.keeps.head
 
 pub returns-clause-told : goal.returns-clause-told
-returns-clause-told g c = told_changed (any_station (driver_of (λ b. (g.dyn-1.0.entry b.vtable).1.driver b.value))) c.args.self.now.clock c.args.self.now.devices.items c.args.dev c.index_mut.result.now c.unplug.new.self (element_at any_front _ _ _ c.requires c.index_mut.ensures.value) _ c.unplug.ensures.station
+returns-clause-told g c =
+    told_changed (any_station (driver_of (λ b. (g.dyn-1.0.entry b.vtable).1.driver b.value))) c.args.self.now.clock c.args.self.now.devices.items c.args.dev
+    c.index_mut.result.now c.unplug.new.self (element_at any_front _ _ _ c.requires c.index_mut.ensures.value) _ c.unplug.ensures.station
 
 pub returns-clause-answer : goal.returns-clause-answer
-returns-clause-answer g c = c.unplug.ensures.answer ∙ sym (plugged_is (any_station (driver_of (λ b. (g.dyn-1.0.entry b.vtable).1.driver b.value))) c.args.self.now.clock c.args.self.now.devices.items c.args.dev c.index_mut.result.now (element_at any_front _ _ _ c.requires c.index_mut.ensures.value))
+returns-clause-answer g c =
+    c.unplug.ensures.answer ∙ sym
+    (plugged_is (any_station (driver_of (λ b. (g.dyn-1.0.entry b.vtable).1.driver b.value))) c.args.self.now.clock c.args.self.now.devices.items c.args.dev
+    c.index_mut.result.now (element_at any_front _ _ _ c.requires c.index_mut.ensures.value))
 
 pub returns-clause-captures : goal.returns-clause-captures
-returns-clause-captures g c = map_same captures_by c.args.self.now.devices.items c.args.dev c.index_mut.result.now c.unplug.new.self (element_at any_front _ _ _ c.requires c.index_mut.ensures.value) c.unplug.ensures.keeps.captures
+returns-clause-captures g c =
+    map_same captures_by c.args.self.now.devices.items c.args.dev c.index_mut.result.now c.unplug.new.self
+    (element_at any_front _ _ _ c.requires c.index_mut.ensures.value) c.unplug.ensures.keeps.captures

@@ -7,7 +7,8 @@ use Rattle.iio_system.proofs.guard.Guard.allows.Goals as goal
 
 pub returns-then-self : goal.returns-then-self
 returns-then-self g c x told =
-    c.may_part.ensures (desk_by seen_of c.args.self.now.own) x told ∙ ap (λ (b : Bool). item_meets (opens_at (front_of c.args.bench.now) c.args.self.now) b x) (sym c.if-self.true)
+    c.may_part.ensures (desk_by seen_of c.args.self.now.own) x told
+    ∙ ap (λ (b : Bool). item_meets (opens_at (front_of c.args.bench.now) c.args.self.now) b x) (sym c.if-self.true)
 
 pub returns : goal.returns
 returns g c x told = c.may_say.ensures x told ∙ ap (λ (b : Bool). item_meets (opens_at (front_of c.args.bench.now) c.args.self.now) b x) (sym c.if-self.false)

@@ -9,11 +9,15 @@ use Rattle.iio_system.proofs.iio.BenchIio.close.Goals as goal
 
 pub returns-in-None-clause-told : goal.returns-in-None-clause-told
 returns-in-None-clause-told g c =
-    told_none (driver_of (λ b. (g.dyn-1.0.entry b.vtable).1.driver b.value)) c.args.self.now.context.items c.args.self.now.described.items c.args.self.now.devices.items c.args.self.now.clock c.args.dev c.index.result.now (element_at any_front _ _ _ c.requires.dev c.index.ensures) c.args.seat.number _ c.args.self.now.sound c.in-None.ensures
+    told_none (driver_of (λ b. (g.dyn-1.0.entry b.vtable).1.driver b.value)) c.args.self.now.context.items c.args.self.now.described.items
+    c.args.self.now.devices.items c.args.self.now.clock c.args.dev c.index.result.now (element_at any_front _ _ _ c.requires.dev c.index.ensures)
+    c.args.seat.number _ c.args.self.now.sound c.in-None.ensures
 
 pub returns-else-trigger-len-clause-told : goal.returns-else-trigger-len-clause-told
 returns-else-trigger-len-clause-told g c =
-    told_past (driver_of (λ b. (g.dyn-1.0.entry b.vtable).1.driver b.value)) c.args.self.now.context.items c.args.self.now.described.items c.args.self.now.devices.items c.args.self.now.clock c.args.dev c.index.result.now (element_at any_front _ _ _ c.requires.dev c.index.ensures) c.args.seat.number _ c.args.self.now.sound
+    told_past (driver_of (λ b. (g.dyn-1.0.entry b.vtable).1.driver b.value)) c.args.self.now.context.items c.args.self.now.described.items
+    c.args.self.now.devices.items c.args.self.now.clock c.args.dev c.index.result.now (element_at any_front _ _ _ c.requires.dev c.index.ensures)
+    c.args.seat.number _ c.args.self.now.sound
     c.in-Some.trigger c.len.result c.in-Some.ensures (c.len.ensures ∙ c.args.self.now.triggers.ok.0) c.if-trigger-len.false
 
 pub invariant_of-self-then-trigger-len : goal.invariant_of-self-then-trigger-len
@@ -21,10 +25,13 @@ invariant_of-self-then-trigger-len g c =
     let at = element_at any_front _ _ _ c.requires.dev c.index_mut.ensures.value in
     record {
       sound =
-          sound_leaves (driver_of (λ b. (g.dyn-1.0.entry b.vtable).1.driver b.value)) _ _ _ _ _ c.index_mut.result.now c.leave.new.self c.index_mut-then-trigger-len.result.now c.leave.new.trigger c.args.self.now.sound c.args.self.now.numbered at
+          sound_leaves (driver_of (λ b. (g.dyn-1.0.entry b.vtable).1.driver b.value)) _ _ _ _ _ c.index_mut.result.now c.leave.new.self
+          c.index_mut-then-trigger-len.result.now c.leave.new.trigger c.args.self.now.sound c.args.self.now.numbered at
           (slice_get_read _ c.len.result _ _ (c.len.ensures ∙ c.args.self.now.triggers.ok.0) c.if-trigger-len.true c.index_mut-then-trigger-len.ensures.value)
-          (own_along (driver_of (λ b. (g.dyn-1.0.entry b.vtable).1.driver b.value)) c.args.self.now.devices.items c.args.dev c.in-Some.trigger c.index.result.now c.index_mut.result.now (element_at any_front _ _ _ c.requires.dev c.index.ensures) at c.in-Some.ensures)
-          (subst (λ n. c.in-Some.trigger < n) (c.len.ensures ∙ c.args.self.now.triggers.ok.0) c.if-trigger-len.true) c.args.seat.number c.leave.ensures.station c.leave.ensures.trigger;
+          (own_along (driver_of (λ b. (g.dyn-1.0.entry b.vtable).1.driver b.value)) c.args.self.now.devices.items c.args.dev c.in-Some.trigger
+          c.index.result.now c.index_mut.result.now (element_at any_front _ _ _ c.requires.dev c.index.ensures) at c.in-Some.ensures)
+          (subst (λ n. c.in-Some.trigger < n) (c.len.ensures ∙ c.args.self.now.triggers.ok.0) c.if-trigger-len.true) c.args.seat.number c.leave.ensures.station
+          c.leave.ensures.trigger;
       numbered = numbered_after _ _ _ _ _ c.args.self.now.numbered at c.leave.ensures.keeps.head.number;
     }
 
@@ -34,8 +41,11 @@ returns-then-trigger-len-clause-kept g c =
     device_and_trigger_keep _ _ _ _ _ _ _ (element_at any_front _ _ _ c.requires.dev c.index_mut.ensures.value) c.leave.ensures.keeps
     c.in-Some.trigger c.index_mut-then-trigger-len.result.now c.leave.new.trigger
     (slice_get_read _ c.len.result _ _ (c.len.ensures ∙ c.args.self.now.triggers.ok.0) c.if-trigger-len.true c.index_mut-then-trigger-len.ensures.value)
-    (leaves_tell (number_by c.index_mut.result.now) (any_station drive c.index_mut.result.now) (any_station drive c.leave.new.self) c.index_mut-then-trigger-len.result.now c.leave.new.trigger c.leave.ensures.trigger)
+    (leaves_tell (number_by c.index_mut.result.now) (any_station drive c.index_mut.result.now) (any_station drive c.leave.new.self)
+    c.index_mut-then-trigger-len.result.now c.leave.new.trigger c.leave.ensures.trigger)
 
 pub returns-then-trigger-len-clause-told : goal.returns-then-trigger-len-clause-told
 returns-then-trigger-len-clause-told g c =
-    told_leaves (driver_of (λ b. (g.dyn-1.0.entry b.vtable).1.driver b.value)) c.args.self.now.context.items c.args.self.now.described.items c.args.self.now.devices.items c.args.self.now.clock c.args.dev c.index_mut.result.now (element_at any_front _ _ _ c.requires.dev c.index_mut.ensures.value) c.args.seat.number c.leave.new.self c.leave.ensures.station
+    told_leaves (driver_of (λ b. (g.dyn-1.0.entry b.vtable).1.driver b.value)) c.args.self.now.context.items c.args.self.now.described.items
+    c.args.self.now.devices.items c.args.self.now.clock c.args.dev c.index_mut.result.now (element_at any_front _ _ _ c.requires.dev c.index_mut.ensures.value)
+    c.args.seat.number c.leave.new.self c.leave.ensures.station

@@ -26,5 +26,6 @@ returns-clause-told g c =
 
 pub ev_read-requires : goal.ev_read-requires
 ev_read-requires g c =
-    ap is_input (sym (kind_is any_front c.args.self.now.context.items c.args.self.now.described.items c.args.self.now.devices.items c.args.dev c.index_mut.result.now (element_at any_front _ _ _ c.requires.dev c.index_mut.ensures.value)))
+    ap is_input (sym (kind_is any_front c.args.self.now.context.items c.args.self.now.described.items c.args.self.now.devices.items c.args.dev
+    c.index_mut.result.now (element_at any_front _ _ _ c.requires.dev c.index_mut.ensures.value)))
     ∙ c.requires.input

@@ -23,9 +23,12 @@ pub returns-clause-told : goal.returns-clause-told
 returns-clause-told g c =
     let whole : to_z w64 (of_z w64 c.clock-t.result) ≡ c.clock-t.result = search rules in
     let at = element_at _ _ _ _ c.requires.dev c.index_mut.ensures.value in
-    told_read any_front _ _ _ _ _ at (any_station (driver_of (λ b. (g.dyn-1.0.entry b.vtable).1.driver b.value))) c.args.self.now.clock c.read_attr.new.self c.args.channel c.args.attr (to_z w64 (of_z w64 c.clock-t.result)) _ (whole ∙ c.clock-t.ensures) c.read_attr.ensures.reads
+    told_read any_front _ _ _ _ _ at (any_station (driver_of (λ b. (g.dyn-1.0.entry b.vtable).1.driver b.value))) c.args.self.now.clock c.read_attr.new.self
+    c.args.channel c.args.attr (to_z w64 (of_z w64 c.clock-t.result)) _ (whole ∙ c.clock-t.ensures) c.read_attr.ensures.reads
 
 pub read_attr-requires : goal.read_attr-requires
 read_attr-requires g c =
     let at = element_at any_front _ _ _ c.requires.dev c.index_mut.ensures.value in
-    may_read _ c.args.dev c.args.channel c.args.attr (any_front c.index_mut.result.now) (kind_is any_front c.args.self.now.context.items c.args.self.now.described.items _ _ _ at) (shape_is any_front c.args.self.now.context.items c.args.self.now.described.items _ _ _ at) c.requires.may_read
+    may_read _ c.args.dev c.args.channel c.args.attr (any_front c.index_mut.result.now)
+    (kind_is any_front c.args.self.now.context.items c.args.self.now.described.items _ _ _ at)
+    (shape_is any_front c.args.self.now.context.items c.args.self.now.described.items _ _ _ at) c.requires.may_read

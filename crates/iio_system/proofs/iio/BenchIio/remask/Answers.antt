@@ -14,27 +14,39 @@ use Rattle.iio_system.proofs.iio.BenchIio.remask.Goals as goal
 
 pub scan_size-size-requires : goal.scan_size-size-requires
 scan_size-size-requires g c =
-    rw c.shape.ensures ((open_fits (driver_of (λ b. (g.dyn-1.0.entry b.vtable).1.driver b.value)) c.args.self.now.context.items c.args.self.now.described.items c.args.self.now.triggers.items c.args.self.now.devices.items c.args.self.now.clock c.args.dev c.args.seat.now.capacity false c.index_mut-device.result.now c.args.self.now.sound c.args.self.now.numbered
+    rw c.shape.ensures ((open_fits (driver_of (λ b. (g.dyn-1.0.entry b.vtable).1.driver b.value)) c.args.self.now.context.items c.args.self.now.described.items
+    c.args.self.now.triggers.items c.args.self.now.devices.items c.args.self.now.clock c.args.dev c.args.seat.now.capacity false c.index_mut-device.result.now
+    c.args.self.now.sound c.args.self.now.numbered
     (element_at any_front _ _ _ c.requires.may_open.known c.index_mut-device.ensures.value) c.args.mask.bits c.requires.may_open).0)
 
 pub remask-requires-clause-below : goal.remask-requires-clause-below
 remask-requires-clause-below g c =
-    (open_fits (driver_of (λ b. (g.dyn-1.0.entry b.vtable).1.driver b.value)) c.args.self.now.context.items c.args.self.now.described.items c.args.self.now.triggers.items c.args.self.now.devices.items c.args.self.now.clock c.args.dev c.args.seat.now.capacity false c.index_mut-device.result.now c.args.self.now.sound c.args.self.now.numbered
+    (open_fits (driver_of (λ b. (g.dyn-1.0.entry b.vtable).1.driver b.value)) c.args.self.now.context.items c.args.self.now.described.items
+    c.args.self.now.triggers.items c.args.self.now.devices.items c.args.self.now.clock c.args.dev c.args.seat.now.capacity false c.index_mut-device.result.now
+    c.args.self.now.sound c.args.self.now.numbered
     (element_at any_front _ _ _ c.requires.may_open.known c.index_mut-device.ensures.value) c.args.mask.bits c.requires.may_open).0
 
 pub remask-requires-clause-channel : goal.remask-requires-clause-channel
 remask-requires-clause-channel g c =
-    (open_fits (driver_of (λ b. (g.dyn-1.0.entry b.vtable).1.driver b.value)) c.args.self.now.context.items c.args.self.now.described.items c.args.self.now.triggers.items c.args.self.now.devices.items c.args.self.now.clock c.args.dev c.args.seat.now.capacity false c.index_mut-device.result.now c.args.self.now.sound c.args.self.now.numbered
+    (open_fits (driver_of (λ b. (g.dyn-1.0.entry b.vtable).1.driver b.value)) c.args.self.now.context.items c.args.self.now.described.items
+    c.args.self.now.triggers.items c.args.self.now.devices.items c.args.self.now.clock c.args.dev c.args.seat.now.capacity false c.index_mut-device.result.now
+    c.args.self.now.sound c.args.self.now.numbered
     (element_at any_front _ _ _ c.requires.may_open.known c.index_mut-device.ensures.value) c.args.mask.bits c.requires.may_open).1
 
 pub remask-requires-clause-bytes : goal.remask-requires-clause-bytes
 remask-requires-clause-bytes g c =
-    c.scan_size-size.ensures.data (rw c.shape.ensures ((open_fits (driver_of (λ b. (g.dyn-1.0.entry b.vtable).1.driver b.value)) c.args.self.now.context.items c.args.self.now.described.items c.args.self.now.triggers.items c.args.self.now.devices.items c.args.self.now.clock c.args.dev c.args.seat.now.capacity false c.index_mut-device.result.now c.args.self.now.sound c.args.self.now.numbered
+    c.scan_size-size.ensures.data
+    (rw c.shape.ensures ((open_fits (driver_of (λ b. (g.dyn-1.0.entry b.vtable).1.driver b.value)) c.args.self.now.context.items c.args.self.now.described.items
+    c.args.self.now.triggers.items c.args.self.now.devices.items c.args.self.now.clock c.args.dev c.args.seat.now.capacity false c.index_mut-device.result.now
+    c.args.self.now.sound c.args.self.now.numbered
     (element_at any_front _ _ _ c.requires.may_open.known c.index_mut-device.ensures.value) c.args.mask.bits c.requires.may_open).1))
 
 pub remask-requires-clause-fits : goal.remask-requires-clause-fits
 remask-requires-clause-fits g c =
-    rw (c.scan_size-size.ensures.value, c.shape.ensures) (open_bytes (driver_of (λ b. (g.dyn-1.0.entry b.vtable).1.driver b.value)) c.args.self.now.context.items c.args.self.now.described.items c.args.self.now.triggers.items c.args.self.now.devices.items c.args.self.now.clock c.args.dev c.args.seat.now.capacity false c.index_mut-device.result.now c.args.self.now.sound c.args.self.now.numbered
+    rw (c.scan_size-size.ensures.value, c.shape.ensures)
+    (open_bytes (driver_of (λ b. (g.dyn-1.0.entry b.vtable).1.driver b.value)) c.args.self.now.context.items c.args.self.now.described.items
+    c.args.self.now.triggers.items c.args.self.now.devices.items c.args.self.now.clock c.args.dev c.args.seat.now.capacity false c.index_mut-device.result.now
+    c.args.self.now.sound c.args.self.now.numbered
     (element_at any_front _ _ _ c.requires.may_open.known c.index_mut-device.ensures.value) c.args.mask.bits c.requires.may_open)
 
 pub invariant_of-self : goal.invariant_of-self
@@ -42,7 +54,8 @@ invariant_of-self g c =
     let at = element_at any_front _ _ _ c.requires.may_open.known c.index_mut-device.ensures.value in
     record {
       sound =
-          sound_remask (driver_of (λ b. (g.dyn-1.0.entry b.vtable).1.driver b.value)) c.args.self.now.context.items _ _ _ c.args.self.now.clock _ _ c.remask.new.self c.args.self.now.sound at
+          sound_remask (driver_of (λ b. (g.dyn-1.0.entry b.vtable).1.driver b.value)) c.args.self.now.context.items _ _ _ c.args.self.now.clock _ _
+          c.remask.new.self c.args.self.now.sound at
           (id_of c.args.seat.now.number c.args.seat.now.mask) c.args.mask.bits c.args.seat.now.capacity c.remask.result c.remask.ensures.acts;
       numbered = numbered_after _ _ _ _ _ c.args.self.now.numbered at c.remask.ensures.keeps.head.number;
     }
@@ -53,8 +66,11 @@ returns-in-Err-clause-kept g c =
 
 pub returns-in-Err-clause-told : goal.returns-in-Err-clause-told
 returns-in-Err-clause-told g c =
-    told_remask (driver_of (λ b. (g.dyn-1.0.entry b.vtable).1.driver b.value)) c.args.self.now.context.items c.args.self.now.described.items c.args.self.now.triggers.items c.args.self.now.devices.items c.args.self.now.clock c.args.dev c.index_mut-device.result.now c.remask.new.self c.args.self.now.sound
-    (element_at any_front _ _ _ c.requires.may_open.known c.index_mut-device.ensures.value) (id_of c.args.seat.now.number c.args.seat.now.mask) c.args.mask.bits c.args.seat.now.capacity (Err c.in-Err.no) c.in-Err.ensures.acts
+    told_remask (driver_of (λ b. (g.dyn-1.0.entry b.vtable).1.driver b.value)) c.args.self.now.context.items c.args.self.now.described.items
+    c.args.self.now.triggers.items c.args.self.now.devices.items c.args.self.now.clock c.args.dev c.index_mut-device.result.now c.remask.new.self
+    c.args.self.now.sound
+    (element_at any_front _ _ _ c.requires.may_open.known c.index_mut-device.ensures.value) (id_of c.args.seat.now.number c.args.seat.now.mask) c.args.mask.bits
+    c.args.seat.now.capacity (Err c.in-Err.no) c.in-Err.ensures.acts
 
 pub returns-in-Ok-clause-kept : goal.returns-in-Ok-clause-kept
 returns-in-Ok-clause-kept g c =
@@ -68,7 +84,9 @@ returns-in-Ok-clause-seat g c =
       owned = record {
         under = refl;
         sized = c.scan_size-size.ensures.value
-            ∙ ap (λ (shape : ShapeRecord). scan_size shape c.args.mask.bits) (c.shape.ensures ∙ sym (shape_is any_front c.args.self.now.context.items c.args.self.now.described.items c.args.self.now.devices.items c.args.dev c.index_mut-device.result.now at));
+            ∙ ap (λ (shape : ShapeRecord). scan_size shape c.args.mask.bits)
+            (c.shape.ensures ∙ sym (shape_is any_front c.args.self.now.context.items c.args.self.now.described.items c.args.self.now.devices.items c.args.dev
+            c.index_mut-device.result.now at));
         bounded = refl;
       };
       fresh = refl;
@@ -76,10 +94,14 @@ returns-in-Ok-clause-seat g c =
 
 pub returns-in-Ok-clause-told : goal.returns-in-Ok-clause-told
 returns-in-Ok-clause-told g c =
-    told_remask (driver_of (λ b. (g.dyn-1.0.entry b.vtable).1.driver b.value)) c.args.self.now.context.items c.args.self.now.described.items c.args.self.now.triggers.items c.args.self.now.devices.items c.args.self.now.clock c.args.dev c.index_mut-device.result.now c.remask.new.self c.args.self.now.sound
-    (element_at any_front _ _ _ c.requires.may_open.known c.index_mut-device.ensures.value) (id_of c.args.seat.now.number c.args.seat.now.mask) c.args.mask.bits c.args.seat.now.capacity (Ok c.in-Ok.waited) c.in-Ok.ensures.acts
+    told_remask (driver_of (λ b. (g.dyn-1.0.entry b.vtable).1.driver b.value)) c.args.self.now.context.items c.args.self.now.described.items
+    c.args.self.now.triggers.items c.args.self.now.devices.items c.args.self.now.clock c.args.dev c.index_mut-device.result.now c.remask.new.self
+    c.args.self.now.sound
+    (element_at any_front _ _ _ c.requires.may_open.known c.index_mut-device.ensures.value) (id_of c.args.seat.now.number c.args.seat.now.mask) c.args.mask.bits
+    c.args.seat.now.capacity (Ok c.in-Ok.waited) c.in-Ok.ensures.acts
 
 pub remask-requires-clause-input : goal.remask-requires-clause-input
 remask-requires-clause-input g c =
-    ap is_input (sym (kind_is any_front c.args.self.now.context.items c.args.self.now.described.items c.args.self.now.devices.items c.args.dev c.index_mut-device.result.now (element_at any_front _ _ _ c.requires.may_open.known c.index_mut-device.ensures.value)))
+    ap is_input (sym (kind_is any_front c.args.self.now.context.items c.args.self.now.described.items c.args.self.now.devices.items c.args.dev
+    c.index_mut-device.result.now (element_at any_front _ _ _ c.requires.may_open.known c.index_mut-device.ensures.value)))
     ∙ c.requires.input

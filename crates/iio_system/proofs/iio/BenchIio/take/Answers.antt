@@ -11,13 +11,16 @@ use Rattle.iio_system.proofs.iio.BenchIio.take.Goals as goal
 pub take-requires-clause-size : goal.take-requires-clause-size
 take-requires-clause-size g c =
     c.requires.size ∙ c.requires.owned.sized
-    ∙ size_is any_front c.args.self.now.context.items c.args.self.now.described.items c.args.self.now.devices.items c.args.dev c.index_mut.result.now (element_at any_front _ _ _ c.requires.dev c.index_mut.ensures.value) c.args.seat.now.mask.bits
+    ∙ size_is any_front c.args.self.now.context.items c.args.self.now.described.items c.args.self.now.devices.items c.args.dev c.index_mut.result.now
+    (element_at any_front _ _ _ c.requires.dev c.index_mut.ensures.value) c.args.seat.now.mask.bits
 
 pub invariant_of-self : goal.invariant_of-self
 invariant_of-self g c =
     let at = (element_at any_front _ _ _ c.requires.dev c.index_mut.ensures.value) in
     record {
-      sound = sound_take (driver_of (λ b. (g.dyn-1.0.entry b.vtable).1.driver b.value)) _ _ _ _ _ c.take.new.self c.args.self.now.sound at (id_of c.args.seat.now.number c.args.seat.now.mask) c.take.result c.take.new.out c.take.ensures.takes;
+      sound =
+          sound_take (driver_of (λ b. (g.dyn-1.0.entry b.vtable).1.driver b.value)) _ _ _ _ _ c.take.new.self c.args.self.now.sound at
+          (id_of c.args.seat.now.number c.args.seat.now.mask) c.take.result c.take.new.out c.take.ensures.takes;
       numbered = numbered_after _ _ _ _ _ c.args.self.now.numbered at c.take.ensures.keeps.head.number;
     }
 
@@ -26,9 +29,12 @@ returns-clause-kept g c = device_keeps _ _ _ _ _ _ _ (element_at any_front _ _ _
 
 pub returns-clause-told : goal.returns-clause-told
 returns-clause-told g c =
-    told_take (any_station (driver_of (λ b. (g.dyn-1.0.entry b.vtable).1.driver b.value))) c.args.self.now.clock c.args.self.now.devices.items c.args.dev c.index_mut.result.now c.take.new.self (element_at any_front _ _ _ c.requires.dev c.index_mut.ensures.value) (id_of c.args.seat.now.number c.args.seat.now.mask) c.take.result c.take.new.out c.take.ensures.takes
+    told_take (any_station (driver_of (λ b. (g.dyn-1.0.entry b.vtable).1.driver b.value))) c.args.self.now.clock c.args.self.now.devices.items c.args.dev
+    c.index_mut.result.now c.take.new.self (element_at any_front _ _ _ c.requires.dev c.index_mut.ensures.value)
+    (id_of c.args.seat.now.number c.args.seat.now.mask) c.take.result c.take.new.out c.take.ensures.takes
 
 pub take-requires-clause-read : goal.take-requires-clause-read
 take-requires-clause-read g c =
-    ap is_output (sym (kind_is any_front c.args.self.now.context.items c.args.self.now.described.items c.args.self.now.devices.items c.args.dev c.index_mut.result.now (element_at any_front _ _ _ c.requires.dev c.index_mut.ensures.value)))
+    ap is_output (sym (kind_is any_front c.args.self.now.context.items c.args.self.now.described.items c.args.self.now.devices.items c.args.dev
+    c.index_mut.result.now (element_at any_front _ _ _ c.requires.dev c.index_mut.ensures.value)))
     ∙ c.requires.read

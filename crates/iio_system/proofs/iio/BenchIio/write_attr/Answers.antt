@@ -30,6 +30,7 @@ write_attr-requires g c =
     let at = element_at any_front _ _ _ c.requires.dev c.index_mut.ensures.value in
     let kind = kind_is any_front c.args.self.now.context.items c.args.self.now.described.items _ _ _ at in
     let w =
-    is_written _ c.args.dev c.args.channel c.args.attr c.args.value (any_front c.index_mut.result.now) kind (shape_is any_front c.args.self.now.context.items c.args.self.now.described.items _ _ _ at) c.requires.may_write
+    is_written _ c.args.dev c.args.channel c.args.attr c.args.value (any_front c.index_mut.result.now) kind
+    (shape_is any_front c.args.self.now.context.items c.args.self.now.described.items _ _ _ at) c.requires.may_write
     (ap is_average (sym kind) ∙ no_average c.args.self.now.context.items c.args.self.now.described.items c.args.self.now.devices.items c.args.dev) in
     record { input = w.0; channel = w.1 }

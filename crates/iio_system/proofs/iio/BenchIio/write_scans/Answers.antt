@@ -10,14 +10,17 @@ use Rattle.iio_system.proofs.iio.BenchIio.write_scans.Goals as goal
 
 pub write-requires : goal.write-requires
 write-requires g c =
-    ap is_output (sym (kind_is any_front c.args.self.now.context.items c.args.self.now.described.items c.args.self.now.devices.items c.args.dev c.index_mut.result.now (element_at any_front _ _ _ c.requires.dev c.index_mut.ensures.value)))
+    ap is_output (sym (kind_is any_front c.args.self.now.context.items c.args.self.now.described.items c.args.self.now.devices.items c.args.dev
+    c.index_mut.result.now (element_at any_front _ _ _ c.requires.dev c.index_mut.ensures.value)))
     ∙ c.requires.written
 
 pub invariant_of-self : goal.invariant_of-self
 invariant_of-self g c =
     let at = element_at any_front _ _ _ c.requires.dev c.index_mut.ensures.value in
     record {
-      sound = sound_writes (driver_of (λ b. (g.dyn-1.0.entry b.vtable).1.driver b.value)) _ _ _ _ _ c.write.new.self c.args.self.now.sound at _ (id_of c.args.seat.now.number c.args.seat.now.mask) c.args.bytes.now c.write.result c.write.ensures.acts;
+      sound =
+          sound_writes (driver_of (λ b. (g.dyn-1.0.entry b.vtable).1.driver b.value)) _ _ _ _ _ c.write.new.self c.args.self.now.sound at _
+          (id_of c.args.seat.now.number c.args.seat.now.mask) c.args.bytes.now c.write.result c.write.ensures.acts;
       numbered = numbered_after _ _ _ _ _ c.args.self.now.numbered at c.write.ensures.keeps.head.number;
     }
 
@@ -27,5 +30,6 @@ returns-clause-kept g c = device_keeps _ _ _ _ _ _ _ (element_at any_front _ _ _
 pub returns-clause-told : goal.returns-clause-told
 returns-clause-told g c =
     let at = element_at any_front _ _ _ c.requires.dev c.index_mut.ensures.value in
-    told_written any_front c.args.self.now.context.items c.args.self.now.described.items c.args.self.now.devices.items c.args.dev c.index_mut.result.now at (any_station (driver_of (λ b. (g.dyn-1.0.entry b.vtable).1.driver b.value))) c.args.self.now.clock c.write.new.self
+    told_written any_front c.args.self.now.context.items c.args.self.now.described.items c.args.self.now.devices.items c.args.dev c.index_mut.result.now at
+    (any_station (driver_of (λ b. (g.dyn-1.0.entry b.vtable).1.driver b.value))) c.args.self.now.clock c.write.new.self
     (id_of c.args.seat.now.number c.args.seat.now.mask) c.args.bytes.now c.write.result c.write.ensures.acts

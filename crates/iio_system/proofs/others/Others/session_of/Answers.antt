@@ -9,4 +9,5 @@ returns-in-None c = lent_nowhere seen_of c.args.name.now (connections_of c.args.
 
 pub returns-in-Some : goal.returns-in-Some
 returns-in-Some c =
-    lent_found seen_of c.args.name.now (connections_of c.args.self.now) c.in-Some.connection c.as_ref.result c.named.result c.in-Some.is c.named.ensures c.as_ref.ensures.value
+    lent_found seen_of c.args.name.now (connections_of c.args.self.now) c.in-Some.connection c.as_ref.result c.named.result c.in-Some.is c.named.ensures
+    c.as_ref.ensures.value

@@ -7,11 +7,14 @@ use Rattle.iio_system.proofs.system.System.step.Goals as goal
 pub invariant_of-self : goal.invariant_of-self
 invariant_of-self g c = record {
   owned = c.perform.ensures.owned;
-  counted = counted_more c.args.step.now c.args.self.now.used c.cost_of.result (captures_of c.args.self.now.bench) (captures_of c.perform.new.bench) c.cost_of.ensures c.perform.ensures.captures c.args.self.now.counted;
+  counted =
+      counted_more c.args.step.now c.args.self.now.used c.cost_of.result (captures_of c.args.self.now.bench) (captures_of c.perform.new.bench) c.cost_of.ensures
+      c.perform.ensures.captures c.args.self.now.counted;
   few = c.perform.ensures.few;
 }
 
 pub returns-clause-lines : goal.returns-clause-lines
 returns-clause-lines g c =
-    steps_ok (driver_of (λ b. (g.dyn-1.0.entry b.vtable).1.driver b.value)) c.args.self.now _ c.args.step.now c.args.out.now.items c.perform.new.out.items c.perform.result c.requires.few
+    steps_ok (driver_of (λ b. (g.dyn-1.0.entry b.vtable).1.driver b.value)) c.args.self.now _ c.args.step.now c.args.out.now.items c.perform.new.out.items
+    c.perform.result c.requires.few
     (ap (λ (n : ℕ). c.args.self.now.used + n) c.cost_of.ensures) c.perform.ensures.makes

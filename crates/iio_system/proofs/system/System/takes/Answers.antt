@@ -14,4 +14,5 @@ pub returns-else-len-lt-MAX_NAMES : goal.returns-else-len-lt-MAX_NAMES
 returns-else-len-lt-MAX_NAMES g c =
     let many : c.len.result ≡ length c.args.self.now.connections.items = search rules in
     c.is_some.ensures
-    ∙ sym (room_full c.args.name.now c.args.self.now.connections.items c.place.result (rw c.deref.ensures.value at c.place.ensures) (subst (λ (n : ℕ). max_names ≤ n) many c.if-len-lt-MAX_NAMES.false))
+    ∙ sym (room_full c.args.name.now c.args.self.now.connections.items c.place.result (rw c.deref.ensures.value at c.place.ensures)
+    (subst (λ (n : ℕ). max_names ≤ n) many c.if-len-lt-MAX_NAMES.false))

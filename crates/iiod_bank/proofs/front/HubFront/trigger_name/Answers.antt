@@ -6,7 +6,8 @@ use Rattle.iiod_bank.proofs.front.HubFront.trigger_name.Goals as goal
 
 pub returns-then-at-len : goal.returns-then-at-len
 returns-then-at-len c =
-    c.bytes.ensures.value ∙ name_there (front_of c.args.self.now) c.args.trigger c.index.result.now (slice_get_read _ c.len.result _ _ (c.len.ensures ∙ c.args.self.now.triggers.ok.0) c.if-at-len.true c.index.ensures)
+    c.bytes.ensures.value ∙ name_there (front_of c.args.self.now) c.args.trigger c.index.result.now
+    (slice_get_read _ c.len.result _ _ (c.len.ensures ∙ c.args.self.now.triggers.ok.0) c.if-at-len.true c.index.ensures)
 
 pub returns-else-at-len : goal.returns-else-at-len
 returns-else-at-len c = name_past (front_of c.args.self.now) c.args.trigger c.len.result (c.len.ensures ∙ c.args.self.now.triggers.ok.0) c.if-at-len.false

@@ -7,7 +7,8 @@ use Rattle.iiod_bank.proofs.unplug.UnplugJobDeviceJob.paired.Given as goal
 
 abbrev pub invariant-loop-member : goal.invariant-loop-member
 invariant-loop-member g l =
-    IsEmptying ghosts.lost (lent_by (driver_of (λ p. (g.dyn-1.0.entry p.vtable).1.driver p.value)) l.initial.device) l.initial.trigger (lent_by (driver_of (λ p. (g.dyn-1.0.entry p.vtable).1.driver p.value)) l.device) l.trigger
+    IsEmptying ghosts.lost (lent_by (driver_of (λ p. (g.dyn-1.0.entry p.vtable).1.driver p.value)) l.initial.device) l.initial.trigger
+    (lent_by (driver_of (λ p. (g.dyn-1.0.entry p.vtable).1.driver p.value)) l.device) l.trigger
 
 abbrev pub decreases-loop-member : goal.decreases-loop-member
 decreases-loop-member g l = length l.device.core.roster.members.items

@@ -11,13 +11,15 @@ pub returns-in-Mask-clause-after : goal.returns-in-Mask-clause-after
 returns-in-Mask-clause-after c =
     let a = c.self.inside in
     subst (λ (x : AnswerRecord). AfterLine x c.after_mask.result) c.self.view_is
-    (is_mask_line a.place (asked_of a) c.in-Mask.n a.line.items c.as_slice.result.now a.body.items c.after_mask.result c.in-Mask.is c.as_slice.ensures.value (c.after_mask.ensures a.asked a.size))
+    (is_mask_line a.place (asked_of a) c.in-Mask.n a.line.items c.as_slice.result.now a.body.items c.after_mask.result c.in-Mask.is c.as_slice.ensures.value
+    (c.after_mask.ensures a.asked a.size))
 
 pub returns-in-Mask-clause-sound : goal.returns-in-Mask-clause-sound
 returns-in-Mask-clause-sound c =
     let a = c.self.inside in
     subst (λ (x : AnswerRecord). IsSoundPlace c.after_mask.result x.asked [] x.body) c.self.view_is
-    (sound_mask_line a.place (asked_of a) c.in-Mask.n c.as_slice.result.now a.line.items a.body.items c.after_mask.result c.in-Mask.is c.self.invariant.place (c.after_mask.ensures a.asked a.size))
+    (sound_mask_line a.place (asked_of a) c.in-Mask.n c.as_slice.result.now a.line.items a.body.items c.after_mask.result c.in-Mask.is c.self.invariant.place
+    (c.after_mask.ensures a.asked a.size))
 
 pub returns : goal.returns
 returns c =
@@ -27,7 +29,9 @@ returns c =
     let line = subst (λ (x : AnswerRecord). (missing : ℕ) → x.place ≡ Data missing → ⊥) (sym c.self.view_is) c.requires.line in
     record {
       after = subst (λ (x : AnswerRecord). AfterLine x c.after_length.result) c.self.view_is
-          (is_length_line a.place (asked_of a) a.line.items c.as_slice-2.result.now a.body.items c.deref.result.now c.after_length.result more line c.in_default.not-Mask c.as_slice-2.ensures.value c.deref.ensures.value after);
+          (is_length_line a.place (asked_of a) a.line.items c.as_slice-2.result.now a.body.items c.deref.result.now c.after_length.result more line
+          c.in_default.not-Mask c.as_slice-2.ensures.value c.deref.ensures.value after);
       sound = subst (λ (x : AnswerRecord). IsSoundPlace c.after_length.result x.asked [] x.body) c.self.view_is
-          (subst (λ xs. IsSoundPlace c.after_length.result (asked_of a) [] xs) c.deref.ensures.value (sound_length (asked_of a) c.as_slice-2.result.now c.deref.result.now c.after_length.result after));
+          (subst (λ xs. IsSoundPlace c.after_length.result (asked_of a) [] xs) c.deref.ensures.value
+          (sound_length (asked_of a) c.as_slice-2.result.now c.deref.result.now c.after_length.result after));
     }

@@ -16,4 +16,5 @@ returns-clause-stands c text s =
     let line = subst (λ (x : AnswerRecord). (missing : ℕ) → x.place ≡ Data missing → ⊥) back c.requires.line in
     let stands = subst (λ (x : AnswerRecord). Stands x text) back s in
     subst (λ (xs : List ℕ). StandsAt p (asked_of a) xs a.body.items (text ++ 10 ∷ [])) (sym c.clear.ensures)
-    (line_end a.place (asked_of a) a.line.items a.body.items text p more line stands (subst (λ (x : AnswerRecord). AfterLine x p) back c.after_line-self-inside.ensures.after))
+    (line_end a.place (asked_of a) a.line.items a.body.items text p more line stands
+    (subst (λ (x : AnswerRecord). AfterLine x p) back c.after_line-self-inside.ensures.after))

@@ -17,6 +17,8 @@ loop-taken-preserved c =
           let part = take (length bytes - done) (drop done bytes) in
           let few : n ≤ length bytes - done = omega (arith, c.take-taken.ensures.within, length-take {A = ℕ}) in
           subst (λ xs. Stands c.take-taken.new.self xs)
-          (append_assoc text (take done bytes) (take n part) ∙ ap (λ xs. text ++ (take done bytes ++ xs)) (take-take n (length bytes - done) (drop done bytes) few) ∙ ap (λ xs. text ++ xs) (sym (take-add done n bytes)))
+          (append_assoc text (take done bytes) (take n part)
+          ∙ ap (λ xs. text ++ (take done bytes ++ xs)) (take-take n (length bytes - done) (drop done bytes) few)
+          ∙ ap (λ xs. text ++ xs) (sym (take-add done n bytes)))
           (c.take-taken.ensures.stands (text ++ take done bytes) (c.loop-taken.invariant.stands text s));
     }

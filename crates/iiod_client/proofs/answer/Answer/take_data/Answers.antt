@@ -19,7 +19,9 @@ invariant_of-self c =
       some = c.self.invariant.some;
       few = c.self.invariant.few;
       size = c.self.invariant.size;
-      place = subst (λ xs. IsSoundPlace c.after_bytes-self-inside.result (asked_of a) a.line.items xs) c.deref.ensures.value (sound_bytes (asked_of a) _ a.line.items c.deref.result.now c.after_bytes-self-inside.result sound.2 after);
+      place =
+          subst (λ xs. IsSoundPlace c.after_bytes-self-inside.result (asked_of a) a.line.items xs) c.deref.ensures.value
+          (sound_bytes (asked_of a) _ a.line.items c.deref.result.now c.after_bytes-self-inside.result sound.2 after);
     }
 
 pub returns-clause-stands : goal.returns-clause-stands

@@ -40,7 +40,8 @@ begun_at begun text marks end kept some is ones =
       len = ones ∙ ap (trailing_ones w64) marked ∙ end_at begun few;
     }
 
-begun_of : (c : goal.After-rest-1) → Begun c.split_at.result.1.now c.self.inside.text.now c.self.inside.marks (trailing_zeros w64 c.self.inside.marks) c.trailing_ones-len.result
+begun_of : (c : goal.After-rest-1)
+    → Begun c.split_at.result.1.now c.self.inside.text.now c.self.inside.marks (trailing_zeros w64 c.self.inside.marks) c.trailing_ones-len.result
 begun_of c = begun_at _ _ _ _ c.self.invariant (omega (arith, c.if-self-eq0.false)) c.split_at.ensures.back c.trailing_ones-len.ensures
 
 pub split_at-requires-2 : goal.split_at-requires-2
@@ -57,7 +58,8 @@ found_at : (c : goal.After-rest-1) → IsFirstWord is_blank c.self.inside.text.n
 found_at c =
     let begun = begun_of c in
     first_word_is is_blank c.self.inside.text.now c.split_at.result.1.now _ _ begun.is begun.some
-    (c.split_at-2.ensures.front ∙ ap (λ k. take k c.split_at.result.1.now) begun.len) (c.split_at-2.ensures.back ∙ ap (λ k. drop k c.split_at.result.1.now) begun.len)
+    (c.split_at-2.ensures.front ∙ ap (λ k. take k c.split_at.result.1.now) begun.len)
+    (c.split_at-2.ensures.back ∙ ap (λ k. drop k c.split_at.result.1.now) begun.len)
 
 pub returns-clause-none : goal.returns-clause-none
 returns-clause-none c = let found = sym c.self.view_is ∙ (found_at c).words in (λ e. absurd (cc e), λ e. absurd (cc (found, e)))

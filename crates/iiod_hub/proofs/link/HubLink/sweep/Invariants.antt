@@ -7,4 +7,5 @@ use Rattle.iiod_hub.proofs.link.HubLink.sweep.Given as goal
 abbrev pub invariant-loop-dev : goal.invariant-loop-dev
 invariant-loop-dev g l = (g.B.Bank.front l.self.bank ≡ g.B.Bank.front l.initial.self.bank)
     × (l.dev ≤ l.dev-end)
-    × Moves (g.B.Bank.told l.initial.self.bank) (g.B.Bank.told l.self.bank) (λ b c. Swept ghosts.taken ghosts.lost ghosts.size ghosts.capacity ghosts.offer_gives l.trigger l.dev b c)
+    × Moves (g.B.Bank.told l.initial.self.bank) (g.B.Bank.told l.self.bank)
+    (λ b c. Swept ghosts.taken ghosts.lost ghosts.size ghosts.capacity ghosts.offer_gives l.trigger l.dev b c)

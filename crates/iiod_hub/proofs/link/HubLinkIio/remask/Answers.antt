@@ -8,7 +8,8 @@ use Rattle.iiod_hub.proofs.link.HubLinkIio.remask.Goals as goal
 
 pub returns-in-Ok-clause-bank : goal.returns-in-Ok-clause-bank
 returns-in-Ok-clause-bank g c =
-    remasks ghosts.taken ghosts.lost ghosts.size ghosts.capacity _ _ (g.B.Bank.front c.args.self.now.bank) c.args.dev c.new-work.result.member.number c.args.mask c.new-work.result.mask c.new-work.result.capacity c.new-work.result.size
+    remasks ghosts.taken ghosts.lost ghosts.size ghosts.capacity _ _ (g.B.Bank.front c.args.self.now.bank) c.args.dev c.new-work.result.member.number
+    c.args.mask c.new-work.result.mask c.new-work.result.capacity c.new-work.result.size
     c.args.seat.now c.begin_anew.new.self (Ok c.in-Ok.field-0) (Ok c.begin_anew.result)
     (ap (λ (m : Member). m.number) c.new-work.ensures.0) c.new-work.ensures.1 c.new-work.ensures.2
     (c.new-work.ensures.3 ∙ c.scan_size-size.ensures.value ∙ ap (λ (s : ShapeRecord). scan_size s c.args.mask.bits) c.shape.ensures)

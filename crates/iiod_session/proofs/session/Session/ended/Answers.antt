@@ -11,5 +11,6 @@ returns-in-Ended g c = (
 pub returns-in_default : goal.returns-in_default
 returns-in_default g c = (
   λ t. cc,
-  λ e. absurd (not_ended c.self.inside.lines c.self.inside.pending c.self.inside.left.items c.self.inside.going c.self.invariant c.in_default.not-Ended (ap (λ s. s.stream) c.self.view_is ∙ e)),
+  λ e. absurd (not_ended c.self.inside.lines c.self.inside.pending c.self.inside.left.items c.self.inside.going c.self.invariant c.in_default.not-Ended
+      (ap (λ s. s.stream) c.self.view_is ∙ e)),
 )

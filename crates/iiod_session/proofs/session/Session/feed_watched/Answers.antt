@@ -10,7 +10,8 @@ use Rattle.iiod_session.proofs.session.Session.feed_watched.Goals as goal
 
 pub returns-in-Ok-clause-feeds : goal.returns-in-Ok-clause-feeds
 returns-in-Ok-clause-feeds g c =
-    rw (← c.self.view_is) (feeds_given c.self.inside.manner _ _ _ _ _ _ _ c.in-Ok.going (seated g.I.Iio.seen _ c.self.inside.desk (rw (← c.self.view_is) at c.requires))
+    rw (← c.self.view_is) (feeds_given c.self.inside.manner _ _ _ _ _ _ _ c.in-Ok.going
+    (seated g.I.Iio.seen _ c.self.inside.desk (rw (← c.self.view_is) at c.requires))
     (carries_of c.self.inside.manner _ _ _ _ _ _ _ c.in-Ok.going c.in-Ok.ensures.hears))
 
 pub returns-in-Ok-clause-script : goal.returns-in-Ok-clause-script
