@@ -116,11 +116,24 @@ fn are_types_of(types: &[ScanType; MAX_CHANNELS], shape: &Shape) -> bool
     ensures { IsTrue result → take (length shape.now.channels) types.now ≡ map (λ channel. channel.ty) shape.now.channels }
 {
     for c in 0..shape.inputs() {
-        if types[c as usize] != *shape.data_type(c) {
+        if !is_same(&types[c as usize], shape.data_type(c)) {
             return false;
         }
     }
     true
+}
+
+// Whether two types are the same, without a branch for each of their parts: each capture asks this of each channel.
+#[inline]
+fn is_same(a: &ScanType, b: &ScanType) -> bool
+    ensures { IsTrue result → a.now ≡ b.now }
+{
+    (a.realbits() == b.realbits())
+        & (a.storagebits() == b.storagebits())
+        & (a.shift() == b.shift())
+        & (a.repeat() == b.repeat())
+        & (a.sign() == b.sign())
+        & (a.endian() == b.endian())
 }
 
 // Copies the types of the shape's data channels.
