@@ -181,7 +181,7 @@ module _ (s : Setup) (m : Told) (name : List ℕ) (desk : DeskRecord) (device te
       own = same_is (Conn name) y.member.who (seat_name (Conn name) st.seats y is)
 
       tell : TellSame (Conn name) y st.seats
-      tell = tells s m (Conn name) k st y bench at is
+      tell = tells s m name k st y bench at is
 
       abbrev others : List ℕ
       others = map mask_of_member (without_members (y.member.who ∷ []) (map member_of_seat st.seats))

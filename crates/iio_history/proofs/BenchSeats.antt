@@ -1,12 +1,12 @@
 -- Seats by the name of their connection are members by number.
-use Rattle.std.proofs.Common.{◌≡◌, ℕ, suc, ◌/◌, ◌≤◌, ◌<◌, ◌==◌, ◌||◌, ◌&&◌, not, Bool, true, false, List, [], ◌∷◌, ◌++◌, map, take, drop, find, is_some, Option, Some, None, option_map, cond, refl, sym, ap, ◌∙◌, subst, arith}
+use Rattle.std.proofs.Common.{◌≡◌, ℕ, suc, ◌/◌, ◌≤◌, ◌<◌, ◌==◌, ◌||◌, ◌&&◌, not, Bool, true, false, List, [], ◌∷◌, ◌++◌, map, take, drop, find, is_none, is_some, Option, Some, None, option_map, cond, refl, sym, ap, ◌∙◌, subst, arith}
 use Rattle.std.proofs.lemmas.Bool.Decides.{nat_tests}
 use Rattle.iio_layout.specs.Shape.{ShapeRecord}
 use Rattle.iio_layout.specs.Layout.{scan_size}
 use Rattle.iio_device.specs.declared.totals.Totals.{Totals}
 use Rattle.iio_device.specs.Site.{is_empty}
 use Rattle.iio_device.specs.Totals.{with_left, with_lost}
-use Rattle.iiod_session.specs.Machine.{Member as MachineMember, MemberId, is_id_of, lost_by, masks_of, member_in, scans_in, with_scans, without}
+use Rattle.iiod_session.specs.Machine.{Member as MachineMember, MemberId, is_id_of, is_seat_of, lost_by, masks_of, member_in, scans_in, with_scans, without}
 use Rattle.iio_history.specs.Who.{Who, same, is_among}
 use Rattle.iio_history.specs.Registry.{is_member, mask_of_member}
 use Rattle.iio_history.specs.Queue.{taken_from}
@@ -14,20 +14,32 @@ use Rattle.iio_history.specs.Told.{Seat, member_of_seat, scans_given, with_gone}
 use Rattle.iio_history.specs.Machine.{read_seat, without_seats}
 use Rattle.iio_history.specs.Reply.{seat_of}
 use Rattle.iio_history.specs.Law.{AreApart}
-use Rattle.iio_history.specs.Bench.{Every, NumbersRise, numbered}
+use Rattle.iio_history.specs.Bench.{Every, NumbersRise, inner_of, numbered}
 use Rattle.iio_history.proofs.WhoLaws.{either, same_is, same_sym}
 use Rattle.iio_history.proofs.BenchLists.{itself}
+
+-- a connection's seat: an inner member has none
+abbrev pub IsSeats : Who → Type 0
+IsSeats who = is_none (inner_of who) ≡ true
 
 -- of these seats the one of the name is the one of the number, and it is this one
 abbrev pub TellSame : Who → Seat → List Seat → Type 0
 TellSame who y [] = Unit {0}
-TellSame who y (x ∷ xs) = (same who x.member.who ≡ (x.number == y.number)) × (same who x.member.who ≡ true → x ≡ y) × TellSame who y xs
+TellSame who y (x ∷ xs) = (same who x.member.who ≡ is_seat_of y.number (numbered x)) × (same who x.member.who ≡ true → x ≡ y) × TellSame who y xs
 
 above : (n number : ℕ) → n < number → (number == n) ≡ false
 above n number h = grind (arith, nat_tests)
 
 apart_number : (n number : ℕ) → suc n ≤ number → (n == number) ≡ false
 apart_number n number h = grind (arith, nat_tests)
+
+-- one of another number is of no seat of this one
+no_seat : (x : Seat) (number : ℕ) → (x.number == number) ≡ false → is_seat_of number (numbered x) ≡ false
+no_seat x number other = ap (λ (b : Bool). is_none (inner_of x.member.who) && b) other ∙ by (is_none (inner_of x.member.who))
+  where
+    by : (b : Bool) → (b && false) ≡ false
+    by true = refl
+    by false = refl
 
 -- after the one of the number there is none of its name and none of its number
 behind : (who : Who) (y : Seat) (low high : ℕ) (xs : List Seat) → y.number < low → is_member who (map member_of_seat xs) ≡ false → NumbersRise low high xs
@@ -37,7 +49,7 @@ behind who y low high (x ∷ xs) below absent rising =
     let parts = either (same who x.member.who) (is_member who (map member_of_seat xs)) absent in
     let more : y.number < x.number = omega (arith, rising.0) in
     let other : same who x.member.who ≡ false = parts.0 in
-    (other ∙ sym (above y.number x.number more), λ own. cc, behind who y (suc x.number) high xs (omega (arith, more)) parts.1 rising.1)
+    (other ∙ sym (no_seat x y.number (above y.number x.number more)), λ own. cc, behind who y (suc x.number) high xs (omega (arith, more)) parts.1 rising.1)
 
 -- a seat that is found has a number from `low` on
 found_above : (who : Who) (low high : ℕ) (xs : List Seat) (y : Seat) → NumbersRise low high xs → seat_of who xs ≡ Some y → low ≤ y.number
@@ -48,12 +60,12 @@ found_above who low high (x ∷ xs) y rising is = by_who (same who x.member.who)
     by_who true h rest = let one : x ≡ y = cc in subst (λ (z : Seat). low ≤ z.number) one rising.0
     by_who false h rest = let more = rest h in omega (arith, more, rising.0)
 
-pub tell_same : (who : Who) (low high : ℕ) (xs : List Seat) (y : Seat) → AreApart (map member_of_seat xs) → NumbersRise low high xs → seat_of who xs ≡ Some y
-    → TellSame who y xs
-tell_same who low high [] y apart rising is = tt
-tell_same who low high (x ∷ xs) y apart rising is =
+pub tell_same : (who : Who) (low high : ℕ) (xs : List Seat) (y : Seat) → IsSeats who → AreApart (map member_of_seat xs) → NumbersRise low high xs
+    → seat_of who xs ≡ Some y → TellSame who y xs
+tell_same who low high [] y seats apart rising is = tt
+tell_same who low high (x ∷ xs) y seats apart rising is =
     by_who (same who x.member.who) refl is
-    (λ h. tell_same who (suc x.number) high xs y apart.1 rising.1 h)
+    (λ h. tell_same who (suc x.number) high xs y seats apart.1 rising.1 h)
     (λ h. found_above who (suc x.number) high xs y rising.1 h)
   where
     by_who : (b : Bool) → same who x.member.who ≡ b → cond b (Some x) (seat_of who xs) ≡ Some y
@@ -63,9 +75,13 @@ tell_same who low high (x ∷ xs) y apart rising is =
         let one : x ≡ y = cc in
         let name : x.member.who ≡ who = sym (same_is who x.member.who own) in
         let absent : is_member who (map member_of_seat xs) ≡ false = subst (λ (w : Who). is_member w (map member_of_seat xs) ≡ false) name apart.0 in
-        subst (λ (z : Seat). TellSame who z (x ∷ xs)) one
-        (own ∙ sym (itself x.number), λ is. refl, behind who x (suc x.number) high xs (omega arith) absent rising.1)
-    by_who false other h rest more = (other ∙ sym (apart_number x.number y.number (more h)), λ own. cc, rest h)
+        subst (λ (z : Seat). TellSame who z (x ∷ xs)) one (
+          own ∙ sym (ap (λ (w : Who). is_none (inner_of w) && (x.number == x.number)) name ∙ ap (λ (b : Bool). b && (x.number == x.number)) seats
+              ∙ itself x.number),
+          λ is. refl,
+          behind who x (suc x.number) high xs (omega arith) absent rising.1,
+        )
+    by_who false other h rest more = (other ∙ sym (no_seat x y.number (apart_number x.number y.number (more h))), λ own. cc, rest h)
 
 -- ---- the seat of a connection, or none
 
@@ -88,11 +104,9 @@ member_seat who (x ∷ xs) = is_some_by (same who x.member.who) x (seat_of who x
 abbrev pub id_of_seat : Seat → MemberId
 id_of_seat x = record { number = x.number; mask = x.member.mask }
 
-own_id : (x : Seat) → true ≡ is_id_of (id_of_seat x) (numbered x)
-own_id x = sym (ap (λ (b : Bool). b && (x.member.mask == x.member.mask)) (itself x.number) ∙ itself x.member.mask)
-
-pub tell_id : (own : Bool) (x y : Seat) → own ≡ (x.number == y.number) → (own ≡ true → x ≡ y) → own ≡ is_id_of (id_of_seat y) (numbered x)
-tell_id true x y tell one = subst (λ (z : Seat). true ≡ is_id_of (id_of_seat z) (numbered x)) (one refl) (own_id x)
+pub tell_id : (own : Bool) (x y : Seat) → own ≡ is_seat_of y.number (numbered x) → (own ≡ true → x ≡ y) → own ≡ is_id_of (id_of_seat y) (numbered x)
+tell_id true x y tell one =
+    sym (itself x.member.mask) ∙ ap (λ (z : Seat). x.member.mask == z.member.mask) (one refl) ∙ ap (λ (b : Bool). b && (x.member.mask == y.member.mask)) tell
 tell_id false x y tell one = ap (λ (b : Bool). b && (x.member.mask == y.member.mask)) tell
 
 scans_by : (a b : Bool) (x y : Seat) (found : Option Seat) (more : List (List ℕ)) → a ≡ b → (a ≡ true → x ≡ y) → cond a (Some x) found ≡ Some y
@@ -144,7 +158,7 @@ left_by false false x rest members p is = ap (λ (ms : List MachineMember). numb
 pub left_same : (who : Who) (y : Seat) (xs : List Seat) → TellSame who y xs → map numbered (without_seats (who ∷ []) xs) ≡ without y.number (map numbered xs)
 left_same who y [] tell = refl
 left_same who y (x ∷ xs) tell =
-    left_by (is_among x.member.who (who ∷ [])) (x.number == y.number) x (without_seats (who ∷ []) xs) (without y.number (map numbered xs))
+    left_by (is_among x.member.who (who ∷ [])) (is_seat_of y.number (numbered x)) x (without_seats (who ∷ []) xs) (without y.number (map numbered xs))
     (among_one who x.member.who ∙ tell.0) (left_same who y xs tell.2)
 
 left_none_by : (a b : Bool) (x : Seat) (found : Option Seat) (rest xs : List Seat) → a ≡ b → cond b (Some x) found ≡ None → (found ≡ None → rest ≡ xs)
@@ -201,12 +215,11 @@ pub lost_same : (who : Who) (y : Seat) (xs : List Seat) (t : Totals) → AreApar
 lost_same who y [] t apart tell is = cc
 lost_same who y (x ∷ xs) t apart tell is =
     ap (λ (a : Bool). with_gone (who ∷ []) xs (cond a (with_lost x.queue.lost t) t)) (among_one who x.member.who)
-    ∙ lost_with (same who x.member.who) (x.number == y.number) who x y (seat_of who xs) xs (lost_by y.number (map numbered xs)) t tell.0 is
+    ∙ lost_with (same who x.member.who) (is_seat_of y.number (numbered x)) who x y (seat_of who xs) xs (lost_by y.number (map numbered xs)) t tell.0 is
     (λ own. gone_none who xs (with_lost x.queue.lost t)
     (absent_seat who xs (subst (λ (w : Who). is_member w (map member_of_seat xs) ≡ false) (sym (same_is who x.member.who own)) apart.0)))
     (lost_same who y xs t apart.1 tell.2)
-    ∙ ap (λ (o : Option ℕ). with_left o t)
-    (sym (lost_found (x.number == y.number) (numbered x) (find (λ (z : MachineMember). z.number == y.number) (map numbered xs))))
+    ∙ ap (λ (o : Option ℕ). with_left o t) (sym (lost_found (is_seat_of y.number (numbered x)) (numbered x) (find (is_seat_of y.number) (map numbered xs))))
 
 -- ---- a member takes scans
 

@@ -37,7 +37,7 @@ use Rattle.iio_desc.specs.Kind.{Kind, Input, is_input, is_over}
 use Rattle.iio_derive.specs.Window.{Window, no_window}
 use Rattle.iio_history.proofs.BenchLists.{get_first}
 use Rattle.iiod_session.specs.Front.{Front, device_name, kind_at, shape_at}
-use Rattle.iiod_session.specs.Machine.{Machine, Member, Station, lost_by, masks_of as plain_masks, no_station, station_at, with_site, with_station, without}
+use Rattle.iiod_session.specs.Machine.{Machine, Member, Station, is_seat_of, lost_by, masks_of as plain_masks, no_station, station_at, with_site, with_station, without}
 use Rattle.iiod_session.specs.Opening.{errno_of, join_refusals}
 use Rattle.iio_history.specs.BenchMoves.{look_made}
 use Rattle.iio_history.specs.Devices.{Does, IsAt, IsJoined, IsRefused, held_errno, holder_errno, member_with, raw_value, station_of}
@@ -269,7 +269,7 @@ module _ {Q : Type 0} (lost capacity : Q → ℕ) (waits : Q → List (List ℕ)
   station d = station_of lost capacity waits d
 
   pub without_is : (n : ℕ) (ms : List (Membership Q)) → without n (map member ms) ≡ map member (without_of n ms)
-  without_is n ms = filter_map_is member (λ (m : Membership Q). not (m.number == n)) (λ (x : Member). not (x.number == n)) ms (λ m. refl)
+  without_is n ms = filter_map_is member (λ (m : Membership Q). not (m.number == n)) (λ (x : Member). not (is_seat_of n x)) ms (λ m. refl)
 
   -- what was lost of the member of that number
   pub lost_told : (n : ℕ) (ms : List (Membership Q))
@@ -278,7 +278,7 @@ module _ {Q : Type 0} (lost capacity : Q → ℕ) (waits : Q → List (List ℕ)
   lost_told n (m ∷ ms) = by (m.number == n) (lost_told n ms)
     where
       by : (b : Bool) → lost_by n (map member ms) ≡ option_map lost (option_map (λ (m : Membership Q). m.tail) (membership_of n ms))
-          → option_map (λ (x : Member). x.lost) (cond b (Some (member m)) (find (λ (x : Member). x.number == n) (map member ms)))
+          → option_map (λ (x : Member). x.lost) (cond b (Some (member m)) (find (is_seat_of n) (map member ms)))
           ≡ option_map lost (option_map (λ (m : Membership Q). m.tail) (cond b (Some m) (membership_of n ms)))
       by true h = refl
       by false h = h

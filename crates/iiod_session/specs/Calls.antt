@@ -24,7 +24,7 @@ use Rattle.iio_device.specs.Site.{is_empty, attached, sampled, site_written, wit
 use Rattle.iio_device.specs.Stored.{attr_value}
 use Rattle.iio_device.specs.Totals.{with_left, with_lost}
 use Rattle.iiod_session.specs.Front.{Front, kind_at, shape_at, size_at, device_name, place_count}
-use Rattle.iiod_session.specs.Machine.{Member, MemberId, Station, Machine, queue_of, station_at, with_station, with_site, lost_by, masks_of, member_in, is_id_of, without}
+use Rattle.iiod_session.specs.Machine.{Member, MemberId, Station, Machine, queue_of, station_at, with_station, with_site, lost_by, masks_of, member_in, is_id_of, is_seat_of, without}
 use Rattle.iiod_session.specs.Opening.{join_refusals}
 
 -- an answer, and what stands then
@@ -171,7 +171,7 @@ remask_refusals shape st id mask =
 
 -- the member of that number under another mask: a queue for `capacity` scans begins anew, and the others stay
 abbrev pub with_mask : (number mask capacity : ℕ) → Member → Member
-with_mask number mask capacity x = if x.number == number then record x { mask = mask; capacity = capacity; scans = []; lost = 0 } else x
+with_mask number mask capacity x = if is_seat_of number x then record x { mask = mask; capacity = capacity; scans = []; lost = 0 } else x
 
 -- a device with it; what its old queue lost is counted
 abbrev pub remasked : (number mask capacity : ℕ) → Station → Station
