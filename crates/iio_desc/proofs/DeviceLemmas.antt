@@ -1,5 +1,5 @@
 -- A device that has no further line, among those before it.
-use Rattle.std.proofs.Common.{◌≡◌, ℕ, ◌+◌, ◌<◌, ◌&&◌, Bool, true, false, not, nat_lt, List, [], ◌∷◌, ◌++◌, length, get_or, AllPairs, Option, Some, None, sum_by, zero-add, ap, subst, sym, refl, ◌∙◌, ltb-true, append-nil}
+use Rattle.std.proofs.Common.{◌≡◌, ℕ, ◌+◌, ◌<◌, ◌≤◌, ◌&&◌, Bool, true, false, not, nat_lt, List, [], ◌∷◌, ◌++◌, length, get_or, AllPairs, Option, Some, None, sum_by, ap, subst, sym, refl, arith, ◌∙◌, ltb-true, length-append, append-nil}
 use Rattle.std.proofs.lemmas.List.Quantifiers.{all_pairs_push}
 use Rattle.std.proofs.lemmas.List.Sums.{sum_by-append}
 use Rattle.std.specs.List.{list_any}
@@ -7,14 +7,15 @@ use Rattle.std.specs.Option.{option_map_or}
 use Rattle.std.specs.Prelude.{All, IfSome}
 use Rattle.std.proofs.lemmas.List.Elements.{All-head, All-push}
 use Rattle.iio_layout.specs.Rows.{IsRecording}
-use Rattle.iio_desc.specs.Description.{DeviceRecord, OutputRecord}
+use Rattle.iio_desc.specs.Description.{AverageRecord, DeviceRecord, OutputRecord}
 use Rattle.iio_desc.specs.DeviceLines.{drives, is_free}
 use Rattle.iio_layout.specs.declared.channel.Direction.{Direction}
 use Rattle.iio_layout.specs.declared.channel.Direction.TheVariants.{Input, Output}
-use Rattle.iio_desc.specs.PartialDesc.{device_by, output_by}
+use Rattle.iio_desc.specs.PartialDesc.{device_by, devices_of, is_current_whole, output_by, outputs_of}
 use Rattle.iio_desc.specs.PartialDevice.{PartialDevice, device_of, output_of}
+use Rattle.iio_desc.specs.declared.limits.TheConstants.{MAX_ROWS}
 use Rattle.iio_desc.specs.View.{FitsCurrent}
-use Rattle.iio_desc.specs.WellFormed.{IsWellFormedDevice, IsWellFormedOutput, IsWrite, share_driver}
+use Rattle.iio_desc.specs.WellFormed.{IsWellFormedAverage, IsWellFormedDevice, IsWellFormedOutput, IsWrite, share_driver}
 use Rattle.iio_desc.proofs.ListLemmas.{none_at}
 
 both : (a b : Bool) → (a && b) ≡ true → (a ≡ true) × (b ≡ true)
@@ -98,3 +99,51 @@ module _ (triggers drivers earlier : ℕ) (devices : List DeviceRecord) (s : Par
   outputs_push Input outputs sound fits some = rw (append-nil outputs) sound
   outputs_push Output outputs sound fits some =
       All-push (IsWellFormedOutput triggers) outputs (output_of s) sound (record { some = some; unstamped = refl; unlisted = refl; attached = fits.attached })
+
+-- ---- the device before, if any
+
+module _ (triggers drivers earlier : ℕ) (devices : List DeviceRecord) where
+  pub sound_with : (before : Option PartialDevice) → All (IsWellFormedDevice triggers drivers) devices
+      → IfSome before (FitsCurrent triggers drivers earlier devices)
+      → is_current_whole before ≡ true → All (λ (d : DeviceRecord). IsRecording d.rows) (devices_of before)
+      → All (λ (d : DeviceRecord). All (IsWrite (length d.shape.channels)) d.attrs) (devices_of before)
+      → All (IsWellFormedDevice triggers drivers) (devices ++ devices_of before)
+  sound_with None sound fits whole recording writes = rw (append-nil devices) sound
+  sound_with (Some s) sound fits whole recording writes =
+      sound_push triggers drivers earlier devices s s.direction sound fits (ltb-true _ _ whole) recording writes
+
+  pub apart_with : (before : Option PartialDevice) → AllPairs (λ a b. share_driver a b ≡ false) devices
+      → IfSome before (FitsCurrent triggers drivers earlier devices)
+      → AllPairs (λ a b. share_driver a b ≡ false) (devices ++ devices_of before)
+  apart_with None apart fits = rw (append-nil devices) apart
+  apart_with (Some s) apart fits = apart_push triggers drivers earlier devices s s.direction apart fits
+
+  pub outputs_with : (before : Option PartialDevice) (outputs : List OutputRecord) → All (IsWellFormedOutput triggers) outputs
+      → IfSome before (FitsCurrent triggers drivers earlier devices)
+      → is_current_whole before ≡ true → All (IsWellFormedOutput triggers) (outputs ++ outputs_of before)
+  outputs_with None outputs sound fits whole = rw (append-nil outputs) sound
+  outputs_with (Some s) outputs sound fits whole = outputs_push triggers drivers earlier devices s s.direction outputs sound fits (ltb-true _ _ whole)
+
+  pub rows_with : (before : Option PartialDevice) → earlier ≤ MAX_ROWS → IfSome before (FitsCurrent triggers drivers earlier devices)
+      → earlier + option_map_or (λ (s : PartialDevice). length s.moments) before 0 ≤ MAX_ROWS
+  rows_with None few fits = omega (arith, few)
+  rows_with (Some s) few fits = fits.rows
+
+pub count_with : (devices : List DeviceRecord) (before : Option PartialDevice)
+    → sum_by (λ (d : DeviceRecord). length d.rows.moments) (devices ++ devices_of before)
+    ≡ sum_by (λ (d : DeviceRecord). length d.rows.moments) devices + sum_by (λ (d : DeviceRecord). length d.rows.moments) (devices_of before)
+count_with devices before = sum_by-append (λ (d : DeviceRecord). length d.rows.moments) devices (devices_of before)
+
+-- ---- averaging devices
+
+-- they stay well formed with devices more
+averages_over : (fewer more : ℕ) (averages : List AverageRecord) → fewer ≤ more → All (IsWellFormedAverage fewer) averages
+    → All (IsWellFormedAverage more) averages
+averages_over fewer more averages grow sound k x within =
+    let s : IsWellFormedAverage fewer (get_or averages k x) = sound k x within in
+    record { over = omega (arith, grow, s.over); some = s.some; bounded = s.bounded }
+
+pub averages_with : (devices others : List DeviceRecord) (averages : List AverageRecord) → All (IsWellFormedAverage (length devices)) averages
+    → All (IsWellFormedAverage (length (devices ++ others))) averages
+averages_with devices others averages sound =
+    averages_over (length devices) (length (devices ++ others)) averages (omega (arith, length-append devices others)) sound

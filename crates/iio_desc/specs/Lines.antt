@@ -6,7 +6,7 @@ use Rattle.std.specs.Str.{bytes_eq}
 use Rattle.iio_base.specs.Refusals.{ensure, ◌>>=◌, ◌>>◌}
 use Rattle.iio_text.specs.declared.refusals.Why.{Why}
 use Rattle.iio_text.specs.declared.refusals.Why.TheVariants as why
-use Rattle.iio_text.specs.Words.{words_of, is_space, two_of, from_word}
+use Rattle.iio_text.specs.Words.{words_of, is_space, two_of, three_of, from_word}
 use Rattle.iio_text.specs.Lines.{words_of_line}
 use Rattle.iio_text.specs.Numbers.{int_of}
 use Rattle.iio_text.specs.Escape.{quoted_of}
@@ -14,10 +14,10 @@ use Rattle.iio_attr.specs.Name.{is_name}
 use Rattle.iio_layout.specs.declared.channel.Direction.{Direction}
 use Rattle.iio_layout.specs.declared.channel.Direction.TheVariants as direction
 use Rattle.iio_desc.specs.declared.keywords.Keyword.{Keyword}
-use Rattle.iio_desc.specs.declared.keywords.Keyword.TheVariants.{Context, Trigger, Device, Output, Channel, Timestamp, Masks, Row, Driver, Attr}
+use Rattle.iio_desc.specs.declared.keywords.Keyword.TheVariants.{Context, Trigger, Device, Output, Average, Channel, Timestamp, Masks, Row, Driver, Attr}
 use Rattle.iio_trigger.specs.declared.limits.TheConstants.{MAX_PLACES}
-use Rattle.iio_desc.specs.declared.limits.TheConstants.{MAX_TRIGGERS, MAX_DEVICES}
-use Rattle.iio_desc.specs.Description.{Description, trigger_number}
+use Rattle.iio_desc.specs.declared.limits.TheConstants.{MAX_TRIGGERS, MAX_DEVICES, MAX_WINDOW}
+use Rattle.iio_desc.specs.Description.{Description, input_number, trigger_number}
 use Rattle.iio_desc.specs.DeviceLines.{unless_dash, channel_line, stamp_line, masks_line, row_line, driver_line, attr_line}
 use Rattle.iio_desc.specs.PartialDevice.{PartialDevice, new_device}
 use Rattle.iio_desc.specs.PartialDesc.{PartialDesc, all_devices, all_outputs, device_count, earlier_rows, is_taken, is_current_whole}
@@ -59,6 +59,35 @@ device_line desc direction words = do
   ensure (nat_lt (device_count desc) MAX_DEVICES) why.Limit
   Ok (record desc { devices = all_devices desc; outputs = all_outputs desc; current = Some (new_device direction name trigger) })
 
+-- how many captures make a mean
+abbrev pub window_within : ℤ → Option ℕ
+window_within (pos n) = if nat_le 2 n && nat_le n MAX_WINDOW then Some n else None
+window_within (negsuc n) = None
+
+abbrev pub window_of : List ℕ → Option ℕ
+window_of word = option_and_then (λ n. window_within n) (int_of word)
+
+-- one averaging device more; the device before has no further line, and no line of a device may follow
+abbrev pub with_average : PartialDesc → List ℕ → ℕ → ℕ → PartialDesc
+with_average desc name base window = record desc {
+  devices = all_devices desc;
+  outputs = all_outputs desc;
+  averages = desc.averages ++ (record { name = name; base = base; window = window }) ∷ [];
+  current = None;
+}
+
+-- `average NAME BASE W`, where BASE is the name of a `device` line above
+abbrev pub average_line : PartialDesc → List (List ℕ) → Result PartialDesc Why
+average_line desc words = do
+  ensure (is_current_whole desc.current) why.Order
+  (name, base, window) ← ok_or (three_of words) why.Count
+  ensure (is_name name) why.Name
+  ensure (not (is_taken desc name)) why.Taken
+  base ← ok_or (input_number (all_devices desc) base) why.Device
+  window ← ok_or (window_of window) why.Number
+  ensure (nat_lt (device_count desc) MAX_DEVICES) why.Limit
+  Ok (with_average desc name base window)
+
 -- a line of the device whose lines are being read
 abbrev pub part_line : PartialDesc → (PartialDevice → Result PartialDevice Why) → Result PartialDesc Why
 part_line desc line = do
@@ -72,7 +101,8 @@ part_line desc line = do
 abbrev pub keywords : List (List ℕ × Keyword)
 keywords =
     (codes "row", Row) ∷ (codes "channel", Channel) ∷ (codes "timestamp", Timestamp) ∷ (codes "masks", Masks) ∷ (codes "attr", Attr)
-    ∷ (codes "driver", Driver) ∷ (codes "device", Device) ∷ (codes "output", Output) ∷ (codes "trigger", Trigger) ∷ (codes "context", Context) ∷ []
+    ∷ (codes "driver", Driver) ∷ (codes "device", Device) ∷ (codes "output", Output)
+    ∷ (codes "average", Average) ∷ (codes "trigger", Trigger) ∷ (codes "context", Context) ∷ []
 
 -- the line that a word begins, among some
 abbrev pub keyword_among : List (List ℕ × Keyword) → List ℕ → Option Keyword
@@ -88,6 +118,7 @@ keyword_line desc Context words text = context_line desc words text
 keyword_line desc Trigger words text = trigger_line desc words
 keyword_line desc Device words text = device_line desc direction.Input words
 keyword_line desc Output words text = device_line desc direction.Output words
+keyword_line desc Average words text = average_line desc words
 keyword_line desc Channel words text = part_line desc (λ device. channel_line device words)
 keyword_line desc Timestamp words text = part_line desc (λ device. stamp_line device words)
 keyword_line desc Masks words text = part_line desc (λ device. masks_line device words)
@@ -123,7 +154,13 @@ after_line desc line = do
 abbrev pub desc_of : PartialDesc → Result Description Why
 desc_of desc = do
   ensure (is_current_whole desc.current) why.Order
-  Ok (record { context = unwrap_or desc.context []; triggers = desc.triggers; devices = all_devices desc; outputs = all_outputs desc; averages = [] })
+  Ok (record {
+    context = unwrap_or desc.context [];
+    triggers = desc.triggers;
+    devices = all_devices desc;
+    outputs = all_outputs desc;
+    averages = desc.averages;
+  })
 
 -- whether a line ends the description: its first word is `%%`
 abbrev pub begins_end : List (List ℕ) → Bool

@@ -6,22 +6,23 @@ use Rattle.std.specs.Str.{bytes_eq}
 use Rattle.iio_desc.specs.declared.description.TriggerDesc.{TriggerDesc}
 use Rattle.iio_layout.specs.declared.channel.Direction.{Direction}
 use Rattle.iio_layout.specs.declared.channel.Direction.TheVariants.{Input, Output}
-use Rattle.iio_desc.specs.Description.{DeviceRecord, OutputRecord}
+use Rattle.iio_desc.specs.Description.{AverageRecord, DeviceRecord, OutputRecord}
 use Rattle.iio_desc.specs.PartialDevice.{PartialDevice, device_of, has_channels, output_of}
 
 -- how many drivers are handed in, the context, the triggers so far, the devices and the output devices that have no further
--- line, and the one whose lines are being read
+-- line, the averaging devices, which have none beside their own, and the device whose lines are being read
 pub record PartialDesc : Type 0 where
   pub drivers : ℕ
   pub context : Option (List ℕ)
   pub triggers : List TriggerDesc
   pub devices : List DeviceRecord
   pub outputs : List OutputRecord
+  pub averages : List AverageRecord
   pub current : Option PartialDevice
 
 -- before the first line
 abbrev pub new_desc : ℕ → PartialDesc
-new_desc drivers = record { drivers = drivers; context = None; triggers = []; devices = []; outputs = []; current = None }
+new_desc drivers = record { drivers = drivers; context = None; triggers = []; devices = []; outputs = []; averages = []; current = None }
 
 -- a device by the direction of its channels
 abbrev pub device_by : Direction → PartialDevice → List DeviceRecord
@@ -50,7 +51,7 @@ all_outputs desc = desc.outputs ++ outputs_of desc.current
 
 -- how many devices there are so far
 abbrev pub device_count : PartialDesc → ℕ
-device_count desc = length (all_devices desc) + length (all_outputs desc)
+device_count desc = length (all_devices desc) + length (all_outputs desc) + length desc.averages
 
 -- how many rows the devices have that have no further line
 abbrev pub earlier_rows : PartialDesc → ℕ
@@ -65,6 +66,7 @@ is_taken desc name =
     list_any (λ t. bytes_eq t.name name) desc.triggers
     || list_any (λ d. bytes_eq d.name name) desc.devices
     || list_any (λ (x : OutputRecord). bytes_eq x.name name) desc.outputs
+    || list_any (λ (x : AverageRecord). bytes_eq x.name name) desc.averages
     || is_current_named desc.current name
 
 -- whether the device whose lines are being read, if any, has a channel

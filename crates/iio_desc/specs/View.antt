@@ -11,7 +11,7 @@ use Rattle.iio_desc.specs.Description.{DeviceRecord}
 use Rattle.iio_desc.specs.DeviceLines.{is_free}
 use Rattle.iio_desc.specs.PartialDesc.{PartialDesc, device_count, earlier_rows}
 use Rattle.iio_desc.specs.PartialDevice.{PartialDevice, row_width}
-use Rattle.iio_desc.specs.WellFormed.{HasPlaces, IsWrite, IsWellFormedDevice, IsWellFormedOutput, share_driver}
+use Rattle.iio_desc.specs.WellFormed.{HasPlaces, IsWrite, IsWellFormedAverage, IsWellFormedDevice, IsWellFormedOutput, share_driver}
 
 abbrev pub partial_device : DeviceInside → PartialDevice
 partial_device b = record {
@@ -46,6 +46,7 @@ partial_desc b = record {
   triggers = b.triggers.items;
   devices = b.devices.items;
   outputs = b.outputs.items;
+  averages = b.averages.items;
   current = b.current;
 }
 
@@ -63,6 +64,7 @@ pub record IsSound (b : Inside) : Type 0 where
   pub devices : device_count (partial_desc b) ≤ MAX_DEVICES
   pub sound : All (IsWellFormedDevice (length b.triggers.items) b.drivers) b.devices.items
   pub outputs : All (IsWellFormedOutput (length b.triggers.items)) b.outputs.items
+  pub averages : All (IsWellFormedAverage (length b.devices.items)) b.averages.items
   pub apart : AllPairs (λ v u. share_driver v u ≡ false) b.devices.items
   pub earlier : b.earlier ≡ earlier_rows (partial_desc b)
   pub rows : b.earlier ≤ MAX_ROWS

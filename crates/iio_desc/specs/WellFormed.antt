@@ -57,5 +57,3 @@ pub record IsWellFormed (drivers : ℕ) (desc : Description) : Type 0 where
   pub apart : AllPairs (λ a b. share_driver a b ≡ false) desc.devices
   pub outputs : All (IsWellFormedOutput (length desc.triggers)) desc.outputs
   pub averages : All (IsWellFormedAverage (length desc.devices)) desc.averages
-  -- no line makes an averaging device yet
-  pub unaveraged : desc.averages ≡ []

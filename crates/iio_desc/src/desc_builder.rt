@@ -1,31 +1,33 @@
 //! The lines of a description, by what they say.
 
-ghost use Rattle.std.specs.Prelude.{◌≡◌, ◌+◌, ◌<◌, ◌≤◌, ◌++◌, length, vec_capacity, sum_by, All, Some, Ok, IfSome, IfOk, IfErr, OnOk, OnErr, true};
+ghost use Rattle.std.specs.Prelude.{◌≡◌, ◌+◌, ◌<◌, ◌≤◌, ◌++◌, length, vec_capacity, sum_by, option_map, All, Some, None, Ok, IfSome, IfOk, IfErr, OnOk, OnErr, true};
 ghost use Rattle.std.specs.List.{list_any};
-ghost use Rattle.std.specs.Option.{ok_or};
+ghost use Rattle.std.specs.Option.{ok_or, option_map_or};
 ghost use Rattle.std.specs.Str.{bytes_eq};
 ghost use Rattle.iio_text.specs.Escape.{quoted_of};
 ghost use Rattle.iio_text.specs.LineFault.{Tells, Gives, Becomes};
 ghost use Rattle.iio_text.specs.Words.{words_of, is_space, from_word};
 ghost use Rattle.iio_trigger.specs.declared.limits.TheConstants.{MAX_PLACES};
 ghost use Rattle.iio_desc.specs.declared.limits.TheConstants.{MAX_ROWS};
-ghost use Rattle.iio_desc.specs.Description.{trigger_number};
+ghost use Rattle.iio_desc.specs.Description.{input_number, trigger_number};
 ghost use Rattle.iio_desc.specs.DeviceLines.{unless_dash, channel_line, stamp_line, masks_line, row_line, driver_line, attr_line};
-ghost use Rattle.iio_desc.specs.Lines.{after_line, context_line, desc_at_end, desc_of, device_line, keyword_line, part_line, places_of, trigger_line};
+ghost use Rattle.iio_desc.specs.Lines.{after_line, average_line, context_line, desc_at_end, desc_of, device_line, keyword_line, part_line, places_of, trigger_line, window_of, with_average};
 ghost use Rattle.iio_desc.specs.PartialDesc.{all_devices, all_outputs, device_count, devices_of, earlier_rows, is_current_named, is_current_whole, is_taken, new_desc, outputs_of};
 ghost use Rattle.iio_desc.specs.PartialDevice.{has_channels, new_device};
 ghost use Rattle.iio_desc.specs.WellFormed.{IsWellFormed, IsWrite};
 ghost use Rattle.iio_layout.specs.Rows.{IsRecording};
 
-use crate::description::{Desc, DeviceDesc, OutDesc, TriggerDesc, trigger_number};
+use crate::description::{
+    AverageDesc, Desc, DeviceDesc, OutDesc, TriggerDesc, device_number, trigger_number,
+};
 use crate::device_builder::DeviceBuilder;
 use crate::keywords::Keyword;
-use crate::limits::{MAX_DEVICES, MAX_TRIGGERS};
+use crate::limits::{MAX_DEVICES, MAX_TRIGGERS, MAX_WINDOW};
 use iio_attr::Name;
 use iio_layout::Direction;
 use iio_text::{
     LineFault, Unescape, Why, between_quotes, count_words, ensure, first_word, from_word, read_int,
-    two_words, unescape,
+    three_words, two_words, unescape,
 };
 use iio_trigger::MAX_PLACES;
 use std::alloc::{AllocError, Global};
@@ -44,6 +46,7 @@ pub(crate) struct DescBuilder {
     // How many rows those devices have.
     earlier: usize,
     outputs: Vec<OutDesc>,
+    averages: Vec<AverageDesc>,
     current: Option<DeviceBuilder>,
 }
 
@@ -95,6 +98,18 @@ fn has_output(outputs: &[OutDesc], name: &[u8]) -> bool
     outputs.iter().any(|d| is_output_named(d, name))
 }
 
+fn is_average_named(device: &AverageDesc, name: &[u8]) -> bool
+    ensures { result ≡ bytes_eq device.now.name name.now }
+{
+    device.name.is(name)
+}
+
+fn has_average(averages: &[AverageDesc], name: &[u8]) -> bool
+    ensures { result ≡ list_any (λ d. bytes_eq d.name name.now) averages.now }
+{
+    averages.iter().any(|d| is_average_named(d, name))
+}
+
 fn is_current_named(current: &Option<DeviceBuilder>, name: &[u8]) -> bool
     ensures { result ≡ is_current_named current.now name.now }
 {
@@ -122,6 +137,46 @@ fn read_places(word: &[u8]) -> Option<u8>
     match read_int(word) {
         Some(places @ 1..=0xff) if places as usize <= MAX_PLACES => Some(places as u8),
         _ => None,
+    }
+}
+
+// How many captures make a mean.
+fn read_window(word: &[u8]) -> Option<u32>
+    ensures value { result ≡ window_of word.now }
+    ensures within { IfSome result (λ window. (2 ≤ window) × (window ≤ MAX_WINDOW)) }
+{
+    match read_int(word) {
+        Some(window @ 2..=0xffff_ffff) if window as u32 <= MAX_WINDOW => Some(window as u32),
+        _ => None,
+    }
+}
+
+// The number that the device whose lines are being read gets after `before` others, where it has that name and is no output
+// device.
+fn current_number(current: &Option<DeviceBuilder>, before: usize, name: &[u8]) -> Option<usize>
+    ensures value { result ≡ option_map (λ n. before + n) (input_number (devices_of current.now) name.now) }
+    ensures within { IfSome result (λ number. number < before + length (devices_of current.now)) }
+{
+    match current {
+        Some(device) if device.direction() == Direction::Input && device.is_named(name) => {
+            Some(before)
+        }
+        _ => None,
+    }
+}
+
+// The number of the device that an averaging device names: of a `device` line above.
+fn read_base(devices: &[DeviceDesc], current: &Option<DeviceBuilder>, name: &[u8]) -> Option<u32>
+    requires { length devices.now ≤ MAX_DEVICES }
+    ensures value { result ≡ input_number (devices.now ++ devices_of current.now) name.now }
+    ensures within { IfSome result (λ base. base < length (devices.now ++ devices_of current.now)) }
+{
+    if let Some(number) = device_number(devices, name) {
+        return Some(number as u32);
+    }
+    match current_number(current, devices.len(), name) {
+        None => None,
+        Some(number) => Some(number as u32),
     }
 }
 
@@ -185,6 +240,33 @@ fn put(
     }
 }
 
+// The same for the device whose lines were read before, if any. The result is how many rows it has.
+fn put_before(
+    alloc: Global,
+    devices: &mut Vec<DeviceDesc>,
+    outputs: &mut Vec<OutDesc>,
+    before: Option<DeviceBuilder>,
+) -> usize
+    requires whole { is_current_whole before ≡ true }
+    requires room { length devices.old.items < vec_capacity devices.old }
+    requires room_of_outputs { length outputs.old.items < vec_capacity outputs.old }
+    ensures devices { devices.new.items ≡ devices.old.items ++ devices_of before }
+    ensures outputs { outputs.new.items ≡ outputs.old.items ++ outputs_of before }
+    ensures recording { All (λ d. IsRecording d.rows) (devices_of before) }
+    ensures writes { All (λ d. All (IsWrite (length d.shape.channels)) d.attrs) (devices_of before) }
+    ensures rows { result ≡ sum_by (λ d. length d.rows.moments) (devices_of before) }
+    ensures within { result ≤ option_map_or (λ device. length device.moments) before 0 }
+{
+    match before {
+        None => 0,
+        Some(device) => {
+            let rows = rows_of(&device);
+            put(alloc, devices, outputs, device);
+            rows
+        }
+    }
+}
+
 impl DescBuilder {
     /// Before the first line, with `drivers` handed-in drivers.
     pub(crate) fn new(alloc: Global, drivers: u32) -> DescBuilder
@@ -198,6 +280,7 @@ impl DescBuilder {
             devices: Vec::new(alloc),
             earlier: 0,
             outputs: Vec::new(alloc),
+            averages: Vec::new(alloc),
             current: None,
         }
     }
@@ -209,6 +292,7 @@ impl DescBuilder {
         has_trigger(self.triggers.as_slice(), name)
             || has_device(self.devices.as_slice(), name)
             || has_output(self.outputs.as_slice(), name)
+            || has_average(self.averages.as_slice(), name)
             || is_current_named(&self.current, name)
     }
 
@@ -232,7 +316,8 @@ impl DescBuilder {
     pub(crate) fn device_count(&self) -> usize
         ensures { result ≡ device_count self.now }
     {
-        self.devices.len() + self.outputs.len() + usize::from(self.current.is_some())
+        let whole = self.devices.len() + self.outputs.len() + self.averages.len();
+        whole + usize::from(self.current.is_some())
     }
 
     // `context "TEXT"`
@@ -279,10 +364,7 @@ impl DescBuilder {
         self.outputs.reserve(1)?;
         let next = DeviceBuilder::new(self.alloc, direction, name, trigger);
         let before = mem::replace(&mut self.current, Some(next));
-        if let Some(device) = before {
-            self.earlier += rows_of(&device);
-            put(self.alloc, &mut self.devices, &mut self.outputs, device);
-        }
+        self.earlier += put_before(self.alloc, &mut self.devices, &mut self.outputs, before);
         Ok(())
     }
 
@@ -298,6 +380,42 @@ impl DescBuilder {
         let trigger = read_trigger(self.triggers.as_slice(), trigger).ok_or(Why::Trigger)?;
         ensure(self.device_count() < MAX_DEVICES, Why::Limit)?;
         self.begin_device(direction, name, trigger)?;
+        Ok(())
+    }
+
+    // One averaging device more, where there may be one more.
+    fn add_average(&mut self, name: Name, base: u32, window: u32) -> Result<(), AllocError>
+        requires whole { is_current_whole self.old.current ≡ true }
+        requires over { base < length (all_devices self.old) }
+        requires some { 2 ≤ window }
+        requires bounded { window ≤ MAX_WINDOW }
+        requires few { device_count self.old < MAX_DEVICES }
+        ensures ok { OnOk result (self.new ≡ with_average self.old name base window) }
+        ensures kept { OnErr result (self.new ≡ self.old) }
+    {
+        self.devices.reserve(1)?;
+        self.outputs.reserve(1)?;
+        self.averages.reserve(1)?;
+        let before = mem::replace(&mut self.current, None);
+        self.earlier += put_before(self.alloc, &mut self.devices, &mut self.outputs, before);
+        self.averages
+            .push_reserved(AverageDesc { name, base, window });
+        Ok(())
+    }
+
+    // `average NAME BASE W`
+    fn average_line(&mut self, words: &[u8]) -> Result<(), LineFault>
+        ensures line { Becomes result self.old self.new (average_line self.old (words_of is_space words.now)) }
+        ensures drivers { self.new.drivers ≡ self.old.drivers }
+    {
+        ensure(is_current_whole(&self.current), Why::Order)?;
+        let (name, base, window) = three_words(words).ok_or(Why::Count)?;
+        let name = Name::new(name).ok_or(Why::Name)?;
+        ensure(!self.is_taken(name.bytes()), Why::Taken)?;
+        let base = read_base(self.devices.as_slice(), &self.current, base).ok_or(Why::Device)?;
+        let window = read_window(window).ok_or(Why::Number)?;
+        ensure(self.device_count() < MAX_DEVICES, Why::Limit)?;
+        self.add_average(name, base, window)?;
         Ok(())
     }
 
@@ -383,6 +501,7 @@ impl DescBuilder {
             Keyword::Driver => self.driver_line(words),
             Keyword::Device => self.device_line(Direction::Input, words),
             Keyword::Output => self.device_line(Direction::Output, words),
+            Keyword::Average => self.average_line(words),
             Keyword::Trigger => self.trigger_line(words),
             Keyword::Context => self.context_line(words),
         }
@@ -413,20 +532,19 @@ impl DescBuilder {
             mut devices,
             earlier: _,
             mut outputs,
+            averages,
             current,
         } = self;
         ensure(is_current_whole(&current), Why::Order)?;
-        if let Some(device) = current {
-            devices.reserve(1)?;
-            outputs.reserve(1)?;
-            put(alloc, &mut devices, &mut outputs, device);
-        }
+        devices.reserve(1)?;
+        outputs.reserve(1)?;
+        put_before(alloc, &mut devices, &mut outputs, current);
         Ok(Desc {
             context: context.unwrap_or(Vec::new(alloc)),
             triggers,
             devices,
             outputs,
-            averages: Vec::new(alloc),
+            averages,
         })
     }
 

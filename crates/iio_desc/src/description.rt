@@ -2,7 +2,7 @@
 
 ghost use Rattle.std.specs.Prelude.{◌≡◌, ◌≤◌, ◌<◌, IfSome, length, position};
 ghost use Rattle.std.specs.Str.{bytes_eq};
-ghost use Rattle.iio_desc.specs.Description.{trigger_number};
+ghost use Rattle.iio_desc.specs.Description.{input_number, trigger_number};
 
 use iio_attr::{Attr, Name, Value};
 use iio_layout::{Rows, Shape};
@@ -76,8 +76,7 @@ impl Model for AverageDesc {
 }
 
 /// A whole description, each kind of devices in the order of its lines. It has at most 16 triggers and 16 devices. Output
-/// devices have the numbers after all devices, and averaging devices those after these. No line makes an averaging
-/// device yet.
+/// devices have the numbers after all devices, and averaging devices those after these.
 #[derive(Debug, Drop)]
 pub struct Desc {
     pub context: Vec<u8>,
@@ -113,8 +112,9 @@ pub(crate) fn trigger_number(triggers: &[TriggerDesc], name: &[u8]) -> Option<us
     triggers.iter().position(|t| t.name.is(name))
 }
 
-fn device_number(devices: &[DeviceDesc], name: &[u8]) -> Option<usize>
-    ensures value { result ≡ position (λ d. bytes_eq d.name name.now) devices.now }
+/// The number of the `device` line of that name.
+pub(crate) fn device_number(devices: &[DeviceDesc], name: &[u8]) -> Option<usize>
+    ensures value { result ≡ input_number devices.now name.now }
     ensures within { IfSome result (λ number. number < length devices.now) }
 {
     devices.iter().position(|d| d.name.is(name))

@@ -14,6 +14,8 @@ pub enum Keyword {
     Device,
     /// `output NAME TRIGGER`
     Output,
+    /// `average NAME BASE W`
+    Average,
     /// `channel ID TYPE`
     Channel,
     /// `timestamp`, `timestamp be` or `timestamp le`
@@ -49,6 +51,8 @@ impl Keyword {
             Some(Keyword::Device)
         } else if word == b"output".as_slice() {
             Some(Keyword::Output)
+        } else if word == b"average".as_slice() {
+            Some(Keyword::Average)
         } else if word == b"trigger".as_slice() {
             Some(Keyword::Trigger)
         } else if word == b"context".as_slice() {

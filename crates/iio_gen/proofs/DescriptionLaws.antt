@@ -92,13 +92,13 @@ device formats stamp moments values = record {
 }
 
 abbrev pub so_far : ℕ → PartialDevice → PartialDesc
-so_far drivers d = record { drivers = drivers; context = None; triggers = t0 ∷ []; devices = []; outputs = []; current = Some d }
+so_far drivers d = record { drivers = drivers; context = None; triggers = t0 ∷ []; devices = []; outputs = []; averages = []; current = Some d }
 
 reads_device : (drivers : ℕ) → Reads drivers (codes "trigger t0 2\ndevice dev0 t0\n") (so_far drivers (device [] None [] []))
 reads_device drivers =
     reads_more drivers (codes "trigger t0 2\n") (codes "device dev0 t0") _ _
     (reads_more drivers [] (codes "trigger t0 2") (new_desc drivers)
-    (record { drivers = drivers; context = None; triggers = t0 ∷ []; devices = []; outputs = []; current = None })
+    (record { drivers = drivers; context = None; triggers = t0 ∷ []; devices = []; outputs = []; averages = []; current = None })
     (reads_none drivers) refl refl refl)
     refl refl refl
 

@@ -112,7 +112,7 @@ impl OwnBank {
     /// The bank of a description, before anything was done: no device has a member, each has the attributes that its
     /// description writes, no place at a trigger is taken, and the clock shows 0. A device of a driver's number samples the
     /// driver of that number, any other its recorded rows. Drivers that no device names are dropped. The names of output
-    /// devices are unknown.
+    /// devices and of averaging devices are unknown.
     pub fn new(
         alloc: Global,
         desc: Desc,

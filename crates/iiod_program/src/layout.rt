@@ -15,7 +15,7 @@ use iio_text::Why;
 use iiod_serve::read_description;
 use std::alloc::Global;
 
-// The layout of a device of a description; that of an output device isn't known.
+// The layout of a device of a description; that of an output device or of an averaging device isn't known.
 fn lay_out(
     alloc: Global,
     desc: &Desc,

@@ -5,7 +5,7 @@ ghost use Rattle.iio_desc.specs.DescReader.{line_count};
 
 use crate::tests::devices::ADC;
 use crate::tests::playing::{check_play, joined, push, push_many, push_numbered};
-use iio_desc::{DescFault, DescReader};
+use iio_desc::{Desc, DescFault, DescReader};
 use iio_text::Why;
 use std::alloc::Global;
 use std::test::Fail;
@@ -13,6 +13,8 @@ use std::test::Fail;
 const HEAD: &str = "trigger t0 8\ndevice adc0 t0\nchannel voltage0 le:u12/16>>4\n";
 
 const OUT: &str = "trigger t0 8\noutput dac0 t0\nchannel voltage0 le:u16/16>>0\n";
+
+const AVG: &str = "device adc0 -\nchannel voltage0 le:u12/16>>4\naverage avg0 adc0 2\n";
 
 /// Lines of a description after others, and how they are refused: for each line of the table, each of its checks in order.
 const REFUSED: &[(&str, &str, &str)] = &[
@@ -177,6 +179,47 @@ const REFUSED: &[(&str, &str, &str)] = &[
     (OUT, "attr\n", "refused 4 order\n"),
     ("output a -\n", "timestamp\n", "refused 2 order\n"),
     ("output a -\n", "%%\n", "refused 2 order\n"),
+    ("device a -\n", "average b\n", "refused 2 order\n"),
+    ("output a -\n", "average b\n", "refused 2 order\n"),
+    ("", "average\n", "refused 1 count\n"),
+    ("", "average _b a\n", "refused 1 count\n"),
+    ("", "average _b a 1 x\n", "refused 1 count\n"),
+    ("", "average _b a 1\n", "refused 1 name\n"),
+    (HEAD, "average t0 a 1\n", "refused 4 taken\n"),
+    (HEAD, "average adc0 a 1\n", "refused 4 taken\n"),
+    (OUT, "average dac0 a 1\n", "refused 4 taken\n"),
+    (AVG, "average avg0 a 1\n", "refused 4 taken\n"),
+    (AVG, "device avg0 t\n", "refused 4 taken\n"),
+    (AVG, "output avg0 t\n", "refused 4 taken\n"),
+    (AVG, "trigger avg0 9\n", "refused 4 taken\n"),
+    ("", "average b a 1\n", "refused 1 device\n"),
+    (HEAD, "average b t0 1\n", "refused 4 device\n"),
+    (HEAD, "average b b 1\n", "refused 4 device\n"),
+    (
+        HEAD,
+        "average b a 2\ndevice a -\nchannel temp le:s8/8\n",
+        "refused 4 device\n",
+    ),
+    (OUT, "average b dac0 1\n", "refused 4 device\n"),
+    (
+        OUT,
+        "device a -\nchannel temp le:s8/8\naverage b dac0 1\n",
+        "refused 6 device\n",
+    ),
+    (AVG, "average b avg0 1\n", "refused 4 device\n"),
+    (HEAD, "average b adc0 0\n", "refused 4 number\n"),
+    (HEAD, "average b adc0 1\n", "refused 4 number\n"),
+    (HEAD, "average b adc0 1001\n", "refused 4 number\n"),
+    (HEAD, "average b adc0 -2\n", "refused 4 number\n"),
+    (HEAD, "average b adc0 02\n", "refused 4 number\n"),
+    (HEAD, "average b adc0 4294967298\n", "refused 4 number\n"),
+    (AVG, "channel\n", "refused 4 order\n"),
+    (AVG, "timestamp x y\n", "refused 4 order\n"),
+    (AVG, "masks\n", "refused 4 order\n"),
+    (AVG, "row\n", "refused 4 order\n"),
+    (AVG, "driver\n", "refused 4 order\n"),
+    (AVG, "attr\n", "refused 4 order\n"),
+    (AVG, "%% x\n", "refused 4 count\n"),
     ("device a -\n", "%% x\n", "refused 2 order\n"),
     (HEAD, "%% x\n", "refused 4 count\n"),
     (HEAD, "%%\tx\n", "refused 4 text\n"),
@@ -259,6 +302,46 @@ const FULL: &[(&str, u32, &str, &str, &str, &str)] = &[
         " -\nchannel temp le:s8/8\n",
         "output d15 -\n",
         "refused 33 limit\n",
+    ),
+    (
+        "device a -\nchannel temp le:s8/8\n",
+        15,
+        "average m",
+        " a 2\n",
+        "",
+        "",
+    ),
+    (
+        "device a -\nchannel temp le:s8/8\n",
+        15,
+        "average m",
+        " a 2\n",
+        "average m15 a 1000\n",
+        "refused 18 limit\n",
+    ),
+    (
+        "device a -\nchannel temp le:s8/8\n",
+        15,
+        "average m",
+        " a 2\n",
+        "average m15 a 1001\n",
+        "refused 18 number\n",
+    ),
+    (
+        "device a -\nchannel temp le:s8/8\n",
+        15,
+        "average m",
+        " a 2\n",
+        "device d15 -\n",
+        "refused 18 limit\n",
+    ),
+    (
+        "device a -\nchannel temp le:s8/8\naverage m a 2\n",
+        14,
+        "output d",
+        " -\nchannel temp le:s8/8\n",
+        "average m15 a 2\n",
+        "refused 32 limit\n",
     ),
     ("output d -\n", 64, "channel voltage", " le:u8/8\n", "", ""),
     (
@@ -348,6 +431,45 @@ fn answer_to(reader: &mut DescReader, line: &[u8]) -> Result<(), DescFault>
     ensures { line_count reader.new ≤ line_count reader.old + 1 }
 {
     reader.line(line)
+}
+
+// Devices of each kind, between each other.
+fn described_by_each_kind(alloc: Global) -> Result<Desc, DescFault> {
+    let mut reader = DescReader::new(alloc, 0)?;
+    answer_to(&mut reader, b"device a -")?;
+    answer_to(&mut reader, b"channel voltage le:s8/8")?;
+    answer_to(&mut reader, b"average m a 2")?;
+    answer_to(&mut reader, b"output o -")?;
+    answer_to(&mut reader, b"channel temp le:s8/8")?;
+    answer_to(&mut reader, b"device b -")?;
+    answer_to(&mut reader, b"channel temp le:s8/8")?;
+    answer_to(&mut reader, b"average n b 1000")?;
+    reader.finish()
+}
+
+// The base of an averaging device, and how many captures make a mean.
+fn averaged(desc: &Desc, number: usize) -> Option<(u32, u32)> {
+    match desc.averages.get(number) {
+        None => None,
+        Some(average) => Some((average.base, average.window)),
+    }
+}
+
+// A device keeps its number whatever lines stand between; output devices come after all of them, and averaging devices last.
+#[test]
+fn devices_are_numbered_by_kind(rt: HostRuntime) -> Result<(), Fail> {
+    let desc = described_by_each_kind(rt.alloc())?;
+    let numbers = (
+        desc.find_device(b"a"),
+        desc.find_device(b"b"),
+        desc.find_device(b"o"),
+    );
+    assert_eq!(rt; numbers, (Some(0), Some(1), Some(2)));
+    let numbers = (desc.find_device(b"m"), desc.find_device(b"n"));
+    assert_eq!(rt; numbers, (Some(3), Some(4)));
+    assert_eq!(rt; averaged(&desc, 0), Some((0, 2)));
+    assert_eq!(rt; averaged(&desc, 1), Some((1, 1000)));
+    Ok(())
 }
 
 // The first fault of a description is the answer to each later line too.
