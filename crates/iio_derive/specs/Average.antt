@@ -6,7 +6,7 @@ use Rattle.iio_mask.specs.declared.Mask.{Mask}
 use Rattle.iio_layout.specs.Layout.{scan_size}
 use Rattle.iio_layout.specs.Shape.{ShapeRecord}
 use Rattle.iio_derive.specs.declared.members.Membership.{Membership}
-use Rattle.iio_derive.specs.Members.{ChangesOne, SeatOffered, Takes, member_at, member_count}
+use Rattle.iio_derive.specs.Members.{ChangesOne, SeatOffered, Takes, TakesScans, member_at, member_count}
 use Rattle.iio_derive.specs.Means.{IsWindowOf, mean_with}
 use Rattle.iio_derive.specs.Values.{moment_in, values_in}
 use Rattle.iio_derive.specs.Window.{Window, is_filled_by, means_of, no_window, sums_with, window_with}
@@ -75,6 +75,14 @@ TakesOf number None out out' old new = (is_some (member_at number old.seats) ≡
 TakesOf number (Some given) out out' old new =
     (is_some (member_at number old.seats) ≡ true)
     × Takes number given out out' old.seats new.seats
+    × (new ≡ record old { seats = new.seats })
+
+-- the member's oldest scans are taken; where there is no such member, nothing changes
+abbrev pub TakesScansOf : (number most : ℕ) → Option ℕ → (before after : List ℕ) → AverageRecord → AverageRecord → Type 0
+TakesScansOf number most None before after old new = (is_some (member_at number old.seats) ≡ false) × (new ≡ old) × (after ≡ before)
+TakesScansOf number most (Some count) before after old new =
+    (is_some (member_at number old.seats) ≡ true)
+    × TakesScans number most count before after old.seats new.seats
     × (new ≡ record old { seats = new.seats })
 
 -- one capture more, by the captures since the first member joined, the newest first: with the capture that fills a window the

@@ -2,7 +2,7 @@
 use Rattle.std.specs.Prelude.{◌≡◌, ◌≢◌, ℕ, List, Bool, Option, Some, None, count_by, is_some, slice_index_or, MatchBool, [], ℤ}
 use Rattle.iio_layout.specs.Scan.{scan_of}
 use Rattle.iio_layout.specs.Shape.{ShapeRecord}
-use Rattle.iio_kfifo.specs.Queue.{GivesFirst, Offers}
+use Rattle.iio_kfifo.specs.Queue.{GivesFirst, GivesScans, Offers}
 use Rattle.iio_kfifo.specs.declared.tail.Offered.{Offered}
 use Rattle.iio_derive.specs.declared.members.Membership.{Membership}
 
@@ -42,4 +42,15 @@ Drains given out out' (Some old) (Some new) =
 -- the oldest scan of the member of that number is moved out, and the others stay
 pub record Takes (number : ℕ) (given : Bool) (out out' : List ℕ) (old new : List (Option Membership)) : Type 0 where
   pub moved : Drains given out out' (member_at number old) (member_at number new)
+  pub others : (other : ℕ) → other ≢ number → member_at other new ≡ member_at other old
+
+-- the oldest scans of a member's queue, at most `most`, are moved after what stood before
+abbrev pub DrainsScans : (most count : ℕ) → (before after : List ℕ) → (old new : Option Membership) → Type 0
+DrainsScans most count before after None new = ⊥
+DrainsScans most count before after (Some old) None = ⊥
+DrainsScans most count before after (Some old) (Some new) = (new ≡ record old { queue = new.queue }) × GivesScans most count before after old.queue new.queue
+
+-- those of the member of that number are, and the others stay
+pub record TakesScans (number most count : ℕ) (before after : List ℕ) (old new : List (Option Membership)) : Type 0 where
+  pub moved : DrainsScans most count before after (member_at number old) (member_at number new)
   pub others : (other : ℕ) → other ≢ number → member_at other new ≡ member_at other old

@@ -1,19 +1,19 @@
 //! An averaging device.
 
-ghost use Rattle.std.specs.Prelude.{◌≡◌, ◌≢◌, ℕ, ℤ, ◌+◌, ◌*◌, ◌-◌, ◌^◌, ◌<◌, ◌≤◌, List, [], true, is_some, length, map, option_map, IfOk, IfSome, Some, None};
+ghost use Rattle.std.specs.Prelude.{◌≡◌, ◌≢◌, ℕ, ℤ, ◌+◌, ◌*◌, ◌-◌, ◌^◌, ◌<◌, ◌≤◌, List, [], true, is_some, length, map, option_map, IfOk, IfSome, Some, None, unwrap_or, vec_capacity};
 ghost use Rattle.iio_scan_type.specs.declared.TheConstants.{MAX_CHANNEL_SIZE};
 ghost use Rattle.iio_kfifo.specs.declared.limits.TheConstants.{MAX_BYTES};
 ghost use Rattle.iio_layout.specs.Active.{has_data};
 ghost use Rattle.iio_layout.specs.Layout.{scan_size};
 ghost use Rattle.iio_layout.specs.Shape.{count_of};
 ghost use Rattle.iio_derive.specs.declared.members.Membership.{Membership};
-ghost use Rattle.iio_derive.specs.Average.{Adds, Joins, Leaves, MeansOf, TakesOf, has_member, new_average};
+ghost use Rattle.iio_derive.specs.Average.{Adds, Joins, Leaves, MeansOf, TakesOf, TakesScansOf, has_member, new_average};
 ghost use Rattle.iio_derive.specs.Means.{IsWindowOf};
 ghost use Rattle.iio_derive.specs.Members.{member_at};
 ghost use Rattle.iio_derive.specs.Window.{full_mask};
 
 use crate::members::{
-    Membership, free_place, has_member, is_live, member_count, offer_all, take_at,
+    Membership, free_place, has_member, is_live, member_count, offer_all, take_at, take_scans_at,
 };
 use crate::reading::{places_of, read_moment, read_values};
 use crate::sums::{add_values, put_means};
@@ -177,6 +177,22 @@ impl Average {
             return None;
         }
         Some(take_at(&mut self.seats, number, out))
+    }
+
+    /// Moves up to `most` of the member's oldest scans after the bytes that stand in `out`, one after the other, and says how
+    /// many scans there were. `None` comes exactly where there is no such member, and then nothing changes. There is room in
+    /// `out` for the bytes of `most` scans.
+    pub fn take_scans(&mut self, member: u32, most: u32, out: &mut Vec<u8>) -> Option<u32>
+        requires { IfSome (member_at member self.old.seats) (λ m. length out.old.items + most * m.queue.size ≤ vec_capacity out.old) }
+        ensures takes { TakesScansOf member most result out.old.items out.new.items self.old self.new }
+        ensures sized { IfSome (member_at member self.old.seats) (λ m. length out.new.items ≡ length out.old.items + unwrap_or result 0 * m.queue.size) }
+        ensures room { vec_capacity out.old ≤ vec_capacity out.new }
+    {
+        let number = member as usize;
+        if !is_live(&self.seats, number) {
+            return None;
+        }
+        Some(take_scans_at(&mut self.seats, number, most, out))
     }
 
     /// How many scans wait for the member. `None` comes exactly where there is no such member.

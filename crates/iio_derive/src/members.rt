@@ -1,6 +1,6 @@
 //! The members of an averaging device.
 
-ghost use Rattle.std.specs.Prelude.{◌≡◌, ◌≢◌, ℕ, ◌+◌, ◌*◌, ◌-◌, ◌^◌, ◌<◌, ◌≤◌, length, is_some, IfSome, IsSome, Some, None, MatchBool, slice_set, slice_index_or};
+ghost use Rattle.std.specs.Prelude.{◌≡◌, ◌≢◌, ℕ, ◌+◌, ◌*◌, ◌-◌, ◌^◌, ◌<◌, ◌≤◌, length, is_some, IfSome, IsSome, Some, None, MatchBool, slice_set, slice_index_or, vec_capacity};
 ghost use Rattle.iio_kfifo.specs.Queue.{GivesFirst};
 ghost use Rattle.iio_layout.specs.Layout.{scan_size};
 ghost use Rattle.iio_layout.specs.Scan.{scan_of};
@@ -8,7 +8,7 @@ ghost use Rattle.iio_layout.specs.Shape.{count_of, width_of};
 ghost use Rattle.iio_derive.specs.declared.members.Membership.{Membership};
 ghost use Rattle.iio_scan_type.specs.declared.TheConstants.{MAX_CHANNEL_SIZE};
 ghost use Rattle.iio_derive.specs.Average.{has_member};
-ghost use Rattle.iio_derive.specs.Members.{SeatOffered, Takes, WasOffered, member_at, member_count};
+ghost use Rattle.iio_derive.specs.Members.{SeatOffered, Takes, TakesScans, WasOffered, member_at, member_count};
 ghost use Rattle.iio_derive.specs.View.{AreSized};
 ghost use Rattle.iio_derive.specs.Sized.{IsSized};
 
@@ -107,6 +107,27 @@ pub(crate) fn take_at(seats: &mut Vec<Option<Membership>>, at: usize, out: &mut 
 {
     match &mut seats[at] {
         Some(member) => member.queue.take(out),
+        None => unreachable!(),
+    }
+}
+
+/// Moves the oldest scans of the member at that place, at most `most`, after what stands in `out`, and says how many there
+/// were.
+pub(crate) fn take_scans_at(
+    seats: &mut Vec<Option<Membership>>,
+    at: usize,
+    most: u32,
+    out: &mut Vec<u8>,
+) -> u32
+    requires live { IsSome (member_at at seats.old.items) }
+    requires room { IfSome (member_at at seats.old.items) (λ m. length out.old.items + most * m.queue.size ≤ vec_capacity out.old) }
+    ensures taken { TakesScans at most result out.old.items out.new.items seats.old.items seats.new.items }
+    ensures same { length seats.new.items ≡ length seats.old.items }
+    ensures sized { IfSome (member_at at seats.old.items) (λ m. length out.new.items ≡ length out.old.items + result * m.queue.size) }
+    ensures room { vec_capacity out.old ≤ vec_capacity out.new }
+{
+    match &mut seats[at] {
+        Some(member) => member.queue.take_scans(most, out),
         None => unreachable!(),
     }
 }

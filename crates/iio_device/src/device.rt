@@ -173,6 +173,18 @@ impl Fitted<IioDev<Kfifo>> {
         taken
     }
 
+    /// As `take`, of a scan that is given to nobody: it doesn't count in the device's totals.
+    pub fn take_inside(&mut self, member: &Member, out: &mut [u8]) -> Option<bool>
+        requires { ⊤ }
+        ensures taken { Takes member.now.number result out.old out.new (view_of ⟦<Plug as Sensor>⟧.driver self.old.core self.old.plug).standing
+            (view_of ⟦<Plug as Sensor>⟧.driver self.new.core self.new.plug).standing }
+        ensures rest { view_of ⟦<Plug as Sensor>⟧.driver self.new.core self.new.plug
+            ≡ record (view_of ⟦<Plug as Sensor>⟧.driver self.old.core self.old.plug)
+            { standing = (view_of ⟦<Plug as Sensor>⟧.driver self.new.core self.new.plug).standing } }
+    {
+        self.core.roster.take(member.number, out)
+    }
+
     /// Moves up to `most` of the oldest scans of the member after the bytes that stand in `out`, one after the other, and says
     /// how many scans there were; they count in the device's totals. None exactly where the member isn't live under that mask,
     /// and then nothing changes. There is room in `out` for the bytes of `most` scans.

@@ -60,7 +60,7 @@ fn add_bytes(total: &mut Sum, bytes: &[u8])
 
 impl Totals {
     /// Nothing yet.
-    pub(crate) fn new() -> Totals
+    pub fn new() -> Totals
         ensures { result ≡ no_totals }
     {
         Totals {
@@ -71,7 +71,7 @@ impl Totals {
     }
 
     /// `count` scans were taken, which have these bytes.
-    pub(crate) fn give(&mut self, count: u32, bytes: &[u8])
+    pub fn give(&mut self, count: u32, bytes: &[u8])
         ensures { self.new ≡ with_bytes count bytes.now self.old }
     {
         self.scans.add(u64::from(count));
@@ -79,7 +79,7 @@ impl Totals {
     }
 
     /// A take gave that scan, or none.
-    pub(crate) fn count(&mut self, taken: Option<bool>, scan: &[u8])
+    pub fn count(&mut self, taken: Option<bool>, scan: &[u8])
         ensures { self.new ≡ with_taken taken scan.now self.old }
     {
         match taken {
@@ -89,7 +89,7 @@ impl Totals {
     }
 
     /// A queue ended that had lost `lost` scans.
-    pub(crate) fn lose(&mut self, lost: u64)
+    pub fn lose(&mut self, lost: u64)
         ensures { self.new ≡ with_lost lost self.old }
     {
         self.lost.add(lost);

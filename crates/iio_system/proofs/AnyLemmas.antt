@@ -1,12 +1,9 @@
--- Devices of a bench of whichever kind: none of them makes means, so that none of them changes with another one.
-use Rattle.std.proofs.Common.{◌≡◌, ℕ, suc, Bool, false, List, [], ◌∷◌, slice_get, Option, Some, None, option_map, Result, Ok, Err, refl, sym, ap, ◌∙◌, arith, cond}
+-- Devices of a bench of whichever kind; what a call at one that is no averaging device changes.
+use Rattle.std.proofs.Common.{◌≡◌, ℕ, suc, Bool, false, List, [], ◌∷◌, Option, None, Result, Ok, Err, refl, sym, ap, ◌∙◌, arith, cond}
 use Rattle.std.specs.Prelude.{◌==◌, ◌&&◌, not}
-use Rattle.std.specs.Option.{option_map_or}
-use Rattle.std.proofs.lemmas.Option.{slice_get-map}
 use Rattle.iio_base.specs.Refusals.{first_refusal, unless_refused}
 use Rattle.iio_text.specs.declared.errors.Errno.{Errno}
 use Rattle.iio_layout.specs.Shape.{ShapeRecord}
-use Rattle.iio_desc.specs.declared.description.TriggerDesc.{TriggerDesc}
 use Rattle.iio_desc.specs.Description.{DeviceHead}
 use Rattle.iio_desc.specs.Kind.{Kind, Input, Output, Average, is_average, is_input, is_output, is_over}
 use Rattle.iio_sensor.specs.Driver.{Driver}
@@ -22,17 +19,17 @@ use Rattle.iio_system.specs.declared.any_device.AnyDevice.TheVariants as any
 use Rattle.iio_system.specs.declared.out_device.OutDevice.{OutDevice}
 use Rattle.iio_system.specs.OutStation.{KeepsOut}
 use Rattle.iio_system.specs.Places.{is_hosted}
+use Rattle.iio_system.specs.Averages.{has_inner}
 use Rattle.iio_system.specs.Acting.{Keeps, KeepsCaptures}
-use Rattle.iio_system.specs.Station.{KeepsFront, KeepsHead, any_front, any_station, view_by}
-use Rattle.iio_system.proofs.ToldLemmas.{fronts_by}
+use Rattle.iio_system.specs.Station.{KeepsFront, KeepsHead, any_station, view_by}
 
 -- ---- maps with places
 
-as_from : {A : Type 0} (f g : ℕ → A → A) (i : ℕ) (xs : List A) → ((j : ℕ) (x : A) → f j x ≡ g j x) → map_from f i xs ≡ map_from g i xs
+pub as_from : {A : Type 0} (f g : ℕ → A → A) (i : ℕ) (xs : List A) → ((j : ℕ) (x : A) → f j x ≡ g j x) → map_from f i xs ≡ map_from g i xs
 as_from f g i [] same = refl
 as_from {A = A} f g i (x ∷ xs) same = ap (λ (y : A). y ∷ map_from f (suc i) xs) (same i x) ∙ ap (λ (ys : List A). g i x ∷ ys) (as_from f g (suc i) xs same)
 
-kept_from : {A : Type 0} (f : ℕ → A → A) (i : ℕ) (xs : List A) → ((j : ℕ) (x : A) → f j x ≡ x) → map_from f i xs ≡ xs
+pub kept_from : {A : Type 0} (f : ℕ → A → A) (i : ℕ) (xs : List A) → ((j : ℕ) (x : A) → f j x ≡ x) → map_from f i xs ≡ xs
 kept_from f i [] same = refl
 kept_from {A = A} f i (x ∷ xs) same = ap (λ (y : A). y ∷ map_from f (suc i) xs) (same i x) ∙ ap (λ (ys : List A). x ∷ ys) (kept_from f (suc i) xs same)
 
@@ -48,10 +45,10 @@ over_none Input k plain = refl
 over_none Output k plain = refl
 over_none (Average base window) k plain = absurd (cc)
 
-pub no_output : (kind : Kind) → is_average kind ≡ false → not (is_output kind) ≡ is_input kind
-no_output Input plain = refl
-no_output Output plain = refl
-no_output (Average base window) plain = absurd (cc)
+pub input_is : (kind : Kind) → (not (is_output kind) && not (is_average kind)) ≡ is_input kind
+input_is Input = refl
+input_is Output = refl
+input_is (Average base window) = refl
 
 trigger_plain : (kind : Kind) (m : Machine) (dev : ℕ) → is_average kind ≡ false → trigger_by kind m dev ≡ (station_at m dev).site.trigger
 trigger_plain Input m dev plain = refl
@@ -62,33 +59,33 @@ pub trigger_told : (front : Front) (m : Machine) (dev : ℕ) → is_average (kin
 unfolding trigger_of
 trigger_told front m dev plain = trigger_plain (kind_at front dev) m dev plain
 
-module _ (front : Front) (none : (k : ℕ) → is_average (kind_at front k) ≡ false) where
+module _ (front : Front) (dev : ℕ) (plain : is_average (kind_at front dev) ≡ false) where
   -- a joining changes the device alone
-  pub joined_alone : (dev : ℕ) (change : Station → Station) (m : Machine) → all_joined front dev change m ≡ with_station change dev m
+  pub joined_alone : (change : Station → Station) (m : Machine) → all_joined front dev change m ≡ with_station change dev m
   unfolding with_station
-  joined_alone dev change m =
+  joined_alone change m =
       ap (λ (sts : List Station). (let x : Machine = record m { stations = sts } in x))
       (placed (λ k st. cond (dev == k) (change st) (with_inner front dev k st)) change dev m.stations
       (λ j st. ap (λ (b : Bool). cond (dev == j) (change st) (cond (b && is_input (kind_at front j)) (inner_joined dev (shape_at front j) st) st))
-      (over_none (kind_at front dev) j (none dev))))
+      (over_none (kind_at front dev) j plain)))
 
   -- and so does a leaving
-  left_alone : (dev : ℕ) (m : Machine) → inner_left front dev m ≡ m
-  left_alone dev m =
+  left_alone : (m : Machine) → inner_left front dev m ≡ m
+  left_alone m =
       ap (λ (sts : List Station). (let x : Machine = record m { stations = sts } in x))
       (kept_from (without_inner front m dev) 0 m.stations
       (λ j st. ap (λ (b : Bool). cond (b && is_input (kind_at front j) && is_empty (station_at m dev).members) (inner_gone dev st) st)
-      (over_none (kind_at front dev) j (none dev))))
+      (over_none (kind_at front dev) j plain)))
 
-  pub closed_alone : (m : Machine) (dev number : ℕ) → closed front m dev number ≡ with_station (left number) dev m
+  pub closed_alone : (m : Machine) (number : ℕ) → closed front m dev number ≡ with_station (left number) dev m
   unfolding closed
-  closed_alone m dev number = left_alone dev (with_station (left number) dev m)
+  closed_alone m number = left_alone (with_station (left number) dev m)
 
-  made_alone : (dev : ℕ) (change : Station → Station) (m : Machine) (x : Result ℕ Errno) → unless_made (all_joined front dev change) m x ≡ unless change dev m x
-  made_alone dev change m (Ok n) = ap (λ (y : Machine). (let o : Outcome ℕ = record { answer = Ok n; machine = y } in o)) (joined_alone dev change m)
-  made_alone dev change m (Err e) = refl
+  made_alone : (change : Station → Station) (m : Machine) (x : Result ℕ Errno) → unless_made (all_joined front dev change) m x ≡ unless change dev m x
+  made_alone change m (Ok n) = ap (λ (y : Machine). (let o : Outcome ℕ = record { answer = Ok n; machine = y } in o)) (joined_alone change m)
+  made_alone change m (Err e) = refl
 
-  module _ (m : Machine) (dev mask capacity : ℕ) (cyclic : Bool) (st : Station) (shape : ShapeRecord) (here : station_at m dev ≡ st)
+  module _ (m : Machine) (mask capacity : ℕ) (cyclic : Bool) (st : Station) (shape : ShapeRecord) (here : station_at m dev ≡ st)
       (shaped : shape_at front dev ≡ shape) where
     numbered_by : (kind : Kind) (r : Option Errno) → is_average kind ≡ false → kind_at front dev ≡ kind
         → first_refusal (open_refusals front m.stations kind (own_host st shape mask) st) ≡ r
@@ -96,9 +93,9 @@ module _ (front : Front) (none : (k : ℕ) → is_average (kind_at front k) ≡ 
         (first_refusal (open_refusals front m.stations (kind_at front dev)
         (host_by front m.stations (kind_at front dev) (station_at m dev) (shape_at front dev) mask) (station_at m dev)))
         ≡ unless_refused st.next r
-    numbered_by Input r plain is e = rw (is, here, shaped, e) refl
-    numbered_by Output r plain is e = rw (is, here, shaped, e) refl
-    numbered_by (Average base window) r plain is e = absurd (cc)
+    numbered_by Input r own is e = rw (is, here, shaped, e) refl
+    numbered_by Output r own is e = rw (is, here, shaped, e) refl
+    numbered_by (Average base window) r own is e = absurd (cc)
 
     -- an OPEN by the refusals of the device itself
     pub open_alone : (kind : Kind) (r : Option Errno) → kind_at front dev ≡ kind
@@ -107,8 +104,8 @@ module _ (front : Front) (none : (k : ℕ) → is_average (kind_at front k) ≡ 
     unfolding open_of
     open_alone kind r is e =
         ap (λ (x : Result ℕ Errno). unless_made (all_joined front dev (joined mask capacity cyclic None)) m x)
-        (numbered_by kind r (ap is_average (sym is) ∙ none dev) is e)
-        ∙ made_alone dev (joined mask capacity cyclic None) m (unless_refused st.next r)
+        (numbered_by kind r (ap is_average (sym is) ∙ plain) is e)
+        ∙ made_alone (joined mask capacity cyclic None) m (unless_refused st.next r)
 
 -- ---- devices
 
@@ -119,38 +116,28 @@ head_by n n' s s' name shape =
     ∙ ap (λ (z : ShapeRecord). (let x : DeviceHead = record { name = n; kind = Input; shape = z } in x)) shape
 
 module _ {X : Type 0} {V : X → Type 0} where
-  plain_head : (d : AnyDevice X V) → is_average (any_front d).kind ≡ false
-  plain_head (any.Input d) = refl
-  plain_head (any.Output x) = refl
-
-  pub no_average : (context : List ℕ) (triggers : List TriggerDesc) (ds : List (AnyDevice X V)) (k : ℕ)
-      → is_average (kind_at (fronts_by any_front context triggers ds) k) ≡ false
-  unfolding kind_at
-  no_average context triggers ds k =
-      ap (λ (o : Option DeviceHead). is_average (option_map_or (λ (x : DeviceHead). x.kind) o Input)) (slice_get-map any_front ds k) ∙ by (slice_get ds k)
-    where
-      by : (o : Option (AnyDevice X V)) → is_average (option_map_or (λ (x : DeviceHead). x.kind) (option_map any_front o) Input) ≡ false
-      by None = refl
-      by (Some d) = plain_head d
-
   -- an input device keeps what its view keeps
   abbrev pub InputKeeps : (Plug X V → Driver) → (x y : AnyDevice X V) → Type 0
-  InputKeeps drive (any.Input d) (any.Input d') = Keeps (view_by drive d) (view_by drive d')
+  InputKeeps drive (any.Input d) (any.Input d') = Keeps (view_by drive d.device) (view_by drive d'.device)
   InputKeeps drive x y = ⊥
 
   abbrev pub InputKeepsAll : (Plug X V → Driver) → (x y : AnyDevice X V) → Type 0
-  InputKeepsAll drive (any.Input d) (any.Input d') = KeepsCaptures (view_by drive d) (view_by drive d')
+  InputKeepsAll drive (any.Input d) (any.Input d') = KeepsCaptures (view_by drive d.device) (view_by drive d'.device)
   InputKeepsAll drive x y = ⊥
 
   pub keeps_head : (drive : Plug X V → Driver) (x y : AnyDevice X V) → InputKeeps drive x y → KeepsHead x y
   keeps_head drive (any.Input d) (any.Input d') k = record { front = head_by _ _ _ _ k.name k.shape; number = k.number }
   keeps_head drive (any.Input d) (any.Output y) k = absurd k
+  keeps_head drive (any.Input d) (any.Average y) k = absurd k
+  keeps_head drive (any.Average x) y k = absurd k
   keeps_head drive (any.Output x) y k = absurd k
 
   pub keeps_in : (drive : Plug X V → Driver) (x y : AnyDevice X V) → InputKeepsAll drive x y → KeepsFront x y
   keeps_in drive (any.Input d) (any.Input d') k =
       record { head = record { front = head_by _ _ _ _ k.device.name k.device.shape; number = k.device.number }; captures = k.captures }
   keeps_in drive (any.Input d) (any.Output y) k = absurd k
+  keeps_in drive (any.Input d) (any.Average y) k = absurd k
+  keeps_in drive (any.Average x) y k = absurd k
   keeps_in drive (any.Output x) y k = absurd k
 
   pub keeps_out : (x y : OutDevice) → KeepsOut x y → KeepsFront {X = X} {V = V} (any.Output x) (any.Output y)
@@ -161,15 +148,34 @@ module _ {X : Type 0} {V : X → Type 0} where
     pub attached_as : (t : ℕ) (d : AnyDevice X V) → is_attached t (any_station p d) ≡ is_attached t (any_station q d)
     attached_as t (any.Input d) = refl
     attached_as t (any.Output x) = refl
+    attached_as t (any.Average a) = refl
 
     pub attachment_as : (d : AnyDevice X V) → (any_station p d).site.attachment ≡ (any_station q d).site.attachment
     attachment_as (any.Input d) = refl
     attachment_as (any.Output x) = refl
+    attachment_as (any.Average a) = refl
 
     pub members_as : (d : AnyDevice X V) → is_empty (any_station p d).members ≡ is_empty (any_station q d).members
     members_as (any.Input d) = refl
     members_as (any.Output x) = refl
+    members_as (any.Average a) = refl
 
     pub hosted_as : (n : ℕ) (d : AnyDevice X V) → is_hosted n (any_station p d) ≡ is_hosted n (any_station q d)
     hosted_as n (any.Input d) = refl
     hosted_as n (any.Output x) = refl
+    hosted_as n (any.Average a) = refl
+
+    pub plugged_as : (d : AnyDevice X V) → (any_station p d).site.plugged ≡ (any_station q d).site.plugged
+    plugged_as (any.Input d) = refl
+    plugged_as (any.Output x) = refl
+    plugged_as (any.Average a) = refl
+
+    pub inner_as : (j : ℕ) (d : AnyDevice X V) → has_inner j (any_station p d) ≡ has_inner j (any_station q d)
+    inner_as j (any.Input d) = refl
+    inner_as j (any.Output x) = refl
+    inner_as j (any.Average a) = refl
+
+    pub made_as : (d : AnyDevice X V) → (any_station p d).captures ≡ (any_station q d).captures
+    made_as (any.Input d) = refl
+    made_as (any.Output x) = refl
+    made_as (any.Average a) = refl

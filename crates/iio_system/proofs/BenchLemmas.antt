@@ -1,6 +1,7 @@
 -- What holds of a bench, where one device has changed.
 use Rattle.std.proofs.Common.{◌≡◌, ◌⊎◌, ℕ, ◌<◌, Bool, true, false, List, [], ◌∷◌, map, length, set, slice_get, Option, Some, None, Result, Ok, Err, inl, inr, refl, sym, ap, subst, ◌∙◌, arith, cond}
 use Rattle.std.specs.Prelude.{◌==◌, ◌||◌, ⊤}
+use Rattle.std.specs.List.{list_any}
 use Rattle.std.proofs.lemmas.Bool.Decides.{nat_tests}
 use Rattle.std.proofs.lemmas.List.{map-set}
 use Rattle.iio_text.specs.declared.errors.Errno.{Errno}
@@ -17,39 +18,57 @@ use Rattle.iiod_session.specs.declared.iio.No.TheVariants.{Errno as NoErrno, Mem
 use Rattle.iiod_session.specs.declared.iio.Took.{Took}
 use Rattle.iiod_session.specs.declared.iio.Took.TheVariants.{Scan, Empty, Gone}
 use Rattle.iiod_session.specs.Machine.{Member, MemberId, Station, is_id_of, with_scans, with_site}
-use Rattle.iiod_session.specs.Calls.{is_attached, trigger_answer}
+use Rattle.iiod_session.specs.Calls.{is_attached, is_inner_of, trigger_answer}
 use Rattle.iio_system.specs.Acting.{Acts, TakesAt, TakesScansAt}
+use Rattle.iio_system.specs.Averages.{has_inner}
 use Rattle.iio_system.specs.Places.{IsBench, IsTrigger, has_in_hand, has_trigger, is_hosted, places_from}
 use Rattle.iio_trigger.specs.Trigger.{with_place, without_place}
 use Rattle.iio_system.proofs.ListLemmas.{after_set, length_after, map_same, set_same}
 use Rattle.iio_system.proofs.PlaceLemmas.{places_attached, places_detached, places_kept, places_none}
 
--- a device that keeps its place
+-- a device that keeps its place at each trigger
 pub record KeepsPlace (st st' : Station) : Type 0 where
   pub attached : (t : ℕ) → is_attached t st' ≡ is_attached t st
   pub attachment : st'.site.attachment ≡ st.site.attachment
-  pub hosted : (n : ℕ) → is_hosted n st ≡ true → is_hosted n st' ≡ true
 
-pub kept_same : (st st' : Station) → st' ≡ st → KeepsPlace st st'
-kept_same st st' e = record {
-  attached = λ t. ap (λ (x : Station). is_attached t x) e;
-  attachment = ap (λ (x : Station). x.site.attachment) e;
-  hosted = λ n h. ap (λ (x : Station). is_hosted n x) e ∙ h;
+-- ... and what averaging devices have to do with, but for captures
+pub record KeepsInner (st st' : Station) : Type 0 where
+  pub place : KeepsPlace st st'
+  pub hosted : (n : ℕ) → is_hosted n st ≡ true → is_hosted n st' ≡ true
+  pub plugged : st'.site.plugged ≡ st.site.plugged
+  pub empty : is_empty st'.members ≡ is_empty st.members
+  pub inner : (j : ℕ) → has_inner j st' ≡ has_inner j st
+
+-- ... and makes no capture
+pub record KeepsStanding (st st' : Station) : Type 0 where
+  pub inner : KeepsInner st st'
+  pub captures : st'.captures ≡ st.captures
+
+pub inner_kept : (st st' : Station) → st'.site.trigger ≡ st.site.trigger → st'.site.attachment ≡ st.site.attachment → st'.site.plugged ≡ st.site.plugged
+    → is_empty st'.members ≡ is_empty st.members
+    → ((j : ℕ) → has_inner j st' ≡ has_inner j st) → KeepsInner st st'
+inner_kept st st' trigger attachment plugged empty inner = record {
+  place = record { attached = λ t. rw (trigger, empty) refl; attachment = attachment };
+  hosted = λ n h. rw (trigger, empty) h;
+  plugged = plugged;
+  empty = empty;
+  inner = inner;
 }
 
-pub kept_along : (st x st' : Station) → KeepsPlace st x → st' ≡ x → KeepsPlace st st'
-kept_along st x st' k e = rw e k
+pub standing : (st st' : Station) → st'.site.trigger ≡ st.site.trigger → st'.site.attachment ≡ st.site.attachment → st'.site.plugged ≡ st.site.plugged
+    → is_empty st'.members ≡ is_empty st.members
+    → ((j : ℕ) → has_inner j st' ≡ has_inner j st) → st'.captures ≡ st.captures → KeepsStanding st st'
+standing st st' trigger attachment plugged empty inner captures =
+    record { inner = inner_kept st st' trigger attachment plugged empty inner; captures = captures }
+
+pub stands_same : (st st' : Station) → st' ≡ st → KeepsStanding st st'
+stands_same st st' e = rw e (standing st st refl refl refl refl (λ j. refl) refl)
+
+pub stands_along : (st x st' : Station) → KeepsStanding st x → st' ≡ x → KeepsStanding st st'
+stands_along st x st' k e = rw e k
 
 module _ (triggers : List TriggerDesc) (states : List State) (sts : List Station) (k : ℕ) (st st' : Station) (bench : IsBench triggers states sts)
     (at : slice_get sts k ≡ Some st) where
-  pub hosted_after : is_hosted (length triggers) st' ≡ true → (dev : ℕ) (x : Station) → slice_get (set sts k st') dev ≡ Some x
-      → is_hosted (length triggers) x ≡ true
-  hosted_after h dev x e = by (after_set sts k dev st' x e)
-    where
-      by : ((dev ≡ k) × (x ≡ st')) ⊎ ((dev ≡ k → ⊥) × (slice_get sts dev ≡ Some x)) → is_hosted (length triggers) x ≡ true
-      by (inl p) = ap (λ (y : Station). is_hosted (length triggers) y) p.1 ∙ h
-      by (inr p) = bench.hosted dev x p.1
-
   pub bench_kept : KeepsPlace st st' → IsBench triggers states (set sts k st')
   bench_kept kept = record {
     few = bench.few;
@@ -59,7 +78,6 @@ module _ (triggers : List TriggerDesc) (states : List State) (sts : List Station
       attached = (bench.each t s e).attached ∙ sym (places_kept t 0 sts k st st' at (kept.attached t) kept.attachment);
       idle = (bench.each t s e).idle;
     };
-    hosted = hosted_after (kept.hosted (length triggers) (bench.hosted k st at));
   }
 
 -- the same, over devices
@@ -67,30 +85,30 @@ pub bench_by : {D : Type 0} (f : D → Station) (triggers : List TriggerDesc) (s
     → IsBench triggers states (set (map f ds) k (f d')) → IsBench triggers states (map f (set ds k d'))
 bench_by f triggers states ds k d' b = rw (map-set f ds k d') b
 
--- ---- which calls keep a place
+-- ---- which calls keep a device's standing
 
 module _ {A : Type 0} (change : Station → Station) (st st' : Station) where
-  acts_kept_by : (answer : Result A Errno) (r : Result A No) → ((x : A) → answer ≡ Ok x → KeepsPlace st (change st)) → Acts change answer r st st'
-      → KeepsPlace st st'
-  acts_kept_by (Ok x) (Ok y) kept t = kept_along st (change st) st' (kept x refl) t.1
-  acts_kept_by (Ok x) (Err (NoErrno e)) kept t = kept_along st (change st) st' (kept x refl) t.1
-  acts_kept_by (Ok x) (Err NoMem) kept t = kept_same st st' t
-  acts_kept_by (Err e) (Ok y) kept t = kept_same st st' t.1
-  acts_kept_by (Err e) (Err (NoErrno o)) kept t = kept_same st st' t.1
-  acts_kept_by (Err e) (Err NoMem) kept t = kept_same st st' t
+  acts_stand_by : (answer : Result A Errno) (r : Result A No) → ((x : A) → answer ≡ Ok x → KeepsStanding st (change st)) → Acts change answer r st st'
+      → KeepsStanding st st'
+  acts_stand_by (Ok x) (Ok y) kept t = stands_along st (change st) st' (kept x refl) t.1
+  acts_stand_by (Ok x) (Err (NoErrno e)) kept t = stands_along st (change st) st' (kept x refl) t.1
+  acts_stand_by (Ok x) (Err NoMem) kept t = stands_same st st' t
+  acts_stand_by (Err e) (Ok y) kept t = stands_same st st' t.1
+  acts_stand_by (Err e) (Err (NoErrno o)) kept t = stands_same st st' t.1
+  acts_stand_by (Err e) (Err NoMem) kept t = stands_same st st' t
 
-  pub acts_kept : (answer : Result A Errno) (r : Result A No) → ((x : A) → answer ≡ Ok x → KeepsPlace st (change st)) → Acts change answer r st st'
-      → KeepsPlace st st'
-  acts_kept answer r kept t = acts_kept_by answer r kept t
+  pub acts_stand : (answer : Result A Errno) (r : Result A No) → ((x : A) → answer ≡ Ok x → KeepsStanding st (change st)) → Acts change answer r st st'
+      → KeepsStanding st st'
+  acts_stand answer r kept t = acts_stand_by answer r kept t
 
-pub written_kept : (channel : Option ℕ) (a : Attr) (v : Fixed) (st : Station) → KeepsPlace st (with_site (site_written channel a v) st)
-written_kept None attr.SamplingFrequency v st = record { attached = λ t. refl; attachment = refl; hosted = λ n h. h }
-written_kept None a v st = record { attached = λ t. refl; attachment = refl; hosted = λ n h. h }
-written_kept (Some c) attr.Calibbias v st = record { attached = λ t. refl; attachment = refl; hosted = λ n h. h }
-written_kept (Some c) a v st = record { attached = λ t. refl; attachment = refl; hosted = λ n h. h }
+pub write_stands : (channel : Option ℕ) (a : Attr) (v : Fixed) (st : Station) → KeepsStanding st (with_site (site_written channel a v) st)
+write_stands None attr.SamplingFrequency v st = standing st _ refl refl refl refl (λ j. refl) refl
+write_stands None a v st = standing st _ refl refl refl refl (λ j. refl) refl
+write_stands (Some c) attr.Calibbias v st = standing st _ refl refl refl refl (λ j. refl) refl
+write_stands (Some c) a v st = standing st _ refl refl refl refl (λ j. refl) refl
 
-pub monitor_kept : (change : MonitorRecord ℕ → MonitorRecord ℕ) (st : Station) → KeepsPlace st (with_site (with_monitor change) st)
-monitor_kept change st = record { attached = λ t. refl; attachment = refl; hosted = λ n h. h }
+pub monitor_stands : (change : MonitorRecord ℕ → MonitorRecord ℕ) (st : Station) → KeepsStanding st (with_site (with_monitor change) st)
+monitor_stands change st = standing st _ refl refl refl refl (λ j. refl) refl
 
 -- without a member a device isn't attached
 pub none_attached : (t : ℕ) (st : Station) → is_empty st.members ≡ true → is_attached t st ≡ false
@@ -108,15 +126,20 @@ answered_empty st x e = by st.site.plugged (is_empty st.members) refl refl e
     by true false i j e = absurd (let h = rw (i, j) at e in cc)
     by false false i j e = absurd (let h = rw i at e in cc)
 
-pub trigger_kept : (trigger : Option ℕ) (st : Station) (x : ⊤) → trigger_answer st ≡ Ok x
-    → KeepsPlace st (with_site (λ site. record site { trigger = trigger }) st)
-trigger_kept trigger st x e =
+pub trigger_stands : (trigger : Option ℕ) (st : Station) (x : ⊤) → trigger_answer st ≡ Ok x
+    → KeepsStanding st (with_site (λ site. record site { trigger = trigger }) st)
+trigger_stands trigger st x e =
     let empty = answered_empty st x e in
     let st' : Station = with_site (λ site. record site { trigger = trigger }) st in
     record {
-      attached = λ t. none_attached t st' empty ∙ sym (none_attached t st empty);
-      attachment = refl;
-      hosted = λ n h. ap (λ (b : Bool). b || has_trigger n trigger) empty;
+      inner = record {
+        place = record { attached = λ t. none_attached t st' empty ∙ sym (none_attached t st empty); attachment = refl };
+        hosted = λ n h. ap (λ (b : Bool). b || has_trigger n trigger) empty;
+        plugged = refl;
+        empty = refl;
+        inner = λ j. refl;
+      };
+      captures = refl;
     }
 
 empty_with_scans : (id : MemberId) (scans : List (List ℕ)) (ms : List Member) → is_empty (with_scans id scans ms) ≡ is_empty ms
@@ -127,26 +150,37 @@ empty_with_scans id scans (m ∷ ms) = by (is_id_of id m)
     by true = refl
     by false = refl
 
-pub scans_kept : (id : MemberId) (totals : Totals) (scans : List (List ℕ)) (st : Station)
-    → KeepsPlace st (record st { totals = totals; members = with_scans id scans st.members })
-scans_kept id totals scans st =
-    let same = empty_with_scans id scans st.members in
-    record {
-      attached = λ t. rw same refl;
-      attachment = refl;
-      hosted = λ n h. rw same h;
-    }
+inner_with_scans : (j : ℕ) (id : MemberId) (scans : List (List ℕ)) (ms : List Member)
+    → list_any (is_inner_of j) (with_scans id scans ms) ≡ list_any (is_inner_of j) ms
+inner_with_scans j id scans [] = refl
+inner_with_scans j id scans (m ∷ ms) = by (is_id_of id m) (inner_with_scans j id scans ms)
+  where
+    by : (b : Bool) → list_any (is_inner_of j) (with_scans id scans ms) ≡ list_any (is_inner_of j) ms
+        → list_any (is_inner_of j) (cond b (record m { scans = scans } ∷ ms) (m ∷ with_scans id scans ms)) ≡ (is_inner_of j m || list_any (is_inner_of j) ms)
+    by true rest = refl
+    by false rest = ap (λ (b : Bool). is_inner_of j m || b) rest
 
-pub take_kept : (id : MemberId) (took : Took) (scan : List ℕ) (st st' : Station) → TakesAt id took scan st st' → KeepsPlace st st'
-take_kept id Scan scan st st' t = kept_along st _ st' (scans_kept id _ _ st) t.1
-take_kept id Empty scan st st' t = kept_same st st' t.2
-take_kept id Gone scan st st' t = kept_same st st' t.2
+pub scans_stand : (id : MemberId) (totals : Totals) (scans : List (List ℕ)) (st : Station)
+    → KeepsStanding st (record st { totals = totals; members = with_scans id scans st.members })
+scans_stand id totals scans st = standing st _ refl refl refl (empty_with_scans id scans st.members) (λ j. inner_with_scans j id scans st.members) refl
 
-pub take_scans_kept : (id : MemberId) (most : ℕ) (took : Took) (before after : List ℕ) (st st' : Station) → TakesScansAt id most took before after st st'
-    → KeepsPlace st st'
-take_scans_kept id most Scan before after st st' t = kept_along st _ st' (scans_kept id _ _ st) t.2
-take_scans_kept id most Empty before after st st' t = kept_same st st' t.3
-take_scans_kept id most Gone before after st st' t = kept_same st st' t.3
+pub take_stands : (id : MemberId) (took : Took) (scan : List ℕ) (st st' : Station) → TakesAt id took scan st st' → KeepsStanding st st'
+take_stands id Scan scan st st' t = stands_along st _ st' (scans_stand id _ _ st) t.1
+take_stands id Empty scan st st' t = stands_same st st' t.2
+take_stands id Gone scan st st' t = stands_same st st' t.2
+
+pub take_scans_stand : (id : MemberId) (most : ℕ) (took : Took) (before after : List ℕ) (st st' : Station) → TakesScansAt id most took before after st st'
+    → KeepsStanding st st'
+take_scans_stand id most Scan before after st st' t = stands_along st _ st' (scans_stand id _ _ st) t.2
+take_scans_stand id most Empty before after st st' t = stands_same st st' t.3
+take_scans_stand id most Gone before after st st' t = stands_same st st' t.3
+
+-- a device whose members each change
+pub inner_mapped : (j : ℕ) (f : Member → Member) → ((x : Member) → is_inner_of j (f x) ≡ is_inner_of j x) → (ms : List Member)
+    → list_any (is_inner_of j) (map f ms) ≡ list_any (is_inner_of j) ms
+inner_mapped j f same [] = refl
+inner_mapped j f same (m ∷ ms) =
+    ap (λ (b : Bool). b || list_any (is_inner_of j) (map f ms)) (same m) ∙ ap (λ (b : Bool). is_inner_of j m || b) (inner_mapped j f same ms)
 
 -- ---- a device and its trigger
 
@@ -170,14 +204,12 @@ hosted_is t n st e h = or_true (is_empty st.members) (has_trigger n st.site.trig
 module _ (triggers : List TriggerDesc) (states : List State) (sts : List Station) (k t : ℕ) (st st' : Station) (s s' : State)
     (bench : IsBench triggers states sts) (at : slice_get sts k ≡ Some st) (there : slice_get states t ≡ Some s) where
   placed : s'.places ≡ s.places → s'.outstanding ≡ s.outstanding → s'.attached ≡ places_from 0 t (set sts k st')
-      → ((u : ℕ) → (u ≡ t → ⊥) → places_from 0 u (set sts k st') ≡ places_from 0 u sts) → is_hosted (length triggers) st' ≡ true
-      → IsBench triggers (set states t s') (set sts k st')
-  placed places outstanding own others hosted = record {
+      → ((u : ℕ) → (u ≡ t → ⊥) → places_from 0 u (set sts k st') ≡ places_from 0 u sts) → IsBench triggers (set states t s') (set sts k st')
+  placed places outstanding own others = record {
     few = bench.few;
     devices = rw (length_after sts k st') bench.devices;
     places = map_same (λ (x : State). x.places) states t s s' there places ∙ bench.places;
     each = λ u x e. by u x (after_set states t u s' x e);
-    hosted = hosted_after triggers states sts k st st' bench at hosted;
   }
     where
       by : (u : ℕ) (x : State) → ((u ≡ t) × (x ≡ s')) ⊎ ((u ≡ t → ⊥) × (slice_get states u ≡ Some x)) → IsTrigger u (set sts k st') x
@@ -199,7 +231,6 @@ module _ (triggers : List TriggerDesc) (states : List State) (sts : List Station
       (ap (λ (x : State). x.attached) after ∙ ap (λ ps. with_place k a ps) (bench.each t s there).attached
       ∙ places_attached t 0 sts k k a st st' at (omega arith) (none_attached t st empty) (own_attached t st' own some) same)
       (λ u ne. places_none u 0 sts k st st' at (none_attached u st empty) (other_attached t u st' own ne))
-      (hosted_is t (length triggers) st' own within)
 
   -- it leaves its place
   pub bench_detached : t < length triggers → st.site.trigger ≡ Some t → st'.site.trigger ≡ Some t → is_empty st'.members ≡ true
@@ -209,7 +240,6 @@ module _ (triggers : List TriggerDesc) (states : List State) (sts : List Station
       (ap (λ (x : State). x.attached) after ∙ ap (λ ps. without_place k ps) (bench.each t s there).attached
       ∙ places_detached t 0 sts k k st st' at (omega arith) (none_attached t st' empty))
       (λ u ne. places_none u 0 sts k st st' at (other_attached t u st was ne) (other_attached t u st' own ne))
-      (hosted_is t (length triggers) st' own within)
 
   -- it keeps its place
   pub bench_stays : KeepsPlace st st' → s' ≡ s → IsBench triggers (set states t s') (set sts k st')

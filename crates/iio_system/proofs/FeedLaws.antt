@@ -124,7 +124,8 @@ module _ {S : Type 0} (seen : S → SeatRecord) where
       (λ k h. ap (λ (e : Connection S). is_named name e) (front_at cs k h) ∙ none k c h) feeds owns in (
         fed.0,
         subst (λ (xs : List (Connection S)). Stands seen s (state_after s m (Feed name bytes)) front told' xs)
-            (ap (λ (e : Connection S). set (cs ++ c ∷ []) (length cs) (with_session seen new e)) (last_at cs) ∙ last_set cs (record { name = name; session = new }))
+            (ap (λ (e : Connection S). set (cs ++ c ∷ []) (length cs) (with_session seen new e)) (last_at cs)
+            ∙ last_set cs (record { name = name; session = new }))
             fed.1,
       )
     where

@@ -11,7 +11,7 @@ use Rattle.iio_trigger.specs.Trigger.{Handed, poll_made}
 use Rattle.iio_device.specs.declared.plug.Plug.{Plug}
 use Rattle.iio_device.specs.Site.{at_place, is_empty}
 use Rattle.iiod_session.specs.Calls.{is_attached}
-use Rattle.iiod_session.specs.Front.{Front, device_name, kind_at, shape_at, trigger_name}
+use Rattle.iiod_session.specs.Front.{Front, device_name, kind_at, trigger_name}
 use Rattle.iiod_session.specs.Machine.{Machine, Station, station_at}
 use Rattle.iio_history.specs.Event.{Handled, Polled}
 use Rattle.iio_history.specs.Registry.{Entry, Setup, Trigger, entries_at, entries_from as told_entries, entry_of as told_entry, outlines_of, without_entry as told_without}
@@ -37,6 +37,7 @@ use Rattle.iio_system.specs.Standing.{CanCapture, Holds, RiseBy, handed_by, trig
 use Rattle.iio_system.specs.Station.{any_front, any_station}
 use Rattle.iio_system.specs.System.{AreLines}
 use Rattle.iio_system.proofs.ListLemmas.{length_map_is}
+use Rattle.iio_system.proofs.GatherLemmas.{nothing_handled}
 use Rattle.iio_system.proofs.MoveLaws.{entry_here, handle_holds, handle_line, handled_told, machine_told, place_map, poll_holds, poll_line}
 
 -- ---- one handling
@@ -60,8 +61,7 @@ module _ {X : Type 0} {V : X → Type 0} (driver : Plug X V → Driver) where
   module _ (trigger dev : ℕ) (b b' : Bench X V) (cs : List (Connection Seat)) (less : dev < length (bench_front b).devices)
       (front : bench_front b' ≡ bench_front b)
       (told : bench_machine driver b'
-      ≡ entry_machine (kind_at (bench_front b) dev) (entry_of dev (trigger_in (triggers_of b) trigger).entries) false (shape_at (bench_front b) dev) dev
-      (bench_machine driver b))
+      ≡ entry_machine (bench_front b) (entry_of dev (trigger_in (triggers_of b) trigger).entries) false dev (bench_machine driver b))
       (triggers : triggers_of b' ≡ at_place trigger (handled dev) (triggers_of b)) (s : Setup) (m : Told) (h : Holds driver s m b cs) where
     own : entry_of dev (trigger_in (triggers_of b) trigger).entries ≡ option_map handed_by (told_entry dev (entries_at m.triggers trigger))
     own = entry_here driver trigger dev b b' cs less front told triggers s m h
@@ -73,8 +73,9 @@ module _ {X : Type 0} {V : X → Type 0} (driver : Plug X V → Driver) where
         front_is = front ∙ h.stands.front_is;
         told_is =
             ap (λ (x : Machine). Some x)
-            (told ∙ ap (λ (o : Option Handed). entry_machine (kind_at (bench_front b) dev) o false (shape_at (bench_front b) dev) dev (bench_machine driver b))
-            (own ∙ ap (λ (o : Option Entry). option_map handed_by o) none))
+            (told ∙ ap (λ (o : Option Handed). entry_machine (bench_front b) o false dev (bench_machine driver b))
+            (own ∙ ap (λ (o : Option Entry). option_map handed_by o) none)
+            ∙ nothing_handled (bench_front b) false dev (bench_machine driver b))
             ∙ h.stands.told_is;
         bench = h.stands.bench;
         lines = subst (λ (f : Front). AreLines seen_of f m m.lines cs) (sym front) h.stands.lines;

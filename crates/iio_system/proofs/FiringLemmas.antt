@@ -1,5 +1,5 @@
 -- Polls, looks at thresholds and unpluggings at a bench.
-use Rattle.std.proofs.Common.{◌≡◌, ◌⊎◌, ℕ, zero, suc, Bool, true, false, List, [], ◌∷◌, map, set, slice_get, Option, Some, None, inl, inr, refl, sym, ap, ◌∙◌, cond}
+use Rattle.std.proofs.Common.{◌≡◌, ◌⊎◌, ℕ, zero, suc, Bool, true, false, List, [], ◌∷◌, map, set, slice_get, Option, Some, inl, inr, refl, sym, ap, ◌∙◌, cond}
 use Rattle.std.specs.Prelude.{ℤ, unwrap_or}
 use Rattle.std.specs.Option.{option_map_or}
 use Rattle.iio_layout.specs.Shape.{ShapeRecord}
@@ -9,18 +9,18 @@ use Rattle.iio_kfifo.specs.Queue.{Queue}
 use Rattle.iio_trigger.specs.declared.Polled.{Polled}
 use Rattle.iio_trigger.specs.Trigger.{Handed, Polls, State}
 use Rattle.iio_device.specs.Device.{DeviceView, after_sense, at_site}
+use Rattle.iio_device.specs.Sensing.{sensed, with_sensed}
 use Rattle.iio_device.specs.Site.{at_place, unplugged}
-use Rattle.iiod_session.specs.Machine.{Station}
+use Rattle.iiod_session.specs.Machine.{Station, with_site}
 use Rattle.iio_system.specs.Acting.{Keeps, KeepsCaptures}
 use Rattle.iio_system.specs.Bench.{trigger_in}
 use Rattle.iio_system.specs.declared.any_device.Became.{Became}
-use Rattle.iio_system.specs.Handling.{entry_answer, entry_machine, entry_station, is_last, kind_handled, sensed_station, unplugged_station}
+use Rattle.iio_system.specs.Handling.{entry_answer, is_last, sensed_station}
 use Rattle.iio_system.specs.Places.{IsBench, IsTrigger, TriggerRecord, entries_from, entry_of, first_trigger, handled, poll_answer, polled, trigger_of}
 use Rattle.iio_system.specs.Station.{station_of}
 use Rattle.iio_system.proofs.ListLemmas.{after_set, map_at, map_changed, map_same}
-use Rattle.iio_system.proofs.BenchLemmas.{KeepsPlace, kept_along}
+use Rattle.iio_system.proofs.BenchLemmas.{KeepsStanding, standing, stands_along, stands_same}
 use Rattle.iio_system.proofs.TriggerLemmas.{off_sound, off_told, poll_answers, poll_places, poll_sound, poll_told, without}
-use Rattle.iio_system.proofs.ToldLemmas.{machine_by, told_changed, told_same}
 
 -- one trigger has changed
 pub bench_triggered : (triggers : List TriggerDesc) (states : List State) (sts : List Station) (t : ℕ) (s s' : State) → IsBench triggers states sts
@@ -31,7 +31,6 @@ bench_triggered triggers states sts t s s' bench there places sound = record {
   devices = bench.devices;
   places = map_same (λ (x : State). x.places) states t s s' there places ∙ bench.places;
   each = λ u x e. by u x (after_set states t u s' x e);
-  hosted = bench.hosted;
 }
   where
     by : (u : ℕ) (x : State) → ((u ≡ t) × (x ≡ s')) ⊎ ((u ≡ t → ⊥) × (slice_get states u ≡ Some x)) → IsTrigger u sts x
@@ -93,14 +92,14 @@ sense_captures_by false v v' w same e = ap (λ (x : DeviceView Queue). x.standin
 pub sense_captures : (t : ℤ) (v v' : DeviceView Queue) → v' ≡ after_sense t v → v'.standing.captures ≡ v.standing.captures
 sense_captures t v v' e = sense_captures_by v.site.plugged v v' _ refl e
 
-sensed_kept_by : (b : Bool) (shape : ShapeRecord) (t : ℤ) (st w : Station) → KeepsPlace st w → KeepsPlace st (cond b w st)
-sensed_kept_by true shape t st w k = k
-sensed_kept_by false shape t st w k = record { attached = λ u. refl; attachment = refl; hosted = λ n h. h }
+sensed_stands_by : (b : Bool) (st w : Station) → KeepsStanding st w → KeepsStanding st (cond b w st)
+sensed_stands_by true st w k = k
+sensed_stands_by false st w k = stands_same st st refl
 
-pub sense_kept : (shape : ShapeRecord) (t : ℤ) (st st' : Station) → st' ≡ sensed_station shape t st → KeepsPlace st st'
-sense_kept shape t st st' e =
-    kept_along st (sensed_station shape t st) st'
-    (sensed_kept_by st.site.plugged shape t st _ (record { attached = λ u. refl; attachment = refl; hosted = λ n h. h })) e
+pub sense_stands : (shape : ShapeRecord) (t : ℤ) (st st' : Station) → st' ≡ sensed_station shape t st → KeepsStanding st st'
+sense_stands shape t st st' e =
+    stands_along st (sensed_station shape t st) st'
+    (sensed_stands_by st.site.plugged st (with_site (with_sensed (sensed shape t st.site)) st) (standing st _ refl refl refl refl (λ j. refl) refl)) e
 
 -- ---- unplugging
 
@@ -119,9 +118,6 @@ sense_keeps_all t v v' e = record { device = sense_keeps t v v' e; captures = se
 pub unplug_keeps_all : (v v' : DeviceView Queue) → v' ≡ at_site (unplugged v.site) v → KeepsCaptures v v'
 unplug_keeps_all v v' e = record { device = unplug_keeps v v' e; captures = ap (λ (x : DeviceView Queue). x.standing.captures) e }
 
-pub unplug_kept : (st st' : Station) → st' ≡ unplugged_station st → KeepsPlace st st'
-unplug_kept st st' e = kept_along st (unplugged_station st) st' (record { attached = λ u. refl; attachment = refl; hosted = λ n h. h }) e
-
 -- ---- entries
 
 module _ (triggers : List TriggerDesc) (states : List State) (sts : List Station) (t dev : ℕ) (s s' : State) (bench : IsBench triggers states sts)
@@ -137,18 +133,6 @@ entry_triggers states t dev s s' there off = map_changed trigger_of states t s s
 pub entry_here : (states : List State) (t dev : ℕ) (s : State) → slice_get states t ≡ Some s
     → entry_of dev (trigger_in (map trigger_of states) t).entries ≡ entry_of dev (trigger_of s).entries
 entry_here states t dev s there = ap (λ (o : Option TriggerRecord). entry_of dev (unwrap_or o first_trigger).entries) (map_at trigger_of states t s there)
-
-module _ {D : Type 0} (f : D → Station) (clock : ℤ) (ds : List D) (k : ℕ) (d d' : D) (at : slice_get ds k ≡ Some d) where
-  entry_by : (kind : Kind) (o : Option Handed) (ended : Bool) (shape : ShapeRecord) → f d' ≡ entry_station kind o ended shape (f d)
-      → machine_by f clock (set ds k d') ≡ entry_machine kind o ended shape k (machine_by f clock ds)
-  entry_by kind None ended shape e = told_same f clock ds k d d' at e
-  entry_by kind (Some h) true shape e = told_same f clock ds k d d' at e
-  entry_by kind (Some h) false shape e = told_changed f clock ds k d d' at (kind_handled kind shape h) e
-
-  pub entry_told : (kind kind' : Kind) (o o' : Option Handed) (ended ended' : Bool) (shape shape' : ShapeRecord) → kind' ≡ kind → o' ≡ o → ended' ≡ ended
-      → shape' ≡ shape → f d' ≡ entry_station kind o ended shape (f d)
-      → machine_by f clock (set ds k d') ≡ entry_machine kind' o' ended' shape' k (machine_by f clock ds)
-  entry_told kind kind' o o' ended ended' shape shape' sameK same sameE sameS e = rw (sameK, same, sameE, sameS) (entry_by kind o ended shape e)
 
 pub entry_answer_is : (kind kind' : Kind) (o o' : Option Handed) (ended ended' : Bool) (st st' : Station) (r : Option Became) → kind' ≡ kind → o' ≡ o
     → ended' ≡ ended → st' ≡ st → r ≡ entry_answer kind o ended st

@@ -1,6 +1,6 @@
 -- The handling of an entry, as the machine has it.
-use Rattle.std.proofs.Common.{◌≡◌, ◌+◌, ◌-◌, ◌^◌, Bool, true, false, map, Option, Some, None, refl, sym, ap, ◌∙◌, cond}
-use Rattle.std.specs.Prelude.{◌==◌, ◌&&◌, ℤ}
+use Rattle.std.proofs.Common.{◌≡◌, ℕ, ◌+◌, ◌-◌, ◌^◌, Bool, true, false, [], ◌∷◌, ◌++◌, map, length, Option, Some, None, refl, sym, ap, subst, ◌∙◌, cond}
+use Rattle.std.specs.Prelude.{◌==◌, ◌&&◌, ℤ, nat_lt}
 use Rattle.iio_layout.specs.Shape.{ShapeRecord}
 use Rattle.iio_desc.specs.Kind.{Kind, Input, Output, Average}
 use Rattle.iio_derive.specs.Window.{no_window}
@@ -14,17 +14,19 @@ use Rattle.iio_device.specs.Device.{DeviceView, Handles, is_due as is_due_for}
 use Rattle.iio_device.specs.Members.{masks_of as masks_of_memberships}
 use Rattle.iio_device.specs.Roster.{Standing}
 use Rattle.iio_device.specs.Site.{is_current}
-use Rattle.iiod_session.specs.Machine.{Station}
+use Rattle.iio_layout.specs.Scan.{scan_of}
+use Rattle.iiod_session.specs.Calls.{is_inner_of}
+use Rattle.iiod_session.specs.Machine.{Member, Station}
 use Rattle.iio_system.specs.Acting.{Keeps}
 use Rattle.iio_system.specs.declared.any_device.Became.TheVariants.{Asked}
 use Rattle.iio_system.specs.Handling.{counted, entry_answer, entry_station, is_due, is_last, kind_handled}
 use Rattle.iio_system.specs.Station.{station_of}
 use Rattle.iio_history.specs.Registry.{Capture}
-use Rattle.iio_history.specs.BenchMoves.{asked_once, capture_made, gives, giving_made, offered_to}
+use Rattle.iio_history.specs.BenchMoves.{asked_once, capture_made, emptied_of, gives, giving_made, offered_to}
 use Rattle.iio_history.specs.Devices.{handled_answer, queue_waited, queue_waits}
 use Rattle.iio_history.proofs.DeviceHandlings.{handled_is as plain_handled, queues_stand}
 use Rattle.iio_system.proofs.ListLemmas.{is_empty-map}
-use Rattle.iio_system.proofs.BenchLemmas.{KeepsPlace, kept_along, kept_same}
+use Rattle.iio_system.proofs.BenchLemmas.{KeepsInner, inner_kept, inner_mapped, stands_same}
 
 -- over queues in one hand the device that a handling met is the one that stood
 pub handled_is : (e : Handed) (r : Handled) (v v' : DeviceView Queue)
@@ -103,31 +105,38 @@ captures_are e Idle v v' h = ap (λ (x : DeviceView Queue). x.standing.captures)
 captures_are e Fault v v' h = ap (λ (x : DeviceView Queue). x.standing.captures) h.2
 captures_are e (Captured n) v v' h = ap (λ (s : Standing Queue). s.captures) h.2.1
 
-place_kept : (shape : ShapeRecord) (c : Capture) (t : ℤ) (st : Station) (b : Bool)
-    → KeepsPlace st (cond b (asked_once shape t st)
+pub offered_inner : (shape : ShapeRecord) (c : Capture) (j : ℕ) (x : Member) → is_inner_of j (offered_to shape c x) ≡ is_inner_of j x
+offered_inner shape c j x = by (nat_lt (length x.scans) x.capacity)
+  where
+    by : (b : Bool) → is_inner_of j
+        (cond b (record x { scans = emptied_of x.inner (x.scans ++ scan_of shape x.mask c.values c.moment ∷ []) })
+        (record x { scans = emptied_of x.inner x.scans; lost = x.lost + 1 })) ≡ is_inner_of j x
+    by true = refl
+    by false = refl
+
+asked_kept : (shape : ShapeRecord) (c : Capture) (t : ℤ) (st : Station) (b : Bool)
+    → KeepsInner st (cond b (asked_once shape t st)
     (record (asked_once shape t st) { captures = st.captures + 1; members = map (offered_to shape c) st.members; window = no_window }))
-place_kept shape c t st true = record { attached = λ u. refl; attachment = refl; hosted = λ n h. h }
-place_kept shape c t st false =
-    let same = is_empty-map (offered_to shape c) st.members in
-    record { attached = λ u. rw same refl; attachment = refl; hosted = λ n h. rw same h }
+asked_kept shape c t st true = inner_kept st _ refl refl refl refl (λ j. refl)
+asked_kept shape c t st false =
+    inner_kept st _ refl refl refl (is_empty-map (offered_to shape c) st.members)
+    (λ j. inner_mapped j (offered_to shape c) (offered_inner shape c j) st.members)
 
-given_kept : (shape : ShapeRecord) (st : Station) → KeepsPlace st (giving_made shape st)
-given_kept shape st =
-    let same = is_empty-map gives st.members in
-    record { attached = λ u. rw same refl; attachment = refl; hosted = λ n h. rw same h }
+given_kept : (shape : ShapeRecord) (st : Station) → KeepsInner st (giving_made shape st)
+given_kept shape st = inner_kept st (giving_made shape st) refl refl refl (is_empty-map gives st.members) (λ j. inner_mapped j gives (λ x. refl) st.members)
 
-capture_kept : (kind : Kind) (shape : ShapeRecord) (t : ℤ) (st : Station) → KeepsPlace st (capture_made kind shape t st)
-capture_kept Input shape t st = place_kept shape (record { moment = t; values = values_of st.site.driver shape t }) t st (ask_fails st.site.driver)
+capture_kept : (kind : Kind) (shape : ShapeRecord) (t : ℤ) (st : Station) → KeepsInner st (capture_made kind shape t st)
+capture_kept Input shape t st = asked_kept shape (record { moment = t; values = values_of st.site.driver shape t }) t st (ask_fails st.site.driver)
 capture_kept Output shape t st = given_kept shape st
-capture_kept (Average base window) shape t st = record { attached = λ u. refl; attachment = refl; hosted = λ n h. h }
+capture_kept (Average base window) shape t st = inner_kept st st refl refl refl refl (λ j. refl)
 
-current_kept : (b : Bool) (st w : Station) → KeepsPlace st w → KeepsPlace st (cond b w st)
+current_kept : (b : Bool) (st w : Station) → KeepsInner st w → KeepsInner st (cond b w st)
 current_kept true st w kept = kept
-current_kept false st w kept = record { attached = λ u. refl; attachment = refl; hosted = λ n h. h }
+current_kept false st w kept = inner_kept st st refl refl refl refl (λ j. refl)
 
 pub entry_kept : (kind : Kind) (o : Option Handed) (ended : Bool) (shape : ShapeRecord) (st st' : Station) → st' ≡ entry_station kind o ended shape st
-    → KeepsPlace st st'
-entry_kept kind None ended shape st st' e = kept_same st st' e
-entry_kept kind (Some h) true shape st st' e = kept_same st st' e
+    → KeepsInner st st'
+entry_kept kind None ended shape st st' e = (stands_same st st' e).inner
+entry_kept kind (Some h) true shape st st' e = (stands_same st st' e).inner
 entry_kept kind (Some h) false shape st st' e =
-    kept_along st (kind_handled kind shape h st) st' (current_kept (is_due h st) st (capture_made kind shape h.t st) (capture_kept kind shape h.t st)) e
+    subst (λ (x : Station). KeepsInner st x) (sym e) (current_kept (is_due h st) st (capture_made kind shape h.t st) (capture_kept kind shape h.t st))

@@ -1,5 +1,5 @@
 -- A bench as an `Iio`: what each call leaves.
-use Rattle.std.proofs.Common.{◌≡◌, ℕ, ◌<◌, Bool, true, false, List, [], ◌∷◌, map, length, set, slice_get, get_or, Option, Some, None, IfSome, Result, Ok, Err, refl, sym, ap, ◌∙◌, arith, cond, option_map}
+use Rattle.std.proofs.Common.{◌≡◌, ℕ, ◌<◌, Bool, true, false, List, [], ◌∷◌, ◌++◌, map, length, set, slice_get, get_or, Option, Some, None, IfSome, Result, Ok, Err, refl, sym, ap, ◌∙◌, arith, cond, option_map}
 use Rattle.std.specs.Prelude.{◌==◌, ◌&&◌, ◌||◌, not, nat_lt, ⊤, ℤ, position, unwrap_or}
 use Rattle.std.specs.List.{AllByRecursion, IsDistinct, position_or_len, prefix_len}
 use Rattle.std.proofs.lemmas.Bool.Decides.{nat_tests}
@@ -26,24 +26,26 @@ use Rattle.iiod_session.specs.declared.iio.No.{No}
 use Rattle.iiod_session.specs.declared.iio.No.TheVariants.{Errno as NoErrno, Mem as NoMem}
 use Rattle.iiod_session.specs.declared.iio.Took.{Took}
 use Rattle.iio_desc.specs.Description.{DeviceHead}
-use Rattle.iio_desc.specs.Kind.{Kind, Input, Output, Average, is_average, is_input}
+use Rattle.iio_desc.specs.Kind.{Kind, Input, Output, Average, is_input}
 use Rattle.iio_attr.specs.declared.attributes.Attr.TheVariants as attr
 use Rattle.iio_attr.specs.Attributes.{is_writable}
-use Rattle.iio_output.specs.Written.{scans_of}
+use Rattle.iio_output.specs.Written.{scans_of, taken_of}
 use Rattle.iiod_session.specs.Attributes.{has_attribute}
 use Rattle.iiod_session.specs.Front.{Front, kind_at, shape_at}
 use Rattle.iiod_session.specs.Machine.{Member, MemberId, Station, is_id_of, member_in, scans_in, with_site}
-use Rattle.iiod_session.specs.Calls.{ev_open_answer, ev_read_answer, holds_events, is_asking, read_answer, trigger_answer, write_scans_at, writes}
+use Rattle.iiod_session.specs.Calls.{ev_open_answer, ev_read_answer, holds_events, is_asking, is_inner_of, read_answer, trigger_answer, write_scans_at, writes}
 use Rattle.iiod_session.specs.Target.{MayRead, MayWrite}
 use Rattle.iio_system.specs.Acting.{Acts, KeepsCaptures, MayReadOf, Reads, TakesAt, TakesScansAt, Turns, has_member, is_member, lost_in}
+use Rattle.iio_system.specs.Averages.{IsAveraged}
 use Rattle.iio_system.specs.Bench.{Kept}
 use Rattle.iio_system.specs.Places.{IsBench, TriggerRecord, trigger_of}
 use Rattle.iio_system.specs.declared.any_device.AnyDevice.{AnyDevice}
 use Rattle.iio_system.specs.Station.{KeepsFront, KeepsHead, any_front, any_station, captures_by, member_of, stations_by}
 use Rattle.iio_system.proofs.ListLemmas.{is_empty-map, length_map_is, map_at, map_same}
 use Rattle.iio_system.proofs.ToldLemmas.{fronts_by}
-use Rattle.iio_system.proofs.AnyLemmas.{attached_as, attachment_as, hosted_as}
-use Rattle.iio_system.proofs.BenchLemmas.{KeepsPlace, acts_kept, bench_by, bench_kept, kept_along, kept_same, monitor_kept, take_kept, take_scans_kept, trigger_kept, written_kept}
+use Rattle.iio_system.proofs.AnyLemmas.{attached_as, attachment_as, hosted_as, inner_as, made_as, members_as, plugged_as}
+use Rattle.iio_system.proofs.BenchLemmas.{KeepsInner, KeepsPlace, KeepsStanding, acts_stand, bench_by, bench_kept, inner_mapped, monitor_stands, standing, stands_along, stands_same, take_scans_stand, take_stands, trigger_stands, write_stands}
+use Rattle.iio_system.proofs.AverageLemmas.{averaged_by, averaged_stands}
 
 -- ---- what a call keeps of a device
 
@@ -195,26 +197,33 @@ lost_is id r o ms under e u =
 
 -- ---- what holds after each call
 
--- what an output device has of attributes can't be written
-written_by : (kind : Kind) (a : Attr) → has_attribute kind a ≡ true → is_writable a ≡ true → is_average kind ≡ false → is_input kind ≡ true
-written_by Input a has writable plain = refl
-written_by Output attr.Name has writable plain = absurd (cc)
-written_by Output attr.Raw has writable plain = absurd (cc)
-written_by Output attr.DataAvailable has writable plain = absurd (cc)
-written_by Output attr.Length has writable plain = absurd (cc)
-written_by Output attr.Underruns has writable plain = absurd (cc)
-written_by Output a has writable plain = absurd (cc)
-written_by (Average base window) a has writable plain = absurd (cc)
+-- what other devices than input ones have of attributes can't be written
+written_by : (kind : Kind) (a : Attr) → has_attribute kind a ≡ true → is_writable a ≡ true → is_input kind ≡ true
+written_by Input a has writable = refl
+written_by Output attr.Name has writable = absurd (cc)
+written_by Output attr.Raw has writable = absurd (cc)
+written_by Output attr.DataAvailable has writable = absurd (cc)
+written_by Output attr.Length has writable = absurd (cc)
+written_by Output attr.Underruns has writable = absurd (cc)
+written_by Output a has writable = absurd (cc)
+written_by (Average base window) attr.Name has writable = absurd (cc)
+written_by (Average base window) attr.Overruns has writable = absurd (cc)
+written_by (Average base window) attr.DataAvailable has writable = absurd (cc)
+written_by (Average base window) attr.Length has writable = absurd (cc)
+written_by (Average base window) attr.Discarded has writable = absurd (cc)
+written_by (Average base window) a has writable = absurd (cc)
 
 -- a device whose members each change keeps its place
-pub members_mapped : (f : Member → Member) (st : Station) → KeepsPlace st (record st { members = map f st.members })
-members_mapped f st =
-    let same = is_empty-map f st.members in
-    record {
-      attached = λ t. rw same refl;
-      attachment = refl;
-      hosted = λ n h. rw same h;
-    }
+pub members_mapped : (f : Member → Member) (st : Station) → ((j : ℕ) (x : Member) → is_inner_of j (f x) ≡ is_inner_of j x)
+    → KeepsStanding st (record st { members = map f st.members })
+members_mapped f st same = standing st _ refl refl refl (is_empty-map f st.members) (λ j. inner_mapped j f (same j) st.members) refl
+
+written_inner : (id : MemberId) (scans : List (List ℕ)) (j : ℕ) (x : Member) → is_inner_of j (writes id scans x) ≡ is_inner_of j x
+written_inner id scans j x = by (is_id_of id x)
+  where
+    by : (b : Bool) → is_inner_of j (cond b (record x { scans = x.scans ++ taken_of x.cyclic x.capacity x.scans scans }) x) ≡ is_inner_of j x
+    by true = refl
+    by false = refl
 
 -- an attribute that may be read is one of the device's
 pub may_read : (front : Front) (k : ℕ) (channel : Option ℕ) (a : Attr) (d : DeviceHead) → kind_at front k ≡ d.kind → shape_at front k ≡ d.shape
@@ -225,104 +234,134 @@ may_read front k (Some c) a d kind shape may = (rw shape at may.0, may.1, rw kin
 -- and one that may be written is one of an input device's
 pub is_written : (front : Front) (k : ℕ) (channel : Option ℕ) (a : Attr) (v : Fixed) (d : DeviceHead) → kind_at front k ≡ d.kind → shape_at front k ≡ d.shape
     → MayWrite front k channel a v
-    → is_average d.kind ≡ false → (is_input d.kind ≡ true) × IfSome channel (λ c. c < length d.shape.channels)
-is_written front k channel a v d kind shape may plain = by channel (may_read front k channel a d kind shape may.named)
+    → (is_input d.kind ≡ true) × IfSome channel (λ c. c < length d.shape.channels)
+is_written front k channel a v d kind shape may = by channel (may_read front k channel a d kind shape may.named)
   where
     by : (channel : Option ℕ) → MayReadOf d channel a → (is_input d.kind ≡ true) × IfSome channel (λ c. c < length d.shape.channels)
-    by None named = (written_by d.kind a named.1 may.writable plain, tt)
-    by (Some c) named = (written_by d.kind a named.2 may.writable plain, named.0)
+    by None named = (written_by d.kind a named.1 may.writable, tt)
+    by (Some c) named = (written_by d.kind a named.2 may.writable, named.0)
 
 module _ {X : Type 0} {V : X → Type 0} (drive : Plug X V → Driver) where
-  plain_kept : (d d' : AnyDevice X V) → KeepsPlace (any_station drive d) (any_station drive d')
+  plain_place : (d d' : AnyDevice X V) → KeepsPlace (any_station drive d) (any_station drive d')
       → KeepsPlace (any_station (λ p. no_driver) d) (any_station (λ p. no_driver) d')
-  plain_kept d d' k = record {
+  plain_place d d' k = record {
     attached = λ t. attached_as (λ p. no_driver) drive t d' ∙ k.attached t ∙ attached_as drive (λ p. no_driver) t d;
     attachment = attachment_as (λ p. no_driver) drive d' ∙ k.attachment ∙ attachment_as drive (λ p. no_driver) d;
-    hosted = λ n h. hosted_as (λ p. no_driver) drive n d' ∙ k.hosted n (hosted_as drive (λ p. no_driver) n d ∙ h);
   }
 
-  module _ (triggers : List TriggerDesc) (states : List State) (ds : List (AnyDevice X V)) (k : ℕ) (d d' : AnyDevice X V)
-      (sound : IsBench triggers states (stations_by (λ p. no_driver) ds)) (at : slice_get ds k ≡ Some d) where
-    pub sound_kept : KeepsPlace (any_station drive d) (any_station drive d') → IsBench triggers states (stations_by (λ p. no_driver) (set ds k d'))
-    sound_kept kept =
+  pub plain_inner : (d d' : AnyDevice X V) → KeepsInner (any_station drive d) (any_station drive d')
+      → KeepsInner (any_station (λ p. no_driver) d) (any_station (λ p. no_driver) d')
+  plain_inner d d' k = record {
+    place = plain_place d d' k.place;
+    hosted = λ n h. hosted_as (λ p. no_driver) drive n d' ∙ k.hosted n (hosted_as drive (λ p. no_driver) n d ∙ h);
+    plugged = plugged_as (λ p. no_driver) drive d' ∙ k.plugged ∙ plugged_as drive (λ p. no_driver) d;
+    empty = members_as (λ p. no_driver) drive d' ∙ k.empty ∙ members_as drive (λ p. no_driver) d;
+    inner = λ j. inner_as (λ p. no_driver) drive j d' ∙ k.inner j ∙ inner_as drive (λ p. no_driver) j d;
+  }
+
+  plain_stands : (d d' : AnyDevice X V) → KeepsStanding (any_station drive d) (any_station drive d')
+      → KeepsStanding (any_station (λ p. no_driver) d) (any_station (λ p. no_driver) d')
+  plain_stands d d' k =
+      record { inner = plain_inner d d' k.inner; captures = made_as (λ p. no_driver) drive d' ∙ k.captures ∙ made_as drive (λ p. no_driver) d }
+
+  module _ (ds : List (AnyDevice X V)) (k : ℕ) (d d' : AnyDevice X V) (at : slice_get ds k ≡ Some d) where
+    pub sound_placed : (triggers : List TriggerDesc) (states : List State) → IsBench triggers states (stations_by (λ p. no_driver) ds)
+        → KeepsPlace (any_station drive d) (any_station drive d')
+        → IsBench triggers states (stations_by (λ p. no_driver) (set ds k d'))
+    sound_placed triggers states sound kept =
         bench_by (any_station (λ p. no_driver)) triggers states ds k d'
         (bench_kept triggers states (map (any_station (λ p. no_driver)) ds) k (any_station (λ p. no_driver) d) (any_station (λ p. no_driver) d') sound
-        (map_at (any_station (λ p. no_driver)) ds k d at) (plain_kept d d' kept))
+        (map_at (any_station (λ p. no_driver)) ds k d at) (plain_place d d' kept))
 
-    pub sound_write : (channel : Option ℕ) (a : Attr) (v : Fixed) (r : Result ⊤ No)
+    -- what holds of the bench holds where one device keeps its standing
+    pub sound_kept : (triggers : List TriggerDesc) (states : List State) → IsBench triggers states (stations_by (λ p. no_driver) ds)
+        → KeepsStanding (any_station drive d) (any_station drive d')
+        → IsBench triggers states (stations_by (λ p. no_driver) (set ds k d'))
+    sound_kept triggers states sound kept = sound_placed triggers states sound kept.inner.place
+
+    pub averaged_kept : (triggers first : ℕ) → IsAveraged triggers first (map any_front ds) (stations_by (λ p. no_driver) ds) → KeepsHead d d'
+        → KeepsStanding (any_station drive d) (any_station drive d')
+        → IsAveraged triggers first (map any_front (set ds k d')) (stations_by (λ p. no_driver) (set ds k d'))
+    averaged_kept triggers first averaged keeps kept =
+        averaged_by triggers first any_front (any_station (λ p. no_driver)) ds k d d' at keeps.front
+        (averaged_stands triggers first (map any_front ds) (map (any_station (λ p. no_driver)) ds) k (any_station (λ p. no_driver) d)
+        (any_station (λ p. no_driver) d') averaged
+        (map_at (any_station (λ p. no_driver)) ds k d at) (plain_stands d d' kept))
+
+  module _ (d d' : AnyDevice X V) where
+    pub write_kept : (channel : Option ℕ) (a : Attr) (v : Fixed) (r : Result ⊤ No)
         → Acts (with_site (site_written channel a v)) (ensure (any_station drive d).site.plugged ENODEV) r (any_station drive d) (any_station drive d')
-        → IsBench triggers states (stations_by (λ p. no_driver) (set ds k d'))
-    sound_write channel a v r t =
-        sound_kept (acts_kept (with_site (site_written channel a v)) (any_station drive d) (any_station drive d')
-        (ensure (any_station drive d).site.plugged ENODEV) r (λ x e. written_kept channel a v (any_station drive d)) t)
+        → KeepsStanding (any_station drive d) (any_station drive d')
+    write_kept channel a v r t =
+        acts_stand (with_site (site_written channel a v)) (any_station drive d) (any_station drive d') (ensure (any_station drive d).site.plugged ENODEV) r
+        (λ x e. write_stands channel a v (any_station drive d)) t
 
-    pub sound_trigger : (trigger : Option ℕ) (r : Result ⊤ No)
+    pub trigger_kept : (trigger : Option ℕ) (r : Result ⊤ No)
         → Acts (with_site (λ site. record site { trigger = trigger })) (trigger_answer (any_station drive d)) r (any_station drive d) (any_station drive d')
-        → IsBench triggers states (stations_by (λ p. no_driver) (set ds k d'))
-    sound_trigger trigger r t =
-        sound_kept (acts_kept (with_site (λ site. record site { trigger = trigger })) (any_station drive d) (any_station drive d')
-        (trigger_answer (any_station drive d)) r (λ x e. trigger_kept trigger (any_station drive d) x e) t)
+        → KeepsStanding (any_station drive d) (any_station drive d')
+    trigger_kept trigger r t =
+        acts_stand (with_site (λ site. record site { trigger = trigger })) (any_station drive d) (any_station drive d') (trigger_answer (any_station drive d)) r
+        (λ x e. trigger_stands trigger (any_station drive d) x e) t
 
-    pub sound_ev_open : (who : ℕ) (r : Result ⊤ No)
+    pub ev_open_kept : (who : ℕ) (r : Result ⊤ No)
         → Acts (with_site (with_monitor (after_open who))) (ev_open_answer (any_station drive d)) r (any_station drive d) (any_station drive d')
-        → IsBench triggers states (stations_by (λ p. no_driver) (set ds k d'))
-    sound_ev_open who r t =
-        sound_kept (acts_kept (with_site (with_monitor (after_open who))) (any_station drive d) (any_station drive d') (ev_open_answer (any_station drive d)) r
-        (λ x e. monitor_kept (after_open who) (any_station drive d)) t)
+        → KeepsStanding (any_station drive d) (any_station drive d')
+    ev_open_kept who r t =
+        acts_stand (with_site (with_monitor (after_open who))) (any_station drive d) (any_station drive d') (ev_open_answer (any_station drive d)) r
+        (λ x e. monitor_stands (after_open who) (any_station drive d)) t
 
-    pub sound_ev_read : (who : ℕ) (r : Result (Option EventData) No)
+    pub ev_read_kept : (who : ℕ) (r : Result (Option EventData) No)
         → Acts (with_site (with_monitor (after_read (λ a b. a == b) who))) (ev_read_answer who (any_station drive d)) r (any_station drive d)
         (any_station drive d')
-        → IsBench triggers states (stations_by (λ p. no_driver) (set ds k d'))
-    sound_ev_read who r t =
-        sound_kept (acts_kept (with_site (with_monitor (after_read (λ a b. a == b) who))) (any_station drive d) (any_station drive d')
-        (ev_read_answer who (any_station drive d)) r (λ x e. monitor_kept (after_read (λ a b. a == b) who) (any_station drive d)) t)
+        → KeepsStanding (any_station drive d) (any_station drive d')
+    ev_read_kept who r t =
+        acts_stand (with_site (with_monitor (after_read (λ a b. a == b) who))) (any_station drive d) (any_station drive d')
+        (ev_read_answer who (any_station drive d)) r (λ x e. monitor_stands (after_read (λ a b. a == b) who) (any_station drive d)) t
 
-    pub sound_ev_close : (who : ℕ) (r : Result ⊤ No)
+    pub ev_close_kept : (who : ℕ) (r : Result ⊤ No)
         → Acts (with_site (with_monitor (after_close (λ a b. a == b) who))) (ensure (holds_events who (any_station drive d)) EBADF) r (any_station drive d)
         (any_station drive d')
-        → IsBench triggers states (stations_by (λ p. no_driver) (set ds k d'))
-    sound_ev_close who r t =
-        sound_kept (acts_kept (with_site (with_monitor (after_close (λ a b. a == b) who))) (any_station drive d) (any_station drive d')
-        (ensure (holds_events who (any_station drive d)) EBADF) r (λ x e. monitor_kept (after_close (λ a b. a == b) who) (any_station drive d)) t)
+        → KeepsStanding (any_station drive d) (any_station drive d')
+    ev_close_kept who r t =
+        acts_stand (with_site (with_monitor (after_close (λ a b. a == b) who))) (any_station drive d) (any_station drive d')
+        (ensure (holds_events who (any_station drive d)) EBADF) r (λ x e. monitor_stands (after_close (λ a b. a == b) who) (any_station drive d)) t
 
     read_kept_by : (b : Bool) (r : Result Value No) (answer : Result Value Errno)
         → Turns answer (cond b (with_site sampled (any_station drive d)) (any_station drive d)) r (any_station drive d) (any_station drive d')
-        → KeepsPlace (any_station drive d) (any_station drive d')
+        → KeepsStanding (any_station drive d) (any_station drive d')
     read_kept_by true (Ok x) answer t =
-        kept_along (any_station drive d) (with_site sampled (any_station drive d)) (any_station drive d')
-        (record { attached = λ u. refl; attachment = refl; hosted = λ n h. h }) t.1
+        stands_along (any_station drive d) (with_site sampled (any_station drive d)) (any_station drive d')
+        (standing (any_station drive d) _ refl refl refl refl (λ j. refl) refl) t.1
     read_kept_by true (Err (NoErrno e)) answer t =
-        kept_along (any_station drive d) (with_site sampled (any_station drive d)) (any_station drive d')
-        (record { attached = λ u. refl; attachment = refl; hosted = λ n h. h }) t.1
-    read_kept_by true (Err NoMem) answer t = kept_same (any_station drive d) (any_station drive d') t
-    read_kept_by false (Ok x) answer t = kept_same (any_station drive d) (any_station drive d') t.1
-    read_kept_by false (Err (NoErrno e)) answer t = kept_same (any_station drive d) (any_station drive d') t.1
-    read_kept_by false (Err NoMem) answer t = kept_same (any_station drive d) (any_station drive d') t
+        stands_along (any_station drive d) (with_site sampled (any_station drive d)) (any_station drive d')
+        (standing (any_station drive d) _ refl refl refl refl (λ j. refl) refl) t.1
+    read_kept_by true (Err NoMem) answer t = stands_same (any_station drive d) (any_station drive d') t
+    read_kept_by false (Ok x) answer t = stands_same (any_station drive d) (any_station drive d') t.1
+    read_kept_by false (Err (NoErrno e)) answer t = stands_same (any_station drive d) (any_station drive d') t.1
+    read_kept_by false (Err NoMem) answer t = stands_same (any_station drive d) (any_station drive d') t
 
-    pub sound_read : (t : ℤ) (channel : Option ℕ) (a : Attr) (r : Result Value No)
-        → Reads (any_front d) t channel a (any_station drive d) r (any_station drive d') → IsBench triggers states (stations_by (λ p. no_driver) (set ds k d'))
-    sound_read t channel a r reads =
-        sound_kept (read_kept_by (is_asking (any_front d).kind channel a (any_station drive d)) r
-        (read_answer (any_front d).name (any_front d).kind (any_front d).shape t channel a (any_station drive d)) reads)
+    pub read_kept : (t : ℤ) (channel : Option ℕ) (a : Attr) (r : Result Value No)
+        → Reads (any_front d) t channel a (any_station drive d) r (any_station drive d') → KeepsStanding (any_station drive d) (any_station drive d')
+    read_kept t channel a r reads =
+        read_kept_by (is_asking (any_front d).kind channel a (any_station drive d)) r
+        (read_answer (any_front d).name (any_front d).kind (any_front d).shape t channel a (any_station drive d)) reads
 
-    pub sound_writes : (size : ℕ) (id : MemberId) (bytes : List ℕ) (r : Result ℕ No)
+    pub writes_kept : (size : ℕ) (id : MemberId) (bytes : List ℕ) (r : Result ℕ No)
         → Acts (λ st. record st { members = map (writes id (scans_of size bytes)) st.members }) (write_scans_at (any_station drive d) id size bytes) r
         (any_station drive d) (any_station drive d')
-        → IsBench triggers states (stations_by (λ p. no_driver) (set ds k d'))
-    sound_writes size id bytes r t =
-        sound_kept (acts_kept (λ st. record st { members = map (writes id (scans_of size bytes)) st.members }) (any_station drive d) (any_station drive d')
+        → KeepsStanding (any_station drive d) (any_station drive d')
+    writes_kept size id bytes r t =
+        acts_stand (λ st. record st { members = map (writes id (scans_of size bytes)) st.members }) (any_station drive d) (any_station drive d')
         (write_scans_at (any_station drive d) id size bytes) r
-        (λ x e. members_mapped (writes id (scans_of size bytes)) (any_station drive d)) t)
+        (λ x e. members_mapped (writes id (scans_of size bytes)) (any_station drive d) (λ j m. written_inner id (scans_of size bytes) j m)) t
 
-    pub sound_take : (id : MemberId) (took : Took) (scan : List ℕ) → TakesAt id took scan (any_station drive d) (any_station drive d')
-        → IsBench triggers states (stations_by (λ p. no_driver) (set ds k d'))
-    sound_take id took scan t = sound_kept (take_kept id took scan (any_station drive d) (any_station drive d') t)
+    pub take_kept : (id : MemberId) (took : Took) (scan : List ℕ) → TakesAt id took scan (any_station drive d) (any_station drive d')
+        → KeepsStanding (any_station drive d) (any_station drive d')
+    take_kept id took scan t = take_stands id took scan (any_station drive d) (any_station drive d') t
 
-    pub sound_take_scans : (id : MemberId) (most : ℕ) (took : Took) (before after : List ℕ)
-        → TakesScansAt id most took before after (any_station drive d) (any_station drive d')
-        → IsBench triggers states (stations_by (λ p. no_driver) (set ds k d'))
-    sound_take_scans id most took before after t = sound_kept (take_scans_kept id most took before after (any_station drive d) (any_station drive d') t)
+    pub take_scans_kept : (id : MemberId) (most : ℕ) (took : Took) (before after : List ℕ)
+        → TakesScansAt id most took before after (any_station drive d) (any_station drive d') → KeepsStanding (any_station drive d) (any_station drive d')
+    take_scans_kept id most took before after t = take_scans_stand id most took before after (any_station drive d) (any_station drive d') t
 
 -- the whole front
 pub fronts_keep : {X : Type 0} {V : X → Type 0} (context : List ℕ) (triggers : List TriggerDesc) (ds : List (AnyDevice X V)) (k : ℕ) (d d' : AnyDevice X V)

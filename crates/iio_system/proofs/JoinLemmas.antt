@@ -155,7 +155,7 @@ joined_is mask capacity d =
     (record { none = refl; unlost = refl }))
 
 pub joins_any : (mask : Mask) (capacity : ℕ) (r : Result Seat No) (d d' : DeviceView Queue) (s s' : State) → JoinsBy mask capacity r d d' s s'
-    → JoinsAny mask capacity false d.number d.standing.shape r (station_of d) (station_of d') s s'
+    → JoinsAny mask capacity false None d.number d.standing.shape r (station_of d) (station_of d') s s'
 joins_any mask capacity (Ok seat) d d' s s' j = (
   j.0,
   ap station_of j.1 ∙ joined_is mask capacity d,

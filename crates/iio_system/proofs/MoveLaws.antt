@@ -11,29 +11,29 @@ use Rattle.iio_trigger.specs.declared.Polled.{Polled as Answer}
 use Rattle.iio_trigger.specs.Trigger.{Handed, missed_after, poll_made}
 use Rattle.hex.specs.Hex.{encode_lower}
 use Rattle.iio_desc.specs.Description.{device_name as desc_device_name, trigger_name as desc_trigger_name}
-use Rattle.iio_desc.specs.Kind.{Kind, Input, Output, Average, is_average, is_unplugged_by}
+use Rattle.iio_desc.specs.Kind.{Kind, Input, Output, Average, is_average}
 use Rattle.iio_output.specs.Last.{GivenScan}
 use Rattle.iio_device.specs.declared.handling.Handled.TheVariants.{Captured, Fault, Idle}
 use Rattle.iio_device.specs.declared.handling.Sensed.{Sensed as Look}
 use Rattle.iio_device.specs.declared.handling.Sensed.TheVariants as sense
 use Rattle.iio_device.specs.declared.plug.Plug.{Plug}
 use Rattle.iio_device.specs.Sensing.{sensed}
-use Rattle.iio_device.specs.Site.{at_place, is_current, is_empty, unplugged}
+use Rattle.iio_device.specs.Site.{at_place, is_current, is_empty}
 use Rattle.iiod_session.specs.Desk.{DeskRecord}
 use Rattle.iiod_session.specs.Calls.{is_attached}
 use Rattle.iiod_session.specs.Front.{Front, device_name, kind_at, shape_at, trigger_name}
 use Rattle.iiod_session.specs.Places.{map_from}
-use Rattle.iiod_session.specs.Machine.{Machine, Station, is_plugged, no_station, station_at, with_site, with_station}
+use Rattle.iiod_session.specs.Machine.{Machine, Station, is_plugged, no_station, station_at, with_station}
 use Rattle.iiod_session.specs.Seat.{SeatRecord}
 use Rattle.iio_history.specs.Event.{Event, Arrived, Clock, Dropped, Handled, Heard, Polled, Sensed, Unplugged}
-use Rattle.iio_history.specs.Registry.{Entry, Registry, Setup, Trigger, User, entries_at, entry_of as told_entry, without_entry as told_without}
+use Rattle.iio_history.specs.Registry.{Capture, Entry, Registry, Setup, Trigger, User, entries_at, entry_of as told_entry, without_entry as told_without}
 use Rattle.iio_history.specs.Fold.{handled as told_handled, newcomers}
 use Rattle.iio_history.specs.Told.{Line, Told, registry_of}
 use Rattle.iio_history.specs.Machine.{line_after, new_line, step}
 use Rattle.iio_history.specs.Transcript.{Sense, SetClock, Unplug, event_text, given_word, missed_at, printed}
 use Rattle.iio_history.specs.Bench.{Every, IsBench, IsDeskOf, IsStep, front_of, is_in, machine_of, names_of}
 use Rattle.iio_history.specs.BenchLaw.{IsOthers}
-use Rattle.iio_history.specs.BenchMoves.{IsMove, bench_entries, entry_made, entry_word, handles, handles_by, look_words, moved_text, next_of, plug_word, polled_by, triggers_made, unplugs}
+use Rattle.iio_history.specs.BenchMoves.{IsMove, bench_entries, capture_in, capture_of, current_capture, entry_made, entry_word, gathered_to, handles, handles_by, look_words, moved_text, next_of, plug_word, polled_by, triggers_made}
 use Rattle.iio_history.proofs.BenchLists.{same_number}
 use Rattle.iio_history.proofs.BenchKept.{bench_kept}
 use Rattle.iio_history.proofs.BenchMoves.{clock_is, handling_is, look_is, moves_print, poll_is, triggers_are, unplugging_is}
@@ -45,14 +45,14 @@ use Rattle.iio_system.specs.Bench.{front_of as bench_front, machine_of as bench_
 use Rattle.iio_system.specs.declared.any_device.Became.{Became}
 use Rattle.iio_system.specs.declared.any_device.Became.TheVariants.{Asked, Gave}
 use Rattle.iio_system.specs.declared.out_device.Gave.TheVariants as gave
-use Rattle.iio_system.specs.Handling.{IsGiven, IsRoom, counted, entry_answer, entry_machine, gave_answer, gave_by, is_last, kind_became, sensed_answer, sensed_station, unplugged_station}
+use Rattle.iio_system.specs.Handling.{IsGiven, IsRoom, capture_at, counted, entry_answer, entry_at, entry_capture, entry_machine, entry_station, gave_answer, gave_by, is_last, kind_became, kind_sensed, sensed_station, unplugged_machine}
 use Rattle.iio_system.specs.Lines.{became_word, gave_word, handled_word, polled_words, sensed_words, unplugged_word}
 use Rattle.iio_system.specs.Places.{TriggerRecord, entries_from, entry_of, first_trigger, handled, poll_answer, polled, without_entry}
 use Rattle.iio_system.specs.Seat.{seen_of}
 use Rattle.iio_system.specs.Standing.{CanCapture, Holds, Makes, RiseBy, handed_by, trigger_by}
 use Rattle.iio_system.specs.Station.{any_front, any_station}
 use Rattle.iio_system.specs.System.{AreLines}
-use Rattle.iio_system.proofs.AnyLemmas.{no_average, placed}
+use Rattle.iio_system.proofs.AnyLemmas.{as_from}
 use Rattle.iio_system.proofs.LineLaws.{SameLine, every_line_there, served_moves}
 use Rattle.iio_system.proofs.ListLemmas.{length_map_is}
 
@@ -155,9 +155,8 @@ device_told s front dev same = ap (λ (x : Front). device_name x dev) same
 -- ---- words
 
 -- of a look
-look_word : (kind : Kind) (shape : ShapeRecord) (t : ℤ) (st : Station) → is_average kind ≡ false
-    → sensed_words (sensed_answer shape t st) ≡ look_words kind shape t (Some st)
-look_word kind shape t st plain = plainly kind plain
+look_word : (kind : Kind) (shape : ShapeRecord) (t : ℤ) (st : Station) → sensed_words (kind_sensed kind shape t st) ≡ look_words kind shape t (Some st)
+look_word kind shape t st = each kind
   where
     by : (p f : Bool) (n : ℕ)
         → sensed_words (cond (not p) sense.Gone (cond f sense.Fault (sense.Fired n)))
@@ -166,10 +165,10 @@ look_word kind shape t st plain = plainly kind plain
     by true true n = refl
     by true false n = refl
 
-    plainly : (kind : Kind) → is_average kind ≡ false → sensed_words (sensed_answer shape t st) ≡ look_words kind shape t (Some st)
-    plainly Input plain = by st.site.plugged (sensed shape t st.site).fault (sensed shape t st.site).count
-    plainly Output plain = by st.site.plugged (sensed shape t st.site).fault (sensed shape t st.site).count
-    plainly (Average base window) plain = absurd (cc)
+    each : (kind : Kind) → sensed_words (kind_sensed kind shape t st) ≡ look_words kind shape t (Some st)
+    each Input = by st.site.plugged (sensed shape t st.site).fault (sensed shape t st.site).count
+    each Output = by st.site.plugged (sensed shape t st.site).fault (sensed shape t st.site).count
+    each (Average base window) = refl
 
 -- of a poll
 poll_word_at : (made : List Handed) (n : ℕ) (es : List Entry) (missed : ℕ) → length made ≡ n
@@ -261,9 +260,9 @@ without_told dev (e ∷ es) = by (e.device == dev) (without_told dev es)
     by false rest = ap (λ (hs : List Handed). handed_by e ∷ hs) rest
 
 -- the entry that a bench has
-entry_at : (ts : List Trigger) (trigger dev : ℕ)
+entry_there : (ts : List Trigger) (trigger dev : ℕ)
     → entry_of dev (trigger_in (map trigger_by ts) trigger).entries ≡ option_map handed_by (told_entry dev (entries_at ts trigger))
-entry_at ts trigger dev =
+entry_there ts trigger dev =
     ap (λ (o : Option TriggerRecord). entry_of dev (unwrap_or o first_trigger).entries) (slice_get-map trigger_by ts trigger) ∙ by (slice_get ts trigger)
   where
     by : (o : Option Trigger)
@@ -288,51 +287,68 @@ handled_told dev x = ap (λ (hs : List Handed). (let r : TriggerRecord = record 
 
 -- ---- devices
 
-entry_machine_told : (kind : Kind) (o : Option Entry) (shape : ShapeRecord) (dev : ℕ) (m : Machine)
-    → entry_machine kind (option_map handed_by o) false shape dev m ≡ with_station (entry_made kind shape o) dev m
-unfolding with_station
-entry_machine_told kind None shape dev m =
-    ap (λ (sts : List Station). record m { stations = sts }) (sym (place_same dev (entry_made kind shape None) m.stations (λ x. refl)))
-entry_machine_told kind (Some e) shape dev m = refl
+-- one device, once an entry was handled
+entry_told_as : (kind : Kind) (o : Option Entry) (shape : ShapeRecord) (st : Station)
+    → entry_station kind (option_map handed_by o) false shape st ≡ entry_made kind shape o st
+entry_told_as kind None shape st = refl
+entry_told_as kind (Some e) shape st = refl
 
--- where no device makes means, a handling and an unplugging change the device alone
-handles_plain : (front : Front) (m : Machine) (k : ℕ) (es : List Entry) (kind : Kind) (j : ℕ) (b : Station) → is_average kind ≡ false
-    → handles_by front m k es kind j b ≡ cond (k == j) (entry_made kind (shape_at front j) (told_entry j es) b) b
-handles_plain front m k es Input j b plain = refl
-handles_plain front m k es Output j b plain = refl
-handles_plain front m k es (Average base window) j b plain = absurd (cc)
-
-unplugs_plain : (kind : Kind) (device k : ℕ) → is_average kind ≡ false → is_unplugged_by kind device k ≡ (device == k)
-unplugs_plain Input device k plain = refl
-unplugs_plain Output device k plain = refl
-unplugs_plain (Average base window) device k plain = absurd (cc)
-
-module _ (front : Front) (none : (k : ℕ) → is_average (kind_at front k) ≡ false) where
-  handles_one : (m : Machine) (k : ℕ) (es : List Entry) (j : ℕ) (b : Station)
-      → handles front m k es j b ≡ cond (k == j) (entry_made (kind_at front k) (shape_at front k) (told_entry k es) b) b
-  handles_one m k es j b = handles_plain front m k es (kind_at front j) j b (none j) ∙ by (k == j) refl
+module _ (front : Front) (m : Machine) (dev : ℕ) (es : List Entry) where
+  none_current : (kind : Kind) (shape : ShapeRecord) (o : Option Entry) → entry_capture kind (option_map handed_by o) false shape no_station ≡ None
+  none_current kind shape None = refl
+  none_current kind shape (Some e) = by (e.attachment == no_station.site.attachment)
     where
-      by : (c : Bool) → (k == j) ≡ c
-          → cond c (entry_made (kind_at front j) (shape_at front j) (told_entry j es) b) b
-          ≡ cond c (entry_made (kind_at front k) (shape_at front k) (told_entry k es) b) b
-      by true is = ap (λ (n : ℕ). entry_made (kind_at front n) (shape_at front n) (told_entry n es) b) (sym (same_number k j is))
+      by : (b : Bool) → cond (b && false && false) (current_capture kind shape e.moment no_station) None ≡ None
+      by true = refl
+      by false = refl
+
+  capture_in_as : (kind : Kind) (shape : ShapeRecord) (o : Option Entry) (st : Station)
+      → entry_capture kind (option_map handed_by o) false shape st ≡ capture_in kind shape o st
+  capture_in_as kind shape None st = refl
+  capture_in_as kind shape (Some e) st = refl
+
+  capture_is : capture_at front (option_map handed_by (told_entry dev es)) false dev m ≡ capture_of front m dev es
+  unfolding station_at
+  capture_is = by (slice_get m.stations dev)
+    where
+      by : (x : Option Station)
+          → entry_capture (kind_at front dev) (option_map handed_by (told_entry dev es)) false (shape_at front dev) (unwrap_or x no_station)
+          ≡ elim x [ None ↦ None | Some b ↦ capture_in (kind_at front dev) (shape_at front dev) (told_entry dev es) b ]
+      by None = none_current (kind_at front dev) (shape_at front dev) (told_entry dev es)
+      by (Some b) = capture_in_as (kind_at front dev) (shape_at front dev) (told_entry dev es) b
+
+  plain_as : (kind : Kind) (shape : ℕ → ShapeRecord) (j : ℕ) (st : Station)
+      → cond (dev == j) (entry_station kind (option_map handed_by (told_entry dev es)) false (shape j) st) st
+      ≡ cond (dev == j) (entry_made kind (shape j) (told_entry j es) st) st
+  plain_as kind shape j st = by (dev == j) refl
+    where
+      by : (b : Bool) → (dev == j) ≡ b
+          → cond b (entry_station kind (option_map handed_by (told_entry dev es)) false (shape j) st) st
+          ≡ cond b (entry_made kind (shape j) (told_entry j es) st) st
+      by true is = entry_told_as kind (told_entry dev es) (shape j) st ∙ ap (λ (n : ℕ). entry_made kind (shape j) (told_entry n es) st) (same_number dev j is)
       by false is = refl
 
-  handled_alone : (m : Machine) (k : ℕ) (es : List Entry)
-      → with_station (entry_made (kind_at front k) (shape_at front k) (told_entry k es)) k m
-      ≡ (let x : Machine = record m { stations = map_from (handles front m k es) 0 m.stations } in x)
-  unfolding with_station
-  handled_alone m k es =
-      ap (λ (sts : List Station). (let x : Machine = record m { stations = sts } in x))
-      (sym (placed (handles front m k es) (entry_made (kind_at front k) (shape_at front k) (told_entry k es)) k m.stations (handles_one m k es)))
+  each_as : (kind : Kind) (j : ℕ) (st : Station)
+      → entry_at (option_map handed_by (told_entry dev es)) (capture_at front (option_map handed_by (told_entry dev es)) false dev m) false dev kind
+      (shape_at front j) j st ≡ handles_by front m dev es kind j st
+  each_as Input j st = plain_as Input (shape_at front) j st
+  each_as Output j st = plain_as Output (shape_at front) j st
+  each_as (Average base window) j st = by (dev == base) refl
+    where
+      by : (b : Bool) → (dev == base) ≡ b
+          → cond b (gathered_to window (shape_at front j) (capture_at front (option_map handed_by (told_entry dev es)) false dev m) st) st
+          ≡ cond b (gathered_to window (shape_at front j) (capture_of front m base es) st) st
+      by true is =
+          ap (λ (c : Option Capture). gathered_to window (shape_at front j) c st)
+          (capture_is ∙ ap (λ (n : ℕ). capture_of front m n es) (same_number dev base is))
+      by false is = refl
 
-  unplugged_alone : (m : Machine) (k : ℕ)
-      → with_station unplugged_station k m ≡ (let x : Machine = record m { stations = map_from (unplugs front k) 0 m.stations } in x)
-  unfolding with_station
-  unplugged_alone m k =
+  -- all devices, once an entry was handled
+  handled_is : entry_machine front (option_map handed_by (told_entry dev es)) false dev m
+      ≡ (let x : Machine = record m { stations = map_from (handles front m dev es) 0 m.stations } in x)
+  handled_is =
       ap (λ (sts : List Station). (let x : Machine = record m { stations = sts } in x))
-      (sym (placed (unplugs front k) unplugged_station k m.stations
-      (λ j b. ap (λ (c : Bool). cond c (with_site unplugged b) b) (unplugs_plain (kind_at front j) k j (none j)))))
+      (as_from _ (handles front m dev es) 0 m.stations (λ j st. each_as (kind_at front j) j st))
 
 -- ---- captures
 
@@ -413,12 +429,6 @@ module _ {X : Type 0} {V : X → Type 0} (driver : Plug X V → Driver) where
 
   -- ---- one device
 
-  -- no device makes means
-  pub none_averages : (s : Setup) (m : Told) (b : Bench X V) (cs : List (Connection Seat)) → Holds driver s m b cs → (k : ℕ)
-      → is_average (kind_at (front_of s) k) ≡ false
-  none_averages s m b cs h k =
-      ap (λ (f : Front). is_average (kind_at f k)) (sym h.stands.front_is) ∙ no_average b.context.items b.described.items b.devices.items k
-
   here : (b : Bench X V) (dev : ℕ) → dev < length (bench_front b).devices
       → slice_get (bench_machine driver b).stations dev ≡ Some (station_at (bench_machine driver b) dev)
   unfolding station_at
@@ -442,48 +452,44 @@ module _ {X : Type 0} {V : X → Type 0} (driver : Plug X V → Driver) where
 
   -- ---- unplugging
 
-  plugged_by : (kind : Kind) (st : Station) → is_average kind ≡ false → unplugged_word st.site.plugged ≡ plug_word kind (Some st)
-  plugged_by kind st plain = by st.site.plugged ∙ ap (λ (b : Bool). cond (st.site.plugged && not b) (codes "unplugged") (codes "gone")) (sym plain)
-    where
-      by : (p : Bool) → cond p (codes "unplugged") (codes "gone") ≡ cond (p && true) (codes "unplugged") (codes "gone")
-      by true = refl
-      by false = refl
-
   plugged_word : (s : Setup) (m : Told) (b : Bench X V) (cs : List (Connection Seat)) (dev : ℕ) → dev < length (bench_front b).devices → Holds driver s m b cs
-      → unplugged_word (is_plugged (bench_machine driver b) dev) ≡ plug_word (kind_at (front_of s) dev) (slice_get (machine_of m).stations dev)
+      → unplugged_word (is_plugged (bench_machine driver b) dev && not (is_average (kind_at (bench_front b) dev)))
+      ≡ plug_word (kind_at (front_of s) dev) (slice_get (machine_of m).stations dev)
   unfolding is_plugged
   plugged_word s m b cs dev less h =
-      plugged_by (kind_at (front_of s) dev) (station_at (bench_machine driver b) dev) (none_averages s m b cs h dev)
+      ap (λ (f : Front). unplugged_word (is_plugged (bench_machine driver b) dev && not (is_average (kind_at f dev)))) h.stands.front_is
       ∙ told_here (λ (o : Option Station). plug_word (kind_at (front_of s) dev) o) s m b cs dev less h
 
   pub unplug_makes : (dev : ℕ) (b b' : Bench X V) (cs : List (Connection Seat)) (before after name : List ℕ) (was : Bool) → dev < length (bench_front b).devices
       → bench_front b' ≡ bench_front b
-      → bench_machine driver b' ≡ with_station unplugged_station dev (bench_machine driver b) → triggers_of b' ≡ triggers_of b
-      → name ≡ device_name (bench_front b') dev → was ≡ is_plugged (bench_machine driver b) dev
+      → bench_machine driver b' ≡ unplugged_machine (bench_front b) dev (bench_machine driver b) → triggers_of b' ≡ triggers_of b
+      → name ≡ device_name (bench_front b') dev → was ≡ (is_plugged (bench_machine driver b) dev && not (is_average (kind_at (bench_front b) dev)))
       → after ≡ before ++ printed (name ∷ unplugged_word was ∷ []) → Makes driver (Unplug dev) b b' cs cs before after
   unplug_makes dev b b' cs before after name was less front told triggers named answered line = λ s m h. (
     one_line s m (Unplugged dev) _ before after h.stands.bench tt
         (ap (λ (n : List ℕ). printed (n ∷ unplugged_word was ∷ [])) (named ∙ named_here s m b b' cs dev front h)
         ∙ ap (λ (w : List ℕ). printed (desc_device_name s.desc dev ∷ w ∷ [])) (ap unplugged_word answered ∙ plugged_word s m b cs dev less h)) line,
-    holds_then s m (Unplugged dev) b b' cs tt h front (told ∙ ap (λ (x : Machine). with_station unplugged_station dev x) (machine_told s m b cs h)
-        ∙ unplugged_alone (front_of s) (none_averages s m b cs h) (machine_of m) dev ∙ sym (unplugging_is s m dev h.stands.bench)) (triggers ∙ h.triggers),
+    holds_then s m (Unplugged dev) b b' cs tt h front (told ∙ ap (λ (f : Front). unplugged_machine f dev (bench_machine driver b)) h.stands.front_is
+        ∙ ap (λ (x : Machine). unplugged_machine (front_of s) dev x) (machine_told s m b cs h) ∙ sym (unplugging_is s m dev h.stands.bench))
+        (triggers ∙ h.triggers),
   )
 
   -- ---- looks at thresholds
 
   sensed_told : (dev : ℕ) (t : ℤ) (s : Setup) (m : Told) (b : Bench X V) (cs : List (Connection Seat)) → dev < length (bench_front b).devices
       → Holds driver s m b cs
-      → sensed_words (sensed_answer (shape_at (bench_front b) dev) t (station_at (bench_machine driver b) dev))
+      → sensed_words (kind_sensed (kind_at (bench_front b) dev) (shape_at (bench_front b) dev) t (station_at (bench_machine driver b) dev))
       ≡ look_words (kind_at (front_of s) dev) (shape_at (front_of s) dev) t (slice_get (machine_of m).stations dev)
   sensed_told dev t s m b cs less h =
-      ap (λ (f : Front). sensed_words (sensed_answer (shape_at f dev) t (station_at (bench_machine driver b) dev))) h.stands.front_is
-      ∙ look_word (kind_at (front_of s) dev) (shape_at (front_of s) dev) t (station_at (bench_machine driver b) dev) (none_averages s m b cs h dev)
+      ap (λ (f : Front). sensed_words (kind_sensed (kind_at f dev) (shape_at f dev) t (station_at (bench_machine driver b) dev))) h.stands.front_is
+      ∙ look_word (kind_at (front_of s) dev) (shape_at (front_of s) dev) t (station_at (bench_machine driver b) dev)
       ∙ told_here (look_words (kind_at (front_of s) dev) (shape_at (front_of s) dev) t) s m b cs dev less h
 
   pub sense_makes : (dev : ℕ) (t : ℤ) (b b' : Bench X V) (cs : List (Connection Seat)) (before after name : List ℕ) (answer : Look)
       → dev < length (bench_front b).devices → bench_front b' ≡ bench_front b
       → bench_machine driver b' ≡ with_station (sensed_station (shape_at (bench_front b) dev) t) dev (bench_machine driver b) → triggers_of b' ≡ triggers_of b
-      → name ≡ device_name (bench_front b') dev → answer ≡ sensed_answer (shape_at (bench_front b) dev) t (station_at (bench_machine driver b) dev)
+      → name ≡ device_name (bench_front b') dev
+      → answer ≡ kind_sensed (kind_at (bench_front b) dev) (shape_at (bench_front b) dev) t (station_at (bench_machine driver b) dev)
       → after ≡ before ++ printed (name ∷ sensed_words answer) → Makes driver (Sense dev t) b b' cs cs before after
   sense_makes dev t b b' cs before after name answer less front told triggers named answered line = λ s m h. (
     one_line s m (Sensed dev t) _ before after h.stands.bench tt
@@ -537,24 +543,20 @@ module _ {X : Type 0} {V : X → Type 0} (driver : Plug X V → Driver) where
   module _ (trigger dev : ℕ) (b b' : Bench X V) (cs : List (Connection Seat)) (less : dev < length (bench_front b).devices)
       (front : bench_front b' ≡ bench_front b)
       (told : bench_machine driver b'
-      ≡ entry_machine (kind_at (bench_front b) dev) (entry_of dev (trigger_in (triggers_of b) trigger).entries) false (shape_at (bench_front b) dev) dev
-      (bench_machine driver b))
+      ≡ entry_machine (bench_front b) (entry_of dev (trigger_in (triggers_of b) trigger).entries) false dev (bench_machine driver b))
       (triggers : triggers_of b' ≡ at_place trigger (handled dev) (triggers_of b)) (s : Setup) (m : Told) (h : Holds driver s m b cs) where
     pub entry_here : entry_of dev (trigger_in (triggers_of b) trigger).entries ≡ option_map handed_by (told_entry dev (entries_at m.triggers trigger))
-    entry_here = ap (λ (ts : List TriggerRecord). entry_of dev (trigger_in ts trigger).entries) h.triggers ∙ entry_at m.triggers trigger dev
+    entry_here = ap (λ (ts : List TriggerRecord). entry_of dev (trigger_in ts trigger).entries) h.triggers ∙ entry_there m.triggers trigger dev
 
     pub handle_holds : Holds driver s (step s m (Handled trigger dev)) b' cs
     handle_holds =
         holds_then s m (Handled trigger dev) b b' cs tt h front
-        (told ∙ ap (λ (o : Option Handed). entry_machine (kind_at (bench_front b) dev) o false (shape_at (bench_front b) dev) dev (bench_machine driver b))
-        entry_here
-        ∙ ap (λ (f : Front). entry_machine (kind_at f dev) (option_map handed_by (told_entry dev (entries_at m.triggers trigger))) false (shape_at f dev) dev
-        (bench_machine driver b)) h.stands.front_is
-        ∙ ap (λ (x : Machine). entry_machine (kind_at (front_of s) dev) (option_map handed_by (told_entry dev (entries_at m.triggers trigger))) false
-        (shape_at (front_of s) dev) dev x) (machine_told s m b cs h)
-        ∙ entry_machine_told (kind_at (front_of s) dev) (told_entry dev (entries_at m.triggers trigger)) (shape_at (front_of s) dev) dev (machine_of m)
-        ∙ handled_alone (front_of s) (none_averages s m b cs h) (machine_of m) dev (entries_at m.triggers trigger)
-        ∙ sym (handling_is s m trigger dev h.stands.bench))
+        (told ∙ ap (λ (o : Option Handed). entry_machine (bench_front b) o false dev (bench_machine driver b)) entry_here
+        ∙ ap (λ (f : Front). entry_machine f (option_map handed_by (told_entry dev (entries_at m.triggers trigger))) false dev (bench_machine driver b))
+        h.stands.front_is
+        ∙ ap (λ (x : Machine). entry_machine (front_of s) (option_map handed_by (told_entry dev (entries_at m.triggers trigger))) false dev x)
+        (machine_told s m b cs h)
+        ∙ handled_is (front_of s) (machine_of m) dev (entries_at m.triggers trigger) ∙ sym (handling_is s m trigger dev h.stands.bench))
         (triggers ∙ ap (λ (ts : List TriggerRecord). at_place trigger (handled dev) ts) h.triggers
         ∙ sym (place_map trigger_by trigger (told_handled dev) (handled dev) m.triggers (handled_told dev)))
 

@@ -329,7 +329,7 @@ idle_one : (shape : ShapeRecord) (t : ℤ) (c : ℕ) (driver : Driver)
 idle_one shape t c driver = rw (idle_in shape c) refl
 
 -- idle thresholds are asked nothing
-idle_sensed : (shape : ShapeRecord) (t : ℤ) (n : ℕ) (driver : Driver)
+pub idle_sensed : (shape : ShapeRecord) (t : ℤ) (n : ℕ) (driver : Driver)
     → channels_sensed shape t n (begun driver (new_monitor {Who = ℕ} shape)) ≡ begun driver (new_monitor {Who = ℕ} shape)
 idle_sensed shape t zero driver = refl
 idle_sensed shape t (suc n) driver = ap (channel_sensed shape t n) (idle_sensed shape t n driver) ∙ idle_one shape t n driver

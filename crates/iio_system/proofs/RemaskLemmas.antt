@@ -1,5 +1,5 @@
 -- REMASK at a bench.
-use Rattle.std.proofs.Common.{◌≡◌, ℕ, true, false, List, [], ◌∷◌, map, length, set, slice_get, Option, Some, None, IfSome, Result, Ok, Err, refl, sym, ap, subst, ◌∙◌, arith}
+use Rattle.std.proofs.Common.{◌≡◌, ℕ, Bool, true, false, cond, List, [], ◌∷◌, map, length, set, slice_get, Option, Some, None, IfSome, Result, Ok, Err, refl, sym, ap, subst, ◌∙◌, arith}
 use Rattle.std.specs.Prelude.{is_none, option_and_then, ℤ}
 use Rattle.std.specs.Option.{option_map_or}
 use Rattle.std.proofs.lemmas.Bool.Decides.{nat_tests}
@@ -10,7 +10,6 @@ use Rattle.iio_mask.specs.declared.Mask.{Mask}
 use Rattle.iio_desc.specs.declared.description.TriggerDesc.{TriggerDesc}
 use Rattle.iio_kfifo.specs.Queue.{Queue}
 use Rattle.iio_sensor.specs.Driver.{Driver}
-use Rattle.iio_trigger.specs.Trigger.{State}
 use Rattle.iio_device.specs.declared.membership.Membership.{Membership}
 use Rattle.iio_device.specs.declared.plug.Plug.{Plug}
 use Rattle.iio_device.specs.declared.roster.RemaskFault.{RemaskFault}
@@ -18,22 +17,21 @@ use Rattle.iio_device.specs.declared.roster.RemaskFault.TheVariants as fault
 use Rattle.iio_device.specs.declared.roster.RemaskRefused.{RemaskRefused}
 use Rattle.iio_device.specs.Device.{DeviceView, RemasksDevice, is_bad_mask, remask_faults}
 use Rattle.iio_device.specs.Members.{member_of as membership_of}
-use Rattle.iio_device.specs.Site.{is_empty, no_driver}
+use Rattle.iio_device.specs.Site.{is_empty}
 use Rattle.iiod_session.specs.declared.iio.No.{No}
 use Rattle.iiod_session.specs.declared.iio.No.TheVariants.{Errno as NoErrno}
-use Rattle.iiod_session.specs.Calls.{remask_of, remask_refusals, remasked, with_mask}
-use Rattle.iiod_session.specs.Machine.{Member, MemberId, Station, member_in, queue_of, scans_in}
+use Rattle.iiod_session.specs.Calls.{is_inner_of, remask_of, remask_refusals, remasked, with_mask}
+use Rattle.iiod_session.specs.Machine.{Member, MemberId, Station, is_seat_of, member_in, queue_of, scans_in}
 use Rattle.iiod_session.specs.Opening.{remask_errno, remask_no}
 use Rattle.iiod_session.specs.Seat.{Answers}
 use Rattle.iio_history.specs.Devices.{queue_waits}
 use Rattle.iio_history.proofs.DeviceRemasks.{refusals_are, remasked_is, waited_is}
 use Rattle.iio_system.specs.Acting.{Acts, KeepsCaptures, has_member}
-use Rattle.iio_system.specs.Places.{IsBench}
 use Rattle.iio_system.specs.Remasking.{remask_answer}
 use Rattle.iio_system.specs.declared.any_device.AnyDevice.{AnyDevice}
-use Rattle.iio_system.specs.Station.{any_front, any_station, member_of, station_of, stations_by}
-use Rattle.iio_system.proofs.BenchLemmas.{KeepsPlace, acts_kept}
-use Rattle.iio_system.proofs.IioLemmas.{IsUnder, keeps_along, sound_kept, told_absent}
+use Rattle.iio_system.specs.Station.{any_front, any_station, member_of, station_of}
+use Rattle.iio_system.proofs.BenchLemmas.{KeepsStanding, acts_stand, inner_mapped, standing}
+use Rattle.iio_system.proofs.IioLemmas.{IsUnder, keeps_along, told_absent}
 use Rattle.iio_system.proofs.ToldLemmas.{fronts_by, machine_by, shape_is, told_acts}
 
 abbrev lost_of : Queue → ℕ
@@ -53,14 +51,17 @@ empty_map : {A B : Type 0} (f : A → B) (xs : List A) → is_empty (map f xs) �
 empty_map f [] = refl
 empty_map f (x ∷ xs) = refl
 
-pub remasked_kept : (n mask scans : ℕ) (st : Station) → KeepsPlace st (remasked n mask scans st)
-remasked_kept n mask scans st =
-    let same = empty_map (with_mask n mask scans) st.members in
-    record {
-      attached = λ t. rw same refl;
-      attachment = refl;
-      hosted = λ k h. rw same h;
-    }
+remasked_inner : (n mask scans j : ℕ) (x : Member) → is_inner_of j (with_mask n mask scans x) ≡ is_inner_of j x
+remasked_inner n mask scans j x = by (is_seat_of n x)
+  where
+    by : (b : Bool) → is_inner_of j (cond b (record x { mask = mask; capacity = scans; scans = []; lost = 0 }) x) ≡ is_inner_of j x
+    by true = refl
+    by false = refl
+
+pub remasked_stands : (n mask scans : ℕ) (st : Station) → KeepsStanding st (remasked n mask scans st)
+remasked_stands n mask scans st =
+    standing st (remasked n mask scans st) refl refl refl (empty_map (with_mask n mask scans) st.members)
+    (λ j. inner_mapped j (with_mask n mask scans) (remasked_inner n mask scans j) st.members) refl
 
 -- ---- refusals
 
@@ -136,16 +137,15 @@ module _ (id : MemberId) (mask : Mask) (scans : ℕ) (v v' : DeviceView Queue) w
 
 -- ---- the bench
 
-module _ {X : Type 0} {V : X → Type 0} (drive : Plug X V → Driver) (context : List ℕ) (triggers : List TriggerDesc) (states : List State)
-    (ds : List (AnyDevice X V)) (clock : ℤ) (k : ℕ) (d d' : AnyDevice X V)
-    (sound : IsBench triggers states (stations_by (λ p. no_driver) ds)) (at : slice_get ds k ≡ Some d) (id : MemberId) (mask scans : ℕ) (r : Result ℕ No)
+module _ {X : Type 0} {V : X → Type 0} (drive : Plug X V → Driver) (context : List ℕ) (triggers : List TriggerDesc) (ds : List (AnyDevice X V)) (clock : ℤ)
+    (k : ℕ) (d d' : AnyDevice X V)
+    (at : slice_get ds k ≡ Some d) (id : MemberId) (mask scans : ℕ) (r : Result ℕ No)
     (acts : Acts (remasked id.number mask scans) (remask_answer (any_front d).shape (any_station drive d) id mask) r (any_station drive d)
     (any_station drive d')) where
-  pub sound_remask : IsBench triggers states (stations_by (λ p. no_driver) (set ds k d'))
-  sound_remask =
-      sound_kept drive triggers states ds k d d' sound at
-      (acts_kept (remasked id.number mask scans) (any_station drive d) (any_station drive d') (remask_answer (any_front d).shape (any_station drive d) id mask)
-      r (λ x e. remasked_kept id.number mask scans (any_station drive d)) acts)
+  pub remask_kept : KeepsStanding (any_station drive d) (any_station drive d')
+  remask_kept =
+      acts_stand (remasked id.number mask scans) (any_station drive d) (any_station drive d') (remask_answer (any_front d).shape (any_station drive d) id mask)
+      r (λ x e. remasked_stands id.number mask scans (any_station drive d)) acts
 
   pub told_remask : Answers (remask_of (fronts_by any_front context triggers ds) (machine_by (any_station drive) clock ds) k id mask scans)
       (machine_by (any_station drive) clock ds) r (Some (machine_by (any_station drive) clock (set ds k d')))

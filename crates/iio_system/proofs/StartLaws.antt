@@ -1,20 +1,16 @@
 -- A new bench holds what stands before the first step.
-use Rattle.std.proofs.Common.{◌≡◌, ℕ, suc, zero, ◌+◌, ◌<◌, ◌≤◌, ◌*◌, ◌-◌, ◌^◌, Bool, true, List, [], ◌∷◌, ◌++◌, map, fold, length, slice_get, slice_index_or, Option, Some, None, All, refl, sym, ap, ◌∙◌, subst, arith, pos}
+use Rattle.std.proofs.Common.{◌≡◌, ℕ, suc, zero, ◌+◌, ◌<◌, ◌≤◌, ◌*◌, ◌-◌, ◌^◌, List, [], ◌∷◌, ◌++◌, map, fold, length, slice_get, slice_index_or, Option, Some, None, option_map, All, refl, sym, ap, ◌∙◌, subst, arith, pos}
 use Rattle.std.specs.Prelude.{◌==◌, ◌||◌, ℤ}
-use Rattle.std.proofs.lemmas.List.{length-append, length-map}
-use Rattle.std.proofs.lemmas.Nat.Bits.{bit_at_ones}
 use Rattle.iio_sensor.specs.Driver.{Driver}
 use Rattle.iio_scan_type.specs.Format.{size_of}
 use Rattle.iio_mask.specs.Mask.{has}
 use Rattle.iio_layout.specs.declared.channel.Channel.{Channel}
-use Rattle.iio_layout.specs.Active.{has_below, has_data}
-use Rattle.iio_layout.specs.Shape.{ShapeRecord, count_of, stamp_formats}
-use Rattle.iio_derive.specs.Window.{Window, full_mask}
+use Rattle.iio_derive.specs.Window.{Window}
 use Rattle.iio_output.specs.Last.{first_last}
 use Rattle.iio_desc.specs.declared.description.AttrDesc.{AttrDesc}
 use Rattle.iio_desc.specs.declared.description.TriggerDesc.{TriggerDesc}
-use Rattle.iio_desc.specs.Description.{AverageRecord, Description, DeviceHead, DeviceRecord, OutputRecord, average_head, heads_of, input_head, output_head}
-use Rattle.iio_desc.specs.WellFormed.{IsWellFormed, IsWellFormedDevice, IsWellFormedOutput}
+use Rattle.iio_desc.specs.Description.{AverageRecord, Description, DeviceHead, DeviceRecord, OutputRecord, average_head, average_shape, heads_of, input_head, output_head, shape_of_means}
+use Rattle.iio_desc.specs.WellFormed.{IsWellFormed, IsWellFormedAverage, IsWellFormedDevice, IsWellFormedOutput}
 use Rattle.iio_device.specs.declared.plug.Plug.{Plug}
 use Rattle.iio_device.specs.Site.{Site, new_site, number_in, with_attr}
 use Rattle.iio_device.specs.Totals.{no_totals}
@@ -33,23 +29,13 @@ use Rattle.iio_history.proofs.BenchSizes.{sizes_from}
 use Rattle.iio_system.specs.declared.bench.Bench.{Bench}
 use Rattle.iio_system.specs.Bench.{front_of, machine_of, triggers_of}
 use Rattle.iio_system.specs.First.{first_machine, first_station, first_triggers}
+use Rattle.iio_system.specs.MeanStation.{first_mean_station}
 use Rattle.iio_system.specs.OutStation.{first_out_station}
 use Rattle.iio_system.specs.Places.{TriggerRecord, first_trigger}
 use Rattle.iio_system.specs.Standing.{Holds, trigger_by}
+use Rattle.iio_system.proofs.OpenLemmas.{full_has}
 
 -- ---- scans have bytes
-
--- and all channels of a device have data among them
-full_has : (shape : ShapeRecord) → 0 < length shape.channels → has_data shape (full_mask shape) ≡ true
-full_has shape some = by (length shape.channels) refl
-  where
-    by : (n : ℕ) → length shape.channels ≡ n → has_below (full_mask shape) n ≡ true
-    by zero e = absurd (omega (arith, some, e))
-    by (suc n) e =
-        let many = length-append (map (λ (channel : Channel). channel.ty) shape.channels) (stamp_formats shape.stamp) in
-        let types = length-map shape.channels (λ (channel : Channel). channel.ty) in
-        let has_it : has (full_mask shape) n ≡ true = ap (λ (b : ℕ). b == 1) (bit_at_ones (count_of shape) n (omega (arith, e, many, types))) in
-        ap (λ (b : Bool). b || has_below (full_mask shape) n) has_it
 
 pub every_size : (hs : List DeviceHead) → All (λ (d : DeviceHead). 0 < length d.shape.channels) hs
     → All (λ (d : DeviceHead). All (λ (channel : Channel). 1 ≤ size_of channel.ty) d.shape.channels) hs → Every HasDeviceSizes hs
@@ -68,12 +54,30 @@ some_in P head each (x ∷ xs) all rest more zero d within = each x (all 0 x (om
 some_in P head each (x ∷ xs) all rest more (suc i) d within =
     some_in P head each xs (λ j e inside. all (suc j) e (omega (arith, inside))) rest more i d (omega (arith, within))
 
+-- an averaging device has its base's
+average_some : (devices : List DeviceRecord) (x : AverageRecord) → x.base < length devices → All (λ (d : DeviceRecord). 0 < length d.shape.channels) devices
+    → 0 < length (average_shape devices x).channels
+average_some devices x within all = by devices x.base within all
+  where
+    by : (ds : List DeviceRecord) (k : ℕ) → k < length ds → All (λ (d : DeviceRecord). 0 < length d.shape.channels) ds
+        → 0 < length (shape_of_means (option_map (λ (d : DeviceRecord). d.shape) (slice_get ds k))).channels
+    by [] k within all = absurd (omega (arith, within))
+    by (d ∷ ds) zero within all = all 0 d (omega arith)
+    by (d ∷ ds) (suc k) within all = by ds k (omega (arith, within)) (λ i e inside. all (suc i) e (omega (arith, inside)))
+
+averages_some : (devices : List DeviceRecord) (xs : List AverageRecord) → All (IsWellFormedAverage (length devices)) xs
+    → All (λ (d : DeviceRecord). 0 < length d.shape.channels) devices
+    → All (λ (d : DeviceHead). 0 < length d.shape.channels) (map (average_head devices) xs)
+averages_some devices [] all some i d within = absurd (omega (arith, within))
+averages_some devices (x ∷ xs) all some zero d within = average_some devices x (all 0 x (omega arith)).over some
+averages_some devices (x ∷ xs) all some (suc i) d within =
+    averages_some devices xs (λ j e inside. all (suc j) e (omega (arith, inside))) some i d (omega (arith, within))
+
 pub some_channels : (drivers : ℕ) (desc : Description) → IsWellFormed drivers desc → All (λ (d : DeviceHead). 0 < length d.shape.channels) (heads_of desc)
 some_channels drivers desc formed =
     some_in (IsWellFormedDevice (length desc.triggers) drivers) input_head (λ x is. is.some) desc.devices formed.sound _
     (some_in (IsWellFormedOutput (length desc.triggers)) output_head (λ x is. is.some) desc.outputs formed.outputs _
-    (subst (λ (xs : List AverageRecord). All (λ (d : DeviceHead). 0 < length d.shape.channels) (map (average_head desc.devices) xs)) (sym formed.unaveraged)
-    (λ i d within. absurd (omega (arith, within)))))
+    (averages_some desc.devices desc.averages formed.averages (λ i d within. (formed.sound i d within).some)))
 
 -- ---- devices
 
@@ -105,14 +109,23 @@ input_first s d = record { site = written_all (new_site d.shape d.trigger (first
 output_first : (s : Setup) (x : OutputRecord) → IsFirst s (first_output x) (first_out_station x)
 output_first s x = record { site = refl; window = refl; last = refl; members = refl; rest = refl }
 
-are_outputs : (s : Setup) (xs : List OutputRecord) → AreFirst s (map first_output xs) (map first_out_station xs)
-are_outputs s [] = tt
-are_outputs s (x ∷ xs) = (output_first s x, are_outputs s xs)
+average_first : (s : Setup) (x : AverageRecord) → IsFirst s (first_average s.desc.devices x) (first_mean_station s.desc.devices x)
+average_first s x = record { site = refl; window = refl; last = refl; members = refl; rest = refl }
 
-are_first : (s : Setup) (ds : List DeviceRecord) (xs : List OutputRecord)
-    → AreFirst s (map (first_device s) ds ++ map first_output xs) (map (first_station s.drivers) ds ++ map first_out_station xs)
-are_first s [] xs = are_outputs s xs
-are_first s (d ∷ ds) xs = (input_first s d, are_first s ds xs)
+are_averages : (s : Setup) (means : List AverageRecord) → AreFirst s (map (first_average s.desc.devices) means) (map (first_mean_station s.desc.devices) means)
+are_averages s [] = tt
+are_averages s (x ∷ xs) = (average_first s x, are_averages s xs)
+
+are_outputs : (s : Setup) (xs : List OutputRecord) (means : List AverageRecord)
+    → AreFirst s (map first_output xs ++ map (first_average s.desc.devices) means) (map first_out_station xs ++ map (first_mean_station s.desc.devices) means)
+are_outputs s [] means = are_averages s means
+are_outputs s (x ∷ xs) means = (output_first s x, are_outputs s xs means)
+
+are_first : (s : Setup) (ds : List DeviceRecord) (xs : List OutputRecord) (means : List AverageRecord)
+    → AreFirst s (map (first_device s) ds ++ (map first_output xs ++ map (first_average s.desc.devices) means))
+    (map (first_station s.drivers) ds ++ (map first_out_station xs ++ map (first_mean_station s.desc.devices) means))
+are_first s [] xs means = are_outputs s xs means
+are_first s (d ∷ ds) xs means = (input_first s d, are_first s ds xs means)
 
 station_first : (s : Setup) (k : ℕ) (d : Device) (st : MachineStation) → slice_get (first_devices s) k ≡ Some d → IsFirst s d st
     → bench_by [] (station_told s [] k d) ≡ st
@@ -142,23 +155,11 @@ stations_first s n (d ∷ ds) (st ∷ sts) at are =
     ∙ ap (λ (xs : List MachineStation). st ∷ xs)
     (stations_first s (suc n) ds sts (λ k. ap (λ (i : ℕ). slice_get (first_devices s) i) (let e : suc n + k ≡ n + suc k = omega arith in e) ∙ at (suc k)) are.1)
 
-nothing_more : {A : Type 0} (xs : List A) → xs ≡ xs ++ []
-nothing_more [] = refl
-nothing_more {A} (x ∷ xs) = ap (λ (ys : List A). x ∷ ys) (nothing_more xs)
-
-devices_are : (s : Setup) → s.desc.averages ≡ [] → map (first_device s) s.desc.devices ++ map first_output s.desc.outputs ≡ first_devices s
-devices_are s none =
-    ap (λ (ds : List Device). map (first_device s) s.desc.devices ++ ds) (nothing_more (map first_output s.desc.outputs))
-    ∙ ap (λ (xs : List AverageRecord). map (first_device s) s.desc.devices ++ (map first_output s.desc.outputs ++ map (first_average s.desc.devices) xs))
-    (sym none)
-
-machine_first : (s : Setup) → s.desc.averages ≡ [] → first_machine s.drivers s.desc ≡ machine_told (told s [])
-machine_first s none =
+machine_first : (s : Setup) → first_machine s.drivers s.desc ≡ machine_told (told s [])
+machine_first s =
     sym (ap (λ (sts : List MachineStation). (let m : Machine = record { clock = pos 0; stations = sts } in m))
-    (stations_first s 0 (first_devices s) (map (first_station s.drivers) s.desc.devices ++ map first_out_station s.desc.outputs)
-    (λ k. ap (λ (i : ℕ). slice_get (first_devices s) i) (let e : 0 + k ≡ k = omega arith in e))
-    (subst (λ (ds : List Device). AreFirst s ds (map (first_station s.drivers) s.desc.devices ++ map first_out_station s.desc.outputs)) (devices_are s none)
-    (are_first s s.desc.devices s.desc.outputs))))
+    (stations_first s 0 (first_devices s) (first_machine s.drivers s.desc).stations
+    (λ k. ap (λ (i : ℕ). slice_get (first_devices s) i) (let e : 0 + k ≡ k = omega arith in e)) (are_first s s.desc.devices s.desc.outputs s.desc.averages)))
 
 triggers_first : (ts : List TriggerDesc)
     → map (λ (t : TriggerDesc). first_trigger) ts ≡ map trigger_by (map (λ (t : TriggerDesc). (let x : Trigger = record { entries = []; missed = 0 } in x)) ts)
@@ -170,12 +171,12 @@ room_first s used none = subst (λ (n : ℕ). Every (CanJoinMore (2 ^ 64 - 1 - 3
 
 module _ {X : Type 0} {V : X → Type 0} (driver : Plug X V → Driver) where
   pub holds_first : (s : Setup) (b : Bench X V) → front_of b ≡ first_front s.desc → machine_of driver b ≡ first_machine s.drivers s.desc
-      → triggers_of b ≡ first_triggers s.desc → s.desc.averages ≡ [] → Every HasDeviceSizes (heads_of s.desc)
+      → triggers_of b ≡ first_triggers s.desc → Every HasDeviceSizes (heads_of s.desc)
       → Holds driver s (told s []) b []
-  holds_first s b front machine triggers none sizes = record {
+  holds_first s b front machine triggers sizes = record {
     stands = record {
       front_is = front;
-      told_is = ap (λ (m : Machine). Some m) (machine ∙ machine_first s none);
+      told_is = ap (λ (m : Machine). Some m) (machine ∙ machine_first s);
       bench = first_bench s sizes;
       lines = tt;
     };

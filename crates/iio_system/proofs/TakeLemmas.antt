@@ -70,10 +70,10 @@ take_none id took out out' v v' under size takes rest e =
     ∙ not_there (length out) v (membership_of id.number v.standing.members)
     (fits_by id (length out) v.standing.shape (membership_of id.number v.standing.members) under size) takes.0) (view_is v v' rest takes.1) e out'
 
-same_membership : (m x : Membership Queue) → x ≡ record m { tail = x.tail } → x.tail ≡ m.tail → x ≡ m
+pub same_membership : (m x : Membership Queue) → x ≡ record m { tail = x.tail } → x.tail ≡ m.tail → x ≡ m
 same_membership m x e t = e ∙ ap (λ (q : Queue). (let y : Membership Queue = record m { tail = q } in y)) t
 
-found_passes : (n : ℕ) (ms : List (Membership Queue)) (m : Membership Queue) → membership_of n ms ≡ Some m → (m.number == n) ≡ true
+pub found_passes : (n : ℕ) (ms : List (Membership Queue)) (m : Membership Queue) → membership_of n ms ≡ Some m → (m.number == n) ≡ true
 found_passes n [] m e = absurd (cc)
 found_passes n (x ∷ xs) m e = by (x.number == n) refl e (found_passes n xs m)
   where
@@ -172,7 +172,7 @@ zero_more : (n : ℕ) → n + 0 ≡ n
 zero_more n = omega arith
 
 -- scans that were taken count as many, and as their bytes
-given_bytes : (scans : List (List ℕ)) (t : Totals) → with_bytes (length scans) (flat_map (λ scan. scan) scans) t ≡ with_given scans t
+pub given_bytes : (scans : List (List ℕ)) (t : Totals) → with_bytes (length scans) (flat_map (λ scan. scan) scans) t ≡ with_given scans t
 given_bytes [] t = rw (zero_more t.scans, zero_more t.bytes) refl
 given_bytes (scan ∷ scans) t =
     let count : t.scans + length (scan ∷ scans) ≡ t.scans + 1 + length scans = omega arith in
@@ -182,7 +182,7 @@ given_bytes (scan ∷ scans) t =
     ∙ omega (arith, sum_by-append (λ x. x) scan (flat_map (λ scan. scan) scans)) in
     rw (count, bytes) (given_bytes scans (record t { scans = t.scans + 1; bytes = t.bytes + sum scan }))
 
-none_taken : (most : ℕ) (scans : List (List ℕ)) → 1 ≤ most → length (take most scans) ≡ 0 → scans ≡ []
+pub none_taken : (most : ℕ) (scans : List (List ℕ)) → 1 ≤ most → length (take most scans) ≡ 0 → scans ≡ []
 none_taken most [] some e = refl
 none_taken zero (scan ∷ scans) some e = absurd (omega (arith, some))
 none_taken (suc most) (scan ∷ scans) some e = absurd (omega (arith, e))

@@ -19,6 +19,7 @@ use Rattle.iio_system.specs.declared.any_device.AnyDevice.TheVariants as any
 use Rattle.iio_system.specs.declared.system.System.{System}
 use Rattle.iio_system.specs.declared.tally.Tally.{Tally}
 use Rattle.iio_system.specs.Standing.{StandsFor}
+use Rattle.iio_system.specs.Inner.{with_inner_name}
 use Rattle.iio_system.specs.Station.{any_front, any_station, captures_by, member_of}
 use Rattle.iio_system.specs.Tally.{bytes_by, devices_tally, overruns_by, scans_by, shown, tally_of}
 use Rattle.iio_system.proofs.MoveLaws.{machine_told}
@@ -100,22 +101,31 @@ module _ {X : Type 0} {V : X → Type 0} where
       → kind_by d ≡ st.kind → captures_by d ≡ captures_at st
   captures_told driver names (any.Input d) st same kind = ap (λ (x : Station). x.captures) same ∙ ap (λ (k : Kind). cond (is_input k) st.captures 0) kind
   captures_told driver names (any.Output x) st same kind = ap (λ (k : Kind). cond (is_input k) st.captures 0) kind
+  captures_told driver names (any.Average a) st same kind = ap (λ (k : Kind). cond (is_input k) st.captures 0) kind
 
   scans_told : (driver : Plug X V → Driver) (names : List (List ℕ)) (d : AnyDevice X V) (st : ToldStation) → any_station driver d ≡ bench_by names st
       → kind_by d ≡ st.kind → scans_by d ≡ st.totals.scans
   scans_told driver names (any.Input d) st same kind = ap (λ (x : Station). x.totals.scans) same
   scans_told driver names (any.Output x) st same kind = ap (λ (x : Station). x.totals.scans) same
+  scans_told driver names (any.Average a) st same kind = ap (λ (x : Station). x.totals.scans) same
 
   bytes_told : (driver : Plug X V → Driver) (names : List (List ℕ)) (d : AnyDevice X V) (st : ToldStation) → any_station driver d ≡ bench_by names st
       → kind_by d ≡ st.kind → bytes_by d ≡ st.totals.bytes
   bytes_told driver names (any.Input d) st same kind = ap (λ (x : Station). x.totals.bytes) same
   bytes_told driver names (any.Output x) st same kind = ap (λ (x : Station). x.totals.bytes) same
+  bytes_told driver names (any.Average a) st same kind = ap (λ (x : Station). x.totals.bytes) same
 
   overruns_told : (driver : Plug X V → Driver) (names : List (List ℕ)) (d : AnyDevice X V) (st : ToldStation) → any_station driver d ≡ bench_by names st
       → kind_by d ≡ st.kind → overruns_by d ≡ overruns_at st
   overruns_told driver names (any.Input d) st same kind =
-      ap (λ (n : ℕ). d.core.totals.lost + n) (sym (sum_map (λ (m : Member). m.lost) member_of d.core.roster.members.items))
+      ap (λ (n : ℕ). d.device.core.totals.lost + n)
+      (sym (sum_map (λ (m : Member). m.lost) (with_inner_name d.inners.items) (map member_of d.device.core.roster.members.items)
+      ∙ sum_map (λ (m : Member). m.lost) member_of d.device.core.roster.members.items))
       ∙ ap overruns_of same
+      ∙ ap (λ (n : ℕ). st.totals.lost + n) (sum_map (λ (m : Member). m.lost) numbered st.seats)
+      ∙ ap (λ (k : Kind). cond (is_output k) 0 (st.totals.lost + sum_by (λ (x : Seat). x.queue.lost) st.seats)) kind
+  overruns_told driver names (any.Average a) st same kind =
+      ap overruns_of same
       ∙ ap (λ (n : ℕ). st.totals.lost + n) (sum_map (λ (m : Member). m.lost) numbered st.seats)
       ∙ ap (λ (k : Kind). cond (is_output k) 0 (st.totals.lost + sum_by (λ (x : Seat). x.queue.lost) st.seats)) kind
   overruns_told driver names (any.Output x) st same kind =

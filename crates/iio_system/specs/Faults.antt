@@ -18,8 +18,11 @@ use Rattle.iio_device.specs.Members.{masks_of}
 use Rattle.iio_device.specs.Site.{is_empty}
 use Rattle.iiod_session.specs.declared.iio.No.{No}
 use Rattle.iiod_session.specs.declared.iio.No.TheVariants.{Errno as NoErrno, Mem as NoMem}
-use Rattle.iio_desc.specs.Kind.{Kind, is_output}
-use Rattle.iiod_session.specs.Calls.{joined}
+use Rattle.std.specs.List.{list_any}
+use Rattle.iio_desc.specs.Description.{DeviceHead}
+use Rattle.iio_desc.specs.Kind.{Kind, is_input, is_output}
+use Rattle.iio_derive.specs.Window.{full_mask, no_window}
+use Rattle.iiod_session.specs.Calls.{is_inner_of, joined}
 use Rattle.iiod_session.specs.Machine.{Station, masks_of as masks_told}
 use Rattle.iiod_session.specs.Opening.{join_refusals}
 use Rattle.iio_system.specs.declared.seat.Seat.{Seat}
@@ -78,10 +81,41 @@ HostsAny states kind number shape st mask (Err (NoErrno errno)) =
 HostsAny states kind number shape st mask (Err NoMem) = Unit {0}
 
 -- a member more by a place that it has; want of memory changes nothing
-abbrev pub JoinsAny : Mask → (capacity : ℕ) → (cyclic : Bool) → (number : ℕ) → ShapeRecord → Result Seat No → (old new : Station) → (trigger trigger' : State)
-    → Type 0
-JoinsAny mask capacity cyclic number shape (Ok seat) old new trigger trigger' =
+abbrev pub JoinsAny : Mask → (capacity : ℕ) → (cyclic : Bool) → (inner : Option ℕ) → (number : ℕ) → ShapeRecord → Result Seat No → (old new : Station)
+    → (trigger trigger' : State) → Type 0
+JoinsAny mask capacity cyclic inner number shape (Ok seat) old new trigger trigger' =
     (seat ≡ record { number = old.next; mask = mask; size = scan_size shape mask.bits; capacity = capacity })
-    × (new ≡ joined mask.bits capacity cyclic None old)
+    × (new ≡ joined mask.bits capacity cyclic inner old)
     × (trigger' ≡ place_taken number old trigger)
-JoinsAny mask capacity cyclic number shape (Err refusal) old new trigger trigger' = (refusal ≡ NoMem) × (new ≡ old) × (trigger' ≡ trigger)
+JoinsAny mask capacity cyclic inner number shape (Err refusal) old new trigger trigger' = (refusal ≡ NoMem) × (new ≡ old) × (trigger' ≡ trigger)
+
+-- ---- averaging devices
+
+-- averaging device j may have its inner member at a device: it is an input device, the member has the mask of all channels and
+-- a queue for one scan, and there is none of it yet
+pub record MayHaveInner (d : DeviceHead) (mask capacity : ℕ) (st : Station) (j : ℕ) : Type 0 where
+  pub input : is_input d.kind ≡ true
+  pub whole : mask ≡ full_mask d.shape
+  pub one : capacity ≡ 1
+  pub none : list_any (is_inner_of j) st.members ≡ false
+
+-- without a member no captures count towards the next mean
+abbrev pub IsAnew : Station → Type 0
+IsAnew st = is_empty st.members ≡ true → st.window ≡ no_window
+
+-- a member more at an averaging device; want of memory changes nothing
+abbrev pub JoinsMean : Mask → (capacity : ℕ) → ShapeRecord → Result Seat No → (old new : Station) → Type 0
+JoinsMean mask capacity shape (Ok seat) old new =
+    (seat ≡ record { number = old.next; mask = mask; size = scan_size shape mask.bits; capacity = capacity })
+    × (new ≡ joined mask.bits capacity false None old)
+    × IsAnew old
+JoinsMean mask capacity shape (Err refusal) old new = (refusal ≡ NoMem) × (new ≡ old)
+
+-- a device was such that a member of that mask and capacity has joined it since
+abbrev pub HasJoined : Mask → (capacity : ℕ) → Station → Type 0
+HasJoined mask capacity st = (before : Station) × (st ≡ joined mask.bits capacity false None before) × IsAnew before
+
+-- the mask of all channels is served beside the members of an input device exactly where it is served alone
+abbrev pub IsServedAlone : Kind → ShapeRecord → Station → (mask : ℕ) → Type 0
+IsServedAlone kind shape st mask =
+    is_input kind ≡ true → mask ≡ full_mask shape → is_without_union shape (masks_told st.members) mask ≡ is_without_union shape [] mask

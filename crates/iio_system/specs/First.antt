@@ -1,7 +1,8 @@
 -- A bench before the first step.
-use Rattle.std.specs.Prelude.{List, [], ◌++◌, map, pos}
+use Rattle.std.specs.Prelude.{ℕ, List, [], ◌++◌, map, Some, pos}
 use Rattle.iio_sensor.specs.Driver.{Driver}
-use Rattle.iio_desc.specs.Description.{Description, DeviceRecord}
+use Rattle.iio_desc.specs.Description.{AverageRecord, Description, DeviceHead, DeviceRecord, shape_of_means}
+use Rattle.iio_desc.specs.Kind.{Average}
 use Rattle.iio_desc.specs.declared.description.TriggerDesc.{TriggerDesc}
 use Rattle.iio_trigger.specs.Trigger.{State}
 use Rattle.iio_device.specs.Site.{first_site}
@@ -10,6 +11,9 @@ use Rattle.iio_derive.specs.Window.{no_window}
 use Rattle.iio_output.specs.Last.{first_last}
 use Rattle.iio_probe.specs.Devices.{first_driver}
 use Rattle.iiod_session.specs.Machine.{Machine, Station}
+use Rattle.iio_layout.specs.Shape.{ShapeRecord}
+use Rattle.iio_system.specs.Averages.{shape_in}
+use Rattle.iio_system.specs.MeanStation.{first_mean_station, new_mean_station}
 use Rattle.iio_system.specs.OutStation.{first_out_station}
 use Rattle.iio_system.specs.Places.{TriggerRecord, first_trigger}
 
@@ -28,12 +32,25 @@ first_station drivers d =
     }
 
 abbrev pub first_machine : List Driver → Description → Machine
-first_machine drivers desc = record { clock = pos 0; stations = map (first_station drivers) desc.devices ++ map first_out_station desc.outputs }
+first_machine drivers desc = record {
+  clock = pos 0;
+  stations = map (first_station drivers) desc.devices ++ (map first_out_station desc.outputs ++ map (first_mean_station desc.devices) desc.averages);
+}
 
 abbrev pub first_triggers : Description → List TriggerRecord
 first_triggers desc = map (λ (t : TriggerDesc). first_trigger) desc.triggers
 
 -- ---- for this crate's private functions alone
+
+-- an averaging device over one of devices with these heads
+abbrev pub means_over : List DeviceHead → ℕ → ShapeRecord
+means_over heads base = shape_of_means (Some (shape_in heads base))
+
+abbrev pub mean_head_over : List DeviceHead → AverageRecord → DeviceHead
+mean_head_over heads x = record { name = x.name; kind = Average x.base x.window; shape = means_over heads x.base }
+
+abbrev pub mean_station_over : List DeviceHead → AverageRecord → Station
+mean_station_over heads x = new_mean_station (means_over heads x.base)
 
 -- a trigger with its places, none of which is taken
 abbrev pub first_state : TriggerDesc → State

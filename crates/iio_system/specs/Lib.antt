@@ -1,9 +1,15 @@
+pub mod Inner
+pub mod Taking
+pub mod Seated
 pub mod OutStation
+pub mod MeanStation
 pub mod Station
 pub mod Places
+pub mod Averages
 pub mod Faults
 pub mod Acting
 pub mod Handling
+pub mod Together
 pub mod Seat
 pub mod Bench
 pub mod First

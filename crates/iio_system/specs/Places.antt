@@ -107,13 +107,12 @@ pub record IsTrigger (trigger : ℕ) (stations : List Station) (s : State) : Typ
   pub attached : s.attached ≡ places_from 0 trigger stations
   pub idle : has_in_hand s.outstanding ≡ false
 
--- there is a trigger for each that is described, with its places; each device with a member is on one of them
+-- there is a trigger for each that is described, with its places
 pub record IsBench (triggers : List TriggerDesc) (states : List State) (stations : List Station) : Type 0 where
   pub few : length triggers ≤ MAX_TRIGGERS
   pub devices : length stations ≤ MAX_DEVICES
   pub places : map (λ (s : State). s.places) states ≡ map (λ (t : TriggerDesc). t.places) triggers
   pub each : (trigger : ℕ) (s : State) → slice_get states trigger ≡ Some s → IsTrigger trigger stations s
-  pub hosted : (dev : ℕ) (st : Station) → slice_get stations dev ≡ Some st → is_hosted (length triggers) st ≡ true
 
 -- each device's number is its place
 abbrev pub IsNumbered : {D : Type 0} → (D → ℕ) → List D → Type 0

@@ -7,6 +7,7 @@ use Rattle.iio_history.specs.Summary.{Summary}
 use Rattle.iio_system.specs.declared.any_device.AnyDevice.{AnyDevice}
 use Rattle.iio_system.specs.declared.any_device.AnyDevice.TheVariants as any
 use Rattle.iio_system.specs.declared.tally.Tally.{Tally}
+use Rattle.iio_system.specs.MeanStation.{lost_of_means}
 use Rattle.iio_system.specs.Station.{captures_by}
 
 -- a count, which stays at its type's end when it gets there
@@ -23,16 +24,19 @@ module _ {X : Type 0} {V : X → Type 0} where
   -- how many scans a device's queues gave, how many were lost, and the sum of the bytes of those that were given; an output
   -- device gives its members nothing, and loses nothing
   abbrev pub scans_by : AnyDevice X V → ℕ
-  scans_by (any.Input d) = d.core.totals.scans
+  scans_by (any.Input d) = d.device.core.totals.scans
   scans_by (any.Output x) = 0
+  scans_by (any.Average a) = a.totals.scans
 
   abbrev pub overruns_by : AnyDevice X V → ℕ
-  overruns_by (any.Input d) = d.core.totals.lost + sum_by (λ (m : Membership Queue). m.tail.lost) d.core.roster.members.items
+  overruns_by (any.Input d) = d.device.core.totals.lost + sum_by (λ (m : Membership Queue). m.tail.lost) d.device.core.roster.members.items
   overruns_by (any.Output x) = 0
+  overruns_by (any.Average a) = lost_of_means a
 
   abbrev pub bytes_by : AnyDevice X V → ℕ
-  bytes_by (any.Input d) = d.core.totals.bytes
+  bytes_by (any.Input d) = d.device.core.totals.bytes
   bytes_by (any.Output x) = 0
+  bytes_by (any.Average a) = a.totals.bytes
 
   -- what devices counted
   abbrev pub devices_tally : List (AnyDevice X V) → Tally

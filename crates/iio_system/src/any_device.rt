@@ -1,9 +1,11 @@
 //! A device of a bench, of whichever kind.
 
 ghost use Rattle.std.specs.Prelude.{◌≡◌, ◌≢◌, ◌==◌, ◌&&◌, ◌+◌, ◌-◌, ◌*◌, ◌^◌, ◌≤◌, ◌<◌, not, true, false, Err, IfOk, IfSome, None, Some, is_some, length, map, vec_capacity};
+ghost use Rattle.std.specs.List.{list_any};
 ghost use Rattle.iio_base.specs.Refusals.{ensure, first_refusal};
 ghost use Rattle.iio_text.specs.declared.errors.Errno.TheVariants.{EBADF, ENODEV};
-ghost use Rattle.iio_desc.specs.Kind.{is_input, is_output};
+ghost use Rattle.iio_derive.specs.Window.{full_mask};
+ghost use Rattle.iio_desc.specs.Kind.{is_average, is_input, is_output};
 ghost use Rattle.iio_desc.specs.declared.limits.TheConstants.{MAX_TRIGGERS};
 ghost use Rattle.iio_event.specs.Monitor.{after_close, after_open, after_read};
 ghost use Rattle.iio_kfifo.specs.declared.limits.TheConstants.{MAX_BYTES};
@@ -13,26 +15,25 @@ ghost use Rattle.iio_layout.specs.Shape.{count_of};
 ghost use Rattle.iio_output.specs.Written.{scans_of};
 ghost use Rattle.iio_trigger.specs.Trigger.{without_entry};
 ghost use Rattle.iio_device.specs.Device.{has_no_place};
-ghost use Rattle.iio_device.specs.Site.{site_written, with_monitor};
+ghost use Rattle.iio_device.specs.Site.{is_empty, site_written, with_monitor};
 ghost use Rattle.iiod_session.specs.declared.iio.No.TheVariants.{Mem};
-ghost use Rattle.iiod_session.specs.Calls.{ev_open_answer, ev_read_answer, holds_events, left, remasked, trigger_answer, write_scans_at, writes};
-ghost use Rattle.iiod_session.specs.Machine.{scans_in, with_site};
+ghost use Rattle.iiod_session.specs.Calls.{ev_open_answer, ev_read_answer, has_no_number, holds_events, inner_gone, is_inner_of, joined, left, remasked, trigger_answer, write_scans_at, writes};
+ghost use Rattle.iiod_session.specs.Machine.{Station, scans_in, with_site};
+ghost use Rattle.iio_history.specs.Registry.{Capture};
 ghost use Rattle.iio_system.specs.Acting.{Acts, MayReadOf, Reads, TakesAt, TakesScansAt, id_of, lost_in};
-ghost use Rattle.iio_system.specs.Faults.{HostsAny, JoinsAny, any_refusals};
-ghost use Rattle.iio_system.specs.Handling.{IsRoom, counted, entry_answer, entry_station, is_last, sensed_answer, sensed_station, unplugged_station};
+ghost use Rattle.iio_system.specs.Faults.{HasJoined, HostsAny, IsServedAlone, JoinsAny, JoinsMean, MayHaveInner, any_refusals};
+ghost use Rattle.iio_system.specs.Handling.{IsRoom, IsScanOf, IsTakenWhole, counted, entry_answer, entry_capture, entry_station, is_last, kind_gathered, kind_sensed, sensed_station, unplugged_station};
 ghost use Rattle.iio_system.specs.Places.{entry_of, has_in_hand, is_hosted, place_left, trigger_of};
 ghost use Rattle.iio_system.specs.Remasking.{remask_answer};
-ghost use Rattle.iio_system.specs.Station.{KeepsFront, KeepsHead, any_front, any_station, captures_by, number_by, room_by};
+ghost use Rattle.iio_system.specs.Station.{KeepsFront, KeepsHead, any_front, any_station, base_of, captures_by, full_scan_by, number_by, room_by};
 
-use crate::calls;
-use crate::joining::{host_input, join_input};
+use crate::in_device::InDevice;
+use crate::mean_device::MeanDevice;
 use crate::out_device::{Gave, OutDevice};
-use crate::remasking::remask;
 use crate::seat::Seat;
 use iio_attr::{Attr, Name, Value};
-use iio_device::{Device, Handled, Member, Plug, Sensed};
+use iio_device::{Handled, Plug, Sensed};
 use iio_event::EventData;
-use iio_kfifo::Kfifo;
 use iio_layout::Shape;
 use iio_mask::Mask;
 use iio_sensor::Sensor;
@@ -45,9 +46,11 @@ use std::alloc::Global;
 #[derive(Drop)]
 pub enum AnyDevice {
     /// Its sensor is asked.
-    Input(Device<Kfifo>),
+    Input(InDevice),
     /// It is given what its one member writes.
     Output(OutDevice),
+    /// It makes means of the captures of an input device.
+    Average(MeanDevice),
 }
 
 /// What became of a device's entry.
@@ -65,8 +68,9 @@ impl AnyDevice {
         ensures { result.now ≡ (any_front self.now).name }
     {
         match self {
-            AnyDevice::Input(device) => &device.core.name,
+            AnyDevice::Input(device) => &device.device.core.name,
             AnyDevice::Output(device) => &device.name,
+            AnyDevice::Average(device) => &device.name,
         }
     }
 
@@ -75,8 +79,9 @@ impl AnyDevice {
         ensures { result.now ≡ (any_front self.now).shape }
     {
         match self {
-            AnyDevice::Input(device) => device.shape(),
+            AnyDevice::Input(device) => device.device.shape(),
             AnyDevice::Output(device) => device.out.shape(),
+            AnyDevice::Average(device) => device.average.shape(),
         }
     }
 
@@ -85,8 +90,28 @@ impl AnyDevice {
         ensures { result ≡ is_output (any_front self.now).kind }
     {
         match self {
-            AnyDevice::Input(_) => false,
             AnyDevice::Output(_) => true,
+            _ => false,
+        }
+    }
+
+    /// Whether it is an averaging device.
+    pub(crate) fn is_average(&self) -> bool
+        ensures { result ≡ is_average (any_front self.now).kind }
+    {
+        match self {
+            AnyDevice::Average(_) => true,
+            _ => false,
+        }
+    }
+
+    /// The number of its base, of an averaging device.
+    pub(crate) fn base(&self) -> Option<u32>
+        ensures { result ≡ base_of (any_front self.now).kind }
+    {
+        match self {
+            AnyDevice::Average(device) => Some(device.base),
+            _ => None,
         }
     }
 
@@ -95,49 +120,79 @@ impl AnyDevice {
         ensures { result ≡ (any_station ⟦<Plug as Sensor>⟧.driver self.now).site.plugged }
     {
         match self {
-            AnyDevice::Input(device) => device.plugged(),
+            AnyDevice::Input(device) => device.device.plugged(),
             AnyDevice::Output(device) => device.plugged,
+            AnyDevice::Average(device) => device.plugged,
         }
     }
 
-    /// The number of its trigger, where it has one.
+    /// Whether it has a member.
+    pub(crate) fn has_member(&self) -> bool
+        ensures { result ≡ not (is_empty (any_station ⟦<Plug as Sensor>⟧.driver self.now).members) }
+    {
+        match self {
+            AnyDevice::Input(device) => device.device.members() > 0,
+            AnyDevice::Output(device) => device.out.mask().is_some(),
+            AnyDevice::Average(device) => !device.seats.is_empty(),
+        }
+    }
+
+    /// Whether its numbers of members have come to their end, at an averaging device.
+    pub(crate) fn has_no_number(&self) -> bool
+        requires { is_average (any_front self.now).kind ≡ true }
+        ensures { result ≡ has_no_number (any_station ⟦<Plug as Sensor>⟧.driver self.now) }
+    {
+        match self {
+            AnyDevice::Average(device) => device.next == u64::MAX,
+            _ => unreachable!(),
+        }
+    }
+
+    /// The number of its trigger, where it has one. An averaging device has none of its own.
     pub(crate) fn trigger(&self) -> Option<u32>
         ensures { result ≡ (any_station ⟦<Plug as Sensor>⟧.driver self.now).site.trigger }
     {
         match self {
-            AnyDevice::Input(device) => device.trigger(),
+            AnyDevice::Input(device) => device.device.trigger(),
             AnyDevice::Output(device) => device.trigger,
+            AnyDevice::Average(_) => None,
         }
     }
 
     /// Gives it another trigger, or none; a number that is given is below 16.
     pub(crate) fn set_trigger(&mut self, trigger: Option<u32>) -> Result<(), No>
-        requires { IfSome trigger (λ t. t < MAX_TRIGGERS) }
+        requires own { is_average (any_front self.old).kind ≡ false }
+        requires trigger { IfSome trigger (λ t. t < MAX_TRIGGERS) }
         ensures acts { Acts (with_site (λ site. record site { trigger = trigger })) (trigger_answer (any_station ⟦<Plug as Sensor>⟧.driver self.old))
             result (any_station ⟦<Plug as Sensor>⟧.driver self.old) (any_station ⟦<Plug as Sensor>⟧.driver self.new) }
         ensures keeps { KeepsFront self.old self.new }
     {
         match self {
-            AnyDevice::Input(device) => calls::set_trigger(device, trigger),
+            AnyDevice::Input(device) => device.set_trigger(trigger),
             AnyDevice::Output(device) => device.set_trigger(trigger),
+            AnyDevice::Average(_) => unreachable!(),
         }
     }
 
     /// The number of the device's trigger, where a member of that mask may join by it.
     pub(crate) fn host(&self, triggers: &[Trigger], mask: Mask) -> Result<usize, No>
+        requires own { is_average (any_front self.now).kind ≡ false }
         requires hosted { is_hosted (length triggers.now) (any_station ⟦<Plug as Sensor>⟧.driver self.now) ≡ true }
         requires below { mask.bits < 2 ^ count_of (any_front self.now).shape }
         requires channel { has_data (any_front self.now).shape mask.bits ≡ true }
-        ensures { HostsAny triggers.now (any_front self.now).kind (number_by self.now) (any_front self.now).shape
+        ensures hosts { HostsAny triggers.now (any_front self.now).kind (number_by self.now) (any_front self.now).shape
             (any_station ⟦<Plug as Sensor>⟧.driver self.now) mask.bits result }
+        ensures full { IsServedAlone (any_front self.now).kind (any_front self.now).shape (any_station ⟦<Plug as Sensor>⟧.driver self.now) mask.bits }
     {
         match self {
-            AnyDevice::Input(device) => host_input(device, triggers, mask),
+            AnyDevice::Input(device) => device.host(triggers, mask),
             AnyDevice::Output(device) => device.host(triggers),
+            AnyDevice::Average(_) => unreachable!(),
         }
     }
 
-    /// A member more, which may join by that trigger; the scans of an output device's come round again where it is cyclic.
+    /// A member more, which may join by that trigger; the scans of an output device's come round again where it is cyclic. It
+    /// may be the inner member of the averaging device of that number.
     pub(crate) fn join(
         &mut self,
         alloc: Global,
@@ -145,23 +200,27 @@ impl AnyDevice {
         mask: Mask,
         capacity: u32,
         cyclic: bool,
+        inner: Option<u32>,
     ) -> Result<Seat, No>
+        requires own { is_average (any_front self.old).kind ≡ false }
         requires trigger { is_some (any_station ⟦<Plug as Sensor>⟧.driver self.old).site.trigger ≡ true }
         requires may { first_refusal
             (any_refusals (has_no_place (number_by self.old) trigger.old) (any_front self.old).kind (any_front self.old).shape
             (any_station ⟦<Plug as Sensor>⟧.driver self.old) mask.bits) ≡ None }
+        requires inner { IfSome inner (MayHaveInner (any_front self.old) mask.bits capacity (any_station ⟦<Plug as Sensor>⟧.driver self.old)) }
         requires cycles { (cyclic && not (is_output (any_front self.old).kind)) ≡ false }
         requires below { mask.bits < 2 ^ count_of (any_front self.old).shape }
         requires channel { has_data (any_front self.old).shape mask.bits ≡ true }
         requires some { 1 ≤ capacity }
         requires bytes { capacity * scan_size (any_front self.old).shape mask.bits ≤ MAX_BYTES }
-        ensures joins { JoinsAny mask capacity cyclic (number_by self.old) (any_front self.old).shape result (any_station ⟦<Plug as Sensor>⟧.driver self.old)
-            (any_station ⟦<Plug as Sensor>⟧.driver self.new) trigger.old trigger.new }
+        ensures joins { JoinsAny mask capacity cyclic inner (number_by self.old) (any_front self.old).shape result
+            (any_station ⟦<Plug as Sensor>⟧.driver self.old) (any_station ⟦<Plug as Sensor>⟧.driver self.new) trigger.old trigger.new }
         ensures keeps { KeepsFront self.old self.new }
     {
         match self {
-            AnyDevice::Input(device) => join_input(alloc, device, trigger, mask, capacity),
+            AnyDevice::Input(device) => device.join(alloc, trigger, mask, capacity, inner),
             AnyDevice::Output(device) => device.start(trigger, mask, capacity, cyclic),
+            AnyDevice::Average(_) => unreachable!(),
         }
     }
 
@@ -176,23 +235,107 @@ impl AnyDevice {
         ensures keeps { KeepsFront self.old self.new }
     {
         match self {
-            AnyDevice::Input(_) => unreachable!(),
             AnyDevice::Output(device) => device.write(number, mask, bytes),
+            _ => unreachable!(),
         }
     }
 
-    /// The member of that number leaves, by the device's trigger.
+    /// The member of that number leaves by the device's trigger; an inner one is nobody's.
     pub(crate) fn leave(&mut self, number: u64, trigger: &mut Trigger)
+        requires own { is_average (any_front self.old).kind ≡ false }
         ensures station { any_station ⟦<Plug as Sensor>⟧.driver self.new ≡ left number (any_station ⟦<Plug as Sensor>⟧.driver self.old) }
         ensures trigger { trigger.new
             ≡ place_left (number_by self.old) (any_station ⟦<Plug as Sensor>⟧.driver self.old) (any_station ⟦<Plug as Sensor>⟧.driver self.new) trigger.old }
         ensures keeps { KeepsFront self.old self.new }
     {
         match self {
-            AnyDevice::Input(device) => {
-                let _tail = device.leave(Member { number }, trigger);
-            }
+            AnyDevice::Input(device) => device.leave(number, trigger),
             AnyDevice::Output(device) => device.leave(number, trigger),
+            AnyDevice::Average(_) => unreachable!(),
+        }
+    }
+
+    /// Whether it has the inner member of the averaging device of that number.
+    pub(crate) fn has_inner(&self, average: u32) -> bool
+        ensures { result ≡ list_any (is_inner_of average) (any_station ⟦<Plug as Sensor>⟧.driver self.now).members }
+    {
+        match self {
+            AnyDevice::Input(device) => device.has_inner(average),
+            _ => false,
+        }
+    }
+
+    /// The inner member of the averaging device of that number leaves by an input device's trigger, where there is one.
+    pub(crate) fn leave_inner(&mut self, average: u32, trigger: &mut Trigger)
+        requires { is_input (any_front self.old).kind ≡ true }
+        ensures station { any_station ⟦<Plug as Sensor>⟧.driver self.new ≡ inner_gone average (any_station ⟦<Plug as Sensor>⟧.driver self.old) }
+        ensures trigger { trigger.new
+            ≡ place_left (number_by self.old) (any_station ⟦<Plug as Sensor>⟧.driver self.old) (any_station ⟦<Plug as Sensor>⟧.driver self.new) trigger.old }
+        ensures keeps { KeepsFront self.old self.new }
+    {
+        match self {
+            AnyDevice::Input(device) => device.leave_inner(average, trigger),
+            _ => unreachable!(),
+        }
+    }
+
+    /// A member more at an averaging device.
+    pub(crate) fn join_mean(&mut self, mask: Mask, capacity: u32) -> Result<Seat, No>
+        requires average { is_average (any_front self.old).kind ≡ true }
+        requires number { has_no_number (any_station ⟦<Plug as Sensor>⟧.driver self.old) ≡ false }
+        requires below { mask.bits < 2 ^ count_of (any_front self.old).shape }
+        requires channel { has_data (any_front self.old).shape mask.bits ≡ true }
+        requires some { 1 ≤ capacity }
+        requires bytes { capacity * scan_size (any_front self.old).shape mask.bits ≤ MAX_BYTES }
+        ensures joins { JoinsMean mask capacity (any_front self.old).shape result (any_station ⟦<Plug as Sensor>⟧.driver self.old)
+            (any_station ⟦<Plug as Sensor>⟧.driver self.new) }
+        ensures keeps { KeepsFront self.old self.new }
+    {
+        match self {
+            AnyDevice::Average(device) => device.join(mask, capacity),
+            _ => unreachable!(),
+        }
+    }
+
+    /// Undoes the joining of the member of that seat, which was the last call at an averaging device.
+    pub(crate) fn undo_join(&mut self, seat: Seat)
+        requires average { is_average (any_front self.old).kind ≡ true }
+        requires joined { HasJoined seat.mask seat.capacity (any_station ⟦<Plug as Sensor>⟧.driver self.old) }
+        ensures station { (before : Station) → any_station ⟦<Plug as Sensor>⟧.driver self.old ≡ joined seat.mask.bits seat.capacity false None before
+            → any_station ⟦<Plug as Sensor>⟧.driver self.new ≡ before }
+        ensures keeps { KeepsFront self.old self.new }
+    {
+        match self {
+            AnyDevice::Average(device) => device.undo(seat),
+            _ => unreachable!(),
+        }
+    }
+
+    /// The member of that number leaves an averaging device.
+    pub(crate) fn leave_mean(&mut self, number: u64)
+        requires { is_average (any_front self.old).kind ≡ true }
+        ensures station { any_station ⟦<Plug as Sensor>⟧.driver self.new ≡ left number (any_station ⟦<Plug as Sensor>⟧.driver self.old) }
+        ensures keeps { KeepsFront self.old self.new }
+    {
+        match self {
+            AnyDevice::Average(device) => device.leave(number),
+            _ => unreachable!(),
+        }
+    }
+
+    /// An averaging device takes a capture of its base, as its scan of all channels. It has made fewer than 2^64 - 1 means.
+    pub(crate) fn gather(&mut self, scan: &[u8])
+        requires average { is_average (any_front self.old).kind ≡ true }
+        requires size { length scan.now ≡ scan_size (any_front self.old).shape (full_mask (any_front self.old).shape) }
+        requires fewer { is_last (any_station ⟦<Plug as Sensor>⟧.driver self.old).captures ≡ false }
+        ensures station { (c : Capture) → IsScanOf (any_front self.old).shape c scan.now
+            → any_station ⟦<Plug as Sensor>⟧.driver self.new
+            ≡ kind_gathered (any_front self.old).kind (any_front self.old).shape c (any_station ⟦<Plug as Sensor>⟧.driver self.old) }
+        ensures keeps { KeepsFront self.old self.new }
+    {
+        match self {
+            AnyDevice::Average(device) => device.gather(scan),
+            _ => unreachable!(),
         }
     }
 
@@ -218,12 +361,12 @@ impl AnyDevice {
         ensures keeps { KeepsFront self.old self.new }
     {
         match self {
-            AnyDevice::Input(device) => remask(alloc, device, seat, mask, size),
-            AnyDevice::Output(_) => unreachable!(),
+            AnyDevice::Input(device) => device.remask(alloc, seat, mask, size),
+            _ => unreachable!(),
         }
     }
 
-    /// Takes the oldest scan of the member of that number, under that mask, at an input device.
+    /// Takes the oldest scan of the member of that number, under that mask, at no output device.
     pub(crate) fn take(&mut self, number: u64, mask: Mask, out: &mut [u8]) -> Took
         requires read { is_output (any_front self.old).kind ≡ false }
         requires size { length out.old ≡ scan_size (any_front self.old).shape mask.bits }
@@ -232,8 +375,9 @@ impl AnyDevice {
         ensures keeps { KeepsFront self.old self.new }
     {
         match self {
-            AnyDevice::Input(device) => calls::take(device, number, mask, out),
+            AnyDevice::Input(device) => device.take(number, mask, out),
             AnyDevice::Output(_) => unreachable!(),
+            AnyDevice::Average(device) => device.take(number, mask, out),
         }
     }
 
@@ -255,8 +399,9 @@ impl AnyDevice {
         ensures room { vec_capacity out.old ≤ vec_capacity out.new }
     {
         match self {
-            AnyDevice::Input(device) => calls::take_scans(device, number, mask, most, out),
+            AnyDevice::Input(device) => device.take_scans(number, mask, most, out),
             AnyDevice::Output(_) => unreachable!(),
+            AnyDevice::Average(device) => device.take_scans(number, mask, most, out),
         }
     }
 
@@ -266,8 +411,9 @@ impl AnyDevice {
         ensures lost { result.lost ≡ lost_in (id_of number mask) (any_station ⟦<Plug as Sensor>⟧.driver self.now).members }
     {
         match self {
-            AnyDevice::Input(device) => calls::counts(device, number, mask),
+            AnyDevice::Input(device) => device.counts(number, mask),
             AnyDevice::Output(device) => device.counts(number, mask),
+            AnyDevice::Average(device) => device.counts(number, mask),
         }
     }
 
@@ -284,8 +430,9 @@ impl AnyDevice {
         ensures keeps { KeepsFront self.old self.new }
     {
         match self {
-            AnyDevice::Input(device) => calls::read_attr(device, t, channel, attr),
+            AnyDevice::Input(device) => device.read_attr(t, channel, attr),
             AnyDevice::Output(device) => device.read_attr(t, channel, attr),
+            AnyDevice::Average(device) => device.read_attr(t, channel, attr),
         }
     }
 
@@ -303,8 +450,8 @@ impl AnyDevice {
         ensures keeps { KeepsFront self.old self.new }
     {
         match self {
-            AnyDevice::Input(device) => calls::write_attr(device, channel, attr, value),
-            AnyDevice::Output(_) => unreachable!(),
+            AnyDevice::Input(device) => device.write_attr(channel, attr, value),
+            _ => unreachable!(),
         }
     }
 
@@ -316,8 +463,8 @@ impl AnyDevice {
         ensures keeps { KeepsFront self.old self.new }
     {
         match self {
-            AnyDevice::Input(device) => calls::ev_open(device, who),
-            AnyDevice::Output(_) => unreachable!(),
+            AnyDevice::Input(device) => device.ev_open(who),
+            _ => unreachable!(),
         }
     }
 
@@ -329,8 +476,8 @@ impl AnyDevice {
         ensures keeps { KeepsFront self.old self.new }
     {
         match self {
-            AnyDevice::Input(device) => calls::ev_read(device, who),
-            AnyDevice::Output(_) => unreachable!(),
+            AnyDevice::Input(device) => device.ev_read(who),
+            _ => unreachable!(),
         }
     }
 
@@ -344,8 +491,8 @@ impl AnyDevice {
         ensures keeps { KeepsFront self.old self.new }
     {
         match self {
-            AnyDevice::Input(device) => calls::ev_close(device, who),
-            AnyDevice::Output(_) => unreachable!(),
+            AnyDevice::Input(device) => device.ev_close(who),
+            _ => unreachable!(),
         }
     }
 
@@ -359,12 +506,17 @@ impl AnyDevice {
             ≡ entry_station (any_front self.old).kind (Some due.now) (is_last (captures_by self.old)) (any_front self.old).shape
             (any_station ⟦<Plug as Sensor>⟧.driver self.old) }
         ensures room { IsRoom (Some result) (any_station ⟦<Plug as Sensor>⟧.driver self.old).members (room_by self.new) }
+        ensures scan { IsTakenWhole (any_front self.old).shape
+            (entry_capture (any_front self.old).kind (Some due.now) (is_last (captures_by self.old)) (any_front self.old).shape
+            (any_station ⟦<Plug as Sensor>⟧.driver self.old))
+            (any_station ⟦<Plug as Sensor>⟧.driver self.old).members (full_scan_by self.new) }
         ensures captures { captures_by self.new ≡ counted (Some result) (captures_by self.old) }
         ensures keeps { KeepsHead self.old self.new }
     {
         match self {
-            AnyDevice::Input(device) => Became::Asked(calls::handle_due(device, due)),
+            AnyDevice::Input(device) => Became::Asked(device.handle(due)),
             AnyDevice::Output(device) => Became::Gave(device.handle(due)),
+            AnyDevice::Average(_) => Became::Asked(Handled::Idle),
         }
     }
 
@@ -377,9 +529,14 @@ impl AnyDevice {
         ensures answer { result ≡ entry_answer (any_front self.old).kind (entry_of dev (trigger_of trigger.old).entries) (is_last (captures_by self.old))
             (any_station ⟦<Plug as Sensor>⟧.driver self.old) }
         ensures station { any_station ⟦<Plug as Sensor>⟧.driver self.new
-            ≡ entry_station (any_front self.old).kind (entry_of dev (trigger_of trigger.old).entries) (is_last (captures_by self.old)) (any_front self.old).shape
+            ≡ entry_station (any_front self.old).kind (entry_of dev (trigger_of trigger.old).entries) (is_last (captures_by self.old))
+            (any_front self.old).shape
             (any_station ⟦<Plug as Sensor>⟧.driver self.old) }
         ensures room { IsRoom result (any_station ⟦<Plug as Sensor>⟧.driver self.old).members (room_by self.new) }
+        ensures scan { IsTakenWhole (any_front self.old).shape
+            (entry_capture (any_front self.old).kind (entry_of dev (trigger_of trigger.old).entries) (is_last (captures_by self.old)) (any_front self.old).shape
+            (any_station ⟦<Plug as Sensor>⟧.driver self.old))
+            (any_station ⟦<Plug as Sensor>⟧.driver self.old).members (full_scan_by self.new) }
         ensures captures { captures_by self.new ≡ counted result (captures_by self.old) }
         ensures keeps { KeepsHead self.old self.new }
         ensures trigger { trigger.new ≡ record trigger.old { outstanding = without_entry dev trigger.old.outstanding } }
@@ -399,14 +556,24 @@ impl AnyDevice {
         ensures { result.now ≡ room_by self.now }
     {
         match self {
-            AnyDevice::Input(_) => &[],
             AnyDevice::Output(device) => &device.room,
+            _ => &[],
         }
     }
 
-    /// Looks at its thresholds at a moment; an output device has none.
+    /// The scan of all channels that an input device's inner members took last.
+    pub(crate) fn full_scan(&self) -> &[u8]
+        ensures { result.now ≡ full_scan_by self.now }
+    {
+        match self {
+            AnyDevice::Input(device) => &device.room,
+            _ => &[],
+        }
+    }
+
+    /// Looks at its thresholds at a moment; an output device and an averaging device have none.
     pub(crate) fn sense(&mut self, t: i64) -> Sensed
-        ensures answer { result ≡ sensed_answer (any_front self.old).shape t (any_station ⟦<Plug as Sensor>⟧.driver self.old) }
+        ensures answer { result ≡ kind_sensed (any_front self.old).kind (any_front self.old).shape t (any_station ⟦<Plug as Sensor>⟧.driver self.old) }
         ensures station { any_station ⟦<Plug as Sensor>⟧.driver self.new
             ≡ sensed_station (any_front self.old).shape t (any_station ⟦<Plug as Sensor>⟧.driver self.old) }
         ensures keeps { KeepsFront self.old self.new }
@@ -414,6 +581,7 @@ impl AnyDevice {
         match self {
             AnyDevice::Input(device) => device.sense(t),
             AnyDevice::Output(device) => device.sense(t),
+            AnyDevice::Average(device) => device.sense(t),
         }
     }
 
@@ -426,6 +594,7 @@ impl AnyDevice {
         match self {
             AnyDevice::Input(device) => device.unplug(),
             AnyDevice::Output(device) => device.unplug(),
+            AnyDevice::Average(device) => device.unplug(),
         }
     }
 }

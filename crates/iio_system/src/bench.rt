@@ -1,9 +1,11 @@
 //! A bench: the devices and triggers of a description.
 
+ghost use Rattle.std.specs.Prelude.{length, map};
 ghost use Rattle.std.proofs.Props.{props};
 ghost use Rattle.iio_device.specs.Site.{no_driver};
+ghost use Rattle.iio_system.specs.Averages.{IsAveraged};
 ghost use Rattle.iio_system.specs.Places.{IsBench, IsNumbered};
-ghost use Rattle.iio_system.specs.Station.{number_by, stations_by};
+ghost use Rattle.iio_system.specs.Station.{any_front, number_by, stations_by};
 
 use crate::any_device::AnyDevice;
 use iio_desc::TriggerDesc;
@@ -13,7 +15,7 @@ use std::alloc::Global;
 use std::marker::PhantomData;
 
 /// The devices and triggers of a description, with one clock. A device's number is its place among the description's
-/// devices, the output devices after all others; a trigger's is its place among the description's triggers.
+/// devices, the output devices after the input devices, and the averaging devices after these; a trigger's is its place among the description's triggers.
 #[derive(Drop)]
 pub struct Bench {
     pub(crate) alloc: Global,
@@ -21,11 +23,14 @@ pub struct Bench {
     pub(crate) described: Vec<TriggerDesc>,
     pub(crate) triggers: Vec<Trigger>,
     pub(crate) devices: Vec<AnyDevice>,
+    // The number of the first averaging device. They come after all others.
+    pub(crate) first_average: u32,
     pub(crate) clock: i64,
     // Brings the meaning of a boxed driver into the reach of ghost members here.
     pub(crate) of: PhantomData<Box<dyn Sensor + Send>>,
     ghost sound: { IsBench described.items triggers.items (stations_by (λ p. no_driver) devices.items) } by { Prim.hlevel props },
     ghost numbered: { IsNumbered number_by devices.items } by { Prim.hlevel props },
+    ghost averaged: { IsAveraged (length described.items) first_average (map any_front devices.items) (stations_by (λ p. no_driver) devices.items) } by { Prim.hlevel props },
 }
 
 impl Bench {

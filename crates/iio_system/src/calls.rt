@@ -211,8 +211,8 @@ pub(crate) fn take_scans(
     }
 }
 
-// The answer where no scan waits.
-fn nothing(device: &Device<Kfifo>) -> Took
+/// The answer where no scan waits.
+pub(crate) fn nothing(device: &Device<Kfifo>) -> Took
     ensures { result ≡ nothing_at (station_by ⟦<Plug as Sensor>⟧.driver device.now) }
 {
     if device.plugged() {

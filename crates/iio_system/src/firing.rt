@@ -1,15 +1,17 @@
 //! What happens at a bench beside its connections' calls: polls, the clock, looks at thresholds, unplugged devices.
 
-ghost use Rattle.std.specs.Prelude.{◌≡◌, ◌<◌, ⊤, length};
+ghost use Rattle.std.specs.Prelude.{◌≡◌, ◌<◌, ◌&&◌, not, ⊤, length};
+ghost use Rattle.iio_desc.specs.Kind.{is_average};
 ghost use Rattle.iio_device.specs.Site.{at_place};
 ghost use Rattle.iiod_session.specs.Front.{kind_at, shape_at};
 ghost use Rattle.iiod_session.specs.Machine.{is_plugged, station_at, with_station};
 ghost use Rattle.iio_system.specs.Bench.{captures_of, front_of, has_ended, machine_of, room_at, trigger_in, triggers_of};
-ghost use Rattle.iio_system.specs.Handling.{IsRoom, counted, entry_answer, entry_machine, sensed_answer, sensed_station, unplugged_station};
+ghost use Rattle.iio_system.specs.Handling.{IsRoom, counted, entry_answer, entry_machine, kind_sensed, sensed_station, unplugged_machine};
 ghost use Rattle.iio_system.specs.Places.{entries_from, entry_of, first_due, handled, poll_answer, polled};
 
 use crate::any_device::Became;
 use crate::bench::Bench;
+use crate::together::{gather, unplug_all};
 use iio_device::{Plug, Sensed};
 use iio_sensor::Sensor;
 use iio_trigger::Polled;
@@ -49,23 +51,25 @@ impl Bench {
     }
 
     /// Handles the entry that a device has at a trigger: where the entry is current an input device is asked, an output device
-    /// is given the next scan, and the entry is taken off. `None` comes exactly where it has none, and then nothing changes. A
-    /// device that has made 2^64 - 1 captures is asked nothing.
+    /// is given the next scan, and the entry is taken off. Each averaging device takes a capture of its base. `None` comes
+    /// exactly where it has none, and then nothing changes. A device that has made 2^64 - 1 captures is asked nothing.
     #[inline(always)]
     pub fn handle(&mut self, trigger: u32, dev: u32) -> Option<Became>
         requires trigger { trigger < length (front_of self.old).triggers }
         requires dev { dev < length (front_of self.old).devices }
         ensures front { front_of self.new ≡ front_of self.old }
         ensures told { machine_of ⟦<Plug as Sensor>⟧.driver self.new
-            ≡ entry_machine (kind_at (front_of self.old) dev) (entry_of dev (trigger_in (triggers_of self.old) trigger).entries) (has_ended self.old dev)
-            (shape_at (front_of self.old) dev) dev (machine_of ⟦<Plug as Sensor>⟧.driver self.old) }
+            ≡ entry_machine (front_of self.old) (entry_of dev (trigger_in (triggers_of self.old) trigger).entries) (has_ended self.old dev) dev
+            (machine_of ⟦<Plug as Sensor>⟧.driver self.old) }
         ensures triggers { triggers_of self.new ≡ at_place trigger (handled dev) (triggers_of self.old) }
         ensures captures { captures_of self.new ≡ at_place dev (counted result) (captures_of self.old) }
         ensures answer { result ≡ entry_answer (kind_at (front_of self.old) dev) (entry_of dev (trigger_in (triggers_of self.old) trigger).entries)
             (has_ended self.old dev) (station_at (machine_of ⟦<Plug as Sensor>⟧.driver self.old) dev) }
         ensures room { IsRoom result (station_at (machine_of ⟦<Plug as Sensor>⟧.driver self.old) dev).members (room_at self.new dev) }
     {
-        self.devices[dev as usize].handle(&mut self.triggers[trigger as usize], dev)
+        let became = self.devices[dev as usize].handle(&mut self.triggers[trigger as usize], dev);
+        gather(&mut self.devices, self.first_average, dev, became);
+        became
     }
 
     /// Looks at a device's thresholds at a moment.
@@ -76,20 +80,28 @@ impl Bench {
             ≡ with_station (sensed_station (shape_at (front_of self.old) dev) t) dev (machine_of ⟦<Plug as Sensor>⟧.driver self.old) }
         ensures triggers { triggers_of self.new ≡ triggers_of self.old }
         ensures captures { captures_of self.new ≡ captures_of self.old }
-        ensures answer { result ≡ sensed_answer (shape_at (front_of self.old) dev) t (station_at (machine_of ⟦<Plug as Sensor>⟧.driver self.old) dev) }
+        ensures answer { result ≡ kind_sensed (kind_at (front_of self.old) dev) (shape_at (front_of self.old) dev) t
+            (station_at (machine_of ⟦<Plug as Sensor>⟧.driver self.old) dev) }
     {
         self.devices[dev as usize].sense(t)
     }
 
-    /// Unplugs a device. It says whether the device was plugged.
+    /// Unplugs a device, and the averaging devices over it. It says whether the device was plugged; an averaging device isn't
+    /// unplugged by itself.
     pub fn unplug(&mut self, dev: u32) -> bool
         requires { dev < length (front_of self.old).devices }
         ensures front { front_of self.new ≡ front_of self.old }
-        ensures told { machine_of ⟦<Plug as Sensor>⟧.driver self.new ≡ with_station unplugged_station dev (machine_of ⟦<Plug as Sensor>⟧.driver self.old) }
+        ensures told { machine_of ⟦<Plug as Sensor>⟧.driver self.new
+            ≡ unplugged_machine (front_of self.old) dev (machine_of ⟦<Plug as Sensor>⟧.driver self.old) }
         ensures triggers { triggers_of self.new ≡ triggers_of self.old }
         ensures captures { captures_of self.new ≡ captures_of self.old }
-        ensures answer { result ≡ is_plugged (machine_of ⟦<Plug as Sensor>⟧.driver self.old) dev }
+        ensures answer { result ≡ (is_plugged (machine_of ⟦<Plug as Sensor>⟧.driver self.old) dev && not (is_average (kind_at (front_of self.old) dev))) }
     {
-        self.devices[dev as usize].unplug()
+        if self.devices[dev as usize].is_average() {
+            return false;
+        }
+        let was_plugged = self.devices[dev as usize].plugged();
+        unplug_all(&mut self.devices, dev);
+        was_plugged
     }
 }

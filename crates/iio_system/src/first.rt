@@ -1,26 +1,28 @@
 //! A bench before the first step.
 
-ghost use Rattle.std.specs.Prelude.{◌≡◌, ◌+◌, ◌++◌, ◌≤◌, [], All, AllPairs, IfOk, OnOk, false, length, map};
-ghost use Rattle.iio_desc.specs.Description.{input_head, output_head};
-ghost use Rattle.iio_desc.specs.WellFormed.{HasPlaces, IsWellFormed, share_driver};
+ghost use Rattle.std.specs.Prelude.{◌≡◌, ◌+◌, ◌++◌, ◌≤◌, [], All, AllPairs, IfOk, OnOk, Some, false, length, map};
+ghost use Rattle.iio_desc.specs.Description.{input_head, output_head, shape_of_means};
+ghost use Rattle.iio_desc.specs.WellFormed.{HasPlaces, IsWellFormed, IsWellFormedAverage, share_driver};
 ghost use Rattle.iio_desc.specs.declared.limits.TheConstants.{MAX_DEVICES};
 ghost use Rattle.iio_device.specs.declared.plug.Plug.TheVariants.{Given};
 ghost use Rattle.iio_probe.specs.Devices.{IsFit};
 ghost use Rattle.iiod_session.specs.Front.{first_front};
-ghost use Rattle.iio_system.specs.declared.any_device.AnyDevice.TheVariants.{Input};
-ghost use Rattle.iio_system.specs.First.{first_machine, first_state, first_station, first_triggers};
+ghost use Rattle.iio_system.specs.First.{first_machine, first_state, first_station, first_triggers, mean_head_over, mean_station_over};
 ghost use Rattle.iio_system.specs.OutStation.{first_out_station};
 ghost use Rattle.iio_system.specs.Bench.{front_of, machine_of, triggers_of};
 ghost use Rattle.iio_system.specs.Places.{IsNumbered};
-ghost use Rattle.iio_system.specs.Station.{any_front, captures_by, number_by, stations_by};
+ghost use Rattle.iio_system.specs.Station.{any_front, captures_by, head_by, number_by, station_by, stations_by};
 
 use crate::any_device::AnyDevice;
 use crate::bench::Bench;
+use crate::in_device::InDevice;
+use crate::mean_device::MeanDevice;
 use crate::out_device::OutDevice;
 use iio_base::Mem;
-use iio_desc::{Desc, DeviceDesc, OutDesc, TriggerDesc};
+use iio_desc::{AverageDesc, Desc, DeviceDesc, OutDesc, TriggerDesc};
 use iio_device::{Device, Plug};
 use iio_kfifo::Kfifo;
+use iio_layout::Shape;
 use iio_sensor::Sensor;
 use iio_trigger::Trigger;
 use std::alloc::Global;
@@ -28,11 +30,14 @@ use std::marker::PhantomData;
 
 // Each of these as an input device of a bench.
 fn as_inputs(alloc: Global, devices: Vec<Device<Kfifo>>) -> Result<Vec<AnyDevice>, Mem>
-    ensures { IfOk result (λ v. v.items ≡ map (λ d. Input d) devices.items) }
+    ensures stations { IfOk result (λ v. stations_by ⟦<Plug as Sensor>⟧.driver v.items ≡ map (λ d. station_by ⟦<Plug as Sensor>⟧.driver d) devices.items) }
+    ensures fronts { IfOk result (λ v. map any_front v.items ≡ map (λ d. head_by d.core) devices.items) }
+    ensures numbers { IfOk result (λ v. map number_by v.items ≡ map (λ d. d.core.number) devices.items) }
+    ensures captures { IfOk result (λ v. map captures_by v.items ≡ map (λ d. d.core.roster.captures) devices.items) }
 {
     let mut inputs = Vec::new(alloc);
     for device in devices {
-        inputs.push(AnyDevice::Input(device))?;
+        inputs.push(AnyDevice::Input(InDevice::new(alloc, device)))?;
     }
     Ok(inputs)
 }
@@ -76,6 +81,53 @@ fn add_outputs(alloc: Global, devices: &mut Vec<AnyDevice>, descs: Vec<OutDesc>)
     Ok(())
 }
 
+// The channels and the timestamp of a device, without listed masks.
+fn shape_of_means(alloc: Global, shape: &Shape) -> Result<Shape, Mem>
+    ensures { IfOk result (λ s. s ≡ shape_of_means (Some shape.now)) }
+{
+    let mut channels = Vec::new(alloc);
+    for c in 0..shape.inputs() {
+        channels.push(*shape.channel(c))?;
+    }
+    match Shape::new(channels, shape.stamp(), Vec::new(alloc)) {
+        Some(shape) => Ok(shape),
+        None => unreachable!(),
+    }
+}
+
+// Adds the averaging devices of a description, with the numbers after those before.
+fn add_averages(
+    alloc: Global,
+    devices: &mut Vec<AnyDevice>,
+    descs: Vec<AverageDesc>,
+) -> Result<(), Mem>
+    requires few { length devices.old.items + length descs.items ≤ MAX_DEVICES }
+    requires over { All (IsWellFormedAverage (length devices.old.items)) descs.items }
+    requires numbered { IsNumbered number_by devices.old.items }
+    requires captures { All (λ d. captures_by d ≡ 0) devices.old.items }
+    ensures stations { OnOk result
+        (stations_by ⟦<Plug as Sensor>⟧.driver devices.new.items ≡ stations_by ⟦<Plug as Sensor>⟧.driver devices.old.items
+        ++ map (mean_station_over (map any_front devices.old.items)) descs.items) }
+    ensures fronts { OnOk result
+        (map any_front devices.new.items ≡ map any_front devices.old.items ++ map (mean_head_over (map any_front devices.old.items)) descs.items) }
+    ensures numbered { OnOk result (IsNumbered number_by devices.new.items) }
+    ensures captures { OnOk result (All (λ d. captures_by d ≡ 0) devices.new.items) }
+{
+    for desc in descs {
+        let number = devices.len() as u32;
+        let shape = shape_of_means(alloc, devices[desc.base as usize].shape())?;
+        devices.push(AnyDevice::Average(MeanDevice::new(
+            alloc,
+            desc.name,
+            number,
+            desc.base,
+            shape,
+            desc.window,
+        )?))?;
+    }
+    Ok(())
+}
+
 // The triggers of a description.
 fn triggers_of(alloc: Global, described: &[TriggerDesc]) -> Result<Vec<Trigger>, Mem>
     requires { All HasPlaces described.now }
@@ -109,17 +161,20 @@ impl Bench {
             triggers: described,
             devices: descs,
             outputs,
-            averages: _,
+            averages,
         } = desc;
         let triggers = triggers_of(alloc, &described)?;
         let mut devices = inputs_of(alloc, descs, drivers)?;
         add_outputs(alloc, &mut devices, outputs)?;
+        let first_average = devices.len() as u32;
+        add_averages(alloc, &mut devices, averages)?;
         Ok(Bench {
             alloc,
             context,
             described,
             triggers,
             devices,
+            first_average,
             clock: 0,
             of: PhantomData,
         })

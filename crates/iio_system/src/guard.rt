@@ -48,7 +48,7 @@ fn is_input(bench: &Bench, dev: u32) -> bool
     requires { dev < length (front_of bench.now).devices }
     ensures { result ≡ is_input (kind_at (front_of bench.now) dev) }
 {
-    !bench.is_output(dev)
+    !bench.is_output(dev) && !bench.is_average(dev)
 }
 
 // Whether it has the input device of that name open.
@@ -119,7 +119,8 @@ fn may_say(bench: &Bench, own: Option<&Session<Seat>>, item: &Seen<'_>) -> bool
 // Whether the watched connection itself may say this command.
 fn may_leave(bench: &Bench, others: &Others<'_>, watched: &[u8], command: &Command<'_>) -> bool
     ensures { (own : Option DeskRecord)
-        → result ≡ may_part (opens_by (front_of bench.now) own (desks_besides seen_of watched.now (connections_of others.now))) (item_by (command_view command.now)) }
+        → result ≡ may_part (opens_by (front_of bench.now) own (desks_besides seen_of watched.now (connections_of others.now)))
+        (item_by (command_view command.now)) }
 {
     match *command {
         Command::Close { dev } | Command::Remask { dev, .. } => {

@@ -1,19 +1,14 @@
 //! A bench as a connection uses it.
 
-ghost use Rattle.std.specs.Prelude.{◌≡◌, ◌&&◌, ◌<◌, not, false, IfOk, IfSome, Some, length, map};
+ghost use Rattle.std.specs.Prelude.{◌≡◌, ◌<◌, IfSome, length};
 ghost use Rattle.std.specs.List.{position};
 ghost use Rattle.std.specs.Str.{bytes_eq};
 ghost use Rattle.iio_desc.specs.Description.{trigger_number};
-ghost use Rattle.iio_desc.specs.Kind.{is_output};
-ghost use Rattle.iiod_session.specs.Calls.{open_of};
-ghost use Rattle.iiod_session.specs.Front.{kind_at};
-ghost use Rattle.iiod_session.specs.Seat.{Answers, IsNew, MayOpen, number_by};
-ghost use Rattle.iio_system.specs.Bench.{front_of, kept_of, machine_of};
-ghost use Rattle.iio_system.specs.Seat.{seen_of};
 ghost use Rattle.iio_system.specs.Station.{any_front};
 
 use crate::any_device::AnyDevice;
 use crate::bench::Bench;
+use crate::opening::{close_any, open_any};
 use crate::seat::Seat;
 use iio_attr::{Attr, Name, Value};
 use iio_desc::TriggerDesc;
@@ -53,35 +48,6 @@ fn trigger_number(triggers: &[TriggerDesc], name: &[u8]) -> Option<usize>
     triggers.iter().position(|t| t.name.is(name))
 }
 
-// A member more at a device, by its trigger.
-fn open_any(
-    bench: &mut Bench,
-    dev: u32,
-    mask: Mask,
-    capacity: u32,
-    cyclic: bool,
-) -> Result<Seat, No>
-    requires may_open { MayOpen (front_of bench.old) dev mask.bits capacity }
-    requires cycles { (cyclic && not (is_output (kind_at (front_of bench.old) dev))) ≡ false }
-    ensures kept { kept_of bench.new ≡ kept_of bench.old }
-    ensures seat { IfOk result (λ s. IsNew (front_of bench.old) dev mask.bits capacity (seen_of s)) }
-    ensures told { Answers (open_of (front_of bench.old) (machine_of ⟦<Plug as Sensor>⟧.driver bench.old) dev mask.bits capacity cyclic)
-        (machine_of ⟦<Plug as Sensor>⟧.driver bench.old)
-        (number_by seen_of result) (Some (machine_of ⟦<Plug as Sensor>⟧.driver bench.new)) }
-{
-    let at = dev as usize;
-    match bench.devices[at].host(&bench.triggers, mask) {
-        Err(no) => Err(no),
-        Ok(trigger) => bench.devices[at].join(
-            bench.alloc,
-            &mut bench.triggers[trigger],
-            mask,
-            capacity,
-            cyclic,
-        ),
-    }
-}
-
 impl Iio for Bench {
     ghost use Rattle.std.specs.Prelude.{Some};
     ghost use Rattle.iio_device.specs.Plug.{driver_of};
@@ -116,8 +82,8 @@ impl Iio for Bench {
         self.devices[dev as usize].is_output()
     }
 
-    fn is_average(&self, _dev: u32) -> bool {
-        false
+    fn is_average(&self, dev: u32) -> bool {
+        self.devices[dev as usize].is_average()
     }
 
     fn plugged(&self, dev: u32) -> bool {
@@ -156,16 +122,7 @@ impl Iio for Bench {
             size: _,
             capacity: _,
         } = seat;
-        let at = dev as usize;
-        match self.devices[at].trigger() {
-            None => {}
-            Some(trigger) => {
-                let trigger = trigger as usize;
-                if trigger < self.triggers.len() {
-                    self.devices[at].leave(number, &mut self.triggers[trigger]);
-                }
-            }
-        }
+        close_any(self, dev, number);
     }
 
     fn take(&mut self, dev: u32, seat: &mut Seat, out: &mut [u8]) -> Took {
@@ -196,7 +153,10 @@ impl Iio for Bench {
     }
 
     fn trigger(&self, dev: u32) -> Option<u32> {
-        self.devices[dev as usize].trigger()
+        match self.devices[dev as usize].base() {
+            None => self.devices[dev as usize].trigger(),
+            Some(base) => self.devices[base as usize].trigger(),
+        }
     }
 
     fn trigger_name(&self, trigger: u32) -> &[u8] {

@@ -139,8 +139,8 @@ pub(crate) fn join_input(
     requires channel { has_data device.old.core.roster.shape mask.bits ≡ true }
     requires some { 1 ≤ capacity }
     requires bytes { capacity * scan_size device.old.core.roster.shape mask.bits ≤ MAX_BYTES }
-    ensures joins { JoinsAny mask capacity false device.old.core.number device.old.core.roster.shape result (station_by ⟦<Plug as Sensor>⟧.driver device.old)
-        (station_by ⟦<Plug as Sensor>⟧.driver device.new) trigger.old trigger.new }
+    ensures joins { JoinsAny mask capacity false None device.old.core.number device.old.core.roster.shape result
+        (station_by ⟦<Plug as Sensor>⟧.driver device.old) (station_by ⟦<Plug as Sensor>⟧.driver device.new) trigger.old trigger.new }
     ensures keeps { KeepsCaptures (view_by ⟦<Plug as Sensor>⟧.driver device.old) (view_by ⟦<Plug as Sensor>⟧.driver device.new) }
 {
     join(alloc, device, trigger, mask, capacity)

@@ -2,6 +2,7 @@
 #![tactic(auto)]
 
 mod any_device;
+mod averaging;
 mod bench;
 mod calls;
 mod connection;
@@ -10,9 +11,13 @@ mod firing;
 mod first;
 mod guard;
 mod iio;
+mod in_device;
+mod inners;
 mod joining;
 mod lines;
+mod mean_device;
 mod moves;
+mod opening;
 mod others;
 mod out_device;
 mod quoted;
@@ -22,6 +27,7 @@ mod step;
 mod steps;
 mod system;
 mod tally;
+mod together;
 mod writing;
 
 pub use any_device::{AnyDevice, Became};
@@ -29,6 +35,8 @@ pub use bench::Bench;
 pub use connection::Connection;
 pub use iio_base::Mem;
 pub use iio_history::MAX_NAMES;
+pub use in_device::{InDevice, Inner};
+pub use mean_device::{MeanDevice, MeanSeat};
 pub use out_device::{Gave, OutDevice};
 pub use quoted::Quoted;
 pub use seat::Seat;

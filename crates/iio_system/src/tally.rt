@@ -35,10 +35,16 @@ fn device_tally(device: &AnyDevice) -> Tally
 {
     match device {
         AnyDevice::Input(device) => Tally {
-            captures: device.captures(),
-            scans: device.core.totals.scans.get(),
+            captures: device.device.captures(),
+            scans: device.device.core.totals.scans.get(),
+            overruns: device.device.overruns(),
+            bytes: device.device.core.totals.bytes.wrapped(),
+        },
+        AnyDevice::Average(device) => Tally {
+            captures: 0,
+            scans: device.totals.scans.get(),
             overruns: device.overruns(),
-            bytes: device.core.totals.bytes.wrapped(),
+            bytes: device.totals.bytes.wrapped(),
         },
         AnyDevice::Output(_) => Tally {
             captures: 0,

@@ -124,7 +124,7 @@ impl OutDevice {
         requires channel { has_data self.old.out.shape mask.bits ≡ true }
         requires some { 1 ≤ capacity }
         requires bytes { capacity * scan_size self.old.out.shape mask.bits ≤ MAX_BYTES }
-        ensures joins { JoinsAny mask capacity cyclic self.old.number self.old.out.shape result (out_station self.old) (out_station self.new) trigger.old
+        ensures joins { JoinsAny mask capacity cyclic None self.old.number self.old.out.shape result (out_station self.old) (out_station self.new) trigger.old
             trigger.new }
         ensures keeps { KeepsOut self.old self.new }
     {

@@ -1,4 +1,6 @@
+use Rattle.iio_desc.specs.Description.{output_head}
 use Rattle.iio_device.specs.Plug.{driver_of}
+use Rattle.iio_system.specs.OutStation.{first_out_station}
 use Rattle.iio_system.specs.Station.{any_front, any_station, captures_by, number_by}
 use Rattle.iio_system.proofs.FirstLemmas.{Adding}
 use Rattle.iio_system.proofs.first.add_outputs.Given as goal
@@ -7,5 +9,5 @@ abbrev pub invariant-loop-desc : goal.invariant-loop-desc
 invariant-loop-desc g l =
     (goal.iterator-loop-desc g).can_next l.desc-iterator ×
     (goal.iterator-loop-desc g).is_finite l.desc-iterator ×
-    Adding (any_station (driver_of (λ b. (g.dyn-1.0.entry b.vtable).1.driver b.value))) any_front number_by captures_by l.fn.descs.items l.fn.devices.items
-    l.yielded l.desc-iterator.rest.items l.devices.items
+    Adding first_out_station output_head (any_station (driver_of (λ b. (g.dyn-1.0.entry b.vtable).1.driver b.value))) any_front number_by captures_by
+    l.fn.descs.items l.fn.devices.items l.yielded l.desc-iterator.rest.items l.devices.items

@@ -1,11 +1,17 @@
-use Rattle.std.proofs.Common.{not, ap, ◌∙◌}
+use Rattle.std.proofs.Common.{◌∙◌, Bool, ap, sym}
+use Rattle.std.specs.Prelude.{◌&&◌, not}
+use Rattle.iio_desc.specs.Kind.{is_average}
 use Rattle.iiod_session.specs.Front.{kind_at}
 use Rattle.iio_system.specs.Bench.{front_of}
-use Rattle.iio_system.proofs.AnyLemmas.{no_average, no_output}
+use Rattle.iio_system.proofs.AnyLemmas.{input_is}
 use Rattle.iio_system.proofs.guard.is_input.Goals as goal
 
-pub returns : goal.returns
-returns g c =
-    ap not c.is_output.ensures
-    ∙ no_output (kind_at (front_of c.args.bench.now) c.args.dev)
-    (no_average c.args.bench.now.context.items c.args.bench.now.described.items c.args.bench.now.devices.items c.args.dev)
+pub returns-then-not-is_output : goal.returns-then-not-is_output
+returns-then-not-is_output g c =
+    ap not c.is_average.ensures ∙ sym (ap (λ (b : Bool). not b && not (is_average (kind_at (front_of c.args.bench.now) c.args.dev))) (sym c.is_output.ensures
+    ∙ c.if-not-is_output.true)) ∙ input_is (kind_at (front_of c.args.bench.now) c.args.dev)
+
+pub returns-else-not-is_output : goal.returns-else-not-is_output
+returns-else-not-is_output g c =
+    ap not c.if-not-is_output.false ∙ sym (ap (λ (b : Bool). not b && not (is_average (kind_at (front_of c.args.bench.now) c.args.dev))) (sym
+    c.is_output.ensures ∙ c.if-not-is_output.false)) ∙ input_is (kind_at (front_of c.args.bench.now) c.args.dev)

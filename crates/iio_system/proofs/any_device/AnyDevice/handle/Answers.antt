@@ -1,7 +1,7 @@
-use Rattle.std.proofs.Common.{◌∙◌, ap, sym}
+use Rattle.std.proofs.Common.{◌∙◌, ap, sym, subst}
 use Rattle.iio_device.specs.Plug.{driver_of}
-use Rattle.iio_system.specs.Handling.{entry_answer, entry_station, is_last}
-use Rattle.iio_system.specs.Station.{any_front, any_station, captures_by}
+use Rattle.iio_system.specs.Handling.{IsTakenWhole, entry_answer, entry_capture, entry_station, is_last}
+use Rattle.iio_system.specs.Station.{any_front, any_station, captures_by, full_scan_by}
 use Rattle.iio_system.proofs.TriggerLemmas.{done_off, due_dev, due_is, none_off}
 use Rattle.iio_system.proofs.any_device.AnyDevice.handle.Goals as goal
 
@@ -41,3 +41,18 @@ pub returns-in-Some-clause-trigger : goal.returns-in-Some-clause-trigger
 returns-in-Some-clause-trigger g c =
     done_off c.args.dev c.in-Some.due c.done.result c.args.trigger.now c.due.new.self c.done.new.self c.in-Some.ensures.due c.in-Some.ensures.after
     c.done.ensures.found c.done.ensures.taken
+
+pub returns-in-None-clause-scan : goal.returns-in-None-clause-scan
+returns-in-None-clause-scan g c =
+    let st = any_station (driver_of (λ b. (g.dyn-1.0.entry b.vtable).1.driver b.value)) c.args.self.now in
+    subst (λ o. IsTakenWhole (any_front c.args.self.now).shape
+    (entry_capture (any_front c.args.self.now).kind o (is_last (captures_by c.args.self.now)) (any_front c.args.self.now).shape st) st.members
+    (full_scan_by c.args.self.now)) (c.in-None.ensures.due ∙ due_is c.args.dev c.args.trigger.now.outstanding c.requires.idle) tt
+
+pub returns-in-Some-clause-scan : goal.returns-in-Some-clause-scan
+returns-in-Some-clause-scan g c =
+    let st = any_station (driver_of (λ b. (g.dyn-1.0.entry b.vtable).1.driver b.value)) c.args.self.now in
+    subst (λ o. IsTakenWhole (any_front c.args.self.now).shape
+    (entry_capture (any_front c.args.self.now).kind o (is_last (captures_by c.args.self.now)) (any_front c.args.self.now).shape st) st.members
+    (full_scan_by c.handle_due-became.new.self)) (c.in-Some.ensures.due ∙ due_is c.args.dev c.args.trigger.now.outstanding c.requires.idle)
+    c.handle_due-became.ensures.scan

@@ -1,11 +1,10 @@
 use Rattle.std.proofs.Common.{w64}
 use Rattle.std.proofs.lemmas.Int.{to_z-of_z}
-use Rattle.iio_device.specs.Plug.{driver_of}
-use Rattle.iio_system.proofs.AnyLemmas.{keeps_in}
+use Rattle.iio_system.proofs.KeepLemmas.{keeps_input}
 use Rattle.iio_system.proofs.any_device.AnyDevice.read_attr.Goals as goal
 
 pub returns-in-Input-clause-keeps : goal.returns-in-Input-clause-keeps
-returns-in-Input-clause-keeps g c = rw c.in-Input.is (keeps_in (driver_of (λ b. (g.dyn-1.0.entry b.vtable).1.driver b.value)) _ _ c.read_attr.ensures.keeps)
+returns-in-Input-clause-keeps g c = rw c.in-Input.is (keeps_input _ _ c.read_attr.ensures.keeps)
 
 pub returns-in-Input-clause-reads : goal.returns-in-Input-clause-reads
 returns-in-Input-clause-reads g c = rw c.in-Input.is (rw (to_z-of_z w64 c.args.t c.ranges.t) at c.read_attr.ensures.reads)

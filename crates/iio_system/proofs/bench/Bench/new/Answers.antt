@@ -1,5 +1,7 @@
-use Rattle.std.proofs.Common.{◌≡◌, List, [], ◌++◌, All, ap, arith, length, map, pos, subst, sym, ◌∙◌}
-use Rattle.iio_desc.specs.Description.{Description, DeviceHead, OutputRecord, output_head}
+use Rattle.std.proofs.Common.{◌≡◌, ◌+◌, ◌≤◌, ℕ, List, [], ◌++◌, All, ap, arith, length, map, pos, subst, sym, ◌∙◌}
+use Rattle.std.proofs.lemmas.List.{length-append}
+use Rattle.iio_desc.specs.Description.{Description, DeviceHead, OutputRecord, input_head, output_head}
+use Rattle.iio_desc.specs.WellFormed.{IsWellFormedAverage}
 use Rattle.iio_desc.specs.declared.description.TriggerDesc.{TriggerDesc}
 use Rattle.iio_trigger.specs.Trigger.{State}
 use Rattle.iio_device.specs.declared.plug.Plug.TheVariants.{Given}
@@ -7,36 +9,16 @@ use Rattle.iio_device.specs.Plug.{driver_of}
 use Rattle.iio_device.specs.Site.{no_driver}
 use Rattle.iiod_session.specs.Front.{Front, first_front}
 use Rattle.iiod_session.specs.Machine.{Machine, Station}
+use Rattle.iio_system.specs.Averages.{HasBases}
 use Rattle.iio_system.specs.First.{first_machine, first_state, first_station}
 use Rattle.iio_system.specs.OutStation.{first_out_station}
 use Rattle.iio_system.specs.Places.{first_trigger, trigger_of}
 use Rattle.iio_system.specs.Station.{any_front, any_station, stations_by}
 use Rattle.iio_system.proofs.AnyLemmas.{members_as}
-use Rattle.iio_system.proofs.FirstLemmas.{first_bare, first_bench, first_told, firsts_few, heads_are}
+use Rattle.iio_system.proofs.FirstLemmas.{AreBare, AreFresh, added_heads, added_stations, first_averaged, first_bare, first_bases, first_bench, first_fresh, first_told, firsts_few, formed_more}
 use Rattle.iio_system.proofs.ListLemmas.{length_map_is}
+use Rattle.iio_system.proofs.OpenLemmas.{averaged_as}
 use Rattle.iio_system.proofs.bench.Bench.new.Goals as goal
-
-pub invariant_of-result : goal.invariant_of-result
-invariant_of-result g c = record {
-  sound =
-      first_bench (any_station (driver_of (λ b. (g.dyn-1.0.entry b.vtable).1.driver b.value))) (any_station (λ p. no_driver))
-      (members_as (λ p. no_driver) (driver_of (λ b. (g.dyn-1.0.entry b.vtable).1.driver b.value)))
-      c.desc.inside.triggers.items c.in_ok-triggers.triggers.items c.add_outputs.new.devices.items _ c.desc.invariant.0
-      (firsts_few (map (λ d. driver_of (λ b. (g.dyn-1.0.entry b.vtable).1.driver b.value) (Given d)) c.args.drivers.items) c.desc.inside.devices.items
-      c.desc.inside.outputs.items _ (omega (arith, c.desc.invariant.1)))
-      (c.in_ok-triggers.ensures ∙ ap (λ (ts : List TriggerDesc). map first_state ts) c.deref.ensures.value)
-      (c.in_ok-add_outputs.ensures.stations
-      ∙ ap (λ (sts : List Station). sts ++ map first_out_station c.desc.inside.outputs.items) c.in_ok-devices.ensures.stations)
-      (first_bare (map (λ d. driver_of (λ b. (g.dyn-1.0.entry b.vtable).1.driver b.value) (Given d)) c.args.drivers.items) c.desc.inside.devices.items
-      c.desc.inside.outputs.items);
-  numbered = c.in_ok-add_outputs.ensures.numbered;
-}
-
-pub returns-clause-triggers : goal.returns-clause-triggers
-returns-clause-triggers g c =
-    ap (λ (states : List State). map trigger_of states) (c.in_ok-triggers.ensures ∙ ap (λ (ts : List TriggerDesc). map first_state ts) c.deref.ensures.value)
-    ∙ first_told c.desc.inside.triggers.items
-    ∙ ap (λ (d : Description). map (λ (t : TriggerDesc). first_trigger) d.triggers) c.desc.view_is
 
 pub add_outputs-requires-clause-few : goal.add_outputs-requires-clause-few
 add_outputs-requires-clause-few g c =
@@ -52,25 +34,109 @@ add_outputs-requires-clause-unlisted g c =
     subst (λ (d : Description). All (λ (x : OutputRecord). x.shape.listed ≡ []) d.outputs) (sym c.desc.view_is)
     (λ i x within. (c.requires.outputs i x within).unlisted)
 
+-- the averaging devices of the description
+pub add_averages-requires-clause-few : goal.add_averages-requires-clause-few
+add_averages-requires-clause-few g c =
+    let seen = ap (λ (sts : List Station). length sts) c.in_ok-devices.ensures.stations in
+    let many = length_map_is (any_station (driver_of (λ b. (g.dyn-1.0.entry b.vtable).1.driver b.value))) c.in_ok-devices.devices.items in
+    let described =
+    length_map_is (first_station (map (λ d. driver_of (λ b. (g.dyn-1.0.entry b.vtable).1.driver b.value) (Given d)) c.args.drivers.items))
+    c.desc.inside.devices.items in
+    let with_outputs = ap (λ (sts : List Station). length sts) c.in_ok-add_outputs.ensures.stations in
+    let all = length_map_is (any_station (driver_of (λ b. (g.dyn-1.0.entry b.vtable).1.driver b.value))) c.add_outputs.new.devices.items in
+    let both =
+    length-append (map (any_station (driver_of (λ b. (g.dyn-1.0.entry b.vtable).1.driver b.value))) c.in_ok-devices.devices.items)
+    (map first_out_station c.desc.inside.outputs.items) in
+    let given = length_map_is first_out_station c.desc.inside.outputs.items in
+    omega (arith, seen, many, described, with_outputs, all, both, given, c.desc.invariant.1)
+
+pub add_averages-requires-clause-over : goal.add_averages-requires-clause-over
+add_averages-requires-clause-over g c =
+    let seen = ap (λ (sts : List Station). length sts) c.in_ok-devices.ensures.stations in
+    let many = length_map_is (any_station (driver_of (λ b. (g.dyn-1.0.entry b.vtable).1.driver b.value))) c.in_ok-devices.devices.items in
+    let described =
+    length_map_is (first_station (map (λ d. driver_of (λ b. (g.dyn-1.0.entry b.vtable).1.driver b.value) (Given d)) c.args.drivers.items))
+    c.desc.inside.devices.items in
+    let with_outputs = ap (λ (sts : List Station). length sts) c.in_ok-add_outputs.ensures.stations in
+    let all = length_map_is (any_station (driver_of (λ b. (g.dyn-1.0.entry b.vtable).1.driver b.value))) c.add_outputs.new.devices.items in
+    let both =
+    length-append (map (any_station (driver_of (λ b. (g.dyn-1.0.entry b.vtable).1.driver b.value))) c.in_ok-devices.devices.items)
+    (map first_out_station c.desc.inside.outputs.items) in
+    formed_more (length c.desc.inside.devices.items) _ c.desc.inside.averages.items (omega (arith, seen, many, described, with_outputs, all, both))
+    (subst (λ (d : Description). All (IsWellFormedAverage (length d.devices)) d.averages) (sym c.desc.view_is) c.requires.averages)
+
+pub invariant_of-result : goal.invariant_of-result
+invariant_of-result g c =
+    let drive = (driver_of (λ b. (g.dyn-1.0.entry b.vtable).1.driver b.value)) in
+    let drivers = (map (λ d. driver_of (λ b. (g.dyn-1.0.entry b.vtable).1.driver b.value) (Given d)) c.args.drivers.items) in
+    let formed : All (IsWellFormedAverage (length c.desc.inside.devices.items)) c.desc.inside.averages.items =
+    subst (λ (d : Description). All (IsWellFormedAverage (length d.devices)) d.averages) (sym c.desc.view_is) c.requires.averages in
+    let heads : map any_front c.add_outputs.new.devices.items ≡ map input_head c.desc.inside.devices.items ++ map output_head c.desc.inside.outputs.items =
+    c.in_ok-add_outputs.ensures.fronts ∙ ap (λ (hs : List DeviceHead). hs ++ map output_head c.desc.inside.outputs.items) c.in_ok-devices.ensures.fronts in
+    let stations = added_stations c.desc.inside.devices.items c.desc.inside.outputs.items drivers c.desc.inside.averages.items _ _ _ _ formed
+    c.in_ok-devices.ensures.stations c.in_ok-add_outputs.ensures.stations heads c.in_ok-add_averages.ensures.stations in
+    let fronts =
+    added_heads c.desc.inside.devices.items c.desc.inside.outputs.items c.desc.inside.averages.items _ _ _ formed c.in_ok-devices.ensures.fronts
+    c.in_ok-add_outputs.ensures.fronts
+    c.in_ok-add_averages.ensures.fronts in
+    let bare = first_bare drivers c.desc.inside.devices.items c.desc.inside.outputs.items c.desc.inside.averages.items in
+    let many : length c.add_outputs.new.devices.items ≡ length c.desc.inside.devices.items + length c.desc.inside.outputs.items =
+    (let a = ap (λ (hs : List DeviceHead). length hs) heads in let b = length_map_is any_front c.add_outputs.new.devices.items in
+    let d =
+    length-append (map input_head c.desc.inside.devices.items) (map output_head c.desc.inside.outputs.items) in let e =
+    length_map_is input_head c.desc.inside.devices.items in
+    let f = length_map_is output_head c.desc.inside.outputs.items in omega (arith, a, b, d, e, f)) in
+    let count : length (stations_by drive c.add_averages.new.devices.items) ≡ length (map any_front c.add_averages.new.devices.items) =
+    length_map_is (any_station drive) c.add_averages.new.devices.items ∙ sym (length_map_is any_front c.add_averages.new.devices.items) in
+    record {
+      sound =
+          first_bench (any_station drive) (any_station (λ p. no_driver)) (members_as (λ p. no_driver) drive)
+          c.desc.inside.triggers.items c.in_ok-triggers.triggers.items c.add_averages.new.devices.items _ c.desc.invariant.0
+          (firsts_few drivers c.desc.inside.devices.items c.desc.inside.outputs.items c.desc.inside.averages.items _ (omega (arith, c.desc.invariant.1)))
+          (c.in_ok-triggers.ensures ∙ ap (λ (ts : List TriggerDesc). map first_state ts) c.deref.ensures.value)
+          stations bare;
+      numbered = c.in_ok-add_averages.ensures.numbered;
+      averaged =
+          averaged_as drive (λ p. no_driver) _ _ _ c.add_averages.new.devices.items
+          (first_averaged _ _ (map any_front c.add_averages.new.devices.items) (stations_by drive c.add_averages.new.devices.items)
+          (subst (λ (hs : List DeviceHead). HasBases c.len-first_average.result hs) (sym fronts)
+          (first_bases c.desc.inside.devices.items c.desc.inside.outputs.items c.desc.inside.averages.items _
+          (c.len-first_average.ensures ∙ c.add_outputs.new.devices.ok.0 ∙ many) formed))
+          count (subst AreBare (sym stations) bare)
+          (subst AreFresh (sym stations) (first_fresh drivers c.desc.inside.devices.items c.desc.inside.outputs.items c.desc.inside.averages.items)));
+    }
+
+pub returns-clause-triggers : goal.returns-clause-triggers
+returns-clause-triggers g c =
+    ap (λ (states : List State). map trigger_of states) (c.in_ok-triggers.ensures ∙ ap (λ (ts : List TriggerDesc). map first_state ts) c.deref.ensures.value)
+    ∙ first_told c.desc.inside.triggers.items
+    ∙ ap (λ (d : Description). map (λ (t : TriggerDesc). first_trigger) d.triggers) c.desc.view_is
+
 pub returns-clause-front : goal.returns-clause-front
 returns-clause-front g c =
+    let formed : All (IsWellFormedAverage (length c.desc.inside.devices.items)) c.desc.inside.averages.items =
+    subst (λ (d : Description). All (IsWellFormedAverage (length d.devices)) d.averages) (sym c.desc.view_is) c.requires.averages in
     subst (λ (d : Description).
     (let f : Front =
-    record { context = c.desc.inside.context.items; triggers = c.desc.inside.triggers.items; devices = map any_front c.add_outputs.new.devices.items } in f)
+    record { context = c.desc.inside.context.items; triggers = c.desc.inside.triggers.items; devices = map any_front c.add_averages.new.devices.items } in f)
     ≡ first_front d) c.desc.view_is
     (ap (λ (hs : List DeviceHead).
     (let f : Front = record { context = c.desc.inside.context.items; triggers = c.desc.inside.triggers.items; devices = hs } in f))
-    (c.in_ok-add_outputs.ensures.fronts ∙ ap (λ (hs : List DeviceHead). hs ++ map output_head c.desc.inside.outputs.items) c.in_ok-devices.ensures.fronts
-    ∙ heads_are c.desc.inside.devices.items c.desc.inside.outputs.items c.desc.inside.averages.items
-    (subst (λ (d : Description). d.averages ≡ []) (sym c.desc.view_is) c.requires.unaveraged)))
+    (added_heads c.desc.inside.devices.items c.desc.inside.outputs.items c.desc.inside.averages.items _ _ _ formed c.in_ok-devices.ensures.fronts
+    c.in_ok-add_outputs.ensures.fronts c.in_ok-add_averages.ensures.fronts))
 
 pub returns-clause-told : goal.returns-clause-told
 returns-clause-told g c =
+    let formed : All (IsWellFormedAverage (length c.desc.inside.devices.items)) c.desc.inside.averages.items =
+    subst (λ (d : Description). All (IsWellFormedAverage (length d.devices)) d.averages) (sym c.desc.view_is) c.requires.averages in
+    let heads : map any_front c.add_outputs.new.devices.items ≡ map input_head c.desc.inside.devices.items ++ map output_head c.desc.inside.outputs.items =
+    c.in_ok-add_outputs.ensures.fronts ∙ ap (λ (hs : List DeviceHead). hs ++ map output_head c.desc.inside.outputs.items) c.in_ok-devices.ensures.fronts in
     subst
     (λ (d : Description). (let m : Machine =
-    record { clock = pos 0; stations = stations_by (driver_of (λ b. (g.dyn-1.0.entry b.vtable).1.driver b.value)) c.add_outputs.new.devices.items } in m)
+    record { clock = pos 0; stations = stations_by (driver_of (λ b. (g.dyn-1.0.entry b.vtable).1.driver b.value)) c.add_averages.new.devices.items } in m)
     ≡ first_machine (map (λ d. driver_of (λ b. (g.dyn-1.0.entry b.vtable).1.driver b.value) (Given d)) c.args.drivers.items) d)
     c.desc.view_is
     (ap (λ (sts : List Station). (let m : Machine = record { clock = pos 0; stations = sts } in m))
-    (c.in_ok-add_outputs.ensures.stations
-    ∙ ap (λ (sts : List Station). sts ++ map first_out_station c.desc.inside.outputs.items) c.in_ok-devices.ensures.stations))
+    (added_stations c.desc.inside.devices.items c.desc.inside.outputs.items
+    (map (λ d. driver_of (λ b. (g.dyn-1.0.entry b.vtable).1.driver b.value) (Given d)) c.args.drivers.items) c.desc.inside.averages.items _ _ _ _ formed
+    c.in_ok-devices.ensures.stations c.in_ok-add_outputs.ensures.stations heads c.in_ok-add_averages.ensures.stations))

@@ -17,6 +17,8 @@ invariant_of-self g c =
           (slice_get_read _ (length c.args.self.now.described.items) _ _ (sym (as_many _ _ c.args.self.now.sound.places)) c.requires
           c.index_mut.ensures.value) (rw (to_z-of_z w64 c.args.t c.ranges.t) at c.poll.ensures);
       numbered = c.args.self.now.numbered;
+      averaged =
+          c.args.self.now.averaged;
     }
 
 pub returns-clause-triggers : goal.returns-clause-triggers

@@ -6,9 +6,9 @@ use Rattle.iio_layout.specs.Shape.{ShapeRecord}
 use Rattle.iio_system.specs.Acting.{id_of}
 use Rattle.iio_system.specs.Station.{any_front}
 use Rattle.iio_system.proofs.ListLemmas.{element_at, numbered_after}
-use Rattle.iio_system.proofs.IioLemmas.{device_keeps}
+use Rattle.iio_system.proofs.IioLemmas.{averaged_kept, device_keeps, sound_kept}
 use Rattle.iio_system.proofs.OpenLemmas.{open_bytes, open_fits}
-use Rattle.iio_system.proofs.RemaskLemmas.{sound_remask, told_remask}
+use Rattle.iio_system.proofs.RemaskLemmas.{remask_kept, told_remask}
 use Rattle.iio_system.proofs.ToldLemmas.{kind_is, shape_is}
 use Rattle.iio_system.proofs.iio.BenchIio.remask.Goals as goal
 
@@ -52,12 +52,16 @@ remask-requires-clause-fits g c =
 pub invariant_of-self : goal.invariant_of-self
 invariant_of-self g c =
     let at = element_at any_front _ _ _ c.requires.may_open.known c.index_mut-device.ensures.value in
+    let kept =
+    remask_kept (driver_of (λ b. (g.dyn-1.0.entry b.vtable).1.driver b.value)) c.args.self.now.context.items c.args.self.now.described.items
+    c.args.self.now.devices.items c.args.self.now.clock c.args.dev c.index_mut-device.result.now c.remask.new.self at
+    (id_of c.args.seat.now.number c.args.seat.now.mask) c.args.mask.bits c.args.seat.now.capacity c.remask.result c.remask.ensures.acts in
     record {
-      sound =
-          sound_remask (driver_of (λ b. (g.dyn-1.0.entry b.vtable).1.driver b.value)) c.args.self.now.context.items _ _ _ c.args.self.now.clock _ _
-          c.remask.new.self c.args.self.now.sound at
-          (id_of c.args.seat.now.number c.args.seat.now.mask) c.args.mask.bits c.args.seat.now.capacity c.remask.result c.remask.ensures.acts;
+      sound = sound_kept (driver_of (λ b. (g.dyn-1.0.entry b.vtable).1.driver b.value)) _ _ _ c.remask.new.self at _ _ c.args.self.now.sound kept;
       numbered = numbered_after _ _ _ _ _ c.args.self.now.numbered at c.remask.ensures.keeps.head.number;
+      averaged =
+          averaged_kept (driver_of (λ b. (g.dyn-1.0.entry b.vtable).1.driver b.value)) _ _ _ c.remask.new.self at _ _ c.args.self.now.averaged
+          c.remask.ensures.keeps.head kept;
     }
 
 pub returns-in-Err-clause-kept : goal.returns-in-Err-clause-kept
@@ -67,8 +71,7 @@ returns-in-Err-clause-kept g c =
 pub returns-in-Err-clause-told : goal.returns-in-Err-clause-told
 returns-in-Err-clause-told g c =
     told_remask (driver_of (λ b. (g.dyn-1.0.entry b.vtable).1.driver b.value)) c.args.self.now.context.items c.args.self.now.described.items
-    c.args.self.now.triggers.items c.args.self.now.devices.items c.args.self.now.clock c.args.dev c.index_mut-device.result.now c.remask.new.self
-    c.args.self.now.sound
+    c.args.self.now.devices.items c.args.self.now.clock c.args.dev c.index_mut-device.result.now c.remask.new.self
     (element_at any_front _ _ _ c.requires.may_open.known c.index_mut-device.ensures.value) (id_of c.args.seat.now.number c.args.seat.now.mask) c.args.mask.bits
     c.args.seat.now.capacity (Err c.in-Err.no) c.in-Err.ensures.acts
 
@@ -95,8 +98,7 @@ returns-in-Ok-clause-seat g c =
 pub returns-in-Ok-clause-told : goal.returns-in-Ok-clause-told
 returns-in-Ok-clause-told g c =
     told_remask (driver_of (λ b. (g.dyn-1.0.entry b.vtable).1.driver b.value)) c.args.self.now.context.items c.args.self.now.described.items
-    c.args.self.now.triggers.items c.args.self.now.devices.items c.args.self.now.clock c.args.dev c.index_mut-device.result.now c.remask.new.self
-    c.args.self.now.sound
+    c.args.self.now.devices.items c.args.self.now.clock c.args.dev c.index_mut-device.result.now c.remask.new.self
     (element_at any_front _ _ _ c.requires.may_open.known c.index_mut-device.ensures.value) (id_of c.args.seat.now.number c.args.seat.now.mask) c.args.mask.bits
     c.args.seat.now.capacity (Ok c.in-Ok.waited) c.in-Ok.ensures.acts
 

@@ -5,7 +5,7 @@ use Rattle.iio_system.specs.Acting.{id_of}
 use Rattle.iio_system.specs.Seat.{seen_of}
 use Rattle.iio_system.specs.Station.{any_front, any_station}
 use Rattle.iio_system.proofs.ListLemmas.{element_at, numbered_after}
-use Rattle.iio_system.proofs.IioLemmas.{device_keeps, sound_take_scans}
+use Rattle.iio_system.proofs.IioLemmas.{averaged_kept, device_keeps, sound_kept, take_scans_kept}
 use Rattle.iio_system.proofs.ToldLemmas.{kind_is, size_is, told_take_scans}
 use Rattle.iio_system.proofs.iio.BenchIio.take_scans.Goals as goal
 
@@ -19,12 +19,14 @@ take_scans-requires-clause-room g c =
 pub invariant_of-self : goal.invariant_of-self
 invariant_of-self g c =
     let at = (element_at any_front _ _ _ c.requires.dev c.index_mut.ensures.value) in
+    let drive = (driver_of (λ b. (g.dyn-1.0.entry b.vtable).1.driver b.value)) in
+    let kept =
+    take_scans_kept drive c.index_mut.result.now c.take_scans.new.self (id_of c.args.seat.now.number c.args.seat.now.mask) c.args.most c.take_scans.result
+    c.args.out.now.items c.take_scans.new.out.items c.take_scans.ensures.takes in
     record {
-      sound =
-          sound_take_scans (driver_of (λ b. (g.dyn-1.0.entry b.vtable).1.driver b.value)) _ _ _ _ _ c.take_scans.new.self c.args.self.now.sound at
-          (id_of c.args.seat.now.number c.args.seat.now.mask) c.args.most c.take_scans.result c.args.out.now.items c.take_scans.new.out.items
-          c.take_scans.ensures.takes;
+      sound = sound_kept drive _ _ c.index_mut.result.now c.take_scans.new.self at _ _ c.args.self.now.sound kept;
       numbered = numbered_after _ _ _ _ _ c.args.self.now.numbered at c.take_scans.ensures.keeps.head.number;
+      averaged = averaged_kept drive _ _ c.index_mut.result.now c.take_scans.new.self at _ _ c.args.self.now.averaged c.take_scans.ensures.keeps.head kept;
     }
 
 pub returns-clause-kept : goal.returns-clause-kept

@@ -4,7 +4,7 @@ use Rattle.iio_device.specs.Plug.{driver_of}
 use Rattle.iio_system.specs.Acting.{id_of}
 use Rattle.iio_system.specs.Station.{any_front, any_station}
 use Rattle.iio_system.proofs.ListLemmas.{element_at, numbered_after}
-use Rattle.iio_system.proofs.IioLemmas.{device_keeps, sound_writes}
+use Rattle.iio_system.proofs.IioLemmas.{averaged_kept, device_keeps, sound_kept, writes_kept}
 use Rattle.iio_system.proofs.ToldLemmas.{kind_is, told_written}
 use Rattle.iio_system.proofs.iio.BenchIio.write_scans.Goals as goal
 
@@ -17,11 +17,14 @@ write-requires g c =
 pub invariant_of-self : goal.invariant_of-self
 invariant_of-self g c =
     let at = element_at any_front _ _ _ c.requires.dev c.index_mut.ensures.value in
+    let drive = (driver_of (λ b. (g.dyn-1.0.entry b.vtable).1.driver b.value)) in
+    let kept =
+    writes_kept drive c.index_mut.result.now c.write.new.self _ (id_of c.args.seat.now.number c.args.seat.now.mask) c.args.bytes.now c.write.result
+    c.write.ensures.acts in
     record {
-      sound =
-          sound_writes (driver_of (λ b. (g.dyn-1.0.entry b.vtable).1.driver b.value)) _ _ _ _ _ c.write.new.self c.args.self.now.sound at _
-          (id_of c.args.seat.now.number c.args.seat.now.mask) c.args.bytes.now c.write.result c.write.ensures.acts;
+      sound = sound_kept drive _ _ c.index_mut.result.now c.write.new.self at _ _ c.args.self.now.sound kept;
       numbered = numbered_after _ _ _ _ _ c.args.self.now.numbered at c.write.ensures.keeps.head.number;
+      averaged = averaged_kept drive _ _ c.index_mut.result.now c.write.new.self at _ _ c.args.self.now.averaged c.write.ensures.keeps.head kept;
     }
 
 pub returns-clause-kept : goal.returns-clause-kept

@@ -1,0 +1,65 @@
+use Rattle.std.proofs.Common.{◌∙◌, Bool, Some, ap, subst, sym}
+use Rattle.std.specs.Prelude.{not}
+use Rattle.iio_desc.specs.Kind.{is_average}
+use Rattle.iio_device.specs.Plug.{driver_of}
+use Rattle.iio_device.specs.Site.{is_empty}
+use Rattle.iiod_session.specs.Calls.{open_of}
+use Rattle.iiod_session.specs.Machine.{Station}
+use Rattle.iiod_session.specs.Seat.{Answers, number_by}
+use Rattle.iio_system.specs.Seat.{seen_of}
+use Rattle.iio_system.specs.Station.{any_front, any_station, base_of}
+use Rattle.iio_system.proofs.ListLemmas.{element_at}
+use Rattle.iio_system.proofs.MeanOpenLemmas.{empty_then, never_cyclic, no_longer_empty}
+use Rattle.iio_system.proofs.OpenLemmas.{average_of, plain_of}
+use Rattle.iio_system.proofs.ToldLemmas.{fronts_by, kind_is, machine_by, station_is}
+use Rattle.iio_system.proofs.opening.open_any.Goals as goal
+
+pub open_plain-requires-clause-own : goal.open_plain-requires-clause-own
+open_plain-requires-clause-own g c =
+    ap is_average (kind_is any_front c.args.bench.now.context.items c.args.bench.now.described.items c.args.bench.now.devices.items c.args.dev
+    c.index.result.now (element_at any_front _ _ _ c.requires.may_open.known c.index.ensures)) ∙ plain_of _ (sym c.in-None.ensures)
+
+pub open_further-requires-clause-average : goal.open_further-requires-clause-average
+open_further-requires-clause-average g c =
+    (average_of _ c.in-Some.base (ap base_of (kind_is any_front c.args.bench.now.context.items c.args.bench.now.described.items
+    c.args.bench.now.devices.items c.args.dev c.index.result.now (element_at any_front _ _ _ c.requires.may_open.known c.index.ensures)) ∙ sym
+    c.in-Some.ensures))
+
+pub open_further-requires-clause-member : goal.open_further-requires-clause-member
+open_further-requires-clause-member g c =
+    (no_longer_empty _ (sym (c.has_member.ensures ∙ ap (λ (st : Station). not (is_empty st.members)) (sym (station_is (any_station (driver_of (λ b.
+    (g.dyn-1.0.entry b.vtable).1.driver b.value))) c.args.bench.now.clock c.args.bench.now.devices.items c.args.dev c.index-in-Some.result.now (element_at
+    any_front _ _ _ c.requires.may_open.known c.index-in-Some.ensures)))) ∙ c.if-has_member.true))
+
+pub open_first-requires-clause-over : goal.open_first-requires-clause-over
+open_first-requires-clause-over g c =
+    (ap base_of (kind_is any_front c.args.bench.now.context.items c.args.bench.now.described.items c.args.bench.now.devices.items c.args.dev
+    c.index.result.now (element_at any_front _ _ _ c.requires.may_open.known c.index.ensures)) ∙ sym c.in-Some.ensures)
+
+pub open_first-requires-clause-none : goal.open_first-requires-clause-none
+open_first-requires-clause-none g c =
+    (empty_then _ (sym (c.has_member.ensures ∙ ap (λ (st : Station). not (is_empty st.members)) (sym (station_is (any_station (driver_of (λ b.
+    (g.dyn-1.0.entry b.vtable).1.driver b.value))) c.args.bench.now.clock c.args.bench.now.devices.items c.args.dev c.index-in-Some.result.now (element_at
+    any_front _ _ _ c.requires.may_open.known c.index-in-Some.ensures)))) ∙ c.if-has_member.false))
+
+pub returns-then-has_member-clause-told : goal.returns-then-has_member-clause-told
+returns-then-has_member-clause-told g c =
+    subst (λ (cyclic : Bool). Answers (open_of (fronts_by any_front c.args.bench.now.context.items c.args.bench.now.described.items
+    c.args.bench.now.devices.items) (machine_by (any_station (driver_of (λ b. (g.dyn-1.0.entry b.vtable).1.driver b.value))) c.args.bench.now.clock
+    c.args.bench.now.devices.items) c.args.dev c.args.mask.bits c.args.capacity cyclic) (machine_by (any_station (driver_of (λ b. (g.dyn-1.0.entry
+    b.vtable).1.driver b.value))) c.args.bench.now.clock c.args.bench.now.devices.items) (number_by seen_of c.open_further.result) (Some (machine_by
+    (any_station (driver_of (λ b. (g.dyn-1.0.entry b.vtable).1.driver b.value))) c.open_further.new.bench.clock c.open_further.new.bench.devices.items)))
+    (sym (never_cyclic _ c.args.cyclic (average_of _ c.in-Some.base (ap base_of (kind_is any_front c.args.bench.now.context.items
+    c.args.bench.now.described.items c.args.bench.now.devices.items c.args.dev c.index.result.now (element_at any_front _ _ _ c.requires.may_open.known
+    c.index.ensures)) ∙ sym c.in-Some.ensures)) c.requires.cycles)) c.open_further.ensures.told
+
+pub returns-else-has_member-clause-told : goal.returns-else-has_member-clause-told
+returns-else-has_member-clause-told g c =
+    subst (λ (cyclic : Bool). Answers (open_of (fronts_by any_front c.args.bench.now.context.items c.args.bench.now.described.items
+    c.args.bench.now.devices.items) (machine_by (any_station (driver_of (λ b. (g.dyn-1.0.entry b.vtable).1.driver b.value))) c.args.bench.now.clock
+    c.args.bench.now.devices.items) c.args.dev c.args.mask.bits c.args.capacity cyclic) (machine_by (any_station (driver_of (λ b. (g.dyn-1.0.entry
+    b.vtable).1.driver b.value))) c.args.bench.now.clock c.args.bench.now.devices.items) (number_by seen_of c.open_first.result) (Some (machine_by
+    (any_station (driver_of (λ b. (g.dyn-1.0.entry b.vtable).1.driver b.value))) c.open_first.new.bench.clock c.open_first.new.bench.devices.items))) (sym
+    (never_cyclic _ c.args.cyclic (average_of _ c.in-Some.base (ap base_of (kind_is any_front c.args.bench.now.context.items c.args.bench.now.described.items
+    c.args.bench.now.devices.items c.args.dev c.index.result.now (element_at any_front _ _ _ c.requires.may_open.known c.index.ensures)) ∙ sym
+    c.in-Some.ensures)) c.requires.cycles)) c.open_first.ensures.told
