@@ -1,6 +1,7 @@
 //! Scripts over sources and sinks in memory. Expected texts by hand.
 
 mod attributes;
+mod averaging;
 mod commands;
 mod descriptions;
 mod devices;

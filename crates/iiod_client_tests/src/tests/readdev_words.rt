@@ -112,6 +112,17 @@ const ROWS: &[Row<'static>] = &[
         },
         ..WORDS_REFUSED
     },
+    // An averaging device isn't read.
+    Row {
+        words: &["readdev", "a", "avg0", "1", "00000001", "1"],
+        input: "device adc0 -\nchannel voltage0 le:u12/16>>4\naverage avg0 adc0 2\n",
+        printed: "refused 0 device\n",
+        status: ReadStatus::Refused {
+            line: 0,
+            why: Why::Device,
+        },
+        ..WORDS_REFUSED
+    },
     // An output device isn't read.
     Row {
         words: &["readdev", "a", "dac0", "1", "00000001", "1"],

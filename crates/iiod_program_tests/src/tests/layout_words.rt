@@ -80,6 +80,21 @@ const ENDS: &[(&[u8], &str, &str, &[u8], u8)] = &[
         b"refused 0 device\n",
         1,
     ),
+    // Nor an averaging device: its scans are laid out as its base's.
+    (
+        b"device d -\nchannel temp le:s8/8\naverage avg0 d 2\n",
+        "avg0",
+        "00000001",
+        b"refused 0 device\n",
+        1,
+    ),
+    (
+        b"device d -\nchannel temp le:s8/8\naverage avg0 d 2\n",
+        "d",
+        "00000001",
+        b"temp 0 1 le:s8/8>>0\nscan 1\n",
+        0,
+    ),
     (
         b"output dac0 -\nchannel temp le:s8/8\ndevice d -\nchannel magn_x le:s16/16\n",
         "d",

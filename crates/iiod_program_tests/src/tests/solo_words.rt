@@ -312,6 +312,64 @@ A "0\n"
     Ok(())
 }
 
+/// One line after those of `ADC`: an averaging device over it.
+const AVERAGE: &str = "average avg0 adc0 2\n";
+
+/// What a neighbour sends to A's averaging device.
+const NAMING_AN_AVERAGE: &[&str] = &[
+    r"OPEN avg0 1 00000001\n",
+    r"CLOSE avg0\n",
+    r"READBUF avg0 1\n",
+    r"READ avg0 name\n",
+    r"GETTRIG avg0\n",
+    r"SET avg0 BUFFERS_COUNT 2\n",
+    r"REMASK avg0 00000001\n",
+];
+
+// A neighbour may share the base, if A has it open too, and changes no mean. It may not name the averaging device.
+#[test]
+fn an_average_beside_a_neighbour(rt: HostRuntime) -> Result<(), Fail> {
+    let alloc = rt.alloc();
+    let opening = r#"A "OPEN avg0 1 00000005\nOPEN adc0 1 00000001\n"
+B "OPEN adc0 1 00000002\n"
+fire t0 1
+fire t0 2
+"#;
+    let leaving = r#"B "CLOSE adc0\n"
+A "READBUF avg0 4\nCLOSE avg0\n"
+"#;
+    let text = joined(alloc, &[ADC, AVERAGE, "%%\n", opening, leaving])?;
+    let printed = r#"A "0\n0\n"
+poll t0 accepted 1
+handle t0 adc0 captured
+poll t0 accepted 1
+handle t0 adc0 captured
+A "4\n00000005\n\x10\x00\xff\xfd0\n"
+"#;
+    check_worlds(&rt, alloc, "a reader of means", "A", &text, printed)?;
+    for sent in NAMING_AN_AVERAGE {
+        let text = joined(
+            alloc,
+            &[ADC, AVERAGE, "%%\n", opening, "B \"", sent, "\"\n"],
+        )?;
+        check_solo(&rt, alloc, sent, "A", &text, b"refused 14 bystander\n", 1)?;
+    }
+    // The base of a device that A has open isn't open by that.
+    let base_alone = r#"A "OPEN avg0 1 00000005\n"
+B "OPEN adc0 1 00000002\n"
+"#;
+    let text = joined(alloc, &[ADC, AVERAGE, "%%\n", base_alone])?;
+    check_solo(
+        &rt,
+        alloc,
+        "a base",
+        "A",
+        &text,
+        b"refused 11 bystander\n",
+        1,
+    )
+}
+
 // What a step completes counts, not where it began: B's WRITE is whole at line 14.
 #[test]
 fn items_across_steps(rt: HostRuntime) -> Result<(), Fail> {

@@ -88,8 +88,8 @@ fn a_lost_connection_leaves_no_member(rt: HostRuntime) -> Result<(), Fail> {
     Ok(())
 }
 
-// An output device, and a device on the same trigger.
-fn described_with_an_output(alloc: Global) -> Result<Desc, Fail>
+// An output device, a device on the same trigger, and an averaging device over it.
+fn described_with_all_kinds(alloc: Global) -> Result<Desc, Fail>
     ensures { IfOk result (λ desc. IsWellFormed 0 desc) }
 {
     let mut reader = DescReader::new(alloc, 0)?;
@@ -99,24 +99,25 @@ fn described_with_an_output(alloc: Global) -> Result<Desc, Fail>
     read_line(&mut reader, b"device adc0 t0")?;
     read_line(&mut reader, b"channel voltage0 le:u8/8>>0")?;
     read_line(&mut reader, b"row 0 7")?;
+    read_line(&mut reader, b"average avg0 adc0 2")?;
     Ok(reader.finish()?)
 }
 
 const NAMING: &[u8] =
-    b"OPEN dac0 1 00000001\nWRITEBUF dac0 1\nxREAD dac0 name\nGETTRIG dac0\nWRITEBUF adc0 1\nxOPEN adc0 1 00000001 CYCLIC\n";
+    b"OPEN dac0 1 00000001\nWRITEBUF dac0 1\nxREAD dac0 name\nGETTRIG dac0\nWRITEBUF adc0 1\nxOPEN adc0 1 00000001 CYCLIC\nOPEN avg0 1 00000001\nREAD avg0 name\n";
 
-// A hub doesn't know the names of output devices, and nothing is written to its devices.
+// A hub knows the names of input devices alone, and nothing is written to its devices.
 #[test]
-fn an_output_device_is_unknown(rt: HostRuntime) -> Result<(), Fail> {
+fn other_kinds_of_devices_are_unknown(rt: HostRuntime) -> Result<(), Fail> {
     let alloc = rt.alloc();
-    let hub = Hub::new(alloc, described_with_an_output(alloc)?, Vec::new(alloc))?;
+    let hub = Hub::new(alloc, described_with_all_kinds(alloc)?, Vec::new(alloc))?;
     let opening = b"OPEN adc0 1 00000001\n".as_slice();
     let reading = b"READBUF adc0 1\nREAD adc0 BUFFER underruns\nEXIT\n".as_slice();
     let (end, answers) = session_of(&rt, alloc, &hub, &[NAMING, opening, reading], 2)?;
     assert_eq!(rt; end, SessionEnd::Ended);
     assert_eq!(rt;
         answers.as_slice(),
-        b"-19\n-19\n-19\n-19\n-38\n-38\n0\n1\n00000001\n\x07-2\n".as_slice()
+        b"-19\n-19\n-19\n-19\n-38\n-38\n-19\n-19\n0\n1\n00000001\n\x07-2\n".as_slice()
     );
     Ok(())
 }
