@@ -31,7 +31,7 @@ use Rattle.iio_derive.specs.Window.{no_window}
 use Rattle.iio_output.specs.Last.{first_last}
 use Rattle.iio_history.specs.Registry.{Capture}
 use Rattle.iio_history.specs.BenchMoves.{asked_once, entry_made, offered_to}
-use Rattle.iio_history.specs.Devices.{AreMet, IsAt, IsMet, entry_by, handled_answer, left_after, member_with, members_met, queue_waited, queue_waits, station_met, station_of, station_with, writer_waited, writer_waits}
+use Rattle.iio_history.specs.Devices.{AreMet, IsAt, IsMet, handled_answer, left_after, member_with, members_met, queue_waited, queue_waits, station_met, station_of, station_with, writer_waited, writer_waits}
 use Rattle.iio_history.proofs.DeviceLaws.{at_changed, empty_map, masks_are}
 
 -- ---- handlings
@@ -141,7 +141,7 @@ module _ {Q : Type 0} (taken lost size capacity : Q → ℕ) (offer_gives : Q �
       → (d.standing.captures == 2 ^ 64 - 1) ≡ false
       → d.standing.active ≡ active_for d.standing.shape (masks_of d.standing.members) → AreMet lost capacity waits waited offer_gives r d d'
       → (r ≡ handled_answer e (station_met lost capacity waits waited r d d'))
-      × (entry_made Input d.standing.shape (Some (entry_by e)) (station_met lost capacity waits waited r d d') ≡ after d')
+      × (entry_made Input d.standing.shape (Some e) (station_met lost capacity waits waited r d d') ≡ after d')
   handled_is e Idle d d' h own fewer ruled met_is =
       let idle : is_current e.attachment d.site.attachment (after d).members d.site.plugged ≡ false
       = current_is e d (after d).members own fewer (empty_map (λ (m : Membership Q). member_with lost capacity (waits m.tail) m) d.standing.members) ∙ h.0 in
@@ -211,11 +211,11 @@ module _ {Q : Type 0} (taken lost size capacity : Q → ℕ) (offer_gives : Q �
       → d.standing.active ≡ active_for d.standing.shape (masks_of d.standing.members) → AreMet lost capacity waits waited offer_gives r d d'
       → slice_get m.stations dev ≡ Some (station_met lost capacity waits waited r d d')
       → (r ≡ handled_answer e (station_met lost capacity waits waited r d d'))
-      × IsAt lost capacity waits (with_station (entry_made Input d.standing.shape (Some (entry_by e))) dev m) dev d'
+      × IsAt lost capacity waits (with_station (entry_made Input d.standing.shape (Some e)) dev m) dev d'
   handlings_agree m dev e r d d' h own fewer ruled met_is here =
       let is = handled_is e r d d' h own fewer ruled met_is in (
         is.0,
-        at_changed m dev (station_met lost capacity waits waited r d d') (entry_made Input d.standing.shape (Some (entry_by e))) here
+        at_changed m dev (station_met lost capacity waits waited r d d') (entry_made Input d.standing.shape (Some e)) here
             ∙ ap (λ (st : Station). Some st) is.1,
       )
 

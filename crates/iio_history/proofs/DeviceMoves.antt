@@ -20,7 +20,7 @@ use Rattle.iio_history.specs.Told.{Told}
 use Rattle.iio_history.specs.Machine.{step}
 use Rattle.iio_history.specs.Bench.{IsBench, front_of, machine_of}
 use Rattle.iio_history.specs.BenchMoves.{entry_made, handles, handles_by, look_made, unplugs}
-use Rattle.iio_history.specs.Devices.{AreMet, IsAt, entry_by, station_met, station_of}
+use Rattle.iio_history.specs.Devices.{AreMet, IsAt, station_met, station_of}
 use Rattle.iio_history.proofs.BenchMoves.{handling_is, look_is, unplugging_is}
 use Rattle.iio_history.proofs.DeviceLaws.{looks_agree}
 use Rattle.iio_history.proofs.DeviceHandlings.{handled_is}
@@ -50,7 +50,7 @@ module _ {Q : Type 0} (taken lost size capacity : Q → ℕ) (offer_gives : Q �
   pub told_handlings_agree : (waits : Q → List (List ℕ)) (waited : Q → Q → List (List ℕ)) (s : Setup) (m : Told) (trigger k : ℕ) (due : Handed) (r : Handled)
       (d d' : DeviceView Q)
       → IsBench s m → kind_at (front_of s) k ≡ Input → shape_at (front_of s) k ≡ d.standing.shape
-      → entry_of k (entries_at m.triggers trigger) ≡ Some (entry_by due)
+      → entry_of k (entries_at m.triggers trigger) ≡ Some due
       → Handles taken lost size capacity offer_gives due r d d' → due.dev ≡ d.number → (d.standing.captures == 2 ^ 64 - 1) ≡ false
       → d.standing.active ≡ active_for d.standing.shape (masks_of d.standing.members) → AreMet lost capacity waits waited offer_gives r d d'
       → slice_get (machine_of m).stations k ≡ Some (station_met lost capacity waits waited r d d')

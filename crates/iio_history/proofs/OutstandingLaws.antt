@@ -1,8 +1,8 @@
 -- Outstanding entries, by the newest event.
 use Rattle.std.proofs.Common.{◌≡◌, ℕ, zero, suc, ℤ, List, [], ◌∷◌, Option, Some, None, slice_get, option_map, cond, refl, sym, ap, ◌∙◌}
-use Rattle.iio_trigger.specs.Trigger.{poll_made}
+use Rattle.iio_trigger.specs.Trigger.{Handed, poll_made}
 use Rattle.iio_history.specs.Event.{Event, Polled, Handled}
-use Rattle.iio_history.specs.Registry.{Setup, outlines_of, Trigger, Entry, entries_from, without_entry}
+use Rattle.iio_history.specs.Registry.{Setup, outlines_of, Trigger, entries_from, without_entry}
 use Rattle.iio_device.specs.Site.{at_place, is_empty}
 use Rattle.iio_history.specs.Fold.{polled, handled, outstanding, registry_after}
 
@@ -19,12 +19,12 @@ got_elsewhere (suc k) zero f (x ∷ xs) other = refl
 got_elsewhere (suc k) (suc j) f (x ∷ xs) other = got_elsewhere k j f xs (λ same. other (ap suc same))
 
 -- the entries of what stands at a place
-abbrev entries_by : Option Trigger → List Entry
+abbrev entries_by : Option Trigger → List Handed
 entries_by None = []
 entries_by (Some t) = t.entries
 
 -- a poll is accepted exactly where nothing is outstanding
-made_is : (made es : List Entry) → poll_made made es ≡ cond (is_empty es) made es
+made_is : (made es : List Handed) → poll_made made es ≡ cond (is_empty es) made es
 made_is made [] = refl
 made_is made (e ∷ es) = refl
 
@@ -40,7 +40,7 @@ outstanding_is s h trigger t is =
       λ (moment : ℤ). ap entries_by
           (got_at trigger (polled (outlines_of r) trigger moment) r.triggers ∙ ap (option_map (polled (outlines_of r) trigger moment)) is)
           ∙ made_is (entries_from 0 trigger moment (outlines_of r)) t.entries
-          ∙ ap (λ (es : List Entry). cond (is_empty es) (entries_from 0 trigger moment (outlines_of r)) es) (sym here),
+          ∙ ap (λ (es : List Handed). cond (is_empty es) (entries_from 0 trigger moment (outlines_of r)) es) (sym here),
       λ (k : ℕ). ap entries_by (got_at trigger (handled k) r.triggers ∙ ap (option_map (handled k)) is) ∙ ap (without_entry k) (sym here),
       λ (other : ℕ) (moment : ℤ) (apart : other ≡ trigger → ⊥). ap entries_by
           (got_elsewhere other trigger (polled (outlines_of r) other moment) r.triggers apart),

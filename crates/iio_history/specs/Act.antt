@@ -5,6 +5,7 @@ use Rattle.iio_text.specs.declared.values.Fixed.{Fixed}
 use Rattle.iio_attr.specs.declared.attributes.Attr.{Attr}
 use Rattle.iio_attr.specs.declared.attributes.Attr.TheVariants as attr
 use Rattle.iio_sensor.specs.Driver.{values_of, ask_fails}
+use Rattle.iio_trigger.specs.Trigger.{Handed}
 use Rattle.iio_desc.specs.Kind.{Kind, Input, Output, Average, is_input, is_output, is_over, is_unplugged_by}
 use Rattle.iio_desc.specs.Description.{find_device}
 use Rattle.iio_derive.specs.Window.{Window, full_mask, is_filled_by, means_of, sums_with}
@@ -14,7 +15,7 @@ use Rattle.iiod_session.specs.Attributes.{Assignment, Named, found as found_by, 
 use Rattle.iio_history.specs.Who.{Who, Conn, Inner}
 use Rattle.iiod_grammar.specs.Stream.{Item, Said, Written, Streamed, End}
 use Rattle.iio_history.specs.Event.{Event, Heard, Dropped, Handled, Sensed, Unplugged}
-use Rattle.iio_history.specs.Registry.{Setup, Member, Device, Outline, outline_of, Registry, Capture, Entry, is_member, is_named, buffers_of, entries_at, entry_of, is_left_empty}
+use Rattle.iio_history.specs.Registry.{Setup, Member, Device, Outline, outline_of, Registry, Capture, is_member, is_named, buffers_of, entries_at, entry_of, is_left_empty}
 use Rattle.iio_history.specs.Opening.{open_answer, remask_answer, write_answer, trigger_answer}
 
 pub data Act : Type 0 where
@@ -84,19 +85,19 @@ asking d target = only (is_raw target.attribute && is_empty d.members && is_inpu
 -- ---- events
 
 -- the handling of an entry that is current
-abbrev pub current_entry : Kind → Outline → Entry → Act
+abbrev pub current_entry : Kind → Outline → Handed → Act
 current_entry Output o e = Giving
 current_entry (Average base window) o e = Nothing
 current_entry Input o e =
-    if ask_fails o.site.driver then Failing e.moment
-    else Capturing (record { moment = e.moment; values = values_of o.site.driver o.shape e.moment })
+    if ask_fails o.site.driver then Failing e.t
+    else Capturing (record { moment = e.t; values = values_of o.site.driver o.shape e.t })
 
 -- the handling of an entry
-abbrev pub handled_entry : Outline → Entry → Act
+abbrev pub handled_entry : Outline → Handed → Act
 handled_entry o e =
     if not (is_current e.attachment o.site.attachment o.masks o.site.plugged) then Nothing else current_entry o.kind o e
 
-abbrev pub handled_act : Outline → Option Entry → Act
+abbrev pub handled_act : Outline → Option Handed → Act
 handled_act o None = Nothing
 handled_act o (Some e) = handled_entry o e
 

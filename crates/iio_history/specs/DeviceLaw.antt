@@ -30,7 +30,7 @@ use Rattle.iio_history.specs.Told.{Told}
 use Rattle.iio_history.specs.Machine.{step}
 use Rattle.iio_history.specs.Bench.{IsBench, front_of, machine_of}
 use Rattle.iio_history.specs.BenchMoves.{entry_made, look_made}
-use Rattle.iio_history.specs.Devices.{AreMet, Does, IsAt, IsJoined, IsMet, IsRemasked, entry_by, handled_answer, held_errno, holder_errno, queue_waited, queue_waits, raw_value, station_met, station_of, writer_waited, writer_waits}
+use Rattle.iio_history.specs.Devices.{AreMet, Does, IsAt, IsJoined, IsMet, IsRemasked, handled_answer, held_errno, holder_errno, queue_waited, queue_waits, raw_value, station_met, station_of, writer_waited, writer_waits}
 
 module _ {Q : Type 0} where
   -- ---- members
@@ -103,7 +103,7 @@ module _ {Q : Type 0} where
       → old.standing.active ≡ active_for old.standing.shape (masks_of old.standing.members) → AreMet lost capacity waits waited offer_gives r old new
       → slice_get m.stations dev ≡ Some (station_met lost capacity waits waited r old new)
       → (r ≡ handled_answer due (station_met lost capacity waits waited r old new))
-      × IsAt lost capacity waits (with_station (entry_made Input old.standing.shape (Some (entry_by due))) dev m) dev new
+      × IsAt lost capacity waits (with_station (entry_made Input old.standing.shape (Some due)) dev m) dev new
 
   -- ---- attributes, the trigger, thresholds, the end
 
@@ -181,7 +181,7 @@ module _ {Q : Type 0} where
   ToldHandlingsAgree taken lost size capacity offer_gives =
       (waits : Q → List (List ℕ)) (waited : Q → Q → List (List ℕ)) (s : Setup) (m : Told) (trigger k : ℕ) (due : Handed) (r : Handled) (old new : DeviceView Q)
       → IsBench s m → kind_at (front_of s) k ≡ Input → shape_at (front_of s) k ≡ old.standing.shape
-      → entry_of k (entries_at m.triggers trigger) ≡ Some (entry_by due)
+      → entry_of k (entries_at m.triggers trigger) ≡ Some due
       → Handles taken lost size capacity offer_gives due r old new → due.dev ≡ old.number → (old.standing.captures == 2 ^ 64 - 1) ≡ false
       → old.standing.active ≡ active_for old.standing.shape (masks_of old.standing.members) → AreMet lost capacity waits waited offer_gives r old new
       → slice_get (machine_of m).stations k ≡ Some (station_met lost capacity waits waited r old new)

@@ -31,7 +31,6 @@ use Rattle.iio_device.specs.Site.{is_current}
 use Rattle.iiod_session.specs.Calls.{Outcome}
 use Rattle.iiod_session.specs.Machine.{Machine, Member, Station}
 use Rattle.iiod_session.specs.Opening.{errno_of, remask_errno}
-use Rattle.iio_history.specs.Registry.{Entry}
 
 -- ---- a device
 
@@ -136,10 +135,6 @@ abbrev pub writer_waited : WriterEnd → WriterEnd → List (List ℕ)
 writer_waited old new = left_after new.knows.seen old
 
 -- ---- answers
-
--- an entry that was handed out, as the history has it
-abbrev pub entry_by : Handed → Entry
-entry_by e = record { device = e.dev; attachment = e.attachment; moment = e.t }
 
 -- the answer to a handling
 abbrev pub handled_answer : Handed → Station → Handled

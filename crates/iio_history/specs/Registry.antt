@@ -1,9 +1,10 @@
 -- Who has which device open after a history, what is outstanding at the triggers, and what the drivers were asked: plain
 -- data. There is no queue, no scan and no copy table in it.
-use Rattle.std.specs.Prelude.{ℕ, suc, ◌==◌, ◌||◌, ◌&&◌, not, Bool, false, List, [], ◌∷◌, map, slice_get, slice_index_or, Option, Some, None, if◌then◌else◌, ℤ}
+use Rattle.std.specs.Prelude.{ℕ, suc, ◌==◌, ◌||◌, ◌&&◌, not, Bool, false, List, [], ◌∷◌, map, filter, find, slice_get, slice_index_or, Option, Some, None, if◌then◌else◌, ℤ}
 use Rattle.std.specs.Str.{bytes_eq}
 use Rattle.iio_layout.specs.Shape.{ShapeRecord}
 use Rattle.iio_sensor.specs.Driver.{Driver}
+use Rattle.iio_trigger.specs.Trigger.{Handed}
 use Rattle.iio_desc.specs.Description.{Description, find_device}
 use Rattle.iio_desc.specs.Kind.{Kind}
 use Rattle.iio_derive.specs.Window.{Window}
@@ -42,14 +43,9 @@ pub record Outline : Type 0 where
   pub site : Site Who
   pub masks : List ℕ
 
--- a device that a trigger woke, the number of its attachment then, and the moment of the poll
-pub record Entry : Type 0 where
-  pub device : ℕ
-  pub attachment : ℕ
-  pub moment : ℤ
-
+-- a trigger: the entries of its last accepted poll that were not handled since, and how many polls were missed
 pub record Trigger : Type 0 where
-  pub entries : List Entry
+  pub entries : List Handed
   pub missed : ℕ
 
 -- a connection: whether it has ended, and the buffers count of each device
@@ -138,22 +134,20 @@ buffers_of us name k = elim (user_named name us) [ None ↦ first_buffers | Some
 
 -- ---- entries
 
-abbrev pub entries_at : List Trigger → ℕ → List Entry
+abbrev pub entries_at : List Trigger → ℕ → List Handed
 entries_at triggers trigger = elim (slice_get triggers trigger) [ None ↦ [] | Some t ↦ t.entries ]
 
--- the device's entry
-abbrev pub entry_of : ℕ → List Entry → Option Entry
-entry_of device [] = None
-entry_of device (e ∷ es) = if e.device == device then Some e else entry_of device es
+-- the device's entry, and the entries without it
+abbrev pub entry_of : ℕ → List Handed → Option Handed
+entry_of device entries = find (λ (e : Handed). e.dev == device) entries
 
-abbrev pub without_entry : ℕ → List Entry → List Entry
-without_entry device [] = []
-without_entry device (e ∷ es) = if e.device == device then without_entry device es else e ∷ without_entry device es
+abbrev pub without_entry : ℕ → List Handed → List Handed
+without_entry device entries = filter (λ (e : Handed). not (e.dev == device)) entries
 
 -- an entry for each device that is attached, in the order of devices; `device` is the first one's number
-abbrev pub entries_from : ℕ → ℕ → ℤ → List Outline → List Entry
+abbrev pub entries_from : ℕ → ℕ → ℤ → List Outline → List Handed
 entries_from device trigger moment [] = []
 entries_from device trigger moment (o ∷ os) =
     if is_attached trigger o
-    then record { device = device; attachment = o.site.attachment; moment = moment } ∷ entries_from (suc device) trigger moment os
+    then record { dev = device; attachment = o.site.attachment; t = moment } ∷ entries_from (suc device) trigger moment os
     else entries_from (suc device) trigger moment os

@@ -13,11 +13,12 @@ use Rattle.iio_device.specs.Site.{is_empty}
 use Rattle.iio_history.specs.Who.{Who}
 use Rattle.iiod_grammar.specs.Stream.{Scanner, InLine, items_from}
 use Rattle.iio_history.specs.Event.{Event, Arrived, Heard, Dropped, Polled, Handled, Clock, Sensed, Unplugged}
-use Rattle.iio_history.specs.Registry.{Setup, Entry, Trigger, entries_at, entry_of, entries_from, outline_of, outlines_of, has_ended, is_live}
+use Rattle.iio_history.specs.Registry.{Setup, Trigger, entries_at, entry_of, entries_from, outline_of, outlines_of, has_ended, is_live}
 use Rattle.iio_history.specs.Act.{Act, Capturing, Failing, Giving, handled_act}
 use Rattle.iio_history.specs.Told.{Line, Seat, Station, Told, device_of, next_given, registry_of, told}
 use Rattle.iio_history.specs.Reply.{reply}
 use Rattle.std.specs.Str.{bytes_eq}
+use Rattle.iio_trigger.specs.Trigger.{Handed}
 
 -- triggers and devices go by their numbers in the description
 pub data Step : Type 0 where
@@ -41,7 +42,7 @@ abbrev pub begun_by : List ℕ → List Line → Scanner
 begun_by name ls = elim (line_named name ls) [ None ↦ InLine [] | Some l ↦ l.begun ]
 
 -- the entries that a poll makes, where it is accepted
-abbrev pub poll_entries : Told → ℕ → ℤ → List Entry
+abbrev pub poll_entries : Told → ℕ → ℤ → List Handed
 poll_entries m trigger moment = if is_empty (entries_at m.triggers trigger) then entries_from 0 trigger moment (outlines_of (registry_of m)) else []
 
 -- the events that a step stands for, the first of them first: a feed stands for the items that its bytes make whole, a fire
@@ -50,7 +51,7 @@ abbrev pub events_of_step : Told → Step → List Event
 events_of_step m (Feed name bytes) =
     if has_ended name (registry_of m).users then []
     else Arrived name bytes ∷ map (λ item. Heard name item) (items_from (begun_by name m.lines) bytes)
-events_of_step m (Fire trigger moment) = Polled trigger moment ∷ map (λ e. Handled trigger e.device) (poll_entries m trigger moment)
+events_of_step m (Fire trigger moment) = Polled trigger moment ∷ map (λ (e : Handed). Handled trigger e.dev) (poll_entries m trigger moment)
 events_of_step m (Poll trigger moment) = Polled trigger moment ∷ []
 events_of_step m (Handle trigger device) = Handled trigger device ∷ []
 events_of_step m (Sense device moment) = Sensed device moment ∷ []
@@ -88,7 +89,7 @@ act_word xs Giving = given_word (next_given xs)
 act_word xs (Failing moment) = codes "fault"
 act_word xs act = codes "idle"
 
-abbrev pub handled_word : Option Station → Option Entry → List ℕ
+abbrev pub handled_word : Option Station → Option Handed → List ℕ
 handled_word (Some st) (Some e) = act_word st.seats (handled_act (outline_of (device_of st)) (Some e))
 handled_word st e = codes "none"
 

@@ -1,6 +1,6 @@
 -- Handlings one after another, and a poll that they follow.
 use Rattle.std.proofs.Common.{◌≡◌, ℕ, zero, suc, ◌+◌, ◌^◌, ◌<◌, ◌≤◌, ℤ, Bool, true, false, cond, List, [], ◌∷◌, ◌++◌, map, length, codes, slice_get, Option, Some, None, option_map, refl, sym, ap, ◌∙◌, subst, append-nil, arith}
-use Rattle.std.specs.Prelude.{◌==◌, unwrap_or}
+use Rattle.std.specs.Prelude.{◌==◌, unwrap_or, not}
 use Rattle.std.proofs.lemmas.Bool.Decides.{nat_tests}
 use Rattle.std.proofs.lemmas.List.{append_assoc}
 use Rattle.std.proofs.lemmas.Option.{slice_get-map}
@@ -14,8 +14,8 @@ use Rattle.iiod_session.specs.Calls.{is_attached}
 use Rattle.iiod_session.specs.Front.{Front, device_name, kind_at, trigger_name}
 use Rattle.iiod_session.specs.Machine.{Machine, Station, station_at}
 use Rattle.iio_history.specs.Event.{Handled, Polled}
-use Rattle.iio_history.specs.Registry.{Entry, Setup, Trigger, entries_at, entries_from as told_entries, entry_of as told_entry, outlines_of, without_entry as told_without}
-use Rattle.iio_history.specs.Fold.{handled as told_handled}
+use Rattle.iio_history.specs.Registry.{Setup, Trigger, entries_at, entries_from as told_entries, outlines_of, entry_of, without_entry}
+use Rattle.iio_history.specs.Fold.{handled}
 use Rattle.iio_history.specs.Told.{Told, registry_of}
 use Rattle.iio_history.specs.Machine.{step}
 use Rattle.iio_history.specs.Played.{state_after, step_lines, steps, texts}
@@ -31,30 +31,24 @@ use Rattle.iio_system.specs.declared.any_device.Became.{Became}
 use Rattle.iio_system.specs.Handling.{IsRoom, entry_answer, entry_machine}
 use Rattle.iio_system.specs.Lines.{became_word, polled_words}
 use Rattle.iio_system.specs.Moves.{CanGoOn, HandlesAll, HandlesOne, InOrder, Plays, handling_of, handlings}
-use Rattle.iio_system.specs.Places.{TriggerRecord, entries_from, entry_of, first_due, first_trigger, handled, poll_answer, polled, trigger_of}
+use Rattle.iio_system.specs.Places.{first_due, first_trigger, poll_answer, trigger_of}
 use Rattle.iio_system.specs.Seat.{seen_of}
-use Rattle.iio_system.specs.Standing.{CanCapture, Holds, RiseBy, handed_by, trigger_by}
+use Rattle.iio_system.specs.Standing.{CanCapture, Holds, RiseBy}
 use Rattle.iio_system.specs.Station.{any_front, any_station}
 use Rattle.iio_system.specs.System.{AreLines}
-use Rattle.iio_system.proofs.ListLemmas.{length_map_is}
+use Rattle.iio_system.proofs.ListLemmas.{length_map_is, filter_none}
 use Rattle.iio_system.proofs.GatherLemmas.{nothing_handled}
-use Rattle.iio_system.proofs.MoveLaws.{entry_here, handle_holds, handle_line, handled_told, machine_told, place_map, poll_holds, poll_line}
+use Rattle.iio_system.proofs.MoveLaws.{entry_here, handle_holds, handle_line, machine_told, poll_holds, poll_line, entries_in}
 
 -- ---- one handling
 
 -- nothing is taken off where the device has no entry
-without_none : (dev : ℕ) (es : List Entry) → told_entry dev es ≡ None → told_without dev es ≡ es
-without_none dev [] none = refl
-without_none dev (e ∷ es) none = by (e.device == dev) none (without_none dev es)
-  where
-    by : (b : Bool) → cond b (Some e) (told_entry dev es) ≡ None → (told_entry dev es ≡ None → told_without dev es ≡ es)
-        → cond b (told_without dev es) (e ∷ told_without dev es) ≡ e ∷ es
-    by true none rest = absurd (cc)
-    by false none rest = ap (λ (xs : List Entry). e ∷ xs) (rest none)
+without_none : (dev : ℕ) (es : List Handed) → entry_of dev es ≡ None → without_entry dev es ≡ es
+without_none dev es none = filter_none (λ (e : Handed). e.dev == dev) es none
 
-handled_none : (dev trigger : ℕ) (ts : List Trigger) → told_entry dev (entries_at ts trigger) ≡ None → at_place trigger (told_handled dev) ts ≡ ts
+handled_none : (dev trigger : ℕ) (ts : List Trigger) → entry_of dev (entries_at ts trigger) ≡ None → at_place trigger (handled dev) ts ≡ ts
 handled_none dev trigger [] none = refl
-handled_none dev zero (t ∷ ts) none = ap (λ (es : List Entry). (let x : Trigger = record t { entries = es } in x) ∷ ts) (without_none dev t.entries none)
+handled_none dev zero (t ∷ ts) none = ap (λ (es : List Handed). (let x : Trigger = record t { entries = es } in x) ∷ ts) (without_none dev t.entries none)
 handled_none dev (suc trigger) (t ∷ ts) none = ap (λ (xs : List Trigger). t ∷ xs) (handled_none dev trigger ts none)
 
 module _ {X : Type 0} {V : X → Type 0} (driver : Plug X V → Driver) where
@@ -63,43 +57,42 @@ module _ {X : Type 0} {V : X → Type 0} (driver : Plug X V → Driver) where
       (told : bench_machine driver b'
       ≡ entry_machine (bench_front b) (entry_of dev (trigger_in (triggers_of b) trigger).entries) false dev (bench_machine driver b))
       (triggers : triggers_of b' ≡ at_place trigger (handled dev) (triggers_of b)) (s : Setup) (m : Told) (h : Holds driver s m b cs) where
-    own : entry_of dev (trigger_in (triggers_of b) trigger).entries ≡ option_map handed_by (told_entry dev (entries_at m.triggers trigger))
+    own : entry_of dev (trigger_in (triggers_of b) trigger).entries ≡ entry_of dev (entries_at m.triggers trigger)
     own = entry_here driver trigger dev b b' cs less front told triggers s m h
 
     -- where it has none, nothing changes
-    stays : told_entry dev (entries_at m.triggers trigger) ≡ None → Holds driver s m b' cs
+    stays : entry_of dev (entries_at m.triggers trigger) ≡ None → Holds driver s m b' cs
     stays none = record {
       stands = record {
         front_is = front ∙ h.stands.front_is;
         told_is =
             ap (λ (x : Machine). Some x)
             (told ∙ ap (λ (o : Option Handed). entry_machine (bench_front b) o false dev (bench_machine driver b))
-            (own ∙ ap (λ (o : Option Entry). option_map handed_by o) none)
+            (own ∙ none)
             ∙ nothing_handled (bench_front b) false dev (bench_machine driver b))
             ∙ h.stands.told_is;
         bench = h.stands.bench;
         lines = subst (λ (f : Front). AreLines seen_of f m m.lines cs) (sym front) h.stands.lines;
       };
       triggers =
-          triggers ∙ ap (λ (ts : List TriggerRecord). at_place trigger (handled dev) ts) h.triggers
-          ∙ sym (place_map trigger_by trigger (told_handled dev) (handled dev) m.triggers (handled_told dev))
-          ∙ ap (λ (ts : List Trigger). map trigger_by ts) (handled_none dev trigger m.triggers none);
+          triggers ∙ ap (λ (ts : List Trigger). at_place trigger (handled dev) ts) h.triggers
+          ∙ handled_none dev trigger m.triggers none;
     }
 
     pub plays_none : (before : List ℕ)
         → None ≡ entry_answer (kind_at (bench_front b) dev) (entry_of dev (trigger_in (triggers_of b) trigger).entries) false
         (station_at (bench_machine driver b) dev)
         → Plays driver (handling_of trigger dev) s m trigger b' cs before before
-    plays_none before answered = by (told_entry dev (entries_at m.triggers trigger)) refl
+    plays_none before answered = by (entry_of dev (entries_at m.triggers trigger)) refl
       where
-        by : (o : Option Entry) → told_entry dev (entries_at m.triggers trigger) ≡ o
+        by : (o : Option Handed) → entry_of dev (entries_at m.triggers trigger) ≡ o
             → (before ≡ before ++ texts s m (elim o [ None ↦ [] | Some e ↦ Handled trigger dev ∷ [] ]))
             × Holds driver s (steps s m (elim o [ None ↦ [] | Some e ↦ Handled trigger dev ∷ [] ])) b' cs
         by None is = (sym (append-nil before), stays is)
         by (Some e) is =
             absurd (let h = answered
             ∙ ap (λ (o : Option Handed). entry_answer (kind_at (bench_front b) dev) o false (station_at (bench_machine driver b) dev))
-            (own ∙ ap (λ (o : Option Entry). option_map handed_by o) is) in cc)
+            (own ∙ is) in cc)
 
     pub plays_some : (before after name device room : List ℕ) (answer : Became) → name ≡ trigger_name (bench_front b') trigger
         → device ≡ device_name (bench_front b') dev
@@ -108,15 +101,15 @@ module _ {X : Type 0} {V : X → Type 0} (driver : Plug X V → Driver) where
         → IsRoom (Some answer) (station_at (bench_machine driver b) dev).members room
         → after ≡ before ++ printed (codes "handle" ∷ name ∷ device ∷ became_word (Some answer) room ∷ [])
         → Plays driver (handling_of trigger dev) s m trigger b' cs before after
-    plays_some before after name device room answer named called answered roomy line = by (told_entry dev (entries_at m.triggers trigger)) refl
+    plays_some before after name device room answer named called answered roomy line = by (entry_of dev (entries_at m.triggers trigger)) refl
       where
-        by : (o : Option Entry) → told_entry dev (entries_at m.triggers trigger) ≡ o
+        by : (o : Option Handed) → entry_of dev (entries_at m.triggers trigger) ≡ o
             → (after ≡ before ++ texts s m (elim o [ None ↦ [] | Some e ↦ Handled trigger dev ∷ [] ]))
             × Holds driver s (steps s m (elim o [ None ↦ [] | Some e ↦ Handled trigger dev ∷ [] ])) b' cs
         by None is =
             absurd (let h = answered
             ∙ ap (λ (o : Option Handed). entry_answer (kind_at (bench_front b) dev) o false (station_at (bench_machine driver b) dev))
-            (own ∙ ap (λ (o : Option Entry). option_map handed_by o) is) in cc)
+            (own ∙ is) in cc)
         by (Some e) is = (
           handle_line driver trigger dev b b' cs less front told triggers s m h before after name device room (Some answer) named called answered roomy line,
           handle_holds driver trigger dev b b' cs less front told triggers s m h,
@@ -124,52 +117,44 @@ module _ {X : Type 0} {V : X → Type 0} (driver : Plug X V → Driver) where
 
 -- ---- entries in order
 
-order_from : (low' low high : ℕ) (es : List Entry) → low' ≤ low → InOrder low high es → InOrder low' high es
+order_from : (low' low high : ℕ) (es : List Handed) → low' ≤ low → InOrder low high es → InOrder low' high es
 order_from low' low high [] less order = omega (arith, less, order)
 order_from low' low high (e ∷ es) less order = let h = order.0 in (omega (arith, less, h), order.1)
 
-order_bound : (low high : ℕ) (es : List Entry) → InOrder low high es → low ≤ high
+order_bound : (low high : ℕ) (es : List Handed) → InOrder low high es → low ≤ high
 order_bound low high [] order = order
-order_bound low high (e ∷ es) order = let h = order_bound (suc e.device) high es order.1 in let k = order.0 in omega (arith, h, k)
+order_bound low high (e ∷ es) order = let h = order_bound (suc e.dev) high es order.1 in let k = order.0 in omega (arith, h, k)
 
 -- at the end there is none
-order_none : (low high : ℕ) (es : List Entry) → high ≤ low → InOrder low high es → es ≡ []
+order_none : (low high : ℕ) (es : List Handed) → high ≤ low → InOrder low high es → es ≡ []
 order_none low high [] past order = refl
-order_none low high (e ∷ es) past order = absurd (let h = order_bound (suc e.device) high es order.1 in let k = order.0 in omega (arith, h, k, past))
+order_none low high (e ∷ es) past order = absurd (let h = order_bound (suc e.dev) high es order.1 in let k = order.0 in omega (arith, h, k, past))
 
 -- a device that comes before them has none
-entry_none : (dev low high : ℕ) (es : List Entry) → dev < low → InOrder low high es → told_entry dev es ≡ None
+entry_none : (dev low high : ℕ) (es : List Handed) → dev < low → InOrder low high es → entry_of dev es ≡ None
 entry_none dev low high [] less order = refl
 entry_none dev low high (e ∷ es) less order =
     let h = order.0 in
-    let other : (e.device == dev) ≡ false = grind (arith, nat_tests) in
-    ap (λ (b : Bool). cond b (Some e) (told_entry dev es)) other ∙ entry_none dev (suc e.device) high es (omega (arith, less, h)) order.1
+    let other : (e.dev == dev) ≡ false = grind (arith, nat_tests) in
+    ap (λ (b : Bool). cond b (Some e) (entry_of dev es)) other ∙ entry_none dev (suc e.dev) high es (omega (arith, less, h)) order.1
 
-entries_placed : (f : Trigger → Trigger) (g : List Entry → List Entry) → ((t : Trigger) → (f t).entries ≡ g t.entries) → (k : ℕ) (ts : List Trigger)
+entries_placed : (f : Trigger → Trigger) (g : List Handed → List Handed) → ((t : Trigger) → (f t).entries ≡ g t.entries) → (k : ℕ) (ts : List Trigger)
     → (length ts ≤ k → g [] ≡ [])
     → entries_at (at_place k f ts) k ≡ g (entries_at ts k)
 entries_placed f g same k [] past = sym (past (omega arith))
 entries_placed f g same zero (t ∷ ts) past = same t
 entries_placed f g same (suc k) (t ∷ ts) past = entries_placed f g same k ts (λ h. past (omega (arith, h)))
 
--- the entries at a bench's trigger are the told ones
-entries_in : (ts : List Trigger) (trigger : ℕ) → (trigger_in (map trigger_by ts) trigger).entries ≡ map handed_by (entries_at ts trigger)
-entries_in ts trigger = ap (λ (o : Option TriggerRecord). (unwrap_or o first_trigger).entries) (slice_get-map trigger_by ts trigger) ∙ by (slice_get ts trigger)
-  where
-    by : (o : Option Trigger) → (unwrap_or (option_map trigger_by o) first_trigger).entries ≡ map handed_by (elim o [ None ↦ [] | Some t ↦ t.entries ])
-    by None = refl
-    by (Some t) = refl
-
-no_first : (es : List Entry) → first_due (map handed_by es) ≡ None → es ≡ []
+no_first : (es : List Handed) → first_due es ≡ None → es ≡ []
 no_first [] none = refl
 no_first (e ∷ es) none = absurd (cc)
 
 -- the first of entries below `high` is below it
-first_below : (dev low high : ℕ) (es : List Entry) → first_due (map handed_by es) ≡ Some dev → InOrder low high es → dev < high
+first_below : (dev low high : ℕ) (es : List Handed) → first_due es ≡ Some dev → InOrder low high es → dev < high
 first_below dev low high [] first order = absurd (cc)
 first_below dev low high (e ∷ es) first order =
-    let same : e.device ≡ dev = cc in
-    let h = order_bound (suc e.device) high es order.1 in
+    let same : e.dev ≡ dev = cc in
+    let h = order_bound (suc e.dev) high es order.1 in
     omega (arith, h, same)
 
 -- ---- handlings one after another
@@ -178,7 +163,7 @@ module _ {X : Type 0} {V : X → Type 0} (driver : Plug X V → Driver) where
   -- some handlings are done: those of the entries that are left, of devices from `low` on, make up the rest
   pub record IsLeft (s : Setup) (m : Told) (trigger low high : ℕ) (b : Bench X V) (cs : List (Connection Seat)) (before now : List ℕ) : Type 0 where
     pub state : Told
-    pub entries : List Entry
+    pub entries : List Handed
     pub there : entries_at state.triggers trigger ≡ entries
     pub holds : Holds driver s state b cs
     pub order : InOrder low high entries
@@ -195,16 +180,15 @@ module _ {X : Type 0} {V : X → Type 0} (driver : Plug X V → Driver) where
       (x : IsLeft s m trigger low high b cs before now) where
     left_nothing : x.entries ≡ [] → Plays driver (handlings trigger) s m trigger b cs before now
     left_nothing none = (
-      sym (x.text ∙ ap (λ (es : List Entry). now ++ texts s x.state (handlings trigger es)) none ∙ append-nil now),
-      subst (λ (n : Told). Holds driver s n b cs) (sym (x.last ∙ ap (λ (es : List Entry). steps s x.state (handlings trigger es)) none)) x.holds,
+      sym (x.text ∙ ap (λ (es : List Handed). now ++ texts s x.state (handlings trigger es)) none ∙ append-nil now),
+      subst (λ (n : Told). Holds driver s n b cs) (sym (x.last ∙ ap (λ (es : List Handed). steps s x.state (handlings trigger es)) none)) x.holds,
     )
 
     -- the first entry at the bench's trigger is the first that is left
-    first_left : first_due (trigger_in (triggers_of b) trigger).entries ≡ first_due (map handed_by x.entries)
+    first_left : first_due (trigger_in (triggers_of b) trigger).entries ≡ first_due x.entries
     first_left =
         ap (λ (hs : List Handed). first_due hs)
-        (ap (λ (ts : List TriggerRecord). (trigger_in ts trigger).entries) x.holds.triggers ∙ entries_in x.state.triggers trigger
-        ∙ ap (λ (es : List Entry). map handed_by es) x.there)
+        (ap (λ (ts : List Trigger). (trigger_in ts trigger).entries) x.holds.triggers ∙ entries_in x.state.triggers trigger ∙ x.there)
 
     -- as many turns as there are devices leave none
     pub left_last : high ≤ low → Plays driver (handlings trigger) s m trigger b cs before now
@@ -219,33 +203,33 @@ module _ {X : Type 0} {V : X → Type 0} (driver : Plug X V → Driver) where
     left_past dev first past = let h = first_below dev low high x.entries (sym first_left ∙ first) x.order in absurd (omega (arith, h, past))
 
   -- what the handling of an entry, or of none, makes
-  abbrev Took : Setup → Told → (trigger dev : ℕ) → Bench X V → List (Connection Seat) → (before after : List ℕ) → Option Entry → Type 0
+  abbrev Took : Setup → Told → (trigger dev : ℕ) → Bench X V → List (Connection Seat) → (before after : List ℕ) → Option Handed → Type 0
   Took s n trigger dev b' cs before after o =
       (after ≡ before ++ texts s n (elim o [ None ↦ [] | Some e ↦ Handled trigger dev ∷ [] ]))
       × Holds driver s (steps s n (elim o [ None ↦ [] | Some e ↦ Handled trigger dev ∷ [] ])) b' cs
 
   module _ (s : Setup) (m n : Told) (trigger dev low high : ℕ) (b' : Bench X V) (cs : List (Connection Seat)) (before now after : List ℕ) where
-    next_by : (es : List Entry) → entries_at n.triggers trigger ≡ es → first_due (map handed_by es) ≡ Some dev → InOrder low high es
+    next_by : (es : List Handed) → entries_at n.triggers trigger ≡ es → first_due es ≡ Some dev → InOrder low high es
         → before ++ texts s m (handlings trigger (entries_at m.triggers trigger)) ≡ now ++ texts s n (handlings trigger es)
         → steps s m (handlings trigger (entries_at m.triggers trigger)) ≡ steps s n (handlings trigger es)
-        → Took s n trigger dev b' cs now after (told_entry dev es) → IsLeft s m trigger (low + 1) high b' cs before after
+        → Took s n trigger dev b' cs now after (entry_of dev es) → IsLeft s m trigger (low + 1) high b' cs before after
     next_by [] at first order text last took = absurd (cc)
     next_by (e ∷ es) at first order text last took =
-        let same : e.device ≡ dev = cc in
-        let own : (e.device == dev) ≡ true = grind (arith, nat_tests) in
+        let same : e.dev ≡ dev = cc in
+        let own : (e.dev == dev) ≡ true = grind (arith, nat_tests) in
         let from = order.0 in
-        let took' = subst (λ (o : Option Entry). Took s n trigger dev b' cs now after o) (ap (λ (c : Bool). cond c (Some e) (told_entry dev es)) own) took in
+        let took' = subst (λ (o : Option Handed). Took s n trigger dev b' cs now after o) (ap (λ (c : Bool). cond c (Some e) (entry_of dev es)) own) took in
         let ev = event_text s n (Handled trigger dev) in
         record {
           state = step s n (Handled trigger dev);
           entries = es;
           there =
               ap (λ (ts : List Trigger). entries_at ts trigger) (triggers_are s n (Handled trigger dev))
-              ∙ entries_placed (told_handled dev) (told_without dev) (λ t. refl) trigger n.triggers (λ past. refl)
-              ∙ ap (λ (xs : List Entry). told_without dev xs) at ∙ ap (λ (c : Bool). cond c (told_without dev es) (e ∷ told_without dev es)) own
-              ∙ without_none dev es (entry_none dev (suc e.device) high es (omega (arith, same)) order.1);
+              ∙ entries_placed (handled dev) (without_entry dev) (λ t. refl) trigger n.triggers (λ past. refl)
+              ∙ ap (λ (xs : List Handed). without_entry dev xs) at ∙ ap (λ (c : Bool). cond (not c) (e ∷ without_entry dev es) (without_entry dev es)) own
+              ∙ without_none dev es (entry_none dev (suc e.dev) high es (omega (arith, same)) order.1);
           holds = took'.1;
-          order = order_from (low + 1) (suc e.device) high es (omega (arith, from)) order.1;
+          order = order_from (low + 1) (suc e.dev) high es (omega (arith, from)) order.1;
           text =
               text ∙ ap (λ (d : ℕ). now ++ (event_text s n (Handled trigger d) ++ texts s (step s n (Handled trigger d)) (handlings trigger es))) same
               ∙ sym (append_assoc now ev (texts s (step s n (Handled trigger dev)) (handlings trigger es)))
@@ -262,7 +246,7 @@ module _ {X : Type 0} {V : X → Type 0} (driver : Plug X V → Driver) where
   left_next s m trigger dev low high b b' cs before now after x first one =
       next_by s m x.state trigger dev low high b' cs before now after x.entries x.there (sym (first_left s m trigger low high b cs before now x) ∙ first)
       x.order x.text x.last
-      (subst (λ (es : List Entry). Took s x.state trigger dev b' cs now after (told_entry dev es)) x.there (one s x.state x.holds))
+      (subst (λ (es : List Handed). Took s x.state trigger dev b' cs now after (entry_of dev es)) x.there (one s x.state x.holds))
 
 -- ---- captures
 
@@ -283,46 +267,46 @@ bench_order dev trigger t (st ∷ sts) =
   where
     by : (c : Bool) → InOrder (suc dev) (dev + suc (length sts)) (bench_entries (suc dev) trigger t sts)
         → InOrder dev (dev + suc (length sts))
-        (cond c (record { device = dev; attachment = st.site.attachment; moment = t } ∷ bench_entries (suc dev) trigger t sts)
+        (cond c (record { dev = dev; attachment = st.site.attachment; t = t } ∷ bench_entries (suc dev) trigger t sts)
         (bench_entries (suc dev) trigger t sts))
     by true rest = (omega arith, rest)
     by false rest = order_from dev (suc dev) (dev + suc (length sts)) (bench_entries (suc dev) trigger t sts) (omega arith) rest
 
-accepts : (made : List Handed) (es : List Entry) (n missed : ℕ) → Accepted n ≡ poll_answer made (map handed_by es) missed → es ≡ []
+accepts : (made : List Handed) (es : List Handed) (n missed : ℕ) → Accepted n ≡ poll_answer made es missed → es ≡ []
 accepts made [] n missed answered = refl
 accepts made (e ∷ es) n missed answered = absurd (cc)
 
-misses : (made : List Handed) (es : List Entry) (n missed : ℕ) → Missed n ≡ poll_answer made (map handed_by es) missed → is_empty es ≡ false
+misses : (made : List Handed) (es : List Handed) (n missed : ℕ) → Missed n ≡ poll_answer made es missed → is_empty es ≡ false
 misses made [] n missed answered = absurd (cc)
 misses made (e ∷ es) n missed answered = refl
 
 module _ {X : Type 0} {V : X → Type 0} (driver : Plug X V → Driver) where
   module _ (trigger : ℕ) (t : ℤ) (b b' : Bench X V) (cs : List (Connection Seat)) (front : bench_front b' ≡ bench_front b)
       (told : bench_machine driver b' ≡ bench_machine driver b)
-      (triggers : triggers_of b' ≡ at_place trigger (polled (bench_machine driver b).stations trigger t) (triggers_of b)) (s : Setup) (m : Told)
+      (triggers : triggers_of b' ≡ at_place trigger (polled_by (bench_machine driver b).stations trigger t) (triggers_of b)) (s : Setup) (m : Told)
       (h : Holds driver s m b cs) where
     outstanding_told : (answer : Answer)
-        → answer ≡ poll_answer (entries_from 0 trigger t (bench_machine driver b).stations) (trigger_in (triggers_of b) trigger).entries
+        → answer ≡ poll_answer (bench_entries 0 trigger t (bench_machine driver b).stations) (trigger_in (triggers_of b) trigger).entries
         (trigger_in (triggers_of b) trigger).missed
-        → answer ≡ poll_answer (entries_from 0 trigger t (bench_machine driver b).stations) (map handed_by (entries_at m.triggers trigger))
+        → answer ≡ poll_answer (bench_entries 0 trigger t (bench_machine driver b).stations) (entries_at m.triggers trigger)
         (trigger_in (triggers_of b) trigger).missed
     outstanding_told answer answered =
         answered
-        ∙ ap (λ (hs : List Handed). poll_answer (entries_from 0 trigger t (bench_machine driver b).stations) hs (trigger_in (triggers_of b) trigger).missed)
-        (ap (λ (ts : List TriggerRecord). (trigger_in ts trigger).entries) h.triggers ∙ entries_in m.triggers trigger)
+        ∙ ap (λ (hs : List Handed). poll_answer (bench_entries 0 trigger t (bench_machine driver b).stations) hs (trigger_in (triggers_of b) trigger).missed)
+        (ap (λ (ts : List Trigger). (trigger_in ts trigger).entries) h.triggers ∙ entries_in m.triggers trigger)
 
     -- a missed poll is all
     pub fire_missed : (before after name : List ℕ) (answer : Answer) (n : ℕ) → answer ≡ Missed n → name ≡ trigger_name (bench_front b') trigger
-        → answer ≡ poll_answer (entries_from 0 trigger t (bench_machine driver b).stations) (trigger_in (triggers_of b) trigger).entries
+        → answer ≡ poll_answer (bench_entries 0 trigger t (bench_machine driver b).stations) (trigger_in (triggers_of b) trigger).entries
         (trigger_in (triggers_of b) trigger).missed
         → after ≡ before ++ printed (codes "poll" ∷ name ∷ polled_words answer)
         → (after ≡ before ++ step_lines s m (Fire trigger t)) × Holds driver s (state_after s m (Fire trigger t)) b' cs
     fire_missed before after name answer n is named answered line =
         let busy =
-        misses (entries_from 0 trigger t (bench_machine driver b).stations) (entries_at m.triggers trigger) n (trigger_in (triggers_of b) trigger).missed
+        misses (bench_entries 0 trigger t (bench_machine driver b).stations) (entries_at m.triggers trigger) n (trigger_in (triggers_of b) trigger).missed
         (outstanding_told (Missed n) (sym is ∙ answered)) in
         let none : poll_entries m trigger t ≡ [] = ap (λ (c : Bool). cond c (told_entries 0 trigger t (outlines_of (registry_of m))) []) busy in
-        subst (λ (es : List Entry). (after ≡ before ++ texts s m (Polled trigger t ∷ handlings trigger es))
+        subst (λ (es : List Handed). (after ≡ before ++ texts s m (Polled trigger t ∷ handlings trigger es))
         × Holds driver s (steps s m (Polled trigger t ∷ handlings trigger es)) b' cs) (sym none) (
           poll_line driver trigger t b b' cs front told triggers s m h before after name answer named answered line,
           poll_holds driver trigger t b b' cs front told triggers s m h,
@@ -335,10 +319,10 @@ module _ {X : Type 0} {V : X → Type 0} (driver : Plug X V → Driver) where
       polled_entries =
           let long : length m.triggers ≡ length b.described.items
           =
-          sym (length_map_is trigger_by m.triggers) ∙ ap (λ (ts : List TriggerRecord). length ts) (sym h.triggers)
+          ap (λ (ts : List Trigger). length ts) (sym h.triggers)
           ∙ length_map_is trigger_of b.triggers.items ∙ many in
           ap (λ (ts : List Trigger). entries_at ts trigger) (triggers_are s m (Polled trigger t))
-          ∙ entries_placed (polled_by (machine_of m) trigger t) (λ es. poll_made (bench_entries 0 trigger t (machine_of m).stations) es) (λ x. refl) trigger
+          ∙ entries_placed (polled_by (machine_of m).stations trigger t) (λ es. poll_made (bench_entries 0 trigger t (machine_of m).stations) es) (λ x. refl) trigger
           m.triggers (λ past. absurd (omega (arith, past, long, within)))
 
       in_order : InOrder 0 (length (bench_front b').devices) (bench_entries 0 trigger t (machine_of m).stations)
@@ -352,28 +336,28 @@ module _ {X : Type 0} {V : X → Type 0} (driver : Plug X V → Driver) where
 
       pub fire_accepted : (b'' : Bench X V) (before mid after name : List ℕ) (answer : Answer) (n : ℕ) → answer ≡ Accepted n
           → name ≡ trigger_name (bench_front b') trigger
-          → answer ≡ poll_answer (entries_from 0 trigger t (bench_machine driver b).stations) (trigger_in (triggers_of b) trigger).entries
+          → answer ≡ poll_answer (bench_entries 0 trigger t (bench_machine driver b).stations) (trigger_in (triggers_of b) trigger).entries
           (trigger_in (triggers_of b) trigger).missed
           → mid ≡ before ++ printed (codes "poll" ∷ name ∷ polled_words answer)
           → HandlesAll driver trigger (length (bench_front b').devices) b' b'' cs mid after
           → (after ≡ before ++ step_lines s m (Fire trigger t)) × Holds driver s (state_after s m (Fire trigger t)) b'' cs
       fire_accepted b'' before mid after name answer n is named answered line all =
           let idle =
-          accepts (entries_from 0 trigger t (bench_machine driver b).stations) (entries_at m.triggers trigger) n (trigger_in (triggers_of b) trigger).missed
+          accepts (bench_entries 0 trigger t (bench_machine driver b).stations) (entries_at m.triggers trigger) n (trigger_in (triggers_of b) trigger).missed
           (outstanding_told (Accepted n) (sym is ∙ answered)) in
           let made : entries_at (step s m (Polled trigger t)).triggers trigger ≡ bench_entries 0 trigger t (machine_of m).stations
-          = polled_entries ∙ ap (λ (es : List Entry). poll_made (bench_entries 0 trigger t (machine_of m).stations) es) idle in
+          = polled_entries ∙ ap (λ (es : List Handed). poll_made (bench_entries 0 trigger t (machine_of m).stations) es) idle in
           let entries : entries_at (step s m (Polled trigger t)).triggers trigger ≡ poll_entries m trigger t
           =
           made ∙ sym (poll_is s m trigger t).1
-          ∙ ap (λ (es : List Entry). cond (is_empty es) (told_entries 0 trigger t (outlines_of (registry_of m))) []) (sym idle) in
+          ∙ ap (λ (es : List Handed). cond (is_empty es) (told_entries 0 trigger t (outlines_of (registry_of m))) []) (sym idle) in
           let ev = event_text s m (Polled trigger t) in
           let rest = texts s (step s m (Polled trigger t)) (handlings trigger (poll_entries m trigger t)) in
           let played =
-          subst (λ (es : List Entry). (after ≡ mid ++ texts s (step s m (Polled trigger t)) (handlings trigger es))
+          subst (λ (es : List Handed). (after ≡ mid ++ texts s (step s m (Polled trigger t)) (handlings trigger es))
           × Holds driver s (steps s (step s m (Polled trigger t)) (handlings trigger es)) b'' cs) entries
           (all s (step s m (Polled trigger t)) (poll_holds driver trigger t b b' cs front told triggers s m h)
-          (subst (λ (es : List Entry). InOrder 0 (length (bench_front b').devices) es) (sym made) in_order)) in (
+          (subst (λ (es : List Handed). InOrder 0 (length (bench_front b').devices) es) (sym made) in_order)) in (
             played.0
                 ∙ ap (λ (text : List ℕ). text ++ rest)
                 (poll_line driver trigger t b b' cs front told triggers s m h before mid name answer named answered line

@@ -12,11 +12,14 @@ use Rattle.iio_device.specs.Device.{DeviceView, after_sense, at_site}
 use Rattle.iio_device.specs.Sensing.{sensed, with_sensed}
 use Rattle.iio_device.specs.Site.{at_place, unplugged}
 use Rattle.iiod_session.specs.Machine.{Station, with_site}
+use Rattle.iio_history.specs.BenchMoves.{bench_entries, polled_by}
+use Rattle.iio_history.specs.Fold.{handled}
+use Rattle.iio_history.specs.Registry.{Trigger, entry_of}
 use Rattle.iio_system.specs.Acting.{Keeps, KeepsCaptures}
 use Rattle.iio_system.specs.Bench.{trigger_in}
 use Rattle.iio_system.specs.declared.any_device.Became.{Became}
 use Rattle.iio_system.specs.Handling.{entry_answer, is_last, sensed_station}
-use Rattle.iio_system.specs.Places.{IsBench, IsTrigger, TriggerRecord, entries_from, entry_of, first_trigger, handled, poll_answer, polled, trigger_of}
+use Rattle.iio_system.specs.Places.{IsBench, IsTrigger, first_trigger, poll_answer, trigger_of}
 use Rattle.iio_system.specs.Station.{station_of}
 use Rattle.iio_system.proofs.ListLemmas.{after_set, map_at, map_changed, map_same}
 use Rattle.iio_system.proofs.BenchLemmas.{KeepsStanding, standing, stands_along, stands_same}
@@ -44,16 +47,16 @@ module _ (triggers : List TriggerDesc) (states : List State) (sts : List Station
       bench_triggered triggers states sts t s s' bench there (poll_places t sts moment s (bench.each t s there) answer s' p)
       (poll_sound t sts moment s (bench.each t s there) answer s' p)
 
-  pub poll_triggers : map trigger_of (set states t s') ≡ at_place t (polled sts t moment) (map trigger_of states)
-  poll_triggers = map_changed trigger_of states t s s' (polled sts t moment) there (poll_told t sts moment s (bench.each t s there) answer s' p)
+  pub poll_triggers : map trigger_of (set states t s') ≡ at_place t (polled_by sts t moment) (map trigger_of states)
+  poll_triggers = map_changed trigger_of states t s s' (polled_by sts t moment) there (poll_told t sts moment s (bench.each t s there) answer s' p)
 
   pub poll_answer_is : answer
-      ≡ poll_answer (entries_from 0 t moment sts) (trigger_in (map trigger_of states) t).entries (trigger_in (map trigger_of states) t).missed
+      ≡ poll_answer (bench_entries 0 t moment sts) (trigger_in (map trigger_of states) t).entries (trigger_in (map trigger_of states) t).missed
   poll_answer_is =
       let at : trigger_in (map trigger_of states) t ≡ trigger_of s =
-      ap (λ (o : Option TriggerRecord). unwrap_or o first_trigger) (map_at trigger_of states t s there) in
+      ap (λ (o : Option Trigger). unwrap_or o first_trigger) (map_at trigger_of states t s there) in
       poll_answers t sts moment s (bench.each t s there) answer s' p
-      ∙ ap (λ (x : TriggerRecord). poll_answer (entries_from 0 t moment sts) x.entries x.missed) (sym at)
+      ∙ ap (λ (x : Trigger). poll_answer (bench_entries 0 t moment sts) x.entries x.missed) (sym at)
 
 -- ---- thresholds
 
@@ -132,7 +135,7 @@ entry_triggers states t dev s s' there off = map_changed trigger_of states t s s
 
 pub entry_here : (states : List State) (t dev : ℕ) (s : State) → slice_get states t ≡ Some s
     → entry_of dev (trigger_in (map trigger_of states) t).entries ≡ entry_of dev (trigger_of s).entries
-entry_here states t dev s there = ap (λ (o : Option TriggerRecord). entry_of dev (unwrap_or o first_trigger).entries) (map_at trigger_of states t s there)
+entry_here states t dev s there = ap (λ (o : Option Trigger). entry_of dev (unwrap_or o first_trigger).entries) (map_at trigger_of states t s there)
 
 pub entry_answer_is : (kind kind' : Kind) (o o' : Option Handed) (ended ended' : Bool) (st st' : Station) (r : Option Became) → kind' ≡ kind → o' ≡ o
     → ended' ≡ ended → st' ≡ st → r ≡ entry_answer kind o ended st

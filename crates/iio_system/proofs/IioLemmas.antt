@@ -35,10 +35,11 @@ use Rattle.iiod_session.specs.Front.{Front, kind_at, shape_at}
 use Rattle.iiod_session.specs.Machine.{Member, MemberId, Station, is_id_of, member_in, scans_in, with_site}
 use Rattle.iiod_session.specs.Calls.{ev_open_answer, ev_read_answer, holds_events, is_asking, is_inner_of, read_answer, trigger_answer, write_scans_at, writes}
 use Rattle.iiod_session.specs.Target.{MayRead, MayWrite}
+use Rattle.iio_history.specs.Registry.{Trigger}
 use Rattle.iio_system.specs.Acting.{Acts, KeepsCaptures, MayReadOf, Reads, TakesAt, TakesScansAt, Turns, has_member, is_member, lost_in}
 use Rattle.iio_system.specs.Averages.{IsAveraged}
 use Rattle.iio_system.specs.Bench.{Kept}
-use Rattle.iio_system.specs.Places.{IsBench, TriggerRecord, trigger_of}
+use Rattle.iio_system.specs.Places.{IsBench, trigger_of}
 use Rattle.iio_system.specs.declared.any_device.AnyDevice.{AnyDevice}
 use Rattle.iio_system.specs.Station.{KeepsFront, KeepsHead, any_front, any_station, captures_by, member_of, stations_by}
 use Rattle.iio_system.proofs.ListLemmas.{is_empty-map, length_map_is, map_at, map_same}
@@ -374,7 +375,7 @@ fronts_keep context triggers ds k d d' at keeps =
 pub kept_equal : (x y : Kept) → x.front ≡ y.front → x.triggers ≡ y.triggers → x.captures ≡ y.captures → x ≡ y
 kept_equal x y front triggers captures =
     ap (λ (f : Front). (let k : Kept = record { front = f; triggers = x.triggers; captures = x.captures } in k)) front
-    ∙ ap (λ (ts : List TriggerRecord). (let k : Kept = record { front = y.front; triggers = ts; captures = x.captures } in k)) triggers
+    ∙ ap (λ (ts : List Trigger). (let k : Kept = record { front = y.front; triggers = ts; captures = x.captures } in k)) triggers
     ∙ ap (λ (cs : List ℕ). (let k : Kept = record { front = y.front; triggers = y.triggers; captures = cs } in k)) captures
 
 module _ {X : Type 0} {V : X → Type 0} where

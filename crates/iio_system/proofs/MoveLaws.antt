@@ -8,7 +8,7 @@ use Rattle.std.proofs.lemmas.Option.{slice_get-map}
 use Rattle.iio_sensor.specs.Driver.{Driver, ask_fails, next_count}
 use Rattle.iio_layout.specs.Shape.{ShapeRecord}
 use Rattle.iio_trigger.specs.declared.Polled.{Polled as Answer}
-use Rattle.iio_trigger.specs.Trigger.{Handed, missed_after, poll_made}
+use Rattle.iio_trigger.specs.Trigger.{Handed}
 use Rattle.hex.specs.Hex.{encode_lower}
 use Rattle.iio_desc.specs.Description.{device_name as desc_device_name, trigger_name as desc_trigger_name}
 use Rattle.iio_desc.specs.Kind.{Kind, Input, Output, Average, is_average}
@@ -26,8 +26,8 @@ use Rattle.iiod_session.specs.Places.{map_from}
 use Rattle.iiod_session.specs.Machine.{Machine, Station, is_plugged, no_station, station_at, with_station}
 use Rattle.iiod_session.specs.Seat.{SeatRecord}
 use Rattle.iio_history.specs.Event.{Event, Arrived, Clock, Dropped, Handled, Heard, Polled, Sensed, Unplugged}
-use Rattle.iio_history.specs.Registry.{Capture, Entry, Registry, Setup, Trigger, User, entries_at, entry_of as told_entry, without_entry as told_without}
-use Rattle.iio_history.specs.Fold.{handled as told_handled, newcomers}
+use Rattle.iio_history.specs.Registry.{Capture, Registry, Setup, Trigger, User, entries_at, entry_of}
+use Rattle.iio_history.specs.Fold.{newcomers, handled}
 use Rattle.iio_history.specs.Told.{Line, Told, registry_of}
 use Rattle.iio_history.specs.Machine.{line_after, new_line, step}
 use Rattle.iio_history.specs.Transcript.{Sense, SetClock, Unplug, event_text, given_word, missed_at, printed}
@@ -47,9 +47,9 @@ use Rattle.iio_system.specs.declared.any_device.Became.TheVariants.{Asked, Gave}
 use Rattle.iio_system.specs.declared.out_device.Gave.TheVariants as gave
 use Rattle.iio_system.specs.Handling.{IsGiven, IsRoom, capture_at, counted, entry_answer, entry_at, entry_capture, entry_machine, entry_station, gave_answer, gave_by, is_last, kind_became, kind_sensed, sensed_station, unplugged_machine}
 use Rattle.iio_system.specs.Lines.{became_word, gave_word, handled_word, polled_words, sensed_words, unplugged_word}
-use Rattle.iio_system.specs.Places.{TriggerRecord, entries_from, entry_of, first_trigger, handled, poll_answer, polled, without_entry}
+use Rattle.iio_system.specs.Places.{first_trigger, poll_answer}
 use Rattle.iio_system.specs.Seat.{seen_of}
-use Rattle.iio_system.specs.Standing.{CanCapture, Holds, Makes, RiseBy, handed_by, trigger_by}
+use Rattle.iio_system.specs.Standing.{CanCapture, Holds, Makes, RiseBy}
 use Rattle.iio_system.specs.Station.{any_front, any_station}
 use Rattle.iio_system.specs.System.{AreLines}
 use Rattle.iio_system.proofs.AnyLemmas.{as_from}
@@ -136,12 +136,6 @@ place_as {A = A} k f g [] same = refl
 place_as {A = A} zero f g (x ∷ xs) same = ap (λ (y : A). y ∷ xs) (same x)
 place_as {A = A} (suc k) f g (x ∷ xs) same = ap (λ (ys : List A). x ∷ ys) (place_as k f g xs same)
 
-pub place_map : {A B : Type 0} (v : A → B) (k : ℕ) (f : A → A) (g : B → B) (xs : List A) → ((x : A) → v (f x) ≡ g (v x))
-    → map v (at_place k f xs) ≡ at_place k g (map v xs)
-place_map {A = A} {B = B} v k f g [] same = refl
-place_map {A = A} {B = B} v zero f g (x ∷ xs) same = ap (λ (y : B). y ∷ map v xs) (same x)
-place_map {A = A} {B = B} v (suc k) f g (x ∷ xs) same = ap (λ (ys : List B). v x ∷ ys) (place_map v k f g xs same)
-
 -- ---- names
 
 pub trigger_told : (s : Setup) (front : Front) (trigger : ℕ) → front ≡ front_of s → trigger_name front trigger ≡ desc_trigger_name s.desc trigger
@@ -171,28 +165,27 @@ look_word kind shape t st = each kind
     each (Average base window) = refl
 
 -- of a poll
-poll_word_at : (made : List Handed) (n : ℕ) (es : List Entry) (missed : ℕ) → length made ≡ n
-    → polled_words (poll_answer made (map handed_by es) missed)
+poll_word_at : (made : List Handed) (n : ℕ) (es : List Handed) (missed : ℕ) → length made ≡ n
+    → polled_words (poll_answer made es missed)
     ≡ cond (is_empty es) (codes "accepted" ∷ decimal n ∷ []) (codes "missed" ∷ decimal (next_count missed) ∷ [])
 poll_word_at made n [] missed many = ap (λ (k : ℕ). codes "accepted" ∷ decimal k ∷ []) many
 poll_word_at made n (e ∷ es) missed many = refl
 
 poll_word : (made : List Handed) (n : ℕ) (ts : List Trigger) (trigger : ℕ) → length made ≡ n
-    → polled_words (poll_answer made (trigger_in (map trigger_by ts) trigger).entries (trigger_in (map trigger_by ts) trigger).missed)
+    → polled_words (poll_answer made (trigger_in ts trigger).entries (trigger_in ts trigger).missed)
     ≡ cond (is_empty (entries_at ts trigger)) (codes "accepted" ∷ decimal n ∷ []) (codes "missed" ∷ decimal (next_count (missed_at ts trigger)) ∷ [])
 poll_word made n ts trigger many =
-    ap (λ (o : Option TriggerRecord). polled_words (poll_answer made (unwrap_or o first_trigger).entries (unwrap_or o first_trigger).missed))
-    (slice_get-map trigger_by ts trigger) ∙ by (slice_get ts trigger)
+    by (slice_get ts trigger)
   where
     by : (o : Option Trigger)
-        → polled_words (poll_answer made (unwrap_or (option_map trigger_by o) first_trigger).entries (unwrap_or (option_map trigger_by o) first_trigger).missed)
+        → polled_words (poll_answer made (unwrap_or o first_trigger).entries (unwrap_or o first_trigger).missed)
         ≡ cond (is_empty (elim o [ None ↦ [] | Some t ↦ t.entries ])) (codes "accepted" ∷ decimal n ∷ [])
         (codes "missed" ∷ decimal (next_count (elim o [ None ↦ 0 | Some t ↦ t.missed ])) ∷ [])
     by None = poll_word_at made n [] 0 many
     by (Some t) = poll_word_at made n t.entries t.missed many
 
 -- of a handling
-asked_words : (e : Entry) (st : Station) → became_word (Some (kind_became Input (handed_by e) st)) [] ≡ entry_word Input (Some st) (Some e)
+asked_words : (e : Handed) (st : Station) → became_word (Some (kind_became Input e st)) [] ≡ entry_word Input (Some st) (Some e)
 asked_words e st = by (is_current e.attachment st.site.attachment st.members st.site.plugged) (ask_fails st.site.driver) (length st.members)
   where
     by : (a b : Bool) (n : ℕ)
@@ -201,8 +194,8 @@ asked_words e st = by (is_current e.attachment st.site.attachment st.members st.
     by true true n = refl
     by true false n = refl
 
-given_words : (e : Entry) (st : Station) (room : List ℕ) → IsGiven (gave_answer (handed_by e) st) st.members room
-    → gave_word (gave_answer (handed_by e) st) room ≡ entry_word Output (Some st) (Some e)
+given_words : (e : Handed) (st : Station) (room : List ℕ) → IsGiven (gave_answer e st) st.members room
+    → gave_word (gave_answer e st) room ≡ entry_word Output (Some st) (Some e)
 given_words e st room given = by (is_current e.attachment st.site.attachment st.members st.site.plugged) (next_of st.members) refl given
   where
     by : (a : Bool) (o : Option GivenScan) → next_of st.members ≡ o → IsGiven (cond a (gave_by o) gave.Idle) st.members room
@@ -213,15 +206,15 @@ given_words e st room given = by (is_current e.attachment st.site.attachment st.
         let same : scan.bytes ≡ room = (let h = sym (ap (λ (o : Option GivenScan). option_map (λ (x : GivenScan). x.bytes) o) is) ∙ given in cc) in
         ap (λ (bytes : List ℕ). codes "given " ++ encode_lower bytes) (sym same)
 
-idle_words : (e : Entry) (st : Station) (base window : ℕ) → handled_word (Some Idle) ≡ entry_word (Average base window) (Some st) (Some e)
+idle_words : (e : Handed) (st : Station) (base window : ℕ) → handled_word (Some Idle) ≡ entry_word (Average base window) (Some st) (Some e)
 idle_words e st base window = by (is_current e.attachment st.site.attachment st.members st.site.plugged)
   where
     by : (a : Bool) → codes "idle" ≡ cond a (codes "idle") (codes "idle")
     by true = refl
     by false = refl
 
-entry_words : (kind : Kind) (o : Option Entry) (st : Station) (room : List ℕ) → IsRoom (entry_answer kind (option_map handed_by o) false st) st.members room
-    → became_word (entry_answer kind (option_map handed_by o) false st) room ≡ entry_word kind (Some st) o
+entry_words : (kind : Kind) (o : Option Handed) (st : Station) (room : List ℕ) → IsRoom (entry_answer kind o false st) st.members room
+    → became_word (entry_answer kind o false st) room ≡ entry_word kind (Some st) o
 entry_words kind None st room is = refl
 entry_words Input (Some e) st room is = asked_words e st
 entry_words Output (Some e) st room is = given_words e st room is
@@ -229,114 +222,66 @@ entry_words (Average base window) (Some e) st room is = idle_words e st base win
 
 -- ---- entries
 
-entries_told : (dev trigger : ℕ) (t : ℤ) (sts : List Station) → map handed_by (bench_entries dev trigger t sts) ≡ entries_from dev trigger t sts
-entries_told dev trigger t [] = refl
-entries_told dev trigger t (st ∷ sts) = by (is_attached trigger st) (entries_told (suc dev) trigger t sts)
+-- those that a bench has at a trigger
+pub entries_in : (ts : List Trigger) (trigger : ℕ) → (trigger_in ts trigger).entries ≡ entries_at ts trigger
+entries_in ts trigger = by (slice_get ts trigger)
   where
-    by : (b : Bool) → map handed_by (bench_entries (suc dev) trigger t sts) ≡ entries_from (suc dev) trigger t sts
-        → map handed_by (cond b (record { device = dev; attachment = st.site.attachment; moment = t } ∷ bench_entries (suc dev) trigger t sts)
-        (bench_entries (suc dev) trigger t sts))
-        ≡ cond b (record { dev = dev; attachment = st.site.attachment; t = t } ∷ entries_from (suc dev) trigger t sts) (entries_from (suc dev) trigger t sts)
-    by true rest = ap (λ (es : List Handed). record { dev = dev; attachment = st.site.attachment; t = t } ∷ es) rest
-    by false rest = rest
-
-entry_told : (dev : ℕ) (es : List Entry) → entry_of dev (map handed_by es) ≡ option_map handed_by (told_entry dev es)
-entry_told dev [] = refl
-entry_told dev (e ∷ es) = by (e.device == dev) (entry_told dev es)
-  where
-    by : (b : Bool) → entry_of dev (map handed_by es) ≡ option_map handed_by (told_entry dev es)
-        → cond b (Some (handed_by e)) (entry_of dev (map handed_by es)) ≡ option_map handed_by (cond b (Some e) (told_entry dev es))
-    by true rest = refl
-    by false rest = rest
-
-without_told : (dev : ℕ) (es : List Entry) → map handed_by (told_without dev es) ≡ without_entry dev (map handed_by es)
-without_told dev [] = refl
-without_told dev (e ∷ es) = by (e.device == dev) (without_told dev es)
-  where
-    by : (b : Bool) → map handed_by (told_without dev es) ≡ without_entry dev (map handed_by es)
-        → map handed_by (cond b (told_without dev es) (e ∷ told_without dev es))
-        ≡ cond (not b) (handed_by e ∷ without_entry dev (map handed_by es)) (without_entry dev (map handed_by es))
-    by true rest = rest
-    by false rest = ap (λ (hs : List Handed). handed_by e ∷ hs) rest
-
--- the entry that a bench has
-entry_there : (ts : List Trigger) (trigger dev : ℕ)
-    → entry_of dev (trigger_in (map trigger_by ts) trigger).entries ≡ option_map handed_by (told_entry dev (entries_at ts trigger))
-entry_there ts trigger dev =
-    ap (λ (o : Option TriggerRecord). entry_of dev (unwrap_or o first_trigger).entries) (slice_get-map trigger_by ts trigger) ∙ by (slice_get ts trigger)
-  where
-    by : (o : Option Trigger)
-        → entry_of dev (unwrap_or (option_map trigger_by o) first_trigger).entries
-        ≡ option_map handed_by (told_entry dev (elim o [ None ↦ [] | Some t ↦ t.entries ]))
+    by : (o : Option Trigger) → (unwrap_or o first_trigger).entries ≡ elim o [ None ↦ [] | Some t ↦ t.entries ]
     by None = refl
-    by (Some t) = entry_told dev t.entries
-
--- ---- triggers
-
-polled_told : (m : Machine) (trigger : ℕ) (t : ℤ) (x : Trigger) → trigger_by (polled_by m trigger t x) ≡ polled m.stations trigger t (trigger_by x)
-polled_told m trigger t x = by x.entries
-  where
-    by : (es : List Entry) → trigger_by (record { entries = poll_made (bench_entries 0 trigger t m.stations) es; missed = missed_after es x.missed })
-        ≡ (let r : TriggerRecord =
-        record { entries = poll_made (entries_from 0 trigger t m.stations) (map handed_by es); missed = missed_after (map handed_by es) x.missed } in r)
-    by [] = ap (λ (hs : List Handed). (let r : TriggerRecord = record { entries = hs; missed = x.missed } in r)) (entries_told 0 trigger t m.stations)
-    by (e ∷ es) = refl
-
-pub handled_told : (dev : ℕ) (x : Trigger) → trigger_by (told_handled dev x) ≡ handled dev (trigger_by x)
-handled_told dev x = ap (λ (hs : List Handed). (let r : TriggerRecord = record { entries = hs; missed = x.missed } in r)) (without_told dev x.entries)
+    by (Some t) = refl
 
 -- ---- devices
 
 -- one device, once an entry was handled
-entry_told_as : (kind : Kind) (o : Option Entry) (shape : ShapeRecord) (st : Station)
-    → entry_station kind (option_map handed_by o) false shape st ≡ entry_made kind shape o st
+entry_told_as : (kind : Kind) (o : Option Handed) (shape : ShapeRecord) (st : Station)
+    → entry_station kind o false shape st ≡ entry_made kind shape o st
 entry_told_as kind None shape st = refl
 entry_told_as kind (Some e) shape st = refl
 
-module _ (front : Front) (m : Machine) (dev : ℕ) (es : List Entry) where
-  none_current : (kind : Kind) (shape : ShapeRecord) (o : Option Entry) → entry_capture kind (option_map handed_by o) false shape no_station ≡ None
+module _ (front : Front) (m : Machine) (dev : ℕ) (es : List Handed) where
+  none_current : (kind : Kind) (shape : ShapeRecord) (o : Option Handed) → entry_capture kind o false shape no_station ≡ None
   none_current kind shape None = refl
   none_current kind shape (Some e) = by (e.attachment == no_station.site.attachment)
     where
-      by : (b : Bool) → cond (b && false && false) (current_capture kind shape e.moment no_station) None ≡ None
+      by : (b : Bool) → cond (b && false && false) (current_capture kind shape e.t no_station) None ≡ None
       by true = refl
       by false = refl
 
-  capture_in_as : (kind : Kind) (shape : ShapeRecord) (o : Option Entry) (st : Station)
-      → entry_capture kind (option_map handed_by o) false shape st ≡ capture_in kind shape o st
+  capture_in_as : (kind : Kind) (shape : ShapeRecord) (o : Option Handed) (st : Station)
+      → entry_capture kind o false shape st ≡ capture_in kind shape o st
   capture_in_as kind shape None st = refl
   capture_in_as kind shape (Some e) st = refl
 
-  capture_is : capture_at front (option_map handed_by (told_entry dev es)) false dev m ≡ capture_of front m dev es
+  capture_is : capture_at front (entry_of dev es) false dev m ≡ capture_of front m dev es
   unfolding station_at
   capture_is = by (slice_get m.stations dev)
     where
       by : (x : Option Station)
-          → entry_capture (kind_at front dev) (option_map handed_by (told_entry dev es)) false (shape_at front dev) (unwrap_or x no_station)
-          ≡ elim x [ None ↦ None | Some b ↦ capture_in (kind_at front dev) (shape_at front dev) (told_entry dev es) b ]
-      by None = none_current (kind_at front dev) (shape_at front dev) (told_entry dev es)
-      by (Some b) = capture_in_as (kind_at front dev) (shape_at front dev) (told_entry dev es) b
+          → entry_capture (kind_at front dev) (entry_of dev es) false (shape_at front dev) (unwrap_or x no_station)
+          ≡ elim x [ None ↦ None | Some b ↦ capture_in (kind_at front dev) (shape_at front dev) (entry_of dev es) b ]
+      by None = none_current (kind_at front dev) (shape_at front dev) (entry_of dev es)
+      by (Some b) = capture_in_as (kind_at front dev) (shape_at front dev) (entry_of dev es) b
 
   plain_as : (kind : Kind) (shape : ℕ → ShapeRecord) (j : ℕ) (st : Station)
-      → cond (dev == j) (entry_station kind (option_map handed_by (told_entry dev es)) false (shape j) st) st
-      ≡ cond (dev == j) (entry_made kind (shape j) (told_entry j es) st) st
+      → cond (dev == j) (entry_station kind (entry_of dev es) false (shape j) st) st
+      ≡ cond (dev == j) (entry_made kind (shape j) (entry_of j es) st) st
   plain_as kind shape j st = by (dev == j) refl
     where
       by : (b : Bool) → (dev == j) ≡ b
-          → cond b (entry_station kind (option_map handed_by (told_entry dev es)) false (shape j) st) st
-          ≡ cond b (entry_made kind (shape j) (told_entry j es) st) st
-      by true is = entry_told_as kind (told_entry dev es) (shape j) st ∙ ap (λ (n : ℕ). entry_made kind (shape j) (told_entry n es) st) (same_number dev j is)
+          → cond b (entry_station kind (entry_of dev es) false (shape j) st) st
+          ≡ cond b (entry_made kind (shape j) (entry_of j es) st) st
+      by true is = entry_told_as kind (entry_of dev es) (shape j) st ∙ ap (λ (n : ℕ). entry_made kind (shape j) (entry_of n es) st) (same_number dev j is)
       by false is = refl
 
   each_as : (kind : Kind) (j : ℕ) (st : Station)
-      → entry_at (option_map handed_by (told_entry dev es)) (capture_at front (option_map handed_by (told_entry dev es)) false dev m) false dev kind
+      → entry_at (entry_of dev es) (capture_at front (entry_of dev es) false dev m) false dev kind
       (shape_at front j) j st ≡ handles_by front m dev es kind j st
   each_as Input j st = plain_as Input (shape_at front) j st
   each_as Output j st = plain_as Output (shape_at front) j st
   each_as (Average base window) j st = by (dev == base) refl
     where
       by : (b : Bool) → (dev == base) ≡ b
-          → cond b (gathered_to window (shape_at front j) (capture_at front (option_map handed_by (told_entry dev es)) false dev m) st) st
+          → cond b (gathered_to window (shape_at front j) (capture_at front (entry_of dev es) false dev m) st) st
           ≡ cond b (gathered_to window (shape_at front j) (capture_of front m base es) st) st
       by true is =
           ap (λ (c : Option Capture). gathered_to window (shape_at front j) c st)
@@ -344,7 +289,7 @@ module _ (front : Front) (m : Machine) (dev : ℕ) (es : List Entry) where
       by false is = refl
 
   -- all devices, once an entry was handled
-  handled_is : entry_machine front (option_map handed_by (told_entry dev es)) false dev m
+  handled_is : entry_machine front (entry_of dev es) false dev m
       ≡ (let x : Machine = record m { stations = map_from (handles front m dev es) 0 m.stations } in x)
   handled_is =
       ap (λ (sts : List Station). (let x : Machine = record m { stations = sts } in x))
@@ -402,7 +347,7 @@ module _ {X : Type 0} {V : X → Type 0} (driver : Plug X V → Driver) where
 
   pub holds_then : (s : Setup) (m : Told) (e : Event) (b b' : Bench X V) (cs : List (Connection Seat)) → IsOfBench e → Holds driver s m b cs
       → bench_front b' ≡ bench_front b
-      → bench_machine driver b' ≡ machine_of (step s m e) → triggers_of b' ≡ map trigger_by (triggers_made (machine_of m) e m.triggers)
+      → bench_machine driver b' ≡ machine_of (step s m e) → triggers_of b' ≡ triggers_made (machine_of m) e m.triggers
       → Holds driver s (step s m e) b' cs
   holds_then s m e b b' cs is h front told triggers = record {
     stands = record {
@@ -413,7 +358,7 @@ module _ {X : Type 0} {V : X → Type 0} (driver : Plug X V → Driver) where
           subst (λ (f : Front). AreLines seen_of f (step s m e) (step s m e).lines cs) (sym front)
           (lines_move seen_of s m (bench_front b) e cs is h.stands.lines);
     };
-    triggers = triggers ∙ ap (λ (ts : List Trigger). map trigger_by ts) (sym (triggers_are s m e));
+    triggers = triggers ∙ sym (triggers_are s m e);
   }
 
   -- ---- the clock
@@ -505,28 +450,26 @@ module _ {X : Type 0} {V : X → Type 0} (driver : Plug X V → Driver) where
 
   module _ (trigger : ℕ) (t : ℤ) (b b' : Bench X V) (cs : List (Connection Seat)) (front : bench_front b' ≡ bench_front b)
       (told : bench_machine driver b' ≡ bench_machine driver b)
-      (triggers : triggers_of b' ≡ at_place trigger (polled (bench_machine driver b).stations trigger t) (triggers_of b)) (s : Setup) (m : Told)
+      (triggers : triggers_of b' ≡ at_place trigger (polled_by (bench_machine driver b).stations trigger t) (triggers_of b)) (s : Setup) (m : Told)
       (h : Holds driver s m b cs) where
     pub poll_holds : Holds driver s (step s m (Polled trigger t)) b' cs
     poll_holds =
         holds_then s m (Polled trigger t) b b' cs tt h front (told ∙ machine_told s m b cs h ∙ sym (poll_is s m trigger t).0)
-        (triggers ∙ ap (λ (ts : List TriggerRecord). at_place trigger (polled (bench_machine driver b).stations trigger t) ts) h.triggers
-        ∙ ap (λ (x : Machine). at_place trigger (polled x.stations trigger t) (map trigger_by m.triggers)) (machine_told s m b cs h)
-        ∙ sym (place_map trigger_by trigger (polled_by (machine_of m) trigger t) (polled (machine_of m).stations trigger t) m.triggers
-        (polled_told (machine_of m) trigger t)))
+        (triggers ∙ ap (λ (ts : List Trigger). at_place trigger (polled_by (bench_machine driver b).stations trigger t) ts) h.triggers
+        ∙ ap (λ (x : Machine). at_place trigger (polled_by x.stations trigger t) m.triggers) (machine_told s m b cs h))
 
-    answer_told : poll_answer (entries_from 0 trigger t (bench_machine driver b).stations) (trigger_in (triggers_of b) trigger).entries
+    answer_told : poll_answer (bench_entries 0 trigger t (bench_machine driver b).stations) (trigger_in (triggers_of b) trigger).entries
         (trigger_in (triggers_of b) trigger).missed
-        ≡ poll_answer (entries_from 0 trigger t (machine_of m).stations) (trigger_in (map trigger_by m.triggers) trigger).entries
-        (trigger_in (map trigger_by m.triggers) trigger).missed
+        ≡ poll_answer (bench_entries 0 trigger t (machine_of m).stations) (trigger_in m.triggers trigger).entries
+        (trigger_in m.triggers trigger).missed
     answer_told =
-        ap (λ (ts : List TriggerRecord). poll_answer (entries_from 0 trigger t (bench_machine driver b).stations) (trigger_in ts trigger).entries
+        ap (λ (ts : List Trigger). poll_answer (bench_entries 0 trigger t (bench_machine driver b).stations) (trigger_in ts trigger).entries
         (trigger_in ts trigger).missed) h.triggers
-        ∙ ap (λ (x : Machine). poll_answer (entries_from 0 trigger t x.stations) (trigger_in (map trigger_by m.triggers) trigger).entries
-        (trigger_in (map trigger_by m.triggers) trigger).missed) (machine_told s m b cs h)
+        ∙ ap (λ (x : Machine). poll_answer (bench_entries 0 trigger t x.stations) (trigger_in m.triggers trigger).entries
+        (trigger_in m.triggers trigger).missed) (machine_told s m b cs h)
 
     pub poll_line : (before after name : List ℕ) (answer : Answer) → name ≡ trigger_name (bench_front b') trigger
-        → answer ≡ poll_answer (entries_from 0 trigger t (bench_machine driver b).stations) (trigger_in (triggers_of b) trigger).entries
+        → answer ≡ poll_answer (bench_entries 0 trigger t (bench_machine driver b).stations) (trigger_in (triggers_of b) trigger).entries
         (trigger_in (triggers_of b) trigger).missed
         → after ≡ before ++ printed (codes "poll" ∷ name ∷ polled_words answer) → after ≡ before ++ (event_text s m (Polled trigger t) ++ [])
     poll_line before after name answer named answered line =
@@ -534,9 +477,7 @@ module _ {X : Type 0} {V : X → Type 0} (driver : Plug X V → Driver) where
         (ap (λ (n : List ℕ). printed (codes "poll" ∷ n ∷ polled_words answer)) (named ∙ trigger_named s m b b' cs trigger front h)
         ∙ ap (λ (ws : List (List ℕ)). printed (codes "poll" ∷ desc_trigger_name s.desc trigger ∷ ws))
         (ap polled_words (answered ∙ answer_told)
-        ∙ poll_word (entries_from 0 trigger t (machine_of m).stations) (length (bench_entries 0 trigger t (machine_of m).stations)) m.triggers trigger
-        (ap (λ (hs : List Handed). length hs) (sym (entries_told 0 trigger t (machine_of m).stations))
-        ∙ length_map_is handed_by (bench_entries 0 trigger t (machine_of m).stations)))) line
+        ∙ poll_word (bench_entries 0 trigger t (machine_of m).stations) (length (bench_entries 0 trigger t (machine_of m).stations)) m.triggers trigger refl)) line
 
   -- ---- handlings
 
@@ -545,24 +486,23 @@ module _ {X : Type 0} {V : X → Type 0} (driver : Plug X V → Driver) where
       (told : bench_machine driver b'
       ≡ entry_machine (bench_front b) (entry_of dev (trigger_in (triggers_of b) trigger).entries) false dev (bench_machine driver b))
       (triggers : triggers_of b' ≡ at_place trigger (handled dev) (triggers_of b)) (s : Setup) (m : Told) (h : Holds driver s m b cs) where
-    pub entry_here : entry_of dev (trigger_in (triggers_of b) trigger).entries ≡ option_map handed_by (told_entry dev (entries_at m.triggers trigger))
-    entry_here = ap (λ (ts : List TriggerRecord). entry_of dev (trigger_in ts trigger).entries) h.triggers ∙ entry_there m.triggers trigger dev
+    pub entry_here : entry_of dev (trigger_in (triggers_of b) trigger).entries ≡ entry_of dev (entries_at m.triggers trigger)
+    entry_here = ap (λ (ts : List Trigger). entry_of dev (trigger_in ts trigger).entries) h.triggers ∙ ap (λ (es : List Handed). entry_of dev es) (entries_in m.triggers trigger)
 
     pub handle_holds : Holds driver s (step s m (Handled trigger dev)) b' cs
     handle_holds =
         holds_then s m (Handled trigger dev) b b' cs tt h front
         (told ∙ ap (λ (o : Option Handed). entry_machine (bench_front b) o false dev (bench_machine driver b)) entry_here
-        ∙ ap (λ (f : Front). entry_machine f (option_map handed_by (told_entry dev (entries_at m.triggers trigger))) false dev (bench_machine driver b))
+        ∙ ap (λ (f : Front). entry_machine f (entry_of dev (entries_at m.triggers trigger)) false dev (bench_machine driver b))
         h.stands.front_is
-        ∙ ap (λ (x : Machine). entry_machine (front_of s) (option_map handed_by (told_entry dev (entries_at m.triggers trigger))) false dev x)
+        ∙ ap (λ (x : Machine). entry_machine (front_of s) (entry_of dev (entries_at m.triggers trigger)) false dev x)
         (machine_told s m b cs h)
         ∙ handled_is (front_of s) (machine_of m) dev (entries_at m.triggers trigger) ∙ sym (handling_is s m trigger dev h.stands.bench))
-        (triggers ∙ ap (λ (ts : List TriggerRecord). at_place trigger (handled dev) ts) h.triggers
-        ∙ sym (place_map trigger_by trigger (told_handled dev) (handled dev) m.triggers (handled_told dev)))
+        (triggers ∙ ap (λ (ts : List Trigger). at_place trigger (handled dev) ts) h.triggers)
 
     answer_here : entry_answer (kind_at (bench_front b) dev) (entry_of dev (trigger_in (triggers_of b) trigger).entries) false
         (station_at (bench_machine driver b) dev)
-        ≡ entry_answer (kind_at (front_of s) dev) (option_map handed_by (told_entry dev (entries_at m.triggers trigger))) false
+        ≡ entry_answer (kind_at (front_of s) dev) (entry_of dev (entries_at m.triggers trigger)) false
         (station_at (bench_machine driver b) dev)
     answer_here =
         ap (λ (f : Front). entry_answer (kind_at f dev) (entry_of dev (trigger_in (triggers_of b) trigger).entries) false
@@ -574,13 +514,13 @@ module _ {X : Type 0} {V : X → Type 0} (driver : Plug X V → Driver) where
         (station_at (bench_machine driver b) dev)
         → IsRoom answer (station_at (bench_machine driver b) dev).members room
         → became_word answer room
-        ≡ entry_word (kind_at (front_of s) dev) (slice_get (machine_of m).stations dev) (told_entry dev (entries_at m.triggers trigger))
+        ≡ entry_word (kind_at (front_of s) dev) (slice_get (machine_of m).stations dev) (entry_of dev (entries_at m.triggers trigger))
     word_told answer room answered roomy =
         let is = answered ∙ answer_here in
         ap (λ (o : Option Became). became_word o room) is
-        ∙ entry_words (kind_at (front_of s) dev) (told_entry dev (entries_at m.triggers trigger)) (station_at (bench_machine driver b) dev) room
+        ∙ entry_words (kind_at (front_of s) dev) (entry_of dev (entries_at m.triggers trigger)) (station_at (bench_machine driver b) dev) room
         (subst (λ (o : Option Became). IsRoom o (station_at (bench_machine driver b) dev).members room) is roomy)
-        ∙ told_here (λ (o : Option Station). entry_word (kind_at (front_of s) dev) o (told_entry dev (entries_at m.triggers trigger))) s m b cs dev less h
+        ∙ told_here (λ (o : Option Station). entry_word (kind_at (front_of s) dev) o (entry_of dev (entries_at m.triggers trigger))) s m b cs dev less h
 
     pub handle_line : (before after name device room : List ℕ) (answer : Option Became) → name ≡ trigger_name (bench_front b') trigger
         → device ≡ device_name (bench_front b') dev

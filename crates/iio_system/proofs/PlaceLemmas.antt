@@ -6,7 +6,8 @@ use Rattle.iio_trigger.specs.declared.rows.Place.{Place}
 use Rattle.iio_trigger.specs.Trigger.{Handed, entries_at, holds_place, with_place, without_place}
 use Rattle.iiod_session.specs.Machine.{Station}
 use Rattle.iiod_session.specs.Calls.{attached_count, is_attached}
-use Rattle.iio_system.specs.Places.{entries_from, handed_of, places_from}
+use Rattle.iio_history.specs.BenchMoves.{bench_entries}
+use Rattle.iio_system.specs.Places.{handed_of, places_from}
 
 module _ (trigger : ℕ) where
   -- a device that stays at its place
@@ -153,14 +154,14 @@ module _ (trigger : ℕ) where
 
   -- the entries of a poll
   pub entries_of_places : (dev : ℕ) (moment : ℤ) (sts : List Station)
-      → map handed_of (entries_at moment (places_from dev trigger sts)) ≡ entries_from dev trigger moment sts
+      → map handed_of (entries_at moment (places_from dev trigger sts)) ≡ bench_entries dev trigger moment sts
   entries_of_places dev moment [] = refl
   entries_of_places dev moment (y ∷ ys) = by (is_attached trigger y) (entries_of_places (suc dev) moment ys)
     where
-      by : (b : Bool) → map handed_of (entries_at moment (places_from (suc dev) trigger ys)) ≡ entries_from (suc dev) trigger moment ys
+      by : (b : Bool) → map handed_of (entries_at moment (places_from (suc dev) trigger ys)) ≡ bench_entries (suc dev) trigger moment ys
           → map handed_of (entries_at moment
           (cond b (record { dev = dev; attachment = y.site.attachment } ∷ places_from (suc dev) trigger ys) (places_from (suc dev) trigger ys)))
-          ≡ cond b (record { dev = dev; attachment = y.site.attachment; t = moment } ∷ entries_from (suc dev) trigger moment ys)
-          (entries_from (suc dev) trigger moment ys)
+          ≡ cond b (record { dev = dev; attachment = y.site.attachment; t = moment } ∷ bench_entries (suc dev) trigger moment ys)
+          (bench_entries (suc dev) trigger moment ys)
       by true i = ap (λ (rest : List Handed). (let e : Handed = record { dev = dev; attachment = y.site.attachment; t = moment } in e) ∷ rest) i
       by false i = i

@@ -11,7 +11,7 @@ use Rattle.iiod_session.specs.Session.{SessionRecord}
 use Rattle.iio_sensor.specs.Driver.{Driver}
 use Rattle.iio_device.specs.declared.plug.Plug.{Plug}
 use Rattle.iio_history.specs.Event.{Arrived, Heard}
-use Rattle.iio_history.specs.Registry.{Setup, Trigger, has_ended}
+use Rattle.iio_history.specs.Registry.{Setup, has_ended}
 use Rattle.iio_history.specs.Script.{max_names}
 use Rattle.iio_history.specs.Told.{Told, registry_of}
 use Rattle.iio_history.specs.Machine.{step}
@@ -29,7 +29,7 @@ use Rattle.iio_system.specs.Bench.{Kept, captures_of, front_of, kept_of, machine
 use Rattle.iio_system.specs.Feeding.{AreOwning, Feeds, IsOwning, left_by}
 use Rattle.iio_system.specs.Lines.{dropped_word}
 use Rattle.iio_system.specs.Seat.{seen_of}
-use Rattle.iio_system.specs.Standing.{Holds, IsNew, Makes, MakesFeed, MakesStep, RiseBy, has_room, name_by, names_with, trigger_by}
+use Rattle.iio_system.specs.Standing.{Holds, IsNew, Makes, MakesFeed, MakesStep, RiseBy, has_room, name_by, names_with}
 use Rattle.iio_system.specs.System.{Stands}
 use Rattle.iio_system.proofs.DropLaws.{dropped_nowhere, dropped_there}
 use Rattle.iio_system.proofs.FeedLaws.{fed_new, fed_there}
@@ -112,7 +112,7 @@ module _ {X : Type 0} {V : X → Type 0} (driver : Plug X V → Driver) where
       → Stands seen_of s n (front_of b) (Some (machine_of driver b')) cs' → Holds driver s n b' cs'
   holds_then s m n b b' cs cs' kept same holds stands = record {
     stands = subst (λ (f : Front). Stands seen_of s n f (Some (machine_of driver b')) cs') (sym (front_kept b b' kept)) stands;
-    triggers = ap (λ (k : Kept). k.triggers) kept ∙ holds.triggers ∙ ap (λ (ts : List Trigger). map trigger_by ts) (sym same);
+    triggers = ap (λ (k : Kept). k.triggers) kept ∙ holds.triggers ∙ sym same;
   }
 
   pub feeds_there : {A : Type 0} (b b' : Bench X V) (cs : List (Connection Seat)) (i : ℕ) (c c' : Connection Seat) (name bytes before after : List ℕ)

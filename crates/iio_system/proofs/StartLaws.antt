@@ -18,7 +18,7 @@ use Rattle.iiod_session.specs.Machine.{Machine, Station as MachineStation}
 use Rattle.iiod_session.specs.Front.{first_front}
 use Rattle.iio_history.specs.Who.{Who}
 use Rattle.iio_history.specs.Places.{map_from}
-use Rattle.iio_history.specs.Registry.{Device, Member as ToldMember, Setup, Trigger}
+use Rattle.iio_history.specs.Registry.{Device, Member as ToldMember, Setup}
 use Rattle.iio_history.specs.Fold.{first_average, first_device, first_devices, first_driver, first_output}
 use Rattle.iio_history.specs.Told.{Seat, last_of, seat_told, station_told, told}
 use Rattle.iio_history.specs.Bench.{Every, HasDeviceSizes, bench_by, machine_of as machine_told, numbered, site_by}
@@ -31,8 +31,7 @@ use Rattle.iio_system.specs.Bench.{front_of, machine_of, triggers_of}
 use Rattle.iio_system.specs.First.{first_machine, first_station, first_triggers}
 use Rattle.iio_system.specs.MeanStation.{first_mean_station}
 use Rattle.iio_system.specs.OutStation.{first_out_station}
-use Rattle.iio_system.specs.Places.{TriggerRecord, first_trigger}
-use Rattle.iio_system.specs.Standing.{Holds, trigger_by}
+use Rattle.iio_system.specs.Standing.{Holds}
 use Rattle.iio_system.proofs.OpenLemmas.{full_has}
 
 -- ---- scans have bytes
@@ -161,11 +160,6 @@ machine_first s =
     (stations_first s 0 (first_devices s) (first_machine s.drivers s.desc).stations
     (λ k. ap (λ (i : ℕ). slice_get (first_devices s) i) (let e : 0 + k ≡ k = omega arith in e)) (are_first s s.desc.devices s.desc.outputs s.desc.averages)))
 
-triggers_first : (ts : List TriggerDesc)
-    → map (λ (t : TriggerDesc). first_trigger) ts ≡ map trigger_by (map (λ (t : TriggerDesc). (let x : Trigger = record { entries = []; missed = 0 } in x)) ts)
-triggers_first [] = refl
-triggers_first (t ∷ ts) = ap (λ (xs : List TriggerRecord). first_trigger ∷ xs) (triggers_first ts)
-
 pub room_first : (s : Setup) (used : ℕ) → used ≡ 0 → Every (CanJoinMore (2 ^ 64 - 1 - 32 * used)) (told s []).stations
 room_first s used none = subst (λ (n : ℕ). Every (CanJoinMore (2 ^ 64 - 1 - 32 * n)) (told s []).stations) (sym none) (room_lasts s).0
 
@@ -180,7 +174,7 @@ module _ {X : Type 0} {V : X → Type 0} (driver : Plug X V → Driver) where
       bench = first_bench s sizes;
       lines = tt;
     };
-    triggers = triggers ∙ triggers_first s.desc.triggers;
+    triggers = triggers;
   }
 
 pub none_within : {D : Type 0} (f : D → ℕ) (n : ℕ) (ds : List D) → All (λ (d : D). f d ≡ 0) ds → All (λ (c : ℕ). c ≤ n) (map f ds)

@@ -5,11 +5,12 @@ use Rattle.iiod_grammar.specs.Stream.{Item, items_from}
 use Rattle.iiod_session.specs.Machine.{Machine}
 use Rattle.iio_base.specs.declared.Mem.{Mem}
 use Rattle.iio_sensor.specs.Driver.{Driver}
+use Rattle.iio_trigger.specs.Trigger.{Handed}
 use Rattle.iio_desc.specs.declared.limits.TheConstants.{MAX_DEVICES}
 use Rattle.iio_device.specs.declared.plug.Plug.{Plug}
 use Rattle.iio_device.specs.Site.{is_empty, no_driver}
 use Rattle.iio_history.specs.Event.{Event, Arrived, Handled, Heard, Polled}
-use Rattle.iio_history.specs.Registry.{Entry, Outline, Setup, entries_at, entries_from, has_ended, is_attached, outline_of, outlines_of}
+use Rattle.iio_history.specs.Registry.{Outline, Setup, entries_at, entries_from, has_ended, is_attached, outline_of, outlines_of}
 use Rattle.iio_history.specs.Told.{Told, device_of, registry_of, told}
 use Rattle.iio_history.specs.Machine.{step}
 use Rattle.iio_history.specs.Played.{state_after, steps}
@@ -37,7 +38,7 @@ entries_few k trigger t [] = omega arith
 entries_few k trigger t (o ∷ os) = by (is_attached trigger o) (entries_few (suc k) trigger t os)
   where
     by : (b : Bool) → length (entries_from (suc k) trigger t os) ≤ length os
-        → length (cond b (record { device = k; attachment = o.site.attachment; moment = t } ∷ entries_from (suc k) trigger t os)
+        → length (cond b (record { dev = k; attachment = o.site.attachment; t = t } ∷ entries_from (suc k) trigger t os)
         (entries_from (suc k) trigger t os)) ≤ suc (length os)
     by true rest = omega (arith, rest)
     by false rest = omega (arith, rest)
@@ -68,9 +69,9 @@ events_few m (code.Fire trigger t) devices = by (is_empty (entries_at m.triggers
     outlines = length-map (registry_of m).devices outline_of ∙ length-map m.stations device_of
 
     by : (b : Bool) → length
-        (Polled trigger t ∷ map (λ (e : Entry). Handled trigger e.device) (cond b (entries_from 0 trigger t (outlines_of (registry_of m))) [])) ≤ 32 * 1
+        (Polled trigger t ∷ map (λ (e : Handed). Handled trigger e.dev) (cond b (entries_from 0 trigger t (outlines_of (registry_of m))) [])) ≤ 32 * 1
     by true =
-        let same = length-map (entries_from 0 trigger t (outlines_of (registry_of m))) (λ (e : Entry). Handled trigger e.device) in
+        let same = length-map (entries_from 0 trigger t (outlines_of (registry_of m))) (λ (e : Handed). Handled trigger e.dev) in
         let few = entries_few 0 trigger t (outlines_of (registry_of m)) in
         omega (arith, same, few, outlines, devices)
     by false = omega arith

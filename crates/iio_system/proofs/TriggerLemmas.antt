@@ -9,7 +9,10 @@ use Rattle.iio_trigger.specs.declared.Polled.{Polled}
 use Rattle.iio_trigger.specs.declared.Polled.TheVariants.{Accepted, Missed}
 use Rattle.iio_trigger.specs.Trigger.{Handed, Polls, State, after_poll, due_of, entries_at, is_waiting, missed_after, poll_made, with_in_hand, without_entry as without_entry_of}
 use Rattle.iiod_session.specs.Machine.{Station}
-use Rattle.iio_system.specs.Places.{IsTrigger, TriggerRecord, entries_from, entry_of, handed_of, handled, has_in_hand, poll_answer, polled, trigger_of}
+use Rattle.iio_history.specs.BenchMoves.{bench_entries, polled_by}
+use Rattle.iio_history.specs.Fold.{handled}
+use Rattle.iio_history.specs.Registry.{Trigger, entry_of}
+use Rattle.iio_system.specs.Places.{IsTrigger, handed_of, has_in_hand, poll_answer, trigger_of}
 use Rattle.iio_system.proofs.ListLemmas.{filter_map_is}
 use Rattle.iio_system.proofs.PlaceLemmas.{entries_of_places}
 
@@ -32,13 +35,13 @@ poll_in_hand t places [] h = none_in_hand t places
 poll_in_hand t places (e ∷ es) h = h
 
 module _ (trigger : ℕ) (stations : List Station) (moment : ℤ) (s : State) (sound : IsTrigger trigger stations s) where
-  made_by : map handed_of (entries_at moment s.attached) ≡ entries_from 0 trigger moment stations
+  made_by : map handed_of (entries_at moment s.attached) ≡ bench_entries 0 trigger moment stations
   made_by = ap (λ (ps : List Place). map handed_of (entries_at moment ps)) sound.attached ∙ entries_of_places trigger 0 moment stations
 
-  polled_state : trigger_of (after_poll moment s) ≡ polled stations trigger moment (trigger_of s)
+  polled_state : trigger_of (after_poll moment s) ≡ polled_by stations trigger moment (trigger_of s)
   polled_state =
       let entries : map handed_of (poll_made (entries_at moment s.attached) s.outstanding)
-      ≡ poll_made (entries_from 0 trigger moment stations) (map handed_of s.outstanding)
+      ≡ poll_made (bench_entries 0 trigger moment stations) (map handed_of s.outstanding)
       = made_is (entries_at moment s.attached) s.outstanding ∙ ap (λ (made : List Handed). poll_made made (map handed_of s.outstanding)) made_by in
       rw (entries, missed_is) refl
 
@@ -47,9 +50,9 @@ module _ (trigger : ℕ) (stations : List Station) (moment : ℤ) (s : State) (s
   polls_is (Missed missed) s' p = p.2
 
   answer_at : (answer : Polled) (s' : State) (out : List Entry) → s.outstanding ≡ out → Polls s moment answer s'
-      → answer ≡ poll_answer (entries_from 0 trigger moment stations) (map handed_of out) s.missed
+      → answer ≡ poll_answer (bench_entries 0 trigger moment stations) (map handed_of out) s.missed
   answer_at (Accepted made) s' [] e p =
-      let n : length (entries_from 0 trigger moment stations) ≡ length s.attached = ap (λ (es : List Handed). length es) (sym made_by) ∙ long s.attached in
+      let n : length (bench_entries 0 trigger moment stations) ≡ length s.attached = ap (λ (es : List Handed). length es) (sym made_by) ∙ long s.attached in
       ap (λ (k : ℕ). Accepted k) (p.1 ∙ sym n)
     where
       long : (ps : List Place) → length (map handed_of (entries_at moment ps)) ≡ length ps
@@ -61,10 +64,10 @@ module _ (trigger : ℕ) (stations : List Station) (moment : ℤ) (s : State) (s
   answer_at (Missed missed) s' (o ∷ os) e p = ap (λ (k : ℕ). Missed k) (p.1 ∙ ap (λ (xs : List Entry). missed_after xs s.missed) e)
 
   pub poll_answers : (answer : Polled) (s' : State) → Polls s moment answer s'
-      → answer ≡ poll_answer (entries_from 0 trigger moment stations) (trigger_of s).entries s.missed
+      → answer ≡ poll_answer (bench_entries 0 trigger moment stations) (trigger_of s).entries s.missed
   poll_answers answer s' p = answer_at answer s' s.outstanding refl p
 
-  pub poll_told : (answer : Polled) (s' : State) → Polls s moment answer s' → trigger_of s' ≡ polled stations trigger moment (trigger_of s)
+  pub poll_told : (answer : Polled) (s' : State) → Polls s moment answer s' → trigger_of s' ≡ polled_by stations trigger moment (trigger_of s)
   poll_told answer s' p = ap trigger_of (polls_is answer s' p) ∙ polled_state
 
   pub poll_sound : (answer : Polled) (s' : State) → Polls s moment answer s' → IsTrigger trigger stations s'
@@ -188,7 +191,7 @@ done_off dev h r s s1 s2 due after found taken =
 -- it is told so
 pub off_told : (dev : ℕ) (s s' : State) → s' ≡ without dev s → trigger_of s' ≡ handled dev (trigger_of s)
 off_told dev s s' e =
-    ap trigger_of e ∙ ap (λ (entries : List Handed). (let x : TriggerRecord = record { entries = entries; missed = s.missed } in x))
+    ap trigger_of e ∙ ap (λ (entries : List Handed). (let x : Trigger = record { entries = entries; missed = s.missed } in x))
     (sym (filter_map_is handed_of (λ (e : Entry). not (e.dev == dev)) (λ (e : Handed). not (e.dev == dev)) (λ e. refl) s.outstanding))
 
 pub off_sound : (trigger dev : ℕ) (stations : List Station) (s s' : State) → IsTrigger trigger stations s → s' ≡ without dev s → IsTrigger trigger stations s'

@@ -5,15 +5,16 @@ use Rattle.iio_sensor.specs.Driver.{Driver}
 use Rattle.iio_device.specs.declared.plug.Plug.{Plug}
 use Rattle.iiod_session.specs.Front.{Front}
 use Rattle.iiod_session.specs.Machine.{Machine}
+use Rattle.iio_history.specs.Registry.{Trigger}
 use Rattle.iio_system.specs.declared.bench.Bench.{Bench}
 use Rattle.iio_system.specs.Handling.{is_last}
-use Rattle.iio_system.specs.Places.{TriggerRecord, first_trigger, trigger_of}
+use Rattle.iio_system.specs.Places.{first_trigger, trigger_of}
 use Rattle.iio_system.specs.Station.{any_front, captures_by, room_by, stations_by}
 
 -- the front, the outstanding entries and missed polls, and how many captures each device has made
 pub record Kept : Type 0 where
   pub front : Front
-  pub triggers : List TriggerRecord
+  pub triggers : List Trigger
   pub captures : List ℕ
 
 module _ {X : Type 0} {V : X → Type 0} where
@@ -38,7 +39,7 @@ module _ {X : Type 0} {V : X → Type 0} where
   room_at b dev = option_map_or room_by (slice_get b.devices.items dev) []
 
   -- the triggers
-  abbrev pub triggers_of : Bench X V → List TriggerRecord
+  abbrev pub triggers_of : Bench X V → List Trigger
   triggers_of b = map trigger_of b.triggers.items
 
   -- what no connection's call changes
@@ -46,5 +47,5 @@ module _ {X : Type 0} {V : X → Type 0} where
   kept_of b = record { front = front_of b; triggers = triggers_of b; captures = captures_of b }
 
 -- the trigger of that number
-abbrev pub trigger_in : List TriggerRecord → ℕ → TriggerRecord
+abbrev pub trigger_in : List Trigger → ℕ → Trigger
 trigger_in triggers trigger = unwrap_or (slice_get triggers trigger) first_trigger

@@ -12,10 +12,11 @@ use Rattle.iio_output.specs.Last.{first_last}
 use Rattle.iio_probe.specs.Devices.{first_driver}
 use Rattle.iiod_session.specs.Machine.{Machine, Station}
 use Rattle.iio_layout.specs.Shape.{ShapeRecord}
+use Rattle.iio_history.specs.Registry.{Trigger}
 use Rattle.iio_system.specs.Averages.{shape_in}
 use Rattle.iio_system.specs.MeanStation.{first_mean_station, new_mean_station}
 use Rattle.iio_system.specs.OutStation.{first_out_station}
-use Rattle.iio_system.specs.Places.{TriggerRecord, first_trigger}
+use Rattle.iio_system.specs.Places.{first_trigger}
 
 -- an input device: no member yet, the trigger and the attributes of its description
 abbrev pub first_station : List Driver → DeviceRecord → Station
@@ -37,7 +38,7 @@ first_machine drivers desc = record {
   stations = map (first_station drivers) desc.devices ++ (map first_out_station desc.outputs ++ map (first_mean_station desc.devices) desc.averages);
 }
 
-abbrev pub first_triggers : Description → List TriggerRecord
+abbrev pub first_triggers : Description → List Trigger
 first_triggers desc = map (λ (t : TriggerDesc). first_trigger) desc.triggers
 
 -- ---- for this crate's private functions alone

@@ -23,7 +23,7 @@ use Rattle.iiod_session.specs.Front.{Front, kind_at, shape_at}
 use Rattle.iiod_session.specs.Machine.{Machine, Member, Station, station_at, with_site}
 use Rattle.iiod_session.specs.Places.{map_from}
 use Rattle.iio_history.specs.BenchMoves.{capture_in, entry_made, gathered_to, next_of, unplugs}
-use Rattle.iio_history.specs.Devices.{entry_by, handled_answer}
+use Rattle.iio_history.specs.Devices.{handled_answer}
 use Rattle.iio_history.specs.Registry.{Capture}
 use Rattle.iio_system.specs.declared.any_device.Became.{Became}
 use Rattle.iio_system.specs.declared.any_device.Became.TheVariants.{Asked, Gave}
@@ -57,7 +57,7 @@ is_last captures = captures == 2 ^ 64 - 1
 
 -- a device of a kind after the handling of an entry
 abbrev pub kind_handled : Kind → ShapeRecord → Handed → Station → Station
-kind_handled kind shape e st = entry_made kind shape (Some (entry_by e)) st
+kind_handled kind shape e st = entry_made kind shape (Some e) st
 
 -- and its answer; an averaging device has no entries
 abbrev pub kind_became : Kind → Handed → Station → Became
@@ -93,7 +93,7 @@ IsRoom became members room = Unit {0}
 abbrev pub entry_capture : Kind → Option Handed → (ended : Bool) → ShapeRecord → Station → Option Capture
 entry_capture kind None ended shape st = None
 entry_capture kind (Some e) true shape st = None
-entry_capture kind (Some e) false shape st = capture_in kind shape (Some (entry_by e)) st
+entry_capture kind (Some e) false shape st = capture_in kind shape (Some e) st
 
 -- bytes are the scan of all channels of a capture, whose values and whose moment are in range
 pub record IsScanOf (shape : ShapeRecord) (c : Capture) (scan : List ℕ) : Type 0 where

@@ -1,9 +1,10 @@
 -- The handlings that a poll is followed by, one after another. Cited by this crate's private functions alone.
 use Rattle.std.specs.Prelude.{◌≡◌, ℕ, suc, ◌<◌, ◌≤◌, ◌-◌, ◌^◌, All, List, [], ◌∷◌, ◌++◌, map, None, Some}
 use Rattle.iio_sensor.specs.Driver.{Driver}
+use Rattle.iio_trigger.specs.Trigger.{Handed}
 use Rattle.iio_device.specs.declared.plug.Plug.{Plug}
 use Rattle.iio_history.specs.Event.{Event, Handled}
-use Rattle.iio_history.specs.Registry.{Entry, Setup, entries_at, entry_of}
+use Rattle.iio_history.specs.Registry.{Setup, entries_at, entry_of}
 use Rattle.iio_history.specs.Told.{Told}
 use Rattle.iio_history.specs.Played.{steps, texts}
 use Rattle.iio_system.specs.declared.bench.Bench.{Bench}
@@ -16,21 +17,21 @@ abbrev pub CanGoOn : List ℕ → Type 0
 CanGoOn captures = All (λ n. n < 2 ^ 64 - 1) captures
 
 -- the handling of the entry that a device has, where it has one
-abbrev pub handling_of : (trigger dev : ℕ) → List Entry → List Event
+abbrev pub handling_of : (trigger dev : ℕ) → List Handed → List Event
 handling_of trigger dev entries = elim (entry_of dev entries) [ None ↦ [] | Some e ↦ Handled trigger dev ∷ [] ]
 
 -- the handling of each entry
-abbrev pub handlings : (trigger : ℕ) → List Entry → List Event
-handlings trigger entries = map (λ (e : Entry). Handled trigger e.device) entries
+abbrev pub handlings : (trigger : ℕ) → List Handed → List Event
+handlings trigger entries = map (λ (e : Handed). Handled trigger e.dev) entries
 
 -- entries of devices from `low` on and below `high`, in the order of devices, one of each device at most
-abbrev pub InOrder : (low high : ℕ) → List Entry → Type 0
+abbrev pub InOrder : (low high : ℕ) → List Handed → Type 0
 InOrder low high [] = low ≤ high
-InOrder low high (e ∷ es) = (low ≤ e.device) × InOrder (suc e.device) high es
+InOrder low high (e ∷ es) = (low ≤ e.dev) × InOrder (suc e.dev) high es
 
 module _ {X : Type 0} {V : X → Type 0} (driver : Plug X V → Driver) where
   -- events of a bench, by the entries that its trigger has: their lines, and what it and the connections hold then
-  abbrev pub Plays : (events : List Entry → List Event) → Setup → Told → (trigger : ℕ) → (b' : Bench X V) (cs : List (Connection Seat)) (before after : List ℕ)
+  abbrev pub Plays : (events : List Handed → List Event) → Setup → Told → (trigger : ℕ) → (b' : Bench X V) (cs : List (Connection Seat)) (before after : List ℕ)
       → Type 0
   Plays events s m trigger b' cs before after =
       (after ≡ before ++ texts s m (events (entries_at m.triggers trigger))) × Holds driver s (steps s m (events (entries_at m.triggers trigger))) b' cs

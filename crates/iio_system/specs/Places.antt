@@ -1,31 +1,28 @@
 -- The triggers beside the devices. (Kernel, driver-api/iio: a device is attached to its trigger while its buffer is enabled,
 -- and a poll calls each attached device once. Places and the count of missed polls are this project's own.)
-use Rattle.std.specs.Prelude.{◌≡◌, ℕ, suc, ◌+◌, ◌≤◌, ◌||◌, ◌==◌, not, nat_lt, ℤ, Bool, true, false, List, [], ◌∷◌, map, length, find, filter, slice_get, Option, Some, None, if◌then◌else◌}
+use Rattle.std.specs.Prelude.{◌≡◌, ℕ, suc, ◌+◌, ◌≤◌, ◌||◌, ◌==◌, not, nat_lt, Bool, true, false, List, [], ◌∷◌, map, length, slice_get, Option, Some, None, if◌then◌else◌}
 use Rattle.std.specs.List.{list_any}
 use Rattle.iio_trigger.specs.declared.rows.Place.{Place}
 use Rattle.iio_trigger.specs.declared.rows.Entry.{Entry}
 use Rattle.iio_trigger.specs.declared.Polled.{Polled}
 use Rattle.iio_trigger.specs.declared.Polled.TheVariants.{Accepted, Missed}
-use Rattle.iio_trigger.specs.Trigger.{Handed, State, poll_made, missed_after, with_place, without_place}
+use Rattle.iio_trigger.specs.Trigger.{Handed, State, missed_after, with_place, without_place}
 use Rattle.iio_desc.specs.declared.description.TriggerDesc.{TriggerDesc}
 use Rattle.iio_desc.specs.declared.limits.TheConstants.{MAX_TRIGGERS, MAX_DEVICES}
 use Rattle.iio_device.specs.Site.{is_empty}
 use Rattle.iiod_session.specs.Machine.{Station}
+use Rattle.iio_history.specs.Registry.{Trigger}
 use Rattle.iiod_session.specs.Calls.{is_attached}
 
--- a trigger: its outstanding entries in the order of devices, and how many of its polls were missed
-pub record TriggerRecord : Type 0 where
-  pub entries : List Handed
-  pub missed : ℕ
-
+-- an entry of the code, and its trigger, as they are told
 abbrev pub handed_of : Entry → Handed
 handed_of e = record { dev = e.dev; attachment = e.attachment; t = e.t }
 
-abbrev pub trigger_of : State → TriggerRecord
+abbrev pub trigger_of : State → Trigger
 trigger_of s = record { entries = map handed_of s.outstanding; missed = s.missed }
 
 -- before the first poll
-abbrev pub first_trigger : TriggerRecord
+abbrev pub first_trigger : Trigger
 first_trigger = record { entries = []; missed = 0 }
 
 -- the places of the devices that are attached to a trigger, in their order; `dev` is the first device's number
@@ -36,43 +33,19 @@ places_from dev trigger (st ∷ sts) =
     then record { dev = dev; attachment = st.site.attachment } ∷ places_from (suc dev) trigger sts
     else places_from (suc dev) trigger sts
 
--- an entry for each of them
-abbrev pub entries_from : ℕ → ℕ → ℤ → List Station → List Handed
-entries_from dev trigger moment [] = []
-entries_from dev trigger moment (st ∷ sts) =
-    if is_attached trigger st
-    then record { dev = dev; attachment = st.site.attachment; t = moment } ∷ entries_from (suc dev) trigger moment sts
-    else entries_from (suc dev) trigger moment sts
-
 -- ---- polls
 
--- a poll makes an entry for each attached device, where nothing is outstanding; else it is missed
-abbrev pub polled : List Station → ℕ → ℤ → TriggerRecord → TriggerRecord
-polled stations trigger moment t =
-    record { entries = poll_made (entries_from 0 trigger moment stations) t.entries; missed = missed_after t.entries t.missed }
-
--- its answer: how many entries it made, or how many polls were missed with it
+-- the answer to a poll: how many entries it made, or how many polls were missed with it
 abbrev pub poll_answer : (made outstanding : List Handed) → (missed : ℕ) → Polled
 poll_answer made [] missed = Accepted (length made)
 poll_answer made (e ∷ es) missed = Missed (missed_after (e ∷ es) missed)
 
 -- ---- entries
 
--- the device's entry
-abbrev pub entry_of : ℕ → List Handed → Option Handed
-entry_of dev entries = find (λ (e : Handed). e.dev == dev) entries
-
 -- the device of the first of some entries
 abbrev pub first_due : List Handed → Option ℕ
 first_due [] = None
 first_due (e ∷ es) = Some e.dev
-
--- the entries without the device's
-abbrev pub without_entry : ℕ → List Handed → List Handed
-without_entry dev entries = filter (λ (e : Handed). not (e.dev == dev)) entries
-
-abbrev pub handled : ℕ → TriggerRecord → TriggerRecord
-handled dev t = record t { entries = without_entry dev t.entries }
 
 -- ---- places of members
 

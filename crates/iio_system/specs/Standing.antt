@@ -1,12 +1,11 @@
 -- What a system holds, and the steps that it stands for.
 use Rattle.std.specs.Prelude.{◌≡◌, ℕ, suc, ◌+◌, ◌*◌, ◌-◌, ◌^◌, ◌<◌, ◌≤◌, nat_lt, ◌||◌, All, Bool, true, List, [], ◌∷◌, ◌++◌, map, length, Some, if◌then◌else◌}
 use Rattle.iio_sensor.specs.Driver.{Driver}
-use Rattle.iio_trigger.specs.Trigger.{Handed}
 use Rattle.iio_device.specs.declared.plug.Plug.{Plug}
 use Rattle.iiod_session.specs.declared.manner.Manner.TheVariants.{Script}
 use Rattle.iiod_session.specs.Session.{IsFresh, SessionRecord}
 use Rattle.iio_history.specs.Event.{Event}
-use Rattle.iio_history.specs.Registry.{Entry, Setup, Trigger}
+use Rattle.iio_history.specs.Registry.{Setup}
 use Rattle.iio_history.specs.Script.{is_known, max_names}
 use Rattle.iio_history.specs.Told.{Told, told}
 use Rattle.iio_history.specs.Transcript.{Step, Feed}
@@ -21,7 +20,6 @@ use Rattle.iio_system.specs.declared.step.Step.{Step as CodeStep}
 use Rattle.iio_system.specs.declared.step.Step.TheVariants as code
 use Rattle.iio_system.specs.declared.system.System.{System}
 use Rattle.iio_system.specs.Bench.{front_of, machine_of, triggers_of}
-use Rattle.iio_system.specs.Places.{TriggerRecord}
 use Rattle.iio_system.specs.Seat.{seen_of}
 use Rattle.iio_system.specs.Step.{cost_of, step_view}
 use Rattle.iio_system.specs.System.{Stands}
@@ -55,15 +53,6 @@ pub record IsNew (name : List ℕ) (who : ℕ) (c : Connection Seat) : Type 0 wh
   pub session_is : c.session ≡ Some fresh
   pub is_fresh : IsFresh who Script fresh
 
--- ---- the history
-
--- an outstanding entry and a trigger, as a bench tells them
-abbrev pub handed_by : Entry → Handed
-handed_by e = record { dev = e.device; attachment = e.attachment; t = e.moment }
-
-abbrev pub trigger_by : Trigger → TriggerRecord
-trigger_by t = record { entries = map handed_by t.entries; missed = t.missed }
-
 -- ---- captures
 
 -- their numbers can go on
@@ -80,7 +69,7 @@ module _ {X : Type 0} {V : X → Type 0} (driver : Plug X V → Driver) where
   -- what a bench and its connections hold is the told state
   pub record Holds (s : Setup) (m : Told) (b : Bench X V) (connections : List (Connection Seat)) : Type 0 where
     pub stands : Stands seen_of s m (front_of b) (Some (machine_of driver b)) connections
-    pub triggers : triggers_of b ≡ map trigger_by m.triggers
+    pub triggers : triggers_of b ≡ m.triggers
 
   -- a step of a bench and its connections: its lines, and what they hold then
   abbrev pub Makes : Step → (b b' : Bench X V) (cs cs' : List (Connection Seat)) (before after : List ℕ) → Type 0

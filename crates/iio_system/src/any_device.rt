@@ -19,11 +19,11 @@ ghost use Rattle.iio_device.specs.Site.{is_empty, site_written, with_monitor};
 ghost use Rattle.iiod_session.specs.declared.iio.No.TheVariants.{Mem};
 ghost use Rattle.iiod_session.specs.Calls.{ev_open_answer, ev_read_answer, has_no_number, holds_events, inner_gone, is_inner_of, joined, left, remasked, trigger_answer, write_scans_at, writes};
 ghost use Rattle.iiod_session.specs.Machine.{Station, scans_in, with_site};
-ghost use Rattle.iio_history.specs.Registry.{Capture};
+ghost use Rattle.iio_history.specs.Registry.{Capture, entry_of};
 ghost use Rattle.iio_system.specs.Acting.{Acts, MayReadOf, Reads, TakesAt, TakesScansAt, id_of, lost_in};
 ghost use Rattle.iio_system.specs.Faults.{HasJoined, HostsAny, IsServedAlone, JoinsAny, JoinsMean, MayHaveInner, any_refusals};
 ghost use Rattle.iio_system.specs.Handling.{IsRoom, IsScanOf, IsTakenWhole, counted, entry_answer, entry_capture, entry_station, is_last, kind_gathered, kind_sensed, sensed_station, unplugged_station};
-ghost use Rattle.iio_system.specs.Places.{entry_of, has_in_hand, is_hosted, place_left, trigger_of};
+ghost use Rattle.iio_system.specs.Places.{has_in_hand, is_hosted, place_left, trigger_of};
 ghost use Rattle.iio_system.specs.Remasking.{remask_answer};
 ghost use Rattle.iio_system.specs.Station.{KeepsFront, KeepsHead, any_front, any_station, base_of, captures_by, full_scan_by, number_by, room_by};
 

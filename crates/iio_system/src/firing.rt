@@ -5,9 +5,12 @@ ghost use Rattle.iio_desc.specs.Kind.{is_average};
 ghost use Rattle.iio_device.specs.Site.{at_place};
 ghost use Rattle.iiod_session.specs.Front.{kind_at, shape_at};
 ghost use Rattle.iiod_session.specs.Machine.{is_plugged, station_at, with_station};
+ghost use Rattle.iio_history.specs.BenchMoves.{bench_entries, polled_by};
+ghost use Rattle.iio_history.specs.Fold.{handled};
+ghost use Rattle.iio_history.specs.Registry.{entry_of};
 ghost use Rattle.iio_system.specs.Bench.{captures_of, front_of, has_ended, machine_of, room_at, trigger_in, triggers_of};
 ghost use Rattle.iio_system.specs.Handling.{IsRoom, counted, entry_answer, entry_machine, kind_sensed, sensed_station, unplugged_machine};
-ghost use Rattle.iio_system.specs.Places.{entries_from, entry_of, first_due, handled, poll_answer, polled};
+ghost use Rattle.iio_system.specs.Places.{first_due, poll_answer};
 
 use crate::any_device::Became;
 use crate::bench::Bench;
@@ -34,9 +37,9 @@ impl Bench {
         ensures front { front_of self.new ≡ front_of self.old }
         ensures told { machine_of ⟦<Plug as Sensor>⟧.driver self.new ≡ machine_of ⟦<Plug as Sensor>⟧.driver self.old }
         ensures triggers { triggers_of self.new
-            ≡ at_place trigger (polled (machine_of ⟦<Plug as Sensor>⟧.driver self.old).stations trigger t) (triggers_of self.old) }
+            ≡ at_place trigger (polled_by (machine_of ⟦<Plug as Sensor>⟧.driver self.old).stations trigger t) (triggers_of self.old) }
         ensures captures { captures_of self.new ≡ captures_of self.old }
-        ensures answer { result ≡ poll_answer (entries_from 0 trigger t (machine_of ⟦<Plug as Sensor>⟧.driver self.old).stations)
+        ensures answer { result ≡ poll_answer (bench_entries 0 trigger t (machine_of ⟦<Plug as Sensor>⟧.driver self.old).stations)
             (trigger_in (triggers_of self.old) trigger).entries (trigger_in (triggers_of self.old) trigger).missed }
     {
         self.triggers[trigger as usize].poll(t)

@@ -4,13 +4,14 @@ use Rattle.std.specs.Str.{bytes_eq}
 use Rattle.std.proofs.lemmas.Slice.Eq.{bytes_eq-Decides}
 use Rattle.std.proofs.lemmas.Bool.{and_from, or_left, or_right, not_from_false, true≢false}
 use Rattle.std.proofs.lemmas.Bool.Decides.{nat_tests}
+use Rattle.iio_trigger.specs.Trigger.{Handed}
 use Rattle.iio_desc.specs.Description.{find_device}
 use Rattle.iiod_grammar.specs.Command.{Open, Close, Read, ReadBuf, GetTrig, SetBuffers, Remask}
 use Rattle.iiod_grammar.specs.Stream.{Item, Said, End, items_from}
 use Rattle.iiod_session.specs.Desk.{DeskRecord}
 use Rattle.iio_history.specs.Who.{Who, Conn, Inner, same}
 use Rattle.iio_history.specs.Event.{Event, Arrived, Heard, Dropped, Polled, Handled, Sensed, Clock, Unplugged}
-use Rattle.iio_history.specs.Registry.{Setup, Member, Device, Registry, Entry, is_at, is_member, has_ended}
+use Rattle.iio_history.specs.Registry.{Setup, Member, Device, Registry, is_at, is_member, has_ended}
 use Rattle.iio_history.specs.Fold.{device_after, registry_after}
 use Rattle.iio_history.specs.Told.{Seat, Station, Told, device_of, member_of_seat, registry_of, told}
 use Rattle.iio_history.specs.Reply.{seat_of}
@@ -143,7 +144,7 @@ unfolding AllPlain
 plain_all s a [] h are only = only
 plain_all s a (e ∷ es) h are only = plain_all s a es (e ∷ h) are.1 (plain_next s a h e are.0 only)
 
-handled_plain : (s : Setup) (a : List ℕ) (trigger : ℕ) (es : List Entry) → AllPlain s a (map (λ (e : Entry). Handled trigger e.device) es)
+handled_plain : (s : Setup) (a : List ℕ) (trigger : ℕ) (es : List Handed) → AllPlain s a (map (λ (e : Handed). Handled trigger e.dev) es)
 unfolding AllPlain
 handled_plain s a trigger [] = tt
 handled_plain s a trigger (e ∷ es) = (record { modest = λ r. refl; parts = λ k. refl }, handled_plain s a trigger es)
@@ -201,7 +202,7 @@ unfolding AllPlain
 step_decides s a h (Feed name bytes) only = feed_decides s a h name bytes only
 step_decides s a h (Drop name) only = drop_decides s a h name only
 step_decides s a h (Fire trigger moment) only =
-    plain_all s a (Polled trigger moment ∷ map (λ (e : Entry). Handled trigger e.device) (poll_entries (told s h) trigger moment)) h
+    plain_all s a (Polled trigger moment ∷ map (λ (e : Handed). Handled trigger e.dev) (poll_entries (told s h) trigger moment)) h
     (record { modest = λ r. refl; parts = λ k. refl }, handled_plain s a trigger (poll_entries (told s h) trigger moment)) only
 step_decides s a h (Poll trigger moment) only = plain_next s a h (Polled trigger moment) (record { modest = λ r. refl; parts = λ k. refl }) only
 step_decides s a h (Handle trigger device) only = plain_next s a h (Handled trigger device) (record { modest = λ r. refl; parts = λ k. refl }) only

@@ -6,13 +6,14 @@ use Rattle.std.proofs.lemmas.Slice.Eq.{bytes_eq-Decides}
 use Rattle.iio_history.specs.Who.{Conn}
 use Rattle.iiod_grammar.specs.Stream.{Item, items_from}
 use Rattle.iio_history.specs.Event.{Event, Arrived, Heard, Handled}
-use Rattle.iio_history.specs.Registry.{Setup, Entry, Registry, has_ended}
+use Rattle.iio_history.specs.Registry.{Setup, Registry, has_ended}
 use Rattle.iio_history.specs.Fold.{registry_after}
 use Rattle.iio_history.specs.Told.{Told, registry_of, told}
 use Rattle.iio_history.specs.Machine.{step}
 use Rattle.iio_history.specs.Transcript.{Step, Feed, Fire, Poll, Handle, Sense, SetClock, Drop, Unplug, begun_by, poll_entries, events_of_step, event_text, and_then, texts_after, printed, closed_line, step_text, with_step, lines_of_step, transcript, with_steps}
 use Rattle.iio_history.proofs.ToldLaws.{registry_is, step_is_told}
 use Rattle.iio_text.specs.Escape.{quoted}
+use Rattle.iio_trigger.specs.Trigger.{Handed}
 use Rattle.iio_worlds.specs.Bystanders.{is_bystander, only_bystanders, others_are_modest}
 use Rattle.iio_worlds.specs.Worlds.{is_others, without_others, transcript_kept, first_offence}
 use Rattle.iio_worlds.proofs.Alone.{own}
@@ -120,7 +121,7 @@ heard_own : (a name : List ℕ) (items : List Item) → name ≡ a → AllOwn a 
 heard_own a name [] is = tt
 heard_own a name (item ∷ items) is = (is, heard_own a name items is)
 
-handled_own : (a : List ℕ) (trigger : ℕ) (es : List Entry) → AllOwn a (map (λ (e : Entry). Handled trigger e.device) es)
+handled_own : (a : List ℕ) (trigger : ℕ) (es : List Handed) → AllOwn a (map (λ (e : Handed). Handled trigger e.dev) es)
 handled_own a trigger [] = tt
 handled_own a trigger (e ∷ es) = (tt, handled_own a trigger es)
 

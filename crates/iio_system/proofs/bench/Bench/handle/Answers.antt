@@ -6,9 +6,10 @@ use Rattle.iio_device.specs.Site.{no_driver}
 use Rattle.iio_trigger.specs.Trigger.{Handed}
 use Rattle.iiod_session.specs.Front.{Front, kind_at}
 use Rattle.iiod_session.specs.Machine.{Station, station_at}
+use Rattle.iio_history.specs.Registry.{entry_of}
 use Rattle.iio_system.specs.Bench.{has_ended, trigger_in}
 use Rattle.iio_system.specs.Handling.{IsRoom, counted, entry_machine, is_last}
-use Rattle.iio_system.specs.Places.{entry_of, trigger_of}
+use Rattle.iio_system.specs.Places.{trigger_of}
 use Rattle.iio_system.specs.Station.{any_front, any_station, captures_by, room_by, stations_by}
 use Rattle.iio_system.proofs.ListLemmas.{element_at, map_changed}
 use Rattle.iio_system.proofs.FiringLemmas.{ended_here, entry_answer_is, entry_bench, entry_here, entry_triggers}
