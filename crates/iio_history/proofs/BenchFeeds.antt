@@ -6,7 +6,7 @@ use Rattle.iiod_reply.specs.Reply.{Reply, text_of}
 use Rattle.iiod_session.specs.declared.manner.Manner.TheVariants.{Script}
 use Rattle.iiod_session.specs.Acts.{act}
 use Rattle.iiod_session.specs.Desk.{DeskRecord}
-use Rattle.iiod_session.specs.Machine.{Machine}
+use Rattle.iio_core.specs.Machine.{Machine}
 use Rattle.iiod_session.specs.Run.{FeedTells, State, Tells, desk_after, machine_after, texts_of}
 use Rattle.iio_history.specs.Event.{Heard}
 use Rattle.iio_history.specs.Registry.{Setup}

@@ -8,7 +8,7 @@ use Rattle.std.specs.Str.{bytes_eq}
 use Rattle.iio_base.specs.Refusals.{first_refusal}
 use Rattle.iio_text.specs.declared.errors.Errno.{Errno}
 use Rattle.iio_device.specs.Site.{at_place}
-use Rattle.iio_history.specs.Places.{map_from}
+use Rattle.iio_core.specs.Lists.{map_from}
 use Rattle.iio_history.specs.Bench.{Every, place_in, is_in}
 
 pub itself : (n : ℕ) → (n == n) ≡ true

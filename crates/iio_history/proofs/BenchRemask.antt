@@ -18,11 +18,11 @@ use Rattle.iiod_reply.specs.Reply.{Reply, Refusal}
 use Rattle.iio_kfifo.specs.declared.limits.TheConstants.{MAX_BYTES}
 use Rattle.iiod_session.specs.Acts.{Acted, act, refused, remask_at, remask_place, remask_seat, remask_wanted, remasked_seat as session_remasked, where_known, zero_reply}
 use Rattle.iio_desc.specs.Kind.{is_input}
-use Rattle.iiod_session.specs.Calls.{remask_of, remask_refusals as bench_refusals, remasked as bench_remasked, unless, with_mask}
+use Rattle.iio_core.specs.Calls.{remask_of, remask_refusals as bench_refusals, remasked as bench_remasked, unless, with_mask}
 use Rattle.iiod_session.specs.Desk.{Bare, DeskRecord, bare_remasked, mask_wanted, more_discarded, place_of, with_seats}
-use Rattle.iiod_session.specs.Front.{kind_at, shape_at}
-use Rattle.iiod_session.specs.Machine.{Member as MachineMember, Station as MachineStation, masks_of, member_in, queue_of, scans_in, station_at, with_station, without}
-use Rattle.iiod_session.specs.Opening.{mask_refusals}
+use Rattle.iio_core.specs.Front.{kind_at, shape_at}
+use Rattle.iio_core.specs.Machine.{Member as MachineMember, Station as MachineStation, masks_of, member_in, queue_of, scans_in, station_at, with_station, without}
+use Rattle.iio_core.specs.Opening.{mask_refusals}
 use Rattle.iio_history.specs.Who.{Who, Conn, same}
 use Rattle.iio_history.specs.Event.{Heard}
 use Rattle.iio_history.specs.Registry.{Setup, Member, Device, is_named, mask_of_member, member_of, without_members}
@@ -248,7 +248,7 @@ module _ (s : Setup) (m : Told) (name : List ℕ) (desk : DeskRecord) (device te
             (map numbered (map (remasked_seat w mask) st.seats))) (sym own)
             ∙ ap (λ (t : Totals). bench_with t (map numbered (map (remasked_seat (Conn name) mask) st.seats)))
             (lost_same (Conn name) y st.seats st.totals (station_is s m k st bench at).apart tell is)
-            ∙ ap (bench_with (Rattle.iio_device.specs.Totals.with_left (Rattle.iiod_session.specs.Machine.lost_by y.number (map numbered st.seats)) st.totals))
+            ∙ ap (bench_with (Rattle.iio_device.specs.Totals.with_left (Rattle.iio_core.specs.Machine.lost_by y.number (map numbered st.seats)) st.totals))
             (members_remasked (Conn name) mask y st.seats tell))
 
         abbrev new_bare : ℕ → Bare

@@ -6,7 +6,7 @@ use Rattle.iio_layout.specs.Layout.{scan_size}
 use Rattle.iio_device.specs.declared.totals.Totals.{Totals}
 use Rattle.iio_device.specs.Site.{is_empty}
 use Rattle.iio_device.specs.Totals.{with_left, with_lost}
-use Rattle.iiod_session.specs.Machine.{Member as MachineMember, MemberId, is_id_of, is_seat_of, lost_by, masks_of, member_in, scans_in, with_scans, without}
+use Rattle.iio_core.specs.Machine.{Member as MachineMember, MemberId, is_id_of, is_seat_of, lost_by, masks_of, member_in, scans_in, with_scans, without}
 use Rattle.iio_history.specs.Who.{Who, same, is_among}
 use Rattle.iio_history.specs.Registry.{is_member, mask_of_member}
 use Rattle.iio_history.specs.Queue.{taken_from}

@@ -25,7 +25,7 @@ use Rattle.iio_device.specs.Device.{DeviceView, Handles, is_due}
 use Rattle.iio_device.specs.Members.{WasOffered, masks_of}
 use Rattle.iio_device.specs.Roster.{Standing}
 use Rattle.iio_device.specs.Site.{Site, captured, is_current, is_empty}
-use Rattle.iiod_session.specs.Machine.{Machine, Member, Station, masks_of as plain_masks, with_station}
+use Rattle.iio_core.specs.Machine.{Machine, Member, Station, masks_of as plain_masks, with_station}
 use Rattle.iio_desc.specs.Kind.{Input}
 use Rattle.iio_derive.specs.Window.{no_window}
 use Rattle.iio_output.specs.Last.{first_last}

@@ -32,13 +32,13 @@ use Rattle.iio_device.specs.Sensing.{sensed, with_sensed}
 use Rattle.iio_device.specs.Site.{Site, at_place, attached, is_empty, sampled, site_written, unplugged, with_monitor}
 use Rattle.iio_device.specs.Stored.{attr_value}
 use Rattle.iio_device.specs.Totals.{with_left, with_lost}
-use Rattle.iiod_session.specs.Calls.{Outcome, all_joined, attr_answer, closed, ev_close_of, ev_open_of, ev_read_of, has_no_place, inner_gone, inner_left, is_attached, is_full, is_raw, joined, left, open_of, open_refusals, own_host, read_attr_of, set_trigger_of, unless, unless_made, window_left, with_inner, without_inner, write_attr_of}
+use Rattle.iio_core.specs.Calls.{Outcome, all_joined, attr_answer, closed, ev_close_of, ev_open_of, ev_read_of, has_no_place, inner_gone, inner_left, is_attached, is_full, is_raw, joined, left, open_of, open_refusals, own_host, read_attr_of, set_trigger_of, unless, unless_made, window_left, with_inner, without_inner, write_attr_of}
 use Rattle.iio_desc.specs.Kind.{Kind, Input, is_input, is_over}
 use Rattle.iio_derive.specs.Window.{Window, no_window}
 use Rattle.iio_history.proofs.BenchLists.{get_first}
-use Rattle.iiod_session.specs.Front.{Front, device_name, kind_at, shape_at}
-use Rattle.iiod_session.specs.Machine.{Machine, Member, Station, is_seat_of, lost_by, masks_of as plain_masks, no_station, station_at, with_site, with_station, without}
-use Rattle.iiod_session.specs.Opening.{errno_of, join_refusals}
+use Rattle.iio_core.specs.Front.{Front, device_name, kind_at, shape_at}
+use Rattle.iio_core.specs.Machine.{Machine, Member, Station, is_seat_of, lost_by, masks_of as plain_masks, no_station, station_at, with_site, with_station, without}
+use Rattle.iio_core.specs.Opening.{errno_of, join_refusals}
 use Rattle.iio_history.specs.BenchMoves.{look_made}
 use Rattle.iio_history.specs.Devices.{Does, IsAt, IsJoined, IsRefused, held_errno, holder_errno, member_with, raw_value, station_of}
 use Rattle.iio_history.specs.DeviceLaw.{IsNewEnd, IsPlaced, SamePlaces}

@@ -11,8 +11,8 @@ use Rattle.iio_device.specs.Device.{DeviceView, Handles, after_sense, at_site}
 use Rattle.iio_device.specs.Members.{masks_of}
 use Rattle.iio_device.specs.Site.{unplugged}
 use Rattle.iio_desc.specs.Kind.{Kind, Input, is_unplugged_by}
-use Rattle.iiod_session.specs.Front.{kind_at, shape_at}
-use Rattle.iiod_session.specs.Machine.{Machine, Station, with_site, with_station}
+use Rattle.iio_core.specs.Front.{kind_at, shape_at}
+use Rattle.iio_core.specs.Machine.{Machine, Station, with_site, with_station}
 use Rattle.iio_history.proofs.BenchLists.{get_first}
 use Rattle.iio_history.specs.Event.{Handled as HandledAt, Sensed as SensedAt, Unplugged}
 use Rattle.iio_history.specs.Registry.{Setup, entries_at, entry_of}

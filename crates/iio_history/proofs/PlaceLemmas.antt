@@ -1,6 +1,6 @@
 -- Lists whose elements are taken with their places.
 use Rattle.std.proofs.Common.{◌≡◌, ℕ, zero, suc, ◌+◌, List, [], ◌∷◌, Some, slice_get, refl, sym, ap, ◌∙◌, subst, arith}
-use Rattle.iio_history.specs.Places.{map_from}
+use Rattle.iio_core.specs.Lists.{map_from}
 
 -- what holds of each element at its place
 abbrev pub AtEach : {A : Type 0} → (ℕ → A → Type 0) → ℕ → List A → Type 0

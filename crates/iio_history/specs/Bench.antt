@@ -13,8 +13,8 @@ use Rattle.iio_device.specs.Site.{Site}
 use Rattle.iiod_grammar.specs.Stream.{Item}
 use Rattle.iiod_session.specs.Acts.{Acted}
 use Rattle.iiod_session.specs.Desk.{Bare, DeskRecord, buffers_of as desk_buffers}
-use Rattle.iiod_session.specs.Front.{Front, first_front}
-use Rattle.iiod_session.specs.Machine.{Machine, Member as MachineMember, Station as MachineStation}
+use Rattle.iio_core.specs.Front.{Front, first_front}
+use Rattle.iio_core.specs.Machine.{Machine, Member as MachineMember, Station as MachineStation}
 use Rattle.iio_history.specs.Who.{Who, Conn, Inner, same}
 use Rattle.iio_history.specs.Event.{Event, Heard}
 use Rattle.iio_history.specs.Registry.{Setup, Device, buffers_of}

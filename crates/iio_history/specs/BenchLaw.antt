@@ -11,7 +11,7 @@ use Rattle.iiod_reply.specs.Reply.{Reply, NoMemory}
 use Rattle.iiod_session.specs.declared.manner.Manner.TheVariants.{Script}
 use Rattle.iiod_session.specs.Acts.{Acts, act, left_desk, left_machine}
 use Rattle.iiod_session.specs.Desk.{DeskRecord}
-use Rattle.iiod_session.specs.Machine.{Machine}
+use Rattle.iio_core.specs.Machine.{Machine}
 use Rattle.iiod_session.specs.Run.{FeedTells, State, desk_after, machine_after, texts_of}
 use Rattle.iio_history.specs.Event.{Event, Arrived, Heard, Dropped}
 use Rattle.iio_history.specs.Registry.{Setup, is_live}

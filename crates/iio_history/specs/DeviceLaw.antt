@@ -20,10 +20,10 @@ use Rattle.iio_device.specs.Stored.{attr_value}
 use Rattle.iio_kfifo.specs.Ends.{Offers as WriterOffers, WriterEnd}
 use Rattle.iio_kfifo.specs.Offers.{accepted, lost_in}
 use Rattle.iio_kfifo.specs.Queue.{Offers as QueueOffers, Queue}
-use Rattle.iiod_session.specs.Calls.{closed, ev_close_of, ev_open_of, ev_read_of, has_no_place, is_attached, is_raw, open_of, read_attr_of, remask_of, set_trigger_of, write_attr_of}
+use Rattle.iio_core.specs.Calls.{closed, ev_close_of, ev_open_of, ev_read_of, has_no_place, is_attached, is_raw, open_of, read_attr_of, remask_of, set_trigger_of, write_attr_of}
 use Rattle.iio_desc.specs.Kind.{Input}
-use Rattle.iiod_session.specs.Front.{Front, device_name, kind_at, shape_at}
-use Rattle.iiod_session.specs.Machine.{Machine, MemberId, lost_by, with_site, with_station}
+use Rattle.iio_core.specs.Front.{Front, device_name, kind_at, shape_at}
+use Rattle.iio_core.specs.Machine.{Machine, MemberId, lost_by, with_site, with_station}
 use Rattle.iio_history.specs.Event.{Handled as HandledAt, Sensed as SensedAt, Unplugged}
 use Rattle.iio_history.specs.Registry.{Setup, entries_at, entry_of}
 use Rattle.iio_history.specs.Told.{Told}

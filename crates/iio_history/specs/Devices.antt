@@ -28,9 +28,9 @@ use Rattle.iio_device.specs.declared.roster.JoinRefused.{JoinRefused}
 use Rattle.iio_device.specs.declared.roster.RemaskRefused.{RemaskRefused}
 use Rattle.iio_device.specs.Device.{DeviceView}
 use Rattle.iio_device.specs.Site.{is_current}
-use Rattle.iiod_session.specs.Calls.{Outcome}
-use Rattle.iiod_session.specs.Machine.{Machine, Member, Station}
-use Rattle.iiod_session.specs.Opening.{errno_of, remask_errno}
+use Rattle.iio_core.specs.Calls.{Outcome}
+use Rattle.iio_core.specs.Machine.{Machine, Member, Station}
+use Rattle.iio_core.specs.Opening.{errno_of, remask_errno}
 
 -- ---- a device
 

@@ -18,7 +18,6 @@ pub mod Numbered
 pub mod Opening
 pub mod Outcome
 pub mod Outgoing
-pub mod Places
 pub mod Played
 pub mod Queue
 pub mod Registry

@@ -16,7 +16,7 @@ use Rattle.iio_output.specs.Written.{is_bad_size, scans_of}
 use Rattle.iio_device.specs.Active.{is_without_union}
 use Rattle.iio_device.specs.Site.{is_empty}
 use Rattle.iio_kfifo.specs.declared.limits.TheConstants.{MAX_BYTES}
-use Rattle.iiod_session.specs.Opening.{is_excess, asked_refusals, mask_refusals, join_refusals}
+use Rattle.iio_core.specs.Opening.{is_excess, asked_refusals, mask_refusals, join_refusals}
 use Rattle.iio_history.specs.Who.{Who}
 use Rattle.iio_history.specs.Registry.{Setup, Member, Device, Outline, outline_of, outlines_of, Registry, is_member, member_of, without_members, mask_of_member, attached_count}
 

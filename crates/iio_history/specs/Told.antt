@@ -9,7 +9,7 @@ use Rattle.iio_output.specs.Last.{GivenScan, first_last, last_with}
 use Rattle.iio_device.specs.declared.totals.Totals.{Totals}
 use Rattle.iio_device.specs.Site.{Site}
 use Rattle.iio_device.specs.Totals.{no_totals, with_given, with_lost}
-use Rattle.iio_history.specs.Places.{map_from}
+use Rattle.iio_core.specs.Lists.{map_from}
 use Rattle.iio_history.specs.Who.{Who, same, is_among}
 use Rattle.iiod_grammar.specs.Stream.{Scanner, InLine, scanner_after}
 use Rattle.iio_history.specs.Event.{Event, Arrived}

@@ -9,8 +9,8 @@ use Rattle.iio_mask.specs.declared.Mask.{Mask}
 use Rattle.iio_trigger.specs.Trigger.{Handed, State}
 use Rattle.iio_device.specs.Site.{is_current}
 use Rattle.iiod_session.specs.declared.iio.No.{No}
-use Rattle.iiod_session.specs.Calls.{is_inner_of}
-use Rattle.iiod_session.specs.Machine.{Member, Station}
+use Rattle.iio_core.specs.Calls.{is_inner_of}
+use Rattle.iio_core.specs.Machine.{Member, Station}
 use Rattle.iio_history.specs.Registry.{Capture}
 use Rattle.iio_device.specs.declared.handling.Handled.TheVariants.{Idle}
 use Rattle.iio_system.specs.declared.any_device.Became.TheVariants.{Asked}

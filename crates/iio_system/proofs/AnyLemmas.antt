@@ -9,10 +9,10 @@ use Rattle.iio_desc.specs.Kind.{Kind, Input, Output, Average, is_average, is_inp
 use Rattle.iio_sensor.specs.Driver.{Driver}
 use Rattle.iio_device.specs.declared.plug.Plug.{Plug}
 use Rattle.iio_device.specs.Site.{at_place, is_empty}
-use Rattle.iiod_session.specs.Places.{map_from}
-use Rattle.iiod_session.specs.Calls.{Outcome, all_joined, closed, host_by, inner_gone, inner_joined, inner_left, is_attached, joined, left, open_of, open_refusals, own_host, trigger_by, trigger_of, unless, unless_made, with_inner, without_inner}
-use Rattle.iiod_session.specs.Front.{Front, kind_at, shape_at}
-use Rattle.iiod_session.specs.Machine.{Machine, Station, station_at, with_station}
+use Rattle.iio_core.specs.Lists.{map_from}
+use Rattle.iio_core.specs.Calls.{Outcome, all_joined, closed, host_by, inner_gone, inner_joined, inner_left, is_attached, joined, left, open_of, open_refusals, own_host, trigger_by, trigger_of, unless, unless_made, with_inner, without_inner}
+use Rattle.iio_core.specs.Front.{Front, kind_at, shape_at}
+use Rattle.iio_core.specs.Machine.{Machine, Station, station_at, with_station}
 use Rattle.iio_history.proofs.BenchLists.{placed_from}
 use Rattle.iio_system.specs.declared.any_device.AnyDevice.{AnyDevice}
 use Rattle.iio_system.specs.declared.any_device.AnyDevice.TheVariants as any

@@ -3,8 +3,8 @@ use Rattle.std.proofs.Common.{◌≡◌, ◌⊎◌, ℕ, zero, suc, ◌+◌, ◌
 use Rattle.std.proofs.lemmas.List.{map-set}
 use Rattle.iio_desc.specs.Description.{DeviceHead}
 use Rattle.iio_desc.specs.Kind.{Kind, Input, Output, Average, is_average}
-use Rattle.iiod_session.specs.Machine.{Station, no_station, station_in}
-use Rattle.iiod_session.specs.Places.{map_from}
+use Rattle.iio_core.specs.Machine.{Station, no_station, station_in}
+use Rattle.iio_core.specs.Lists.{map_from}
 use Rattle.iio_system.specs.Averages.{HasInner, IsAveraged, has_inner, kind_in}
 use Rattle.iio_system.specs.Places.{is_hosted}
 use Rattle.iio_system.proofs.ListLemmas.{map_same}

@@ -17,8 +17,8 @@ use Rattle.iiod_session.specs.declared.iio.No.{No}
 use Rattle.iiod_session.specs.declared.iio.No.TheVariants.{Errno as NoErrno, Mem as NoMem}
 use Rattle.iiod_session.specs.declared.iio.Took.{Took}
 use Rattle.iiod_session.specs.declared.iio.Took.TheVariants.{Scan, Empty, Gone}
-use Rattle.iiod_session.specs.Machine.{Member, MemberId, Station, is_id_of, with_scans, with_site}
-use Rattle.iiod_session.specs.Calls.{is_attached, is_inner_of, trigger_answer}
+use Rattle.iio_core.specs.Machine.{Member, MemberId, Station, is_id_of, with_scans, with_site}
+use Rattle.iio_core.specs.Calls.{is_attached, is_inner_of, trigger_answer}
 use Rattle.iio_system.specs.Acting.{Acts, TakesAt, TakesScansAt}
 use Rattle.iio_system.specs.Averages.{has_inner}
 use Rattle.iio_system.specs.Places.{IsBench, IsTrigger, has_in_hand, has_trigger, is_hosted, places_from}

@@ -5,8 +5,8 @@ use Rattle.iiod_grammar.specs.Stream.{Scanned, Scanner, items_from, no_item}
 use Rattle.iiod_session.specs.declared.manner.Going.{Going}
 use Rattle.iiod_session.specs.declared.manner.Going.TheVariants.{On, Waits, Ended}
 use Rattle.iiod_session.specs.declared.manner.Manner.TheVariants.{Script, Server}
-use Rattle.iiod_session.specs.Front.{Front}
-use Rattle.iiod_session.specs.Machine.{Machine}
+use Rattle.iio_core.specs.Front.{Front}
+use Rattle.iio_core.specs.Machine.{Machine}
 use Rattle.iiod_session.specs.Run.{Feeds, FeedTells, State, state_of}
 use Rattle.iiod_session.specs.Seat.{SeatRecord}
 use Rattle.iiod_session.specs.Session.{SessionRecord}

@@ -8,8 +8,8 @@ use Rattle.iiod_grammar.specs.Stream.{AtEnd, InLine, InPayload, Item, End, OfWri
 use Rattle.std.specs.Prelude.{Option, None, Some}
 use Rattle.iiod_session.specs.Acts.{act}
 use Rattle.iiod_session.specs.Desk.{DeskRecord}
-use Rattle.iiod_session.specs.Front.{Front}
-use Rattle.iiod_session.specs.Machine.{Machine}
+use Rattle.iio_core.specs.Front.{Front}
+use Rattle.iio_core.specs.Machine.{Machine}
 use Rattle.iiod_session.specs.Run.{desk_after, machine_after}
 use Rattle.iio_text.specs.declared.errors.Errno.{Errno}
 use Rattle.iio_system.specs.Feeding.{is_at_end}

@@ -2,8 +2,8 @@
 use Rattle.std.proofs.Common.{◌≡◌, ◌↔◌, ℕ, Bool, true, false, cond, List, [], ◌∷◌, ◌++◌, Option, Some, None, refl, sym, ap, ◌∙◌, subst, append_assoc, IsTrue, true≢false}
 use Rattle.iio_text.specs.Escape.{quoted}
 use Rattle.iiod_grammar.specs.Stream.{AtEnd, InLine, InPayload, Scanned, Scanner, items_from, no_item, scanner_after}
-use Rattle.iiod_session.specs.Front.{Front}
-use Rattle.iiod_session.specs.Machine.{Machine}
+use Rattle.iio_core.specs.Front.{Front}
+use Rattle.iio_core.specs.Machine.{Machine}
 use Rattle.iiod_session.specs.Seat.{SeatRecord}
 use Rattle.iiod_session.specs.Session.{SessionRecord}
 use Rattle.iio_history.specs.Registry.{Setup}

@@ -10,9 +10,9 @@ use Rattle.iio_trigger.specs.declared.Polled.TheVariants.{Accepted, Missed}
 use Rattle.iio_trigger.specs.Trigger.{Handed, poll_made}
 use Rattle.iio_device.specs.declared.plug.Plug.{Plug}
 use Rattle.iio_device.specs.Site.{at_place, is_empty}
-use Rattle.iiod_session.specs.Calls.{is_attached}
-use Rattle.iiod_session.specs.Front.{Front, device_name, kind_at, trigger_name}
-use Rattle.iiod_session.specs.Machine.{Machine, Station, station_at}
+use Rattle.iio_core.specs.Calls.{is_attached}
+use Rattle.iio_core.specs.Front.{Front, device_name, kind_at, trigger_name}
+use Rattle.iio_core.specs.Machine.{Machine, Station, station_at}
 use Rattle.iio_history.specs.Event.{Handled, Polled}
 use Rattle.iio_history.specs.Registry.{Setup, Trigger, entries_at, entries_from as told_entries, outlines_of, entry_of, without_entry}
 use Rattle.iio_history.specs.Fold.{handled}

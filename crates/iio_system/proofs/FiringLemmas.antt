@@ -11,7 +11,7 @@ use Rattle.iio_trigger.specs.Trigger.{Handed, Polls, State}
 use Rattle.iio_device.specs.Device.{DeviceView, after_sense, at_site}
 use Rattle.iio_device.specs.Sensing.{sensed, with_sensed}
 use Rattle.iio_device.specs.Site.{at_place, unplugged}
-use Rattle.iiod_session.specs.Machine.{Station, with_site}
+use Rattle.iio_core.specs.Machine.{Station, with_site}
 use Rattle.iio_history.specs.BenchMoves.{bench_entries, polled_by}
 use Rattle.iio_history.specs.Fold.{handled}
 use Rattle.iio_history.specs.Registry.{Trigger, entry_of}

@@ -20,8 +20,8 @@ use Rattle.iio_device.specs.Site.{Site, is_empty, new_site, number_in, site_writ
 use Rattle.iio_trigger.specs.Trigger.{State}
 use Rattle.iio_desc.specs.declared.description.TriggerDesc.{TriggerDesc}
 use Rattle.iio_desc.specs.declared.limits.TheConstants.{MAX_TRIGGERS, MAX_DEVICES}
-use Rattle.iiod_session.specs.Calls.{is_inner_of}
-use Rattle.iiod_session.specs.Machine.{Member, Station, station_in}
+use Rattle.iio_core.specs.Calls.{is_inner_of}
+use Rattle.iio_core.specs.Machine.{Member, Station, station_in}
 use Rattle.iio_probe.specs.Devices.{first_devices, first_driver}
 use Rattle.iio_history.specs.Registry.{Trigger}
 use Rattle.iio_system.specs.First.{first_state, first_station, mean_head_over, mean_station_over, means_over}

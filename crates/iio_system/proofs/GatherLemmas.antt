@@ -9,10 +9,10 @@ use Rattle.iio_derive.specs.Window.{is_filled_by, means_of, sums_with, window_wi
 use Rattle.iio_trigger.specs.Trigger.{Handed, State}
 use Rattle.iio_trigger.specs.declared.rows.Place.{Place}
 use Rattle.iio_device.specs.Site.{is_current, is_empty}
-use Rattle.iiod_session.specs.Calls.{is_attached}
-use Rattle.iiod_session.specs.Front.{Front, kind_at, shape_at}
-use Rattle.iiod_session.specs.Machine.{Machine, Station, no_station, station_at, station_in}
-use Rattle.iiod_session.specs.Places.{map_from}
+use Rattle.iio_core.specs.Calls.{is_attached}
+use Rattle.iio_core.specs.Front.{Front, kind_at, shape_at}
+use Rattle.iio_core.specs.Machine.{Machine, Station, no_station, station_at, station_in}
+use Rattle.iio_core.specs.Lists.{map_from}
 use Rattle.iio_history.specs.Registry.{Capture}
 use Rattle.iio_history.specs.BenchMoves.{gathered_to, mean_made, offered_to, unplugs}
 use Rattle.iio_history.proofs.BenchLists.{same_number}

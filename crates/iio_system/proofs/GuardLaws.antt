@@ -6,8 +6,8 @@ use Rattle.iiod_grammar.specs.Command.{Open, Close, Read, ReadBuf, GetTrig, SetB
 use Rattle.iiod_grammar.specs.Stream.{Item, Said, End, Scanner, items_from}
 use Rattle.iio_desc.specs.Kind.{is_input}
 use Rattle.iiod_session.specs.Desk.{Bare, DeskRecord, desk_of}
-use Rattle.iiod_session.specs.Front.{Front, find_device, kind_at}
-use Rattle.iiod_session.specs.Machine.{Machine}
+use Rattle.iio_core.specs.Front.{Front, find_device, kind_at}
+use Rattle.iio_core.specs.Machine.{Machine}
 use Rattle.iiod_session.specs.Seat.{SeatRecord}
 use Rattle.iiod_session.specs.Session.{SessionRecord}
 use Rattle.iio_device.specs.Site.{is_empty}

@@ -15,8 +15,8 @@ use Rattle.iio_device.specs.Members.{masks_of as masks_of_memberships}
 use Rattle.iio_device.specs.Roster.{Standing}
 use Rattle.iio_device.specs.Site.{is_current}
 use Rattle.iio_layout.specs.Scan.{scan_of}
-use Rattle.iiod_session.specs.Calls.{is_inner_of}
-use Rattle.iiod_session.specs.Machine.{Member, Station}
+use Rattle.iio_core.specs.Calls.{is_inner_of}
+use Rattle.iio_core.specs.Machine.{Member, Station}
 use Rattle.iio_system.specs.Acting.{Keeps}
 use Rattle.iio_system.specs.declared.any_device.Became.TheVariants.{Asked}
 use Rattle.iio_system.specs.Handling.{counted, entry_answer, entry_station, is_due, is_last, kind_handled}

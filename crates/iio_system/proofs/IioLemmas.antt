@@ -31,9 +31,9 @@ use Rattle.iio_attr.specs.declared.attributes.Attr.TheVariants as attr
 use Rattle.iio_attr.specs.Attributes.{is_writable}
 use Rattle.iio_output.specs.Written.{scans_of, taken_of}
 use Rattle.iiod_session.specs.Attributes.{has_attribute}
-use Rattle.iiod_session.specs.Front.{Front, kind_at, shape_at}
-use Rattle.iiod_session.specs.Machine.{Member, MemberId, Station, is_id_of, member_in, scans_in, with_site}
-use Rattle.iiod_session.specs.Calls.{ev_open_answer, ev_read_answer, holds_events, is_asking, is_inner_of, read_answer, trigger_answer, write_scans_at, writes}
+use Rattle.iio_core.specs.Front.{Front, kind_at, shape_at}
+use Rattle.iio_core.specs.Machine.{Member, MemberId, Station, is_id_of, member_in, scans_in, with_site}
+use Rattle.iio_core.specs.Calls.{ev_open_answer, ev_read_answer, holds_events, is_asking, is_inner_of, read_answer, trigger_answer, write_scans_at, writes}
 use Rattle.iiod_session.specs.Target.{MayRead, MayWrite}
 use Rattle.iio_history.specs.Registry.{Trigger}
 use Rattle.iio_system.specs.Acting.{Acts, KeepsCaptures, MayReadOf, Reads, TakesAt, TakesScansAt, Turns, has_member, is_member, lost_in}

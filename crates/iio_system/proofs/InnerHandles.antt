@@ -16,7 +16,7 @@ use Rattle.iio_device.specs.declared.handling.Handled.{Handled}
 use Rattle.iio_device.specs.declared.handling.Handled.TheVariants.{Captured, Fault, Idle}
 use Rattle.iio_device.specs.declared.membership.Membership.{Membership}
 use Rattle.iio_device.specs.Site.{is_empty}
-use Rattle.iiod_session.specs.Machine.{Member, Station}
+use Rattle.iio_core.specs.Machine.{Member, Station}
 use Rattle.iio_history.specs.BenchMoves.{asked_once, offered_to}
 use Rattle.iio_history.specs.Registry.{Capture}
 use Rattle.iio_system.specs.declared.any_device.Became.TheVariants.{Asked}

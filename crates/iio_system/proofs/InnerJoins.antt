@@ -24,8 +24,8 @@ use Rattle.iio_text.specs.declared.errors.Errno.{Errno}
 use Rattle.iio_text.specs.declared.errors.Errno.TheVariants.{EBADF, EINVAL, ENODEV}
 use Rattle.iiod_session.specs.declared.iio.No.{No}
 use Rattle.iiod_session.specs.declared.iio.No.TheVariants.{Errno as NoErrno, Mem as NoMem}
-use Rattle.iiod_session.specs.Calls.{is_inner_of, joined, left, newcomer, remasked, with_mask}
-use Rattle.iiod_session.specs.Machine.{Member, Station, is_seat_of, masks_of, member_in, scans_in, without}
+use Rattle.iio_core.specs.Calls.{is_inner_of, joined, left, newcomer, remasked, with_mask}
+use Rattle.iio_core.specs.Machine.{Member, Station, is_seat_of, masks_of, member_in, scans_in, without}
 use Rattle.iio_system.specs.declared.in_device.Inner.{Inner}
 use Rattle.iio_system.specs.declared.seat.Seat.{Seat}
 use Rattle.iio_system.specs.Acting.{Acts, turned}

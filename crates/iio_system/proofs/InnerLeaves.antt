@@ -12,8 +12,8 @@ use Rattle.iio_device.specs.declared.membership.Membership.{Membership}
 use Rattle.iio_device.specs.declared.totals.Totals.{Totals}
 use Rattle.iio_device.specs.Site.{is_empty}
 use Rattle.iio_device.specs.Totals.{with_left, with_lost}
-use Rattle.iiod_session.specs.Calls.{inner_gone, is_inner_of, left, window_left, with_inner_lost}
-use Rattle.iiod_session.specs.Machine.{Member, Station, is_seat_of, lost_by, without}
+use Rattle.iio_core.specs.Calls.{inner_gone, is_inner_of, left, window_left, with_inner_lost}
+use Rattle.iio_core.specs.Machine.{Member, Station, is_seat_of, lost_by, without}
 use Rattle.iio_system.specs.declared.in_device.Inner.{Inner}
 use Rattle.iio_system.specs.Inner.{AreApart, HasInners, average_of, inner_at, inners_without, number_by, number_of, with_inner_name}
 use Rattle.iio_trigger.specs.Trigger.{State}

@@ -28,8 +28,8 @@ use Rattle.iiod_session.specs.declared.iio.No.{No}
 use Rattle.iiod_session.specs.declared.iio.No.TheVariants.{Errno as NoErrno, Mem as NoMem}
 use Rattle.iiod_session.specs.declared.iio.Took.{Took}
 use Rattle.iiod_session.specs.declared.iio.Took.TheVariants.{Scan, Empty, Gone}
-use Rattle.iiod_session.specs.Calls.{attr_answer, is_asking, left, raw_answer, read_answer, remasked, window_left, with_mask}
-use Rattle.iiod_session.specs.Machine.{Member, MemberId, Station, is_id_of, is_seat_of, lost_by, masks_of, member_in, scans_in, with_scans, with_site, without}
+use Rattle.iio_core.specs.Calls.{attr_answer, is_asking, left, raw_answer, read_answer, remasked, window_left, with_mask}
+use Rattle.iio_core.specs.Machine.{Member, MemberId, Station, is_id_of, is_seat_of, lost_by, masks_of, member_in, scans_in, with_scans, with_site, without}
 use Rattle.iio_system.specs.declared.in_device.Inner.{Inner}
 use Rattle.iio_system.specs.Acting.{Acts, Reads, TakesAt, TakesScansAt, Turns, lost_in}
 use Rattle.iio_system.specs.Faults.{HostsAny, any_refusals, lacks_place}

@@ -15,7 +15,7 @@ use Rattle.iio_trigger.specs.Trigger.{Handed}
 use Rattle.iio_device.specs.declared.membership.Membership.{Membership}
 use Rattle.iio_device.specs.declared.handling.Handled.{Handled}
 use Rattle.iio_device.specs.declared.handling.Handled.TheVariants.{Captured, Fault, Idle}
-use Rattle.iiod_session.specs.Machine.{Member, Station}
+use Rattle.iio_core.specs.Machine.{Member, Station}
 use Rattle.iio_history.specs.Registry.{Capture}
 use Rattle.iio_history.specs.BenchMoves.{asked_once, emptied_of, offered_to}
 use Rattle.iio_system.specs.declared.any_device.Became.TheVariants.{Asked}

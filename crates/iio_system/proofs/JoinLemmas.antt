@@ -21,10 +21,11 @@ use Rattle.iio_device.specs.Joining.{member_faults}
 use Rattle.iio_device.specs.Members.{masks_of as masks_of_memberships}
 use Rattle.iio_device.specs.Site.{is_empty}
 use Rattle.iiod_session.specs.declared.iio.No.{No}
-use Rattle.iiod_session.specs.Front.{Front, place_count}
-use Rattle.iiod_session.specs.Machine.{Station, masks_of}
-use Rattle.iiod_session.specs.Opening.{errno_of, join_refusals, no_of}
-use Rattle.iiod_session.specs.Calls.{attached_count, has_no_place, joined, open_refusals, own_host}
+use Rattle.iio_core.specs.Front.{Front, place_count}
+use Rattle.iio_core.specs.Machine.{Station, masks_of}
+use Rattle.iio_core.specs.Opening.{errno_of, join_refusals}
+use Rattle.iiod_session.specs.No.{no_of}
+use Rattle.iio_core.specs.Calls.{attached_count, has_no_place, joined, open_refusals, own_host}
 use Rattle.iio_history.specs.Devices.{queue_waits}
 use Rattle.iio_history.proofs.DeviceLaws.{agree, joined_is as plain_joined, masks_are as plain_masks}
 use Rattle.iio_system.specs.declared.seat.Seat.{Seat}

@@ -26,7 +26,7 @@ use Rattle.iio_derive.specs.ReadBack.{ReadingLaw}
 use Rattle.iio_derive.specs.Values.{moment_in, value_in, values_in}
 use Rattle.iio_derive.proofs.ReadLemmas.{length-values}
 use Rattle.iio_derive.specs.Window.{added, means_of, no_window, sums_by, sums_with, window_with}
-use Rattle.iiod_session.specs.Machine.{Member, Station, with_site}
+use Rattle.iio_core.specs.Machine.{Member, Station, with_site}
 use Rattle.iio_history.specs.Registry.{Capture}
 use Rattle.iio_history.specs.BenchMoves.{offered_to}
 use Rattle.iio_system.specs.declared.mean_device.MeanSeat.{MeanSeat}

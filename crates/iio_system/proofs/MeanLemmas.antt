@@ -13,11 +13,11 @@ use Rattle.iio_derive.specs.Window.{full_mask}
 use Rattle.iio_trigger.specs.Trigger.{State}
 use Rattle.iio_device.specs.Active.{is_without_union}
 use Rattle.iio_device.specs.Site.{at_place, attached, is_empty}
-use Rattle.iiod_session.specs.Calls.{Host, all_joined, closed, has_no_number, has_no_place, host_by, inner_gone, inner_joined, is_attached, is_inner_of, joined, left, newcomer, open_of, open_refusals, own_host, unless_made, with_inner, without_inner}
-use Rattle.iiod_session.specs.Front.{Front, kind_at, shape_at}
-use Rattle.iiod_session.specs.Machine.{Machine, Member, Station, masks_of, no_station, station_at, is_seat_of, station_in, with_station}
-use Rattle.iiod_session.specs.Opening.{join_refusals}
-use Rattle.iiod_session.specs.Places.{map_from}
+use Rattle.iio_core.specs.Calls.{Host, all_joined, closed, has_no_number, has_no_place, host_by, inner_gone, inner_joined, is_attached, is_inner_of, joined, left, newcomer, open_of, open_refusals, own_host, unless_made, with_inner, without_inner}
+use Rattle.iio_core.specs.Front.{Front, kind_at, shape_at}
+use Rattle.iio_core.specs.Machine.{Machine, Member, Station, masks_of, no_station, station_at, is_seat_of, station_in, with_station}
+use Rattle.iio_core.specs.Opening.{join_refusals}
+use Rattle.iio_core.specs.Lists.{map_from}
 use Rattle.iio_history.proofs.BenchLists.{itself, placed_from, same_number, twice_from}
 use Rattle.iio_system.specs.Averages.{HasInner, has_inner}
 use Rattle.iio_system.specs.Faults.{any_refusals, lacks_place}

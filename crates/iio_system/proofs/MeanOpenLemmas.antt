@@ -21,10 +21,10 @@ use Rattle.iio_device.specs.Active.{is_without_union}
 use Rattle.iio_device.specs.Site.{is_empty, no_driver}
 use Rattle.iiod_session.specs.declared.iio.No.{No}
 use Rattle.iiod_session.specs.declared.iio.No.TheVariants.{Errno as NoErrno, Mem as NoMem}
-use Rattle.iiod_session.specs.Calls.{all_joined, closed, has_no_number, has_no_place, inner_gone, is_inner_of, joined, left, newcomer, open_of, open_refusals, Outcome, unless_made}
-use Rattle.iiod_session.specs.Front.{Front, kind_at, shape_at}
-use Rattle.iiod_session.specs.Machine.{Machine, Member, Station, masks_of, station_at, station_in}
-use Rattle.iiod_session.specs.Opening.{join_refusals}
+use Rattle.iio_core.specs.Calls.{all_joined, closed, has_no_number, has_no_place, inner_gone, is_inner_of, joined, left, newcomer, open_of, open_refusals, Outcome, unless_made}
+use Rattle.iio_core.specs.Front.{Front, kind_at, shape_at}
+use Rattle.iio_core.specs.Machine.{Machine, Member, Station, masks_of, station_at, station_in}
+use Rattle.iio_core.specs.Opening.{join_refusals}
 use Rattle.iiod_session.specs.Seat.{Answers, IsNew, number_by as number_of}
 use Rattle.iio_history.proofs.BenchLists.{same_number}
 use Rattle.iio_system.specs.declared.any_device.AnyDevice.{AnyDevice}

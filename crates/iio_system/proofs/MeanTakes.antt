@@ -18,7 +18,7 @@ use Rattle.iio_derive.specs.Average.{AverageRecord, TakesOf, TakesScansOf}
 use Rattle.iio_derive.specs.Members.{Drains, DrainsScans, member_at}
 use Rattle.iiod_session.specs.declared.iio.Took.{Took}
 use Rattle.iiod_session.specs.declared.iio.Took.TheVariants.{Scan, Empty, Gone}
-use Rattle.iiod_session.specs.Machine.{Member, MemberId, Station, member_in, scans_in, with_scans}
+use Rattle.iio_core.specs.Machine.{Member, MemberId, Station, member_in, scans_in, with_scans}
 use Rattle.iio_system.specs.declared.mean_device.MeanSeat.{MeanSeat}
 use Rattle.iio_system.specs.Acting.{TakesAt, TakesScansAt, lost_in, nothing_at}
 use Rattle.iio_system.specs.Inner.{AreApart}

@@ -20,10 +20,10 @@ use Rattle.iio_device.specs.declared.plug.Plug.{Plug}
 use Rattle.iio_device.specs.Sensing.{sensed}
 use Rattle.iio_device.specs.Site.{at_place, is_current, is_empty}
 use Rattle.iiod_session.specs.Desk.{DeskRecord}
-use Rattle.iiod_session.specs.Calls.{is_attached}
-use Rattle.iiod_session.specs.Front.{Front, device_name, kind_at, shape_at, trigger_name}
-use Rattle.iiod_session.specs.Places.{map_from}
-use Rattle.iiod_session.specs.Machine.{Machine, Station, is_plugged, no_station, station_at, with_station}
+use Rattle.iio_core.specs.Calls.{is_attached}
+use Rattle.iio_core.specs.Front.{Front, device_name, kind_at, shape_at, trigger_name}
+use Rattle.iio_core.specs.Lists.{map_from}
+use Rattle.iio_core.specs.Machine.{Machine, Station, is_plugged, no_station, station_at, with_station}
 use Rattle.iiod_session.specs.Seat.{SeatRecord}
 use Rattle.iio_history.specs.Event.{Event, Arrived, Clock, Dropped, Handled, Heard, Polled, Sensed, Unplugged}
 use Rattle.iio_history.specs.Registry.{Capture, Registry, Setup, Trigger, User, entries_at, entry_of}

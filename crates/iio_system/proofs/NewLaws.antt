@@ -4,8 +4,8 @@ use Rattle.std.specs.Str.{bytes_eq}
 use Rattle.iiod_grammar.specs.Stream.{InLine, items_from, scanner_after}
 use Rattle.iiod_session.specs.declared.manner.Manner.TheVariants.{Script}
 use Rattle.iiod_session.specs.Desk.{DeskRecord, desk_of}
-use Rattle.iiod_session.specs.Front.{Front}
-use Rattle.iiod_session.specs.Machine.{Machine}
+use Rattle.iio_core.specs.Front.{Front}
+use Rattle.iio_core.specs.Machine.{Machine}
 use Rattle.iiod_session.specs.Seat.{SeatRecord}
 use Rattle.iiod_session.specs.Session.{IsFresh, SessionRecord}
 use Rattle.iio_history.specs.Event.{Arrived}

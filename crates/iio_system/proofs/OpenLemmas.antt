@@ -29,11 +29,11 @@ use Rattle.iio_device.specs.Members.{member_of as membership_of}
 use Rattle.iio_device.specs.Site.{Site, attached, is_empty, no_driver}
 use Rattle.iiod_session.specs.declared.iio.No.{No}
 use Rattle.iiod_session.specs.declared.iio.No.TheVariants.{Errno as NoErrno, Mem as NoMem}
-use Rattle.iiod_session.specs.Front.{Front, kind_at, shape_at}
+use Rattle.iio_core.specs.Front.{Front, kind_at, shape_at}
 use Rattle.iio_desc.specs.Description.{DeviceHead}
 use Rattle.iio_desc.specs.Kind.{Kind, Input, Output, Average, is_average}
-use Rattle.iiod_session.specs.Machine.{Machine, Member, Station, is_seat_of, no_station, station_at, station_in, with_station}
-use Rattle.iiod_session.specs.Calls.{closed, inner_gone, is_attached, is_inner_of, joined, left, newcomer, open_of, open_refusals, own_host, trigger_by, trigger_of as trigger_told_of, unless}
+use Rattle.iio_core.specs.Machine.{Machine, Member, Station, is_seat_of, no_station, station_at, station_in, with_station}
+use Rattle.iio_core.specs.Calls.{closed, inner_gone, is_attached, is_inner_of, joined, left, newcomer, open_of, open_refusals, own_host, trigger_by, trigger_of as trigger_told_of, unless}
 use Rattle.iiod_session.specs.Seat.{Answers, IsNew, MayOpen, number_by as number_of}
 use Rattle.iio_history.specs.Devices.{queue_waits}
 use Rattle.iio_history.proofs.DeviceLaws.{left_is as plain_left}

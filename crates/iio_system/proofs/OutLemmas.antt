@@ -28,8 +28,8 @@ use Rattle.iio_device.specs.Sensing.{begun, channel_sensed, channels_sensed, is_
 use Rattle.iio_device.specs.Site.{is_empty, new_site, no_driver}
 use Rattle.iiod_session.specs.declared.iio.No.{No}
 use Rattle.iiod_session.specs.declared.iio.No.TheVariants.{Errno as NoErrno}
-use Rattle.iiod_session.specs.Calls.{bytes_taken, write_refusals, write_scans_at, writes}
-use Rattle.iiod_session.specs.Machine.{Member, MemberId, Station, is_id_of, member_in, with_site}
+use Rattle.iio_core.specs.Calls.{bytes_taken, write_refusals, write_scans_at, writes}
+use Rattle.iio_core.specs.Machine.{Member, MemberId, Station, is_id_of, member_in, with_site}
 use Rattle.iio_output.proofs.Scans.{length-scans_of, whole_is}
 use Rattle.iio_device.specs.declared.handling.Sensed.TheVariants as sense
 use Rattle.iio_system.specs.Handling.{sensed_answer, sensed_station}

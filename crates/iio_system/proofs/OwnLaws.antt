@@ -2,7 +2,7 @@
 use Rattle.std.proofs.Common.{◌≡◌, ℕ, suc, zero, ◌<◌, ◌||◌, Bool, true, false, cond, List, [], ◌∷◌, length, map, get_or, set, Option, Some, option_map, refl, sym, ap, ◌∙◌, subst, append-nil, arith}
 use Rattle.std.specs.Str.{bytes_eq}
 use Rattle.iiod_grammar.specs.Stream.{Item, End}
-use Rattle.iiod_session.specs.Front.{Front}
+use Rattle.iio_core.specs.Front.{Front}
 use Rattle.iiod_session.specs.Seat.{SeatRecord}
 use Rattle.iiod_session.specs.Session.{SessionRecord}
 use Rattle.iio_history.specs.Event.{Heard}

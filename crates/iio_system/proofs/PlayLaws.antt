@@ -6,7 +6,7 @@ use Rattle.std.proofs.lemmas.List.Elements.{All-push}
 use Rattle.std.proofs.lemmas.List.Quantifiers.{position-Some}
 use Rattle.iio_base.specs.declared.Mem.{Mem}
 use Rattle.iiod_grammar.specs.Stream.{Item, items_from}
-use Rattle.iiod_session.specs.Front.{Front}
+use Rattle.iio_core.specs.Front.{Front}
 use Rattle.iiod_session.specs.Session.{SessionRecord}
 use Rattle.iio_sensor.specs.Driver.{Driver}
 use Rattle.iio_device.specs.declared.plug.Plug.{Plug}

@@ -20,9 +20,10 @@ use Rattle.iio_device.specs.Members.{member_of as membership_of}
 use Rattle.iio_device.specs.Site.{is_empty}
 use Rattle.iiod_session.specs.declared.iio.No.{No}
 use Rattle.iiod_session.specs.declared.iio.No.TheVariants.{Errno as NoErrno}
-use Rattle.iiod_session.specs.Calls.{is_inner_of, remask_of, remask_refusals, remasked, with_mask}
-use Rattle.iiod_session.specs.Machine.{Member, MemberId, Station, is_seat_of, member_in, queue_of, scans_in}
-use Rattle.iiod_session.specs.Opening.{remask_errno, remask_no}
+use Rattle.iio_core.specs.Calls.{is_inner_of, remask_of, remask_refusals, remasked, with_mask}
+use Rattle.iio_core.specs.Machine.{Member, MemberId, Station, is_seat_of, member_in, queue_of, scans_in}
+use Rattle.iio_core.specs.Opening.{remask_errno}
+use Rattle.iiod_session.specs.No.{remask_no}
 use Rattle.iiod_session.specs.Seat.{Answers}
 use Rattle.iio_history.specs.Devices.{queue_waits}
 use Rattle.iio_history.proofs.DeviceRemasks.{refusals_are, remasked_is, waited_is}

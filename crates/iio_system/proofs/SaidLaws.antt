@@ -9,8 +9,8 @@ use Rattle.iiod_grammar.specs.Command.{Command as SaidCommand, Exit, Target, Wri
 use Rattle.iiod_grammar.specs.Stream.{Item, Said, Written, Streamed, End, items_from}
 use Rattle.iiod_grammar.specs.View.{command_view}
 use Rattle.iiod_session.specs.declared.watch.Seen.TheVariants.{Command, Refused, TooLong}
-use Rattle.iiod_session.specs.Front.{Front}
-use Rattle.iiod_session.specs.Machine.{Machine}
+use Rattle.iio_core.specs.Front.{Front}
+use Rattle.iio_core.specs.Machine.{Machine}
 use Rattle.iiod_session.specs.Session.{IsPlain, SessionRecord}
 use Rattle.iiod_session.specs.Watch.{IsSeen, IsTooLarge}
 use Rattle.iio_worlds.specs.Bystanders.{may_say}

@@ -12,7 +12,7 @@ use Rattle.iio_derive.specs.declared.members.Membership.{Membership}
 use Rattle.iio_derive.specs.Average.{AverageRecord, has_member}
 use Rattle.iio_derive.specs.Members.{member_at}
 use Rattle.iio_output.specs.Last.{first_last}
-use Rattle.iiod_session.specs.Machine.{Member, Station}
+use Rattle.iio_core.specs.Machine.{Member, Station}
 use Rattle.iio_system.specs.declared.mean_device.MeanSeat.{MeanSeat}
 use Rattle.iio_system.specs.Inner.{AreApart}
 use Rattle.iio_system.specs.MeanStation.{mean_member}

@@ -14,8 +14,8 @@ use Rattle.iio_derive.specs.declared.members.Membership.{Membership}
 use Rattle.iio_derive.specs.Average.{AverageRecord, Joins, Leaves, has_member}
 use Rattle.iio_derive.specs.Members.{member_at}
 use Rattle.iio_derive.specs.Window.{Window, no_window}
-use Rattle.iiod_session.specs.Calls.{joined, left, window_left}
-use Rattle.iiod_session.specs.Machine.{Member, Station, is_seat_of, lost_by, without}
+use Rattle.iio_core.specs.Calls.{joined, left, window_left}
+use Rattle.iio_core.specs.Machine.{Member, Station, is_seat_of, lost_by, without}
 use Rattle.iio_system.specs.declared.mean_device.MeanSeat.{MeanSeat}
 use Rattle.iio_system.specs.Faults.{HasJoined, IsAnew}
 use Rattle.iio_system.specs.Inner.{AreApart}

@@ -5,7 +5,7 @@ use Rattle.iio_sensor.specs.Driver.{Driver}
 use Rattle.iio_layout.specs.Shape.{ShapeRecord}
 use Rattle.iio_desc.specs.Kind.{Kind, Input, Output, Average, is_average, is_unplugged_by}
 use Rattle.iio_device.specs.declared.plug.Plug.{Plug}
-use Rattle.iiod_session.specs.Machine.{Station}
+use Rattle.iio_core.specs.Machine.{Station}
 use Rattle.iio_history.specs.Registry.{Capture}
 use Rattle.iio_system.specs.declared.any_device.AnyDevice.{AnyDevice}
 use Rattle.iio_system.specs.Averages.{HasBases}

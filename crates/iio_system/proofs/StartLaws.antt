@@ -14,10 +14,10 @@ use Rattle.iio_desc.specs.WellFormed.{IsWellFormed, IsWellFormedAverage, IsWellF
 use Rattle.iio_device.specs.declared.plug.Plug.{Plug}
 use Rattle.iio_device.specs.Site.{Site, new_site, number_in, with_attr}
 use Rattle.iio_device.specs.Totals.{no_totals}
-use Rattle.iiod_session.specs.Machine.{Machine, Station as MachineStation}
-use Rattle.iiod_session.specs.Front.{first_front}
+use Rattle.iio_core.specs.Machine.{Machine, Station as MachineStation}
+use Rattle.iio_core.specs.Front.{first_front}
 use Rattle.iio_history.specs.Who.{Who}
-use Rattle.iio_history.specs.Places.{map_from}
+use Rattle.iio_core.specs.Lists.{map_from}
 use Rattle.iio_history.specs.Registry.{Device, Member as ToldMember, Setup}
 use Rattle.iio_history.specs.Fold.{first_average, first_device, first_devices, first_driver, first_output}
 use Rattle.iio_history.specs.Told.{Seat, last_of, seat_told, station_told, told}

@@ -15,7 +15,7 @@ use Rattle.iio_device.specs.declared.membership.Membership.{Membership}
 use Rattle.iio_device.specs.Device.{DeviceView}
 use Rattle.iio_device.specs.Members.{member_of as membership_of}
 use Rattle.iio_device.specs.Roster.{Standing, Takes, is_size_of}
-use Rattle.iiod_session.specs.Machine.{Member, Station}
+use Rattle.iio_core.specs.Machine.{Member, Station}
 use Rattle.iio_system.specs.declared.in_device.Inner.{Inner}
 use Rattle.iio_system.specs.Acting.{KeepsCaptures}
 use Rattle.iio_system.specs.Inner.{AreApart, AreThere, AreWhole, HasRoom, inner_at, number_of}

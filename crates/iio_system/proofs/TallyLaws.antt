@@ -7,8 +7,8 @@ use Rattle.iio_desc.specs.Description.{DeviceHead, heads_of}
 use Rattle.iio_desc.specs.Kind.{Kind, is_input, is_output}
 use Rattle.iio_sensor.specs.Driver.{Driver}
 use Rattle.iio_device.specs.declared.plug.Plug.{Plug}
-use Rattle.iiod_session.specs.Front.{Front}
-use Rattle.iiod_session.specs.Machine.{Machine, Member, Station}
+use Rattle.iio_core.specs.Front.{Front}
+use Rattle.iio_core.specs.Machine.{Machine, Member, Station}
 use Rattle.iio_history.specs.Event.{Event}
 use Rattle.iio_history.specs.Registry.{Setup}
 use Rattle.iio_history.specs.Told.{Seat, Station as ToldStation, told}

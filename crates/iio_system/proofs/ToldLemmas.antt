@@ -23,9 +23,9 @@ use Rattle.iiod_session.specs.declared.iio.Took.{Took}
 use Rattle.iiod_session.specs.declared.iio.Took.TheVariants.{Scan, Empty, Gone}
 use Rattle.iio_desc.specs.Description.{DeviceHead, no_shape}
 use Rattle.iio_desc.specs.Kind.{Input}
-use Rattle.iiod_session.specs.Front.{Front, device_name, kind_at, shape_at, size_at, trigger_name}
-use Rattle.iiod_session.specs.Machine.{Machine, MemberId, Station, is_plugged, lost_of, no_station, queue_of, scans_in, station_at, with_queue, with_scans, with_site, with_station}
-use Rattle.iiod_session.specs.Calls.{ev_close_of, ev_open_answer, ev_open_of, ev_read_answer, ev_read_of, holds_events, is_asking, read_attr_of, set_trigger_of, trigger_answer, unless, write_attr_of, write_scans_at, write_scans_of, writes}
+use Rattle.iio_core.specs.Front.{Front, device_name, kind_at, shape_at, size_at, trigger_name}
+use Rattle.iio_core.specs.Machine.{Machine, MemberId, Station, is_plugged, lost_of, no_station, queue_of, scans_in, station_at, with_queue, with_scans, with_site, with_station}
+use Rattle.iio_core.specs.Calls.{ev_close_of, ev_open_answer, ev_open_of, ev_read_answer, ev_read_of, holds_events, is_asking, read_attr_of, set_trigger_of, trigger_answer, unless, write_attr_of, write_scans_at, write_scans_of, writes}
 use Rattle.iiod_session.specs.Reading.{TakesScans}
 use Rattle.iiod_session.specs.Seat.{Answers, SeatRecord, Takes, seat_id}
 use Rattle.iio_system.specs.Acting.{Acts, Reads, TakesAt, TakesScansAt, Turns, lost_in}

@@ -8,7 +8,7 @@ use Rattle.iio_trigger.specs.declared.rows.Entry.{Entry}
 use Rattle.iio_trigger.specs.declared.Polled.{Polled}
 use Rattle.iio_trigger.specs.declared.Polled.TheVariants.{Accepted, Missed}
 use Rattle.iio_trigger.specs.Trigger.{Handed, Polls, State, after_poll, due_of, entries_at, is_waiting, missed_after, poll_made, with_in_hand, without_entry as without_entry_of}
-use Rattle.iiod_session.specs.Machine.{Station}
+use Rattle.iio_core.specs.Machine.{Station}
 use Rattle.iio_history.specs.BenchMoves.{bench_entries, polled_by}
 use Rattle.iio_history.specs.Fold.{handled}
 use Rattle.iio_history.specs.Registry.{Trigger, entry_of}

@@ -12,9 +12,9 @@ use Rattle.iio_trigger.specs.Trigger.{Handed, State}
 use Rattle.iio_device.specs.declared.plug.Plug.{Plug}
 use Rattle.iio_device.specs.declared.handling.Handled.TheVariants.{Captured, Fault, Idle}
 use Rattle.iio_device.specs.Site.{is_current, is_empty, no_driver}
-use Rattle.iiod_session.specs.Calls.{is_inner_of}
-use Rattle.iiod_session.specs.Front.{Front, kind_at, shape_at}
-use Rattle.iiod_session.specs.Machine.{Machine, Member, Station, station_in}
+use Rattle.iio_core.specs.Calls.{is_inner_of}
+use Rattle.iio_core.specs.Front.{Front, kind_at, shape_at}
+use Rattle.iio_core.specs.Machine.{Machine, Member, Station, station_in}
 use Rattle.iio_history.specs.Registry.{Capture}
 use Rattle.iio_history.specs.BenchMoves.{gathered_to, unplugs}
 use Rattle.iio_history.proofs.BenchLists.{itself, same_number}

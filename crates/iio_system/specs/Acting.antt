@@ -20,8 +20,8 @@ use Rattle.iiod_session.specs.declared.iio.No.TheVariants.{Errno as NoErrno, Mem
 use Rattle.iiod_session.specs.declared.iio.Took.{Took}
 use Rattle.iiod_session.specs.declared.iio.Took.TheVariants.{Scan, Empty, Gone}
 use Rattle.iiod_session.specs.Attributes.{has_attribute}
-use Rattle.iiod_session.specs.Calls.{is_asking, read_answer}
-use Rattle.iiod_session.specs.Machine.{Member, MemberId, Station, member_in, scans_in, with_scans, with_site}
+use Rattle.iio_core.specs.Calls.{is_asking, read_answer}
+use Rattle.iio_core.specs.Machine.{Member, MemberId, Station, member_in, scans_in, with_scans, with_site}
 use Rattle.iio_system.specs.Station.{station_of}
 
 -- the answer is `answer`, and the device is `after` then; want of memory changes nothing

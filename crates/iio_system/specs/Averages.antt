@@ -6,8 +6,8 @@ use Rattle.iio_layout.specs.Shape.{ShapeRecord}
 use Rattle.iio_desc.specs.Description.{DeviceHead, no_shape, shape_of_means}
 use Rattle.iio_desc.specs.Kind.{Kind, Input, Average, is_average}
 use Rattle.iio_device.specs.Site.{is_empty}
-use Rattle.iiod_session.specs.Calls.{is_inner_of}
-use Rattle.iiod_session.specs.Machine.{Station, station_in}
+use Rattle.iio_core.specs.Calls.{is_inner_of}
+use Rattle.iio_core.specs.Machine.{Station, station_in}
 use Rattle.iio_system.specs.Places.{is_hosted}
 
 -- the kind and the shape of a device, as a front has them

@@ -3,8 +3,8 @@ use Rattle.std.specs.Prelude.{◌≡◌, ℕ, true, List, ◌++◌, length, Opti
 use Rattle.iiod_grammar.specs.Stream.{Scanner, items_from, no_item, scanner_after}
 use Rattle.iiod_session.specs.declared.manner.Manner.TheVariants.{Script}
 use Rattle.iiod_session.specs.Desk.{desk_of}
-use Rattle.iiod_session.specs.Front.{Front}
-use Rattle.iiod_session.specs.Machine.{Machine}
+use Rattle.iio_core.specs.Front.{Front}
+use Rattle.iio_core.specs.Machine.{Machine}
 use Rattle.iiod_session.specs.Seat.{SeatRecord}
 use Rattle.iiod_session.specs.Session.{SessionRecord}
 use Rattle.iio_history.specs.Registry.{Setup}

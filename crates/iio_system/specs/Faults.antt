@@ -22,9 +22,9 @@ use Rattle.std.specs.List.{list_any}
 use Rattle.iio_desc.specs.Description.{DeviceHead}
 use Rattle.iio_desc.specs.Kind.{Kind, is_input, is_output}
 use Rattle.iio_derive.specs.Window.{full_mask, no_window}
-use Rattle.iiod_session.specs.Calls.{is_inner_of, joined}
-use Rattle.iiod_session.specs.Machine.{Station, masks_of as masks_told}
-use Rattle.iiod_session.specs.Opening.{join_refusals}
+use Rattle.iio_core.specs.Calls.{is_inner_of, joined}
+use Rattle.iio_core.specs.Machine.{Station, masks_of as masks_told}
+use Rattle.iio_core.specs.Opening.{join_refusals}
 use Rattle.iio_system.specs.declared.seat.Seat.{Seat}
 use Rattle.iio_system.specs.Places.{place_taken}
 

@@ -10,7 +10,7 @@ use Rattle.iio_device.specs.Totals.{no_totals}
 use Rattle.iio_derive.specs.Window.{no_window}
 use Rattle.iio_output.specs.Last.{first_last}
 use Rattle.iio_probe.specs.Devices.{first_driver}
-use Rattle.iiod_session.specs.Machine.{Machine, Station}
+use Rattle.iio_core.specs.Machine.{Machine, Station}
 use Rattle.iio_layout.specs.Shape.{ShapeRecord}
 use Rattle.iio_history.specs.Registry.{Trigger}
 use Rattle.iio_system.specs.Averages.{shape_in}

@@ -9,8 +9,8 @@ use Rattle.iiod_grammar.specs.Command.{Command, Exit, Write, WriteBuf}
 use Rattle.iiod_grammar.specs.Stream.{Item, Said, Written, Streamed, End, Scanner, items_from}
 use Rattle.iio_desc.specs.Kind.{is_input}
 use Rattle.iiod_session.specs.Desk.{DeskRecord, desk_of}
-use Rattle.iiod_session.specs.Front.{Front, kind_at}
-use Rattle.iiod_session.specs.Machine.{Machine}
+use Rattle.iio_core.specs.Front.{Front, kind_at}
+use Rattle.iio_core.specs.Machine.{Machine}
 use Rattle.iiod_session.specs.Seat.{SeatRecord}
 use Rattle.iiod_session.specs.Session.{SessionRecord}
 use Rattle.iio_history.specs.Registry.{Setup}

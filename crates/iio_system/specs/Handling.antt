@@ -19,9 +19,9 @@ use Rattle.iio_device.specs.declared.handling.Sensed.{Sensed}
 use Rattle.iio_device.specs.declared.handling.Sensed.TheVariants as sense
 use Rattle.iio_device.specs.Sensing.{sensed, with_sensed}
 use Rattle.iio_device.specs.Site.{is_current, unplugged}
-use Rattle.iiod_session.specs.Front.{Front, kind_at, shape_at}
-use Rattle.iiod_session.specs.Machine.{Machine, Member, Station, station_at, with_site}
-use Rattle.iiod_session.specs.Places.{map_from}
+use Rattle.iio_core.specs.Front.{Front, kind_at, shape_at}
+use Rattle.iio_core.specs.Machine.{Machine, Member, Station, station_at, with_site}
+use Rattle.iio_core.specs.Lists.{map_from}
 use Rattle.iio_history.specs.BenchMoves.{capture_in, entry_made, gathered_to, next_of, unplugs}
 use Rattle.iio_history.specs.Devices.{handled_answer}
 use Rattle.iio_history.specs.Registry.{Capture}

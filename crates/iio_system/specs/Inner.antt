@@ -9,7 +9,7 @@ use Rattle.iio_derive.specs.Window.{full_mask}
 use Rattle.iio_device.specs.declared.membership.Membership.{Membership}
 use Rattle.iio_device.specs.Members.{is_live}
 use Rattle.iio_device.specs.Site.{is_empty}
-use Rattle.iiod_session.specs.Machine.{Member}
+use Rattle.iio_core.specs.Machine.{Member}
 use Rattle.iio_system.specs.declared.in_device.Inner.{Inner}
 
 abbrev pub number_of : Inner → ℕ

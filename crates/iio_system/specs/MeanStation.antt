@@ -11,7 +11,7 @@ use Rattle.iio_output.specs.Last.{first_last}
 use Rattle.iio_layout.specs.Shape.{ShapeRecord}
 use Rattle.iio_device.specs.Site.{new_site, no_driver}
 use Rattle.iio_device.specs.Totals.{no_totals}
-use Rattle.iiod_session.specs.Machine.{Member, Station}
+use Rattle.iio_core.specs.Machine.{Member, Station}
 use Rattle.iio_system.specs.declared.mean_device.MeanDevice.{MeanDevice}
 use Rattle.iio_system.specs.declared.mean_device.MeanSeat.{MeanSeat}
 

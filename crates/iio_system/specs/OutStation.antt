@@ -12,7 +12,7 @@ use Rattle.iio_device.specs.Site.{is_empty, new_site, no_driver}
 use Rattle.iio_device.specs.Totals.{no_totals}
 use Rattle.iiod_session.specs.declared.iio.No.{No}
 use Rattle.iiod_session.specs.declared.iio.No.TheVariants.{Errno as NoErrno}
-use Rattle.iiod_session.specs.Machine.{Member, Station}
+use Rattle.iio_core.specs.Machine.{Member, Station}
 use Rattle.iio_system.specs.declared.out_device.OutDevice.{OutDevice}
 
 -- its writer as a member, which has lost as many as its underruns are

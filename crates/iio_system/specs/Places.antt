@@ -10,9 +10,9 @@ use Rattle.iio_trigger.specs.Trigger.{Handed, State, missed_after, with_place, w
 use Rattle.iio_desc.specs.declared.description.TriggerDesc.{TriggerDesc}
 use Rattle.iio_desc.specs.declared.limits.TheConstants.{MAX_TRIGGERS, MAX_DEVICES}
 use Rattle.iio_device.specs.Site.{is_empty}
-use Rattle.iiod_session.specs.Machine.{Station}
+use Rattle.iio_core.specs.Machine.{Station}
 use Rattle.iio_history.specs.Registry.{Trigger}
-use Rattle.iiod_session.specs.Calls.{is_attached}
+use Rattle.iio_core.specs.Calls.{is_attached}
 
 -- an entry of the code, and its trigger, as they are told
 abbrev pub handed_of : Entry → Handed

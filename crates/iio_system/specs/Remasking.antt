@@ -3,8 +3,8 @@ use Rattle.std.specs.Prelude.{ℕ, length, Result}
 use Rattle.iio_base.specs.Refusals.{first_refusal, unless_refused}
 use Rattle.iio_text.specs.declared.errors.Errno.{Errno}
 use Rattle.iio_layout.specs.Shape.{ShapeRecord}
-use Rattle.iiod_session.specs.Calls.{remask_refusals}
-use Rattle.iiod_session.specs.Machine.{MemberId, Station, scans_in}
+use Rattle.iio_core.specs.Calls.{remask_refusals}
+use Rattle.iio_core.specs.Machine.{MemberId, Station, scans_in}
 
 -- how many scans waited for the member, or why it can't have that mask
 abbrev pub remask_answer : ShapeRecord → Station → MemberId → ℕ → Result ℕ Errno

@@ -8,7 +8,7 @@ use Rattle.iio_derive.specs.Average.{AverageRecord}
 use Rattle.iio_derive.specs.Members.{member_at}
 use Rattle.iio_derive.specs.Window.{Window}
 use Rattle.iio_device.specs.Site.{is_empty}
-use Rattle.iiod_session.specs.Machine.{MemberId}
+use Rattle.iio_core.specs.Machine.{MemberId}
 use Rattle.iio_system.specs.Inner.{AreApart}
 use Rattle.iio_system.specs.declared.mean_device.MeanSeat.{MeanSeat}
 

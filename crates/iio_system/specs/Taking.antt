@@ -2,7 +2,7 @@
 use Rattle.std.specs.Prelude.{◌≡◌, ℕ, true, false, ◌∷◌, List, [], map, drop, is_some, if◌then◌else◌}
 use Rattle.std.specs.List.{AllByRecursion}
 use Rattle.iio_device.specs.Site.{is_empty}
-use Rattle.iiod_session.specs.Machine.{Member, Station}
+use Rattle.iio_core.specs.Machine.{Member, Station}
 use Rattle.iio_system.specs.declared.in_device.Inner.{Inner}
 use Rattle.iio_system.specs.Inner.{inner_at}
 

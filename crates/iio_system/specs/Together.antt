@@ -8,7 +8,7 @@ use Rattle.iio_derive.specs.Window.{full_mask}
 use Rattle.iio_sensor.specs.Driver.{Driver}
 use Rattle.iio_device.specs.declared.plug.Plug.{Plug}
 use Rattle.iio_device.specs.Site.{is_empty}
-use Rattle.iiod_session.specs.Machine.{Station}
+use Rattle.iio_core.specs.Machine.{Station}
 use Rattle.iio_history.specs.Registry.{Capture}
 use Rattle.iio_history.specs.BenchMoves.{gathered_to}
 use Rattle.iio_device.specs.declared.handling.Handled.TheVariants.{Captured}

@@ -3,8 +3,8 @@
 ghost use Rattle.std.specs.Prelude.{◌≡◌, ◌<◌, ◌&&◌, not, ⊤, length};
 ghost use Rattle.iio_desc.specs.Kind.{is_average};
 ghost use Rattle.iio_device.specs.Site.{at_place};
-ghost use Rattle.iiod_session.specs.Front.{kind_at, shape_at};
-ghost use Rattle.iiod_session.specs.Machine.{is_plugged, station_at, with_station};
+ghost use Rattle.iio_core.specs.Front.{kind_at, shape_at};
+ghost use Rattle.iio_core.specs.Machine.{is_plugged, station_at, with_station};
 ghost use Rattle.iio_history.specs.BenchMoves.{bench_entries, polled_by};
 ghost use Rattle.iio_history.specs.Fold.{handled};
 ghost use Rattle.iio_history.specs.Registry.{entry_of};

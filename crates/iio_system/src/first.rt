@@ -6,7 +6,7 @@ ghost use Rattle.iio_desc.specs.WellFormed.{HasPlaces, IsWellFormed, IsWellForme
 ghost use Rattle.iio_desc.specs.declared.limits.TheConstants.{MAX_DEVICES};
 ghost use Rattle.iio_device.specs.declared.plug.Plug.TheVariants.{Given};
 ghost use Rattle.iio_probe.specs.Devices.{IsFit};
-ghost use Rattle.iiod_session.specs.Front.{first_front};
+ghost use Rattle.iio_core.specs.Front.{first_front};
 ghost use Rattle.iio_system.specs.First.{first_machine, first_state, first_station, first_triggers, mean_head_over, mean_station_over};
 ghost use Rattle.iio_system.specs.OutStation.{first_out_station};
 ghost use Rattle.iio_system.specs.Bench.{front_of, machine_of, triggers_of};

@@ -6,7 +6,7 @@ ghost use Rattle.iio_desc.specs.Kind.{is_input};
 ghost use Rattle.iiod_grammar.specs.Stream.{Item, Said};
 ghost use Rattle.iiod_grammar.specs.View.{command_view};
 ghost use Rattle.iiod_session.specs.Desk.{DeskRecord};
-ghost use Rattle.iiod_session.specs.Front.{find_device, kind_at};
+ghost use Rattle.iio_core.specs.Front.{find_device, kind_at};
 ghost use Rattle.iiod_session.specs.Watch.{IsSeen};
 ghost use Rattle.iio_worlds.specs.Bystanders.{may_say};
 ghost use Rattle.iio_worlds.specs.Stance.{by_number, item_meets, may_part, none_seated, one_seated, opens_by, own_has};

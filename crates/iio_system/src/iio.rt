@@ -168,7 +168,7 @@ impl Iio for Bench {
         }
     }
 
-    #[tactic(auto, unfolding(iiod_session::specs::Front::find_trigger))]
+    #[tactic(auto, unfolding(iio_core::specs::Front::find_trigger))]
     fn find_trigger(&self, name: &[u8]) -> Option<u32> {
         let number = trigger_number(&self.described, name)?;
         Some(number as u32)

@@ -3,7 +3,7 @@
 
 ghost use Rattle.std.specs.Prelude.{◌≡◌, ◌++◌, ◌<◌, ◌≤◌, List, [], ◌∷◌, OnOk, codes, length};
 ghost use Rattle.iio_desc.specs.declared.limits.TheConstants.{MAX_DEVICES};
-ghost use Rattle.iiod_session.specs.Front.{device_name, trigger_name};
+ghost use Rattle.iio_core.specs.Front.{device_name, trigger_name};
 ghost use Rattle.iio_history.specs.Transcript.{Fire, Handle, Poll, Sense, SetClock, Unplug, printed};
 ghost use Rattle.iio_system.specs.declared.connection.Connection.{Connection};
 ghost use Rattle.iio_system.specs.declared.seat.Seat.{Seat};

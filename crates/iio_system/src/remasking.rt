@@ -5,7 +5,7 @@ ghost use Rattle.iio_kfifo.specs.declared.limits.TheConstants.{MAX_BYTES};
 ghost use Rattle.iio_layout.specs.Active.{has_data};
 ghost use Rattle.iio_layout.specs.Layout.{scan_size};
 ghost use Rattle.iio_layout.specs.Shape.{count_of};
-ghost use Rattle.iiod_session.specs.Calls.{remasked};
+ghost use Rattle.iio_core.specs.Calls.{remasked};
 ghost use Rattle.iio_system.specs.Acting.{Acts, KeepsCaptures, has_member, id_of};
 ghost use Rattle.iio_system.specs.Remasking.{remask_answer};
 ghost use Rattle.iio_system.specs.Station.{station_by, view_by};

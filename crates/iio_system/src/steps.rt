@@ -5,7 +5,7 @@ ghost use Rattle.iio_scan_type.specs.Format.{size_of};
 ghost use Rattle.iio_desc.specs.Description.{DeviceHead};
 ghost use Rattle.iio_desc.specs.WellFormed.{IsWellFormed};
 ghost use Rattle.iio_device.specs.declared.plug.Plug.TheVariants.{Given};
-ghost use Rattle.iiod_session.specs.Front.{first_front};
+ghost use Rattle.iio_core.specs.Front.{first_front};
 ghost use Rattle.iio_history.specs.Bench.{Every, HasDeviceSizes};
 ghost use Rattle.iio_history.specs.Event.{Event};
 ghost use Rattle.iio_history.specs.Registry.{Setup};

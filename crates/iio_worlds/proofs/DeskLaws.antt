@@ -12,7 +12,7 @@ use Rattle.iio_device.specs.Site.{is_empty}
 use Rattle.iiod_grammar.specs.Command.{Close, Remask}
 use Rattle.iiod_grammar.specs.Stream.{Item, Said, End, items_from}
 use Rattle.iiod_session.specs.Desk.{Bare, DeskRecord}
-use Rattle.iiod_session.specs.Front.{find_device, kind_at}
+use Rattle.iio_core.specs.Front.{find_device, kind_at}
 use Rattle.iio_history.specs.Who.{Who, Conn, Inner, same}
 use Rattle.iio_history.specs.Registry.{Setup, Member, Device, is_member, has_ended}
 use Rattle.iio_history.specs.Told.{Station, Told, device_of, registry_of}

@@ -8,7 +8,7 @@ use Rattle.iio_text.specs.declared.errors.Errno.{Errno}
 use Rattle.iio_desc.specs.Description.{find_device}
 use Rattle.iiod_grammar.specs.Command.{Open, Close, Read, ReadBuf, GetTrig, SetTrig, SetBuffers, Remask, EvOpen, EvRead, EvClose}
 use Rattle.iiod_grammar.specs.Stream.{Item, Said, Written, Streamed, End}
-use Rattle.iio_history.specs.Places.{map_from}
+use Rattle.iio_core.specs.Lists.{map_from}
 use Rattle.iio_history.specs.Who.{Who, Conn, Inner, same, is_among}
 use Rattle.iio_history.specs.Event.{Event, Arrived, Heard, Dropped}
 use Rattle.iio_history.specs.Registry.{Setup, Member, Device, Registry, outline_of, buffers_of, is_left_empty, is_member, is_named, without_members}

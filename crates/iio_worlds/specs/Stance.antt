@@ -6,8 +6,8 @@ use Rattle.iiod_grammar.specs.Stream.{Item, Said, End, items_from}
 use Rattle.iio_desc.specs.Description.{Description, find_device}
 use Rattle.iio_desc.specs.Kind.{is_input}
 use Rattle.iiod_session.specs.Desk.{DeskRecord}
-use Rattle.iiod_session.specs.Front.{Front}
-use Rattle.iiod_session.specs.Front as front_spec
+use Rattle.iio_core.specs.Front.{Front}
+use Rattle.iio_core.specs.Front as front_spec
 use Rattle.iio_device.specs.Site.{is_empty}
 use Rattle.iio_history.specs.Who.{Conn}
 use Rattle.iio_history.specs.Event.{Event}

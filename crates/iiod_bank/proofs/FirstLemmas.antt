@@ -14,7 +14,7 @@ use Rattle.iio_desc.specs.declared.description.TriggerDesc.{TriggerDesc}
 use Rattle.iio_device.specs.declared.device.Fitted.{Fitted}
 use Rattle.iio_device.specs.declared.iio_dev.IioDev.{IioDev}
 use Rattle.iio_device.specs.declared.plug.Plug.{Plug}
-use Rattle.iiod_session.specs.Front.{Front, shape_at}
+use Rattle.iio_core.specs.Front.{Front, shape_at}
 use Rattle.iio_kfifo.specs.Ends.{WriterEnd}
 use Rattle.iio_base.specs.declared.Mem.{Mem}
 use Rattle.iiod_bank.specs.declared.first.Parts.{Parts}

@@ -7,7 +7,7 @@ use Rattle.std.proofs.lemmas.Option.{slice_get_read, slice_get_past}
 use Rattle.iio_desc.specs.Description.{DeviceHead, no_shape}
 use Rattle.iio_desc.specs.Kind.{Kind, Input}
 use Rattle.iio_desc.specs.declared.description.TriggerDesc.{TriggerDesc}
-use Rattle.iiod_session.specs.Front.{Front, kind_at, shape_at, trigger_name}
+use Rattle.iio_core.specs.Front.{Front, kind_at, shape_at, trigger_name}
 use Rattle.iiod_bank.specs.declared.front.Face.{Face}
 use Rattle.iiod_bank.specs.declared.front.HubFront.{HubFront}
 use Rattle.iiod_bank.specs.FrontOf.{face_of, front_of}

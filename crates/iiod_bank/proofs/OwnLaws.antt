@@ -9,7 +9,7 @@ use Rattle.iio_device.specs.declared.device.Fitted.{Fitted}
 use Rattle.iio_device.specs.declared.iio_dev.IioDev.{IioDev}
 use Rattle.iio_device.specs.declared.plug.Plug.{Plug}
 use Rattle.iio_device.specs.Device.{DeviceView}
-use Rattle.iiod_session.specs.Front.{shape_at}
+use Rattle.iio_core.specs.Front.{shape_at}
 use Rattle.iio_kfifo.specs.Ends.{WriterEnd}
 use Rattle.iiod_bank.specs.declared.front.HubFront.{HubFront}
 use Rattle.iiod_bank.specs.FrontOf.{front_of, face_of}

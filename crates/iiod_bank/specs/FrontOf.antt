@@ -4,7 +4,7 @@ use Rattle.iio_desc.specs.Description.{Description, DeviceHead, input_head}
 use Rattle.iio_desc.specs.Kind.{Input}
 use Rattle.iiod_bank.specs.declared.front.Face.{Face}
 use Rattle.iiod_bank.specs.declared.front.HubFront.{HubFront}
-use Rattle.iiod_session.specs.Front.{Front, first_front}
+use Rattle.iio_core.specs.Front.{Front, first_front}
 
 abbrev pub face_of : Face → DeviceHead
 face_of f = record { name = f.name; kind = Input; shape = f.shape }

@@ -23,7 +23,7 @@ use Rattle.iio_device.specs.Device.{DeviceView, LeavesDevice, RemasksDevice, aft
 use Rattle.iio_device.specs.Members.{first_number, member_of}
 use Rattle.iio_device.specs.Site.{unplugged, with_monitor}
 use Rattle.iio_device.specs.Stored.{attr_value}
-use Rattle.iiod_session.specs.Opening.{errno_of, remask_errno}
+use Rattle.iio_core.specs.Opening.{errno_of, remask_errno}
 use Rattle.iiod_session.specs.declared.iio.No.{No}
 use Rattle.iiod_session.specs.declared.iio.No.TheVariants.{Errno as NoErrno, Mem as NoMem}
 use Rattle.iio_kfifo.specs.Ends.{WriterEnd}

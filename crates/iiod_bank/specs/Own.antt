@@ -4,7 +4,7 @@ use Rattle.iio_kfifo.specs.declared.tail.Tail.{Ghosts}
 use Rattle.iio_desc.specs.declared.limits.TheConstants.{MAX_TRIGGERS}
 use Rattle.iio_device.specs.declared.device.Fitted.{Fitted}
 use Rattle.iio_device.specs.declared.iio_dev.IioDev.{IioDev}
-use Rattle.iiod_session.specs.Front.{shape_at}
+use Rattle.iio_core.specs.Front.{shape_at}
 use Rattle.iio_kfifo.specs.Ends.{WriterEnd}
 use Rattle.iiod_bank.specs.declared.front.HubFront.{HubFront}
 use Rattle.iiod_bank.specs.FrontOf.{front_of}

@@ -116,7 +116,7 @@ pub trait TriggerJob {
 /// What lends the devices and triggers of a hub.
 pub trait Bank {
     ghost use Rattle.iio_desc.specs.declared.limits.TheConstants.{MAX_TRIGGERS};
-    ghost use Rattle.iiod_session.specs.Front.{Front, shape_at};
+    ghost use Rattle.iio_core.specs.Front.{Front, shape_at};
     ghost use Rattle.iiod_bank.specs.FrontOf.{front_of};
     ghost use Rattle.iiod_bank.specs.Told.{Told, Allowed, AllowedAt, Moves, Ran, RanAt, is_plugged_at, trigger_number_at};
 

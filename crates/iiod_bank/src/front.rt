@@ -44,7 +44,7 @@ fn trigger_number(triggers: &[TriggerDesc], name: &[u8]) -> Option<usize>
 
 impl HubFront {
     ghost use Rattle.iio_desc.specs.Kind.{is_average, is_output};
-    ghost use Rattle.iiod_session.specs.Front.{find_device, find_trigger, kind_at, shape_at, trigger_name};
+    ghost use Rattle.iio_core.specs.Front.{find_device, find_trigger, kind_at, shape_at, trigger_name};
     ghost use Rattle.iiod_bank.specs.FrontOf.{front_of};
 
     /// The number of the device of that name.
@@ -59,7 +59,7 @@ impl HubFront {
     }
 
     /// The number of the trigger of that name.
-    #[tactic(auto, unfolding(iiod_session::specs::Front::find_trigger))]
+    #[tactic(auto, unfolding(iio_core::specs::Front::find_trigger))]
     pub fn find_trigger(&self, name: &[u8]) -> Option<u32>
         ensures value { result ≡ find_trigger (front_of self.now) name.now }
         ensures within { IfSome result (λ trigger. trigger < MAX_TRIGGERS) }

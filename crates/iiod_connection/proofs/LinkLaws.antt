@@ -2,7 +2,7 @@
 use Rattle.std.proofs.Common.{◌≡◌, ℕ, List, [], ◌++◌, take, drop, Option, Some, None, IfSome, Err, Ok, refl, sym, ap, subst, ◌∙◌, append_assoc}
 use Rattle.std.specs.Prelude.{⊤}
 use Rattle.iio_io.specs.Bytes.{Takes}
-use Rattle.iiod_session.specs.Front.{Front}
+use Rattle.iio_core.specs.Front.{Front}
 use Rattle.iiod_connection.specs.declared.session_end.SessionEnd.{SessionEnd}
 use Rattle.iiod_connection.specs.declared.session_end.SessionEnd.TheVariants.{Eof, Ended, LinkFault, Memory}
 use Rattle.iiod_connection.specs.Place.{Place}

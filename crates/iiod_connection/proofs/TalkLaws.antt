@@ -16,7 +16,7 @@ use Rattle.iiod_session.specs.Performs.{IsReadOf}
 use Rattle.iiod_session.specs.Run.{Feeds}
 use Rattle.iio_desc.specs.Description.{no_shape}
 use Rattle.iio_desc.specs.Kind.{Input}
-use Rattle.iiod_session.specs.Front.{Front, find_device}
+use Rattle.iio_core.specs.Front.{Front, find_device}
 use Rattle.iio_io.specs.Bytes.{WritesPart}
 use Rattle.iiod_connection.specs.declared.session_end.SessionEnd.{SessionEnd}
 use Rattle.iiod_connection.specs.declared.session_end.SessionEnd.TheVariants.{Eof, Ended, LinkFault, Memory}

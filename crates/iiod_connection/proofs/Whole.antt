@@ -10,12 +10,12 @@ use Rattle.iiod_session.specs.declared.manner.Going.{Going}
 use Rattle.iiod_session.specs.declared.manner.Going.TheVariants.{On, Waits}
 use Rattle.iiod_session.specs.declared.manner.Going.TheVariants as going
 use Rattle.iiod_session.specs.declared.manner.Manner.TheVariants.{Server}
-use Rattle.iiod_session.specs.Front.{Front}
+use Rattle.iio_core.specs.Front.{Front}
 use Rattle.iiod_session.specs.Acts.{left_machine}
 use Rattle.iiod_session.specs.declared.desk.BuffersCount.{BuffersCount}
 use Rattle.iiod_session.specs.declared.desk.Held.{Held}
 use Rattle.iiod_session.specs.Desk.{seats_of, tales_of}
-use Rattle.iiod_session.specs.Machine.{Machine}
+use Rattle.iio_core.specs.Machine.{Machine}
 use Rattle.iiod_session.specs.Run.{Stands, State}
 use Rattle.iiod_session.specs.Seat.{SeatRecord}
 use Rattle.iiod_session.specs.Session.{IsFresh, SessionRecord}

@@ -7,7 +7,7 @@ use Rattle.iiod_grammar.specs.Scans.{scan_on}
 use Rattle.iiod_grammar.specs.Stream.{Item}
 use Rattle.iiod_reply.specs.Reply.{Reply, Refusal, text_of}
 use Rattle.iiod_session.specs.declared.manner.Manner.TheVariants.{Server}
-use Rattle.iiod_session.specs.Front.{Front}
+use Rattle.iio_core.specs.Front.{Front}
 use Rattle.iiod_session.specs.Moves.{Serves}
 use Rattle.iiod_session.specs.Performs.{IsReadOf}
 use Rattle.iiod_session.specs.Run.{Run, State}

@@ -1,7 +1,7 @@
 -- Where a connection stands.
 use Rattle.std.specs.Prelude.{ℕ, [], Option}
 use Rattle.iiod_grammar.specs.Stream.{InLine, Scanned, no_item}
-use Rattle.iiod_session.specs.Machine.{Machine}
+use Rattle.iio_core.specs.Machine.{Machine}
 use Rattle.iiod_session.specs.Run.{State, state_of}
 use Rattle.iiod_session.specs.Seat.{SeatRecord}
 use Rattle.iiod_session.specs.Session.{SessionRecord}

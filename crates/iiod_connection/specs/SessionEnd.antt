@@ -3,8 +3,8 @@ use Rattle.std.specs.Prelude.{◌≡◌, ℕ, ◌++◌, List, [], Option, Some, 
 use Rattle.iio_base.specs.Faults.{Rose}
 use Rattle.iiod_grammar.specs.Stream.{AtEnd, no_item}
 use Rattle.iiod_session.specs.Acts.{left_machine}
-use Rattle.iiod_session.specs.Front.{Front}
-use Rattle.iiod_session.specs.Machine.{Machine}
+use Rattle.iio_core.specs.Front.{Front}
+use Rattle.iio_core.specs.Machine.{Machine}
 use Rattle.iiod_connection.specs.declared.session_end.SessionEnd.{SessionEnd}
 use Rattle.iiod_connection.specs.declared.session_end.SessionEnd.TheVariants.{Eof, Ended, LinkFault, Memory}
 use Rattle.iiod_connection.specs.Answers.{Answers}

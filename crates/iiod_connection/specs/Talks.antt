@@ -6,7 +6,7 @@ use Rattle.iiod_session.specs.declared.manner.Going.{Going}
 use Rattle.iiod_session.specs.declared.manner.Going.TheVariants.{On, Waits}
 use Rattle.iiod_session.specs.declared.manner.Going.TheVariants as going
 use Rattle.iiod_session.specs.declared.manner.Manner.TheVariants.{Server}
-use Rattle.iiod_session.specs.Front.{Front}
+use Rattle.iio_core.specs.Front.{Front}
 use Rattle.iiod_session.specs.Run.{Feeds}
 use Rattle.iiod_connection.specs.declared.session_end.SessionEnd.{SessionEnd}
 use Rattle.iiod_connection.specs.declared.session_end.SessionEnd.TheVariants.{Eof, Ended, LinkFault, Memory}

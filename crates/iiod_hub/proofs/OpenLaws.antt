@@ -1,7 +1,7 @@
 -- An OPEN over a bank that tells.
 use Rattle.std.proofs.Common.{◌≡◌, ℕ, Option, Some, None, Result, subst}
 use Rattle.iio_mask.specs.declared.Mask.{Mask}
-use Rattle.iiod_session.specs.Front.{Front, size_at}
+use Rattle.iio_core.specs.Front.{Front, size_at}
 use Rattle.iiod_session.specs.declared.iio.No.{No}
 use Rattle.iio_kfifo.specs.Ends.{WriterEnd}
 use Rattle.iiod_bank.specs.declared.opening.Opened.{Opened}

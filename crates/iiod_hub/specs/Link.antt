@@ -6,7 +6,7 @@ use Rattle.iio_trigger.specs.Trigger.{State, Handed, Polls}
 use Rattle.iio_trigger.specs.declared.Polled.{Polled}
 use Rattle.iio_device.specs.declared.handling.Handled.{Handled}
 use Rattle.iio_device.specs.Device.{DeviceView, Handles}
-use Rattle.iiod_session.specs.Front.{Front, size_at}
+use Rattle.iio_core.specs.Front.{Front, size_at}
 use Rattle.iiod_session.specs.declared.iio.No.{No}
 use Rattle.iiod_session.specs.declared.iio.No.TheVariants.{Errno as NoErrno, Mem as NoMem}
 use Rattle.iiod_session.specs.Seat.{SeatRecord}

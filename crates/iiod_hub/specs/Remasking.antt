@@ -3,7 +3,7 @@ use Rattle.std.specs.Prelude.{◌≡◌, ℕ, false, Some, Result, Ok, Err}
 use Rattle.iio_mask.specs.declared.Mask.{Mask}
 use Rattle.iio_kfifo.specs.Ends.{WriterEnd}
 use Rattle.iio_device.specs.Device.{DeviceView}
-use Rattle.iiod_session.specs.Front.{Front, size_at}
+use Rattle.iio_core.specs.Front.{Front, size_at}
 use Rattle.iiod_session.specs.declared.iio.No.{No}
 use Rattle.iiod_session.specs.declared.iio.No.TheVariants.{Errno as NoErrno, Mem as NoMem}
 use Rattle.iiod_bank.specs.declared.remasking.Remasked.{Remasked}

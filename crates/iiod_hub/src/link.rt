@@ -5,7 +5,7 @@ ghost use Rattle.std.specs.Bool.{OnFalse};
 ghost use Rattle.iio_kfifo.specs.Ends.{Ends, WriterEnd};
 ghost use Rattle.iio_desc.specs.declared.limits.TheConstants.{MAX_TRIGGERS};
 ghost use Rattle.iio_trigger.specs.Trigger.{Polls};
-ghost use Rattle.iiod_session.specs.Front.{find_device, find_trigger, shape_at, size_at, trigger_name};
+ghost use Rattle.iio_core.specs.Front.{find_device, find_trigger, shape_at, size_at, trigger_name};
 ghost use Rattle.iiod_session.specs.Reading.{TakesScans};
 ghost use Rattle.iiod_session.specs.Seat.{IsNew, IsOfDevice, MayOpen, Remasks, after_take};
 ghost use Rattle.iiod_session.specs.Target.{MayRead, MayWrite};
@@ -60,7 +60,7 @@ fn lost_of(reader: &mut Reader, told: Option<u64>) -> u64
 
 impl<B: Bank> Iio for HubLink<B> {
     ghost use Rattle.std.specs.Prelude.{None, Some};
-    ghost use Rattle.iiod_session.specs.Front.{Front};
+    ghost use Rattle.iio_core.specs.Front.{Front};
     ghost use Rattle.iiod_hub.specs.Link.{seen_of};
 
     type Seat = HubSeat;

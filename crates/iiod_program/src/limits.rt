@@ -10,7 +10,7 @@ ghost use Rattle.iio_desc.specs.declared.limits.TheConstants.{MAX_DEVICES, MAX_M
 ghost use Rattle.iio_event.specs.declared.monitor.TheConstants.{MAX_EVENTS};
 ghost use Rattle.iiod_grammar.specs.declared.lines.TheConstants.{MAX_LINE, MAX_PAYLOAD};
 ghost use Rattle.iiod_session.specs.declared.desk.TheConstants.{FIRST_BUFFERS, MAX_BUFFERS};
-ghost use Rattle.iiod_session.specs.declared.limits.TheConstants.{MAX_SCANS};
+ghost use Rattle.iio_core.specs.declared.limits.TheConstants.{MAX_SCANS};
 ghost use Rattle.iio_history.specs.declared.limits.TheConstants.{MAX_INPUT_BYTES, MAX_NAMES};
 ghost use Rattle.iio_script.specs.declared.line_reader.TheConstants.{MAX_PIECE_BYTES};
 ghost use Rattle.iiod_server.specs.declared.living.TheConstants.{MAX_CONNECTIONS};

@@ -18,8 +18,8 @@ use Rattle.iiod_session.specs.declared.manner.Performed.TheVariants.{Done}
 use Rattle.iiod_session.specs.Acts.{Acts, act, help_reply, only, version_reply, zero_reply}
 use Rattle.iiod_session.specs.Answers.{Fits, IsEvent, IsLong, IsText, IsTrigger, Prints, ServesBy, answer_by, reply_of}
 use Rattle.iiod_session.specs.Desk.{DeskRecord}
-use Rattle.iiod_session.specs.Front.{Front, find_device}
-use Rattle.iiod_session.specs.Machine.{Machine}
+use Rattle.iio_core.specs.Front.{Front, find_device}
+use Rattle.iio_core.specs.Machine.{Machine}
 use Rattle.iiod_session.specs.Moves.{AnswersAlone, AnswersAs, Moves, Serves}
 use Rattle.iiod_session.specs.Performs.{Comes, IsAllowed, IsAnswerOf, IsWhole, Performs, reply_by}
 use Rattle.iiod_session.specs.Seat.{Tale}

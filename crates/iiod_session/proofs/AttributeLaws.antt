@@ -26,10 +26,10 @@ use Rattle.iiod_session.specs.declared.iio.No.{No}
 use Rattle.iiod_session.specs.declared.iio.No.TheVariants.{Errno as NoErrno, Mem as NoMem}
 use Rattle.iiod_session.specs.Acts.{Acted, act, at_device, only, refused, read_attribute_at, read_buffer_attribute, read_buffer_attribute_at, read_device_attribute, read_named, write_assignment, write_attribute_at, written}
 use Rattle.iiod_session.specs.Attributes.{Assignment, Named, buffer_number, found, is_of_buffer, write_found}
-use Rattle.iiod_session.specs.Calls.{raw_answer, raw_by, read_attr_of, write_attr_of}
+use Rattle.iio_core.specs.Calls.{raw_answer, raw_by, read_attr_of, write_attr_of}
 use Rattle.iiod_session.specs.Desk.{AllHeld, DeskRecord, IsHeld, bare_of, place_of, seats_of, with_seats}
-use Rattle.iiod_session.specs.Front.{Front, find_device, kind_at, shape_at}
-use Rattle.iiod_session.specs.Machine.{Machine, MemberId, Station, is_plugged, lost_of, queue_of, station_at}
+use Rattle.iio_core.specs.Front.{Front, find_device, kind_at, shape_at}
+use Rattle.iio_core.specs.Machine.{Machine, MemberId, Station, is_plugged, lost_of, queue_of, station_at}
 use Rattle.iiod_session.specs.Moves.{AnswersAs, Serves}
 use Rattle.iiod_session.specs.Performs.{Comes}
 use Rattle.iiod_session.specs.Seat.{Answers, SeatRecord, Tale, seat_id}

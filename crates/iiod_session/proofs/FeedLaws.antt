@@ -10,7 +10,7 @@ use Rattle.iiod_session.specs.declared.manner.Going.TheVariants.{On, Waits, Ende
 use Rattle.iiod_session.specs.declared.manner.Manner.{Manner}
 use Rattle.iio_text.specs.declared.errors.Errno.TheVariants.{EAGAIN}
 use Rattle.iiod_session.specs.Desk.{Bare}
-use Rattle.iiod_session.specs.Front.{Front}
+use Rattle.iio_core.specs.Front.{Front}
 use Rattle.iiod_session.specs.Given.{GivenIs}
 use Rattle.iiod_session.specs.Seat.{Tale}
 use Rattle.iiod_session.specs.Run.{State, Carries, CarriesBy, FedBy, Feeds, RunBy, Stands, StandsBy}

@@ -14,7 +14,7 @@ use Rattle.iiod_reply.specs.Reply.{Reply, Number, Refusal, Block, NoMemory}
 use Rattle.iiod_session.specs.declared.manner.Manner.{Manner}
 use Rattle.iiod_session.specs.Acts.{zero_reply}
 use Rattle.iiod_session.specs.Desk.{Bare, DeskRecord, are_apart, bare_remasked, has_seat, place_of}
-use Rattle.iiod_session.specs.Front.{Front, find_device, kind_at, size_at}
+use Rattle.iio_core.specs.Front.{Front, find_device, kind_at, size_at}
 use Rattle.iiod_session.specs.Given.{GivenIs, given_after, given_by, given_in, is_named, tale_at}
 use Rattle.iiod_session.specs.Moves.{Moves, ReadMoves, ReadsAs, ReadsAt, ReadsBy, ReadsFrom}
 use Rattle.iiod_session.specs.Reading.{Reads}

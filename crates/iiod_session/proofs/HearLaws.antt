@@ -29,8 +29,8 @@ use Rattle.iiod_session.specs.declared.manner.Performed.{Performed}
 use Rattle.iiod_session.specs.declared.manner.Performed.TheVariants.{Done, Waits as PerformedWaits}
 use Rattle.iiod_session.specs.Acts.{Acts, act, end_reply, left_desk, left_machine}
 use Rattle.iiod_session.specs.Desk.{DeskRecord, tales_of}
-use Rattle.iiod_session.specs.Front.{Front}
-use Rattle.iiod_session.specs.Machine.{Machine}
+use Rattle.iio_core.specs.Front.{Front}
+use Rattle.iio_core.specs.Machine.{Machine}
 use Rattle.iiod_session.specs.Moves.{AnswersAlone, AnswersAs}
 use Rattle.iiod_session.specs.PendingWrite.{PendingRecord, pending_of}
 use Rattle.iiod_session.specs.Performs.{IsAllowed, IsReadOf, Performs}

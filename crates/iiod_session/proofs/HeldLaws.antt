@@ -10,10 +10,10 @@ use Rattle.iio_text.specs.declared.errors.Errno.{Errno}
 use Rattle.iiod_session.specs.declared.iio.No.{No}
 use Rattle.iiod_session.specs.declared.iio.No.TheVariants.{Errno as NoErrno, Mem as NoMem}
 use Rattle.iiod_session.specs.Acts.{zero_reply, refused, read_at_seat, read_scans_of, written_scans}
-use Rattle.iiod_session.specs.Calls.{write_scans_of}
+use Rattle.iio_core.specs.Calls.{write_scans_of}
 use Rattle.iiod_session.specs.Desk.{Bare, DeskRecord, bare_id}
-use Rattle.iiod_session.specs.Front.{Front, channel_count, size_at}
-use Rattle.iiod_session.specs.Machine.{Machine, MemberId, queue_of, with_queue}
+use Rattle.iio_core.specs.Front.{Front, channel_count, size_at}
+use Rattle.iio_core.specs.Machine.{Machine, MemberId, queue_of, with_queue}
 use Rattle.iiod_session.specs.Moves.{ReadsAs}
 use Rattle.iiod_session.specs.Performs.{ReadServed, ReadHeld, WritesHeld, taken_by}
 use Rattle.iiod_session.specs.Reading.{ReadSome, ReadNone, ReadEnds, FoundNothing, most_scans}

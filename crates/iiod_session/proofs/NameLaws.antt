@@ -21,7 +21,7 @@ use Rattle.iio_layout.specs.declared.channel.Kind.{Kind}
 use Rattle.iio_layout.specs.declared.channel.Suffix.{Suffix}
 use Rattle.iiod_grammar.specs.Command.{Place, AtDevice, AtBuffer, AtDebug, AtInput, AtOutput}
 use Rattle.iiod_session.specs.Attributes.{Assignment, Named, attribute_of, channel_word, found, has_attribute, is_of_buffer, named_at, write_found}
-use Rattle.iiod_session.specs.Front.{Front, kind_at, shape_at}
+use Rattle.iio_core.specs.Front.{Front, kind_at, shape_at}
 use Rattle.iiod_session.specs.Target.{MayRead, MayWrite}
 
 -- ---- the table

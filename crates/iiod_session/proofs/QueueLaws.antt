@@ -4,7 +4,7 @@ use Rattle.std.proofs.Math.Seq.{drop-nil}
 use Rattle.iio_device.specs.declared.totals.Totals.{Totals}
 use Rattle.iio_device.specs.Site.{at_place}
 use Rattle.iio_device.specs.Totals.{with_given, with_scan}
-use Rattle.iiod_session.specs.Machine.{Machine, MemberId, Station, Member, is_id_of, station_in, scans_in, with_scans, queue_of, with_queue, station_at, with_station}
+use Rattle.iio_core.specs.Machine.{Machine, MemberId, Station, Member, is_id_of, station_in, scans_in, with_scans, queue_of, with_queue, station_at, with_station}
 
 same_scans : (n : MemberId) (ms : List Member) → with_scans n (scans_in n ms) ms ≡ ms
 same_scans n [] = refl

@@ -17,10 +17,10 @@ use Rattle.iiod_session.specs.declared.iio.Took.TheVariants.{Scan, Empty, Gone}
 use Rattle.iiod_session.specs.declared.wanted.Wanted.{Wanted as CodeWanted}
 use Rattle.iio_mask.specs.declared.Mask.{Mask}
 use Rattle.iiod_session.specs.Acts.{Acted, all_closed, all_released, zero_reply, open_at, open_wanted, joined_at, close_at, close_seat, read_at, read_seat, read_at_seat, refused, remask_at, remask_place, remask_seat, write_at_place, write_at_seat}
-use Rattle.iiod_session.specs.Calls.{closed, ev_close_of}
+use Rattle.iio_core.specs.Calls.{closed, ev_close_of}
 use Rattle.iiod_session.specs.Desk.{IsDesk, IsWanted, Wanted, Bare, DeskRecord, are_apart, bare_of, tale_of, seats_of, tales_of, place_of, buffers_of, with_seats, wanted_of}
-use Rattle.iiod_session.specs.Front.{Front, kind_at, shape_at}
-use Rattle.iiod_session.specs.Machine.{Machine, is_plugged}
+use Rattle.iio_core.specs.Front.{Front, kind_at, shape_at}
+use Rattle.iio_core.specs.Machine.{Machine, is_plugged}
 use Rattle.iiod_session.specs.Moves.{ReadsBy}
 use Rattle.iiod_session.specs.Performs.{Comes, JoinsBy, LeavesBy, OpensBy, ReadAt, ReadHeld, ReadServed, ReadServedAt, RemaskMoves, RemaskTold, RemasksBy, WritesHeld, reply_by}
 use Rattle.iiod_session.specs.Seat.{Answers, SeatRecord, Tale, IsNew, first_tale}

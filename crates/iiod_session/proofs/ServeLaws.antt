@@ -20,8 +20,8 @@ use Rattle.iiod_session.specs.declared.manner.Performed.TheVariants.{Done, Waits
 use Rattle.iiod_session.specs.Acts.{Acted, Acts, act, at_device, refused, open_at, close_at, read_at, read_buffer_at, read_attribute_at, ev_close_known, ev_open_known, ev_read_known, get_trigger_at, remask_known, set_buffers_at, set_trigger_known, where_known, write_buffer_at, zero_reply}
 use Rattle.iiod_session.specs.Answers.{IsAt}
 use Rattle.iiod_session.specs.Desk.{Bare, DeskRecord, place_of, with_count, with_holding, without_holding}
-use Rattle.iiod_session.specs.Front.{Front, find_device, kind_at}
-use Rattle.iiod_session.specs.Machine.{Machine}
+use Rattle.iio_core.specs.Front.{Front, find_device, kind_at}
+use Rattle.iio_core.specs.Machine.{Machine}
 use Rattle.iiod_session.specs.Moves.{Accepts, AnswersAlone, AnswersAs, IsOrShort, Moves, ReadsBy, Serves, at_known, at_seat}
 use Rattle.iiod_session.specs.Performs.{AnswersRead, Comes, HasRoomAfter, IsAllowed, IsAnswerOf, IsFound, IsWhole, LeavesBy, OpensBy, Performs, ReadAt, ReadServedAt, RemasksBy, desk_by, reply_by, taken_by}
 use Rattle.iiod_session.specs.Seat.{Tale}

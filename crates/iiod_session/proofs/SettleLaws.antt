@@ -3,7 +3,7 @@ use Rattle.std.proofs.Common.{◌≡◌, ℕ, ◌≤◌, Bool, true, Option, Som
 use Rattle.std.proofs.lemmas.Bool.Decides.{nat_tests}
 use Rattle.iiod_session.specs.Acts.{is_buffers_count, set_buffers_at, zero_reply}
 use Rattle.iiod_session.specs.Desk.{DeskRecord, with_count}
-use Rattle.iiod_session.specs.Machine.{Machine, is_plugged}
+use Rattle.iio_core.specs.Machine.{Machine, is_plugged}
 use Rattle.iiod_session.specs.Performs.{Comes}
 
 -- SET at a device that is plugged, with a count within its limits

@@ -9,8 +9,8 @@ use Rattle.iiod_session.specs.declared.manner.Going.TheVariants.{On, Waits, Ende
 use Rattle.iiod_session.specs.declared.manner.Manner.{Manner}
 use Rattle.iiod_session.specs.declared.manner.Manner.TheVariants.{Script, Server}
 use Rattle.iiod_session.specs.Acts.{Acted, Acts, act}
-use Rattle.iiod_session.specs.Front.{Front}
-use Rattle.iiod_session.specs.Machine.{Machine}
+use Rattle.iio_core.specs.Front.{Front}
+use Rattle.iio_core.specs.Machine.{Machine}
 use Rattle.iiod_session.specs.Performs.{IsAllowed}
 use Rattle.iiod_session.specs.Run.{State, IsAnswered, Run, Carries, FeedTells, Tells}
 

@@ -5,8 +5,8 @@ use Rattle.iiod_reply.specs.Reply.{Reply}
 use Rattle.iiod_session.specs.declared.manner.Going.{Going}
 use Rattle.iiod_session.specs.declared.manner.Going.TheVariants.{On, Waits, Ended}
 use Rattle.iiod_session.specs.declared.manner.Manner.{Manner}
-use Rattle.iiod_session.specs.Front.{Front}
-use Rattle.iiod_session.specs.Machine.{Machine}
+use Rattle.iio_core.specs.Front.{Front}
+use Rattle.iio_core.specs.Machine.{Machine}
 use Rattle.iiod_session.specs.Run.{State, Carries, Run, RunBy, Stands}
 use Rattle.iiod_session.specs.Watch.{Hears, IsHeard, Scene}
 

@@ -16,9 +16,9 @@ use Rattle.iiod_grammar.specs.Stream.{Item, Said, Written, Streamed, End}
 use Rattle.iiod_reply.specs.Reply.{Reply, Nothing, Number, Refusal, Line, Value, Raw, Block, NoMemory}
 use Rattle.iiod_session.specs.declared.desk.TheConstants.{MAX_BUFFERS}
 use Rattle.iiod_session.specs.Attributes.{Assignment, Named, buffer_number, found, is_of_buffer, text_of_value, write_found}
-use Rattle.iiod_session.specs.Front.{Front, channel_count, find_device, find_trigger, kind_at, shape_at, size_at, trigger_name}
-use Rattle.iiod_session.specs.Machine.{Machine, is_plugged, lost_of, queue_of, with_queue}
-use Rattle.iiod_session.specs.Calls.{Outcome, closed, ev_close_of, ev_open_of, ev_read_of, open_of, read_attr_of, remask_of, set_trigger_of, trigger_of, write_attr_of, write_scans_of}
+use Rattle.iio_core.specs.Front.{Front, channel_count, find_device, find_trigger, kind_at, shape_at, size_at, trigger_name}
+use Rattle.iio_core.specs.Machine.{Machine, is_plugged, lost_of, queue_of, with_queue}
+use Rattle.iio_core.specs.Calls.{Outcome, closed, ev_close_of, ev_open_of, ev_read_of, open_of, read_attr_of, remask_of, set_trigger_of, trigger_of, write_attr_of, write_scans_of}
 use Rattle.iiod_session.specs.Desk.{Wanted, Bare, DeskRecord, wanted_of, mask_wanted, buffers_of, bare_id, bare_remasked, place_of, with_count, with_holding, with_seats, without_holding}
 use Rattle.iiod_session.specs.Reading.{most_scans}
 

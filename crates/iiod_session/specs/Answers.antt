@@ -12,8 +12,8 @@ use Rattle.iiod_session.specs.declared.iio.No.{No}
 use Rattle.iiod_session.specs.declared.manner.Manner.{Manner}
 use Rattle.iiod_session.specs.Acts.{help_reply, version_reply}
 use Rattle.iiod_session.specs.Desk.{DeskRecord}
-use Rattle.iiod_session.specs.Front.{Front, find_device, trigger_name}
-use Rattle.iiod_session.specs.Machine.{Machine}
+use Rattle.iio_core.specs.Front.{Front, find_device, trigger_name}
+use Rattle.iio_core.specs.Machine.{Machine}
 use Rattle.iiod_session.specs.Moves.{Serves}
 use Rattle.iiod_session.specs.Performs.{IsAllowed, reply_by}
 use Rattle.iiod_session.specs.Seat.{Tale}

@@ -13,9 +13,9 @@ use Rattle.iiod_session.specs.declared.desk.BuffersCount.{BuffersCount}
 use Rattle.iiod_session.specs.declared.desk.Desk.{Desk}
 use Rattle.iiod_session.specs.declared.desk.Held.{Held}
 use Rattle.iiod_session.specs.declared.desk.TheConstants.{FIRST_BUFFERS}
-use Rattle.iiod_session.specs.Front.{Front, kind_at, size_at}
-use Rattle.iiod_session.specs.Machine.{MemberId}
-use Rattle.iiod_session.specs.Opening.{asked_refusals, is_excess, mask_refusals}
+use Rattle.iio_core.specs.Front.{Front, kind_at, size_at}
+use Rattle.iio_core.specs.Machine.{MemberId}
+use Rattle.iio_core.specs.Opening.{asked_refusals, is_excess, mask_refusals}
 use Rattle.iiod_session.specs.Seat.{SeatRecord, Tale, MayOpen, IsOwned}
 
 -- a seat of a connection as the told state knows it

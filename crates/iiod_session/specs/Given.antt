@@ -5,7 +5,7 @@ use Rattle.iiod_grammar.specs.Command.{Open, ReadBuf, Remask}
 use Rattle.iiod_grammar.specs.Stream.{Item, Said}
 use Rattle.iiod_reply.specs.Reply.{Reply, Number, Block}
 use Rattle.iiod_session.specs.Desk.{Bare}
-use Rattle.iiod_session.specs.Front.{Front, find_device}
+use Rattle.iio_core.specs.Front.{Front, find_device}
 use Rattle.iiod_session.specs.Seat.{Tale}
 
 -- whether the device of that number has the name

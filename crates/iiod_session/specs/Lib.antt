@@ -1,8 +1,5 @@
-pub mod Front
 pub mod Kinds
-pub mod Machine
-pub mod Opening
-pub mod Calls
+pub mod No
 pub mod Target
 pub mod Attributes
 pub mod Seat
@@ -11,7 +8,6 @@ pub mod Desk
 pub mod Acts
 pub mod Moves
 pub mod Performs
-pub mod Places
 pub mod Wanted
 pub mod Given
 pub mod Run

@@ -11,8 +11,8 @@ use Rattle.iiod_grammar.specs.Command.{Help, Exit, Version, Print, Timeout, Open
 use Rattle.iiod_grammar.specs.Stream.{Item, Said, Written, Streamed, End}
 use Rattle.iiod_reply.specs.Reply.{Reply, Nothing, Number, Refusal, Value, Raw, Block, NoMemory}
 use Rattle.iiod_session.specs.Acts.{Acts, end_reply, help_reply, left_desk, trigger_reply, version_reply, zero_reply}
-use Rattle.iiod_session.specs.Front.{Front, channel_count, find_device, kind_at, shape_at, size_at}
-use Rattle.iiod_session.specs.Machine.{Machine}
+use Rattle.iio_core.specs.Front.{Front, channel_count, find_device, kind_at, shape_at, size_at}
+use Rattle.iio_core.specs.Machine.{Machine}
 use Rattle.iiod_session.specs.Seat.{Tale, after_nothing, first_tale}
 use Rattle.iiod_session.specs.Desk.{Bare, DeskRecord, IsWanted, bare_remasked, buffers_of, place_of, with_count, with_holding, with_seats, without_holding}
 use Rattle.iiod_session.specs.Reading.{Reads, most_scans}

@@ -16,8 +16,8 @@ use Rattle.iiod_session.specs.declared.manner.Manner.{Manner}
 use Rattle.iiod_session.specs.declared.manner.Manner.TheVariants.{Script, Server}
 use Rattle.iiod_session.specs.declared.manner.Performed.{Performed}
 use Rattle.iiod_session.specs.declared.manner.Performed.TheVariants.{Done, Waits}
-use Rattle.iiod_session.specs.Front.{Front, find_device, kind_at, shape_at}
-use Rattle.iiod_session.specs.Machine.{Machine}
+use Rattle.iio_core.specs.Front.{Front, find_device, kind_at, shape_at}
+use Rattle.iio_core.specs.Machine.{Machine}
 use Rattle.iiod_session.specs.Seat.{Tale, first_tale}
 use Rattle.iiod_session.specs.Desk.{Bare, DeskRecord, IsWanted, Wanted, bare_remasked, buffers_of, place_of, with_seats}
 use Rattle.iiod_session.specs.Acts.{Acted, read_at, read_at_seat, remask_seat, write_at_seat, zero_reply}

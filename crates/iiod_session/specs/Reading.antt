@@ -4,8 +4,8 @@ use Rattle.iio_base.specs.declared.Mem.{Mem}
 use Rattle.iiod_reply.specs.Reply.{block_text, joined_scans}
 use Rattle.iiod_session.specs.declared.iio.Took.{Took}
 use Rattle.iiod_session.specs.declared.iio.Took.TheVariants.{Scan, Empty, Gone}
-use Rattle.iiod_session.specs.Front.{Front, channel_count, size_at}
-use Rattle.iiod_session.specs.Machine.{Machine, MemberId, is_plugged, queue_of, with_queue}
+use Rattle.iio_core.specs.Front.{Front, channel_count, size_at}
+use Rattle.iio_core.specs.Machine.{Machine, MemberId, is_plugged, queue_of, with_queue}
 use Rattle.iiod_session.specs.Seat.{SeatRecord, Tale, seat_id, after_scans, after_nothing}
 
 -- how many scans a READBUF of `asked` bytes may take: those asked for, and no more than the queue holds

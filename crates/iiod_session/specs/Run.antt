@@ -11,9 +11,9 @@ use Rattle.iiod_session.specs.declared.manner.Manner.{Manner}
 use Rattle.iiod_session.specs.declared.manner.Manner.TheVariants.{Script, Server}
 use Rattle.iiod_session.specs.Acts.{act}
 use Rattle.iiod_session.specs.Desk.{DeskRecord, desk_of, tales_of}
-use Rattle.iiod_session.specs.Front.{Front}
+use Rattle.iio_core.specs.Front.{Front}
 use Rattle.iiod_session.specs.Given.{GivenIs}
-use Rattle.iiod_session.specs.Machine.{Machine}
+use Rattle.iio_core.specs.Machine.{Machine}
 use Rattle.iiod_session.specs.Moves.{Serves}
 use Rattle.iiod_session.specs.Performs.{IsAllowed, IsAnswerOf, IsReadOf}
 use Rattle.iiod_session.specs.Seat.{SeatRecord, Tale}

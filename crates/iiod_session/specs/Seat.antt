@@ -2,14 +2,14 @@
 use Rattle.std.specs.Prelude.{◌≡◌, ℕ, ◌+◌, ◌-◌, ◌*◌, ◌^◌, ◌≤◌, ◌<◌, min, Bool, true, false, List, [], ◌∷◌, ◌++◌, length, drop, Option, Some, option_map, Result, Ok, Err}
 use Rattle.iio_layout.specs.Active.{has_data}
 use Rattle.iio_kfifo.specs.declared.limits.TheConstants.{MAX_BYTES}
-use Rattle.iiod_session.specs.declared.limits.TheConstants.{MAX_SCANS}
+use Rattle.iio_core.specs.declared.limits.TheConstants.{MAX_SCANS}
 use Rattle.iiod_session.specs.declared.iio.No.{No}
 use Rattle.iiod_session.specs.declared.iio.No.TheVariants.{Errno as NoErrno, Mem as NoMem}
 use Rattle.iiod_session.specs.declared.iio.Took.{Took}
 use Rattle.iiod_session.specs.declared.iio.Took.TheVariants.{Scan, Empty, Gone}
-use Rattle.iiod_session.specs.Front.{Front, channel_count, shape_at, size_at}
-use Rattle.iiod_session.specs.Machine.{Machine, MemberId, is_plugged, queue_of, with_queue}
-use Rattle.iiod_session.specs.Calls.{Outcome}
+use Rattle.iio_core.specs.Front.{Front, channel_count, shape_at, size_at}
+use Rattle.iio_core.specs.Machine.{Machine, MemberId, is_plugged, queue_of, with_queue}
+use Rattle.iio_core.specs.Calls.{Outcome}
 
 -- what a seat tells, if anything: the scans that it gave, how many of its takes found nothing, and whether the last of
 -- these found the device unplugged

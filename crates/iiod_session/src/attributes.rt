@@ -8,7 +8,7 @@ ghost use Rattle.iiod_session.specs.Acts.{read_attribute_at, read_buffer_attribu
 ghost use Rattle.iiod_session.specs.Answers.{Fits, IsText, ServesBy, reply_of};
 ghost use Rattle.iiod_session.specs.Attributes.{buffer_number};
 ghost use Rattle.iiod_session.specs.Desk.{DeskRecord, IsDesk, IsHeld, bare_of, desk_of, place_of, tale_of, tales_of};
-ghost use Rattle.iiod_session.specs.Machine.{lost_of, queue_of};
+ghost use Rattle.iio_core.specs.Machine.{lost_of, queue_of};
 ghost use Rattle.iiod_session.specs.Performs.{Comes};
 ghost use Rattle.iiod_session.specs.Seat.{seat_id};
 ghost use Rattle.iiod_session.specs.Target.{MayRead};

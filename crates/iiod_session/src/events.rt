@@ -5,7 +5,7 @@ ghost use Rattle.iio_desc.specs.Kind.{is_input};
 ghost use Rattle.iiod_session.specs.Acts.{ev_close_at, ev_close_known, ev_open_at, ev_open_known, ev_read_at, ev_read_known};
 ghost use Rattle.iiod_session.specs.Answers.{IsEvent, reply_of};
 ghost use Rattle.iiod_session.specs.Desk.{IsDesk, desk_of, with_holding, without_holding};
-ghost use Rattle.iiod_session.specs.Front.{kind_at};
+ghost use Rattle.iio_core.specs.Front.{kind_at};
 ghost use Rattle.iiod_session.specs.Performs.{Comes, desk_by, reply_by};
 
 use crate::answers::Answer;

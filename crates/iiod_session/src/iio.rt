@@ -1,7 +1,7 @@
 //! What a session needs of the devices.
 
 ghost use Rattle.std.specs.Prelude.{◌≡◌, ◌≢◌, ℕ, ◌+◌, ◌*◌, ◌^◌, ◌≤◌, ◌<◌, true, false, length, Option, Some, option_map, vec_capacity, IfOk, IfSome, Ok, Err};
-ghost use Rattle.iiod_session.specs.Opening.{no_of, remask_no};
+ghost use Rattle.iiod_session.specs.No.{no_of, remask_no};
 
 use iio_attr::{Attr, Scope, Value};
 use iio_device::{JoinFault, RemaskFault};
@@ -73,9 +73,9 @@ pub trait Iio {
     ghost use Rattle.iio_text.specs.Fixed.{IsFixed};
     ghost use Rattle.iio_desc.specs.declared.limits.TheConstants.{MAX_TRIGGERS};
     ghost use Rattle.iio_desc.specs.Kind.{is_average, is_input, is_output};
-    ghost use Rattle.iiod_session.specs.Front.{Front, find_device, find_trigger, kind_at, shape_at, trigger_name};
-    ghost use Rattle.iiod_session.specs.Machine.{Machine, is_plugged, lost_of, queue_of};
-    ghost use Rattle.iiod_session.specs.Calls.{closed, ev_close_of, ev_open_of, ev_read_of, open_of, read_attr_of, remask_of, set_trigger_of, trigger_of, write_attr_of, write_scans_of};
+    ghost use Rattle.iio_core.specs.Front.{Front, find_device, find_trigger, kind_at, shape_at, trigger_name};
+    ghost use Rattle.iio_core.specs.Machine.{Machine, is_plugged, lost_of, queue_of};
+    ghost use Rattle.iio_core.specs.Calls.{closed, ev_close_of, ev_open_of, ev_read_of, open_of, read_attr_of, remask_of, set_trigger_of, trigger_of, write_attr_of, write_scans_of};
     ghost use Rattle.iiod_session.specs.Reading.{TakesScans};
     ghost use Rattle.iiod_session.specs.Seat.{Answers, IsNew, IsOfDevice, MayOpen, Remasks, SeatRecord, Takes, after_take, seat_id, number_by};
     ghost use Rattle.iiod_session.specs.Target.{MayRead, MayWrite};

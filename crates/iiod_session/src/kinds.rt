@@ -5,7 +5,7 @@ ghost use Rattle.iio_text.specs.declared.errors.Errno.{Errno};
 ghost use Rattle.iio_desc.specs.Kind.{is_input};
 ghost use Rattle.iiod_session.specs.Acts.{Acted, where_known};
 ghost use Rattle.iiod_session.specs.Desk.{DeskRecord};
-ghost use Rattle.iiod_session.specs.Front.{kind_at};
+ghost use Rattle.iio_core.specs.Front.{kind_at};
 ghost use Rattle.iiod_session.specs.Kinds.{kind_code};
 ghost use Rattle.iiod_reply.specs.Reply.{Refusal};
 ghost use Rattle.iiod_session.specs.Performs.{Comes};

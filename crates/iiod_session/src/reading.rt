@@ -3,7 +3,7 @@
 ghost use Rattle.std.specs.Prelude.{◌≡◌, ◌+◌, ◌-◌, ◌*◌, ◌/◌, ◌≤◌, ◌<◌, ◌^◌, ◌++◌, length, take, drop, vec_capacity, true, false, ℕ, IfSome, Some};
 ghost use Rattle.iiod_reply.specs.Reply.{block_text, head_text};
 ghost use Rattle.iio_desc.specs.Kind.{is_output};
-ghost use Rattle.iiod_session.specs.Front.{channel_count, kind_at, size_at};
+ghost use Rattle.iio_core.specs.Front.{channel_count, kind_at, size_at};
 ghost use Rattle.iiod_session.specs.Reading.{ReadEnds, ReadsBlock};
 ghost use Rattle.iiod_session.specs.Seat.{IsOfDevice, IsOwned, MayOpen};
 

@@ -4,10 +4,10 @@ ghost use Rattle.std.specs.Prelude.{◌≡◌, ◌==◌, ◌<◌, ◌≤◌, ◌
 ghost use Rattle.std.specs.List.{position};
 ghost use Rattle.iiod_session.specs.Acts.{close_at, joined_at, open_at, remask_at, write_at_place};
 ghost use Rattle.iio_desc.specs.Kind.{is_input, is_output};
-ghost use Rattle.iiod_session.specs.Front.{kind_at, size_at};
+ghost use Rattle.iio_core.specs.Front.{kind_at, size_at};
 ghost use Rattle.iiod_session.specs.Desk.{IsDesk, IsHeld, bare_of, buffers_of, desk_of, place_of, seats_of, tale_of, tales_of};
 ghost use Rattle.iiod_session.specs.Performs.{Comes, JoinsBy, LeavesBy, OpensBy, ReadAt, ReadHeld, RemaskMoves, RemaskTold, RemasksBy, WritesHeld, reply_by, taken_by};
-ghost use Rattle.iiod_session.specs.Calls.{open_of};
+ghost use Rattle.iio_core.specs.Calls.{open_of};
 ghost use Rattle.iiod_session.specs.Seat.{Answers, IsNew, MayOpen, number_by};
 ghost use Rattle.iiod_session.specs.Wanted.{wanted_of_code};
 ghost use Rattle.iio_text.specs.declared.errors.Errno.{Errno};

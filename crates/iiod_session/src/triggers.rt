@@ -7,7 +7,7 @@ ghost use Rattle.iio_desc.specs.Kind.{is_average};
 ghost use Rattle.iiod_session.specs.Acts.{get_trigger_at, set_trigger_at, set_trigger_known, trigger_named};
 ghost use Rattle.iiod_session.specs.Answers.{IsTrigger, reply_of};
 ghost use Rattle.iiod_session.specs.Desk.{DeskRecord};
-ghost use Rattle.iiod_session.specs.Front.{kind_at};
+ghost use Rattle.iio_core.specs.Front.{kind_at};
 ghost use Rattle.iiod_session.specs.Performs.{Comes, reply_by};
 
 use crate::answers::Answer;

@@ -9,11 +9,11 @@ ghost use Rattle.iio_layout.specs.Shape.{count_of};
 ghost use Rattle.iio_mask.specs.Text.{mask_of};
 ghost use Rattle.iiod_session.specs.Wanted.{mask_view, wanted_of_code, wanted_view};
 ghost use Rattle.iiod_session.specs.Desk.{IsWanted, mask_wanted, wanted_of};
-ghost use Rattle.iiod_session.specs.Front.{Front, shape_at};
-ghost use Rattle.iiod_session.specs.Opening.{is_excess};
+ghost use Rattle.iio_core.specs.Front.{Front, shape_at};
+ghost use Rattle.iio_core.specs.Opening.{is_excess};
 ghost use Rattle.iiod_session.specs.Seat.{MayOpen};
 
-use crate::limits::MAX_SCANS;
+use iio_core::MAX_SCANS;
 use iio_kfifo::MAX_BYTES;
 use iio_layout::{Shape, has_data, scan_size};
 use iio_mask::Mask;

@@ -24,8 +24,8 @@ pub enum Seen<'a> {
 pub trait Watch<I: Iio> {
     ghost use Rattle.std.specs.Prelude.{ℕ, Option};
     ghost use Rattle.iiod_grammar.specs.Stream.{Item};
-    ghost use Rattle.iiod_session.specs.Front.{Front};
-    ghost use Rattle.iiod_session.specs.Machine.{Machine};
+    ghost use Rattle.iio_core.specs.Front.{Front};
+    ghost use Rattle.iio_core.specs.Machine.{Machine};
     ghost use Rattle.iiod_session.specs.Watch.{IsSeen};
 
     ghost makes: { Front → Option Machine → ℕ → Item → Self → Self → Type 0 };

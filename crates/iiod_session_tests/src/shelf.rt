@@ -91,7 +91,7 @@ impl Shelf {
 impl Iio for Shelf {
     ghost use Rattle.std.specs.Prelude.{None};
     ghost use Rattle.iiod_bank.specs.FrontOf.{front_of};
-    ghost use Rattle.iiod_session.specs.Front.{Front};
+    ghost use Rattle.iio_core.specs.Front.{Front};
     ghost use Rattle.iiod_session_tests.specs.Shelf.{seen_of};
 
     type Seat = ShelfSeat;

@@ -1,7 +1,7 @@
 use Rattle.std.proofs.Common.{◌∙◌, Bool, ap, sym}
 use Rattle.std.specs.Prelude.{◌&&◌, not}
 use Rattle.iio_desc.specs.Kind.{is_average}
-use Rattle.iiod_session.specs.Front.{kind_at}
+use Rattle.iio_core.specs.Front.{kind_at}
 use Rattle.iio_system.specs.Bench.{front_of}
 use Rattle.iio_system.proofs.AnyLemmas.{input_is}
 use Rattle.iio_system.proofs.guard.is_input.Goals as goal

@@ -1,6 +1,6 @@
 use Rattle.std.proofs.Common.{List, ℕ, inl, inr, ◌∙◌, subst}
 use Rattle.iiod_session.specs.declared.watch.Seen.{Seen}
-use Rattle.iiod_session.specs.Front.{find_device}
+use Rattle.iio_core.specs.Front.{find_device}
 use Rattle.iiod_session.specs.Watch.{IsSeen}
 use Rattle.iio_worlds.specs.Stance.{by_number}
 use Rattle.iio_system.specs.Bench.{front_of}

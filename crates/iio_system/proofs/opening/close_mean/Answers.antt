@@ -3,8 +3,8 @@ use Rattle.std.specs.Prelude.{not}
 use Rattle.std.proofs.lemmas.Option.{slice_get_read}
 use Rattle.iio_device.specs.Plug.{driver_of}
 use Rattle.iio_device.specs.Site.{is_empty}
-use Rattle.iiod_session.specs.Calls.{inner_gone}
-use Rattle.iiod_session.specs.Machine.{Station}
+use Rattle.iio_core.specs.Calls.{inner_gone}
+use Rattle.iio_core.specs.Machine.{Station}
 use Rattle.iio_desc.specs.Kind.{is_input}
 use Rattle.iio_system.specs.Places.{has_trigger, place_left}
 use Rattle.iio_system.specs.Station.{any_front, any_station, number_by}

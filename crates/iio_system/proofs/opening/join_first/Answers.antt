@@ -8,7 +8,7 @@ use Rattle.iio_kfifo.specs.declared.limits.TheConstants.{MAX_BYTES}
 use Rattle.iio_layout.specs.Active.{has_data}
 use Rattle.iio_layout.specs.Layout.{scan_size}
 use Rattle.iio_layout.specs.Shape.{ShapeRecord, count_of}
-use Rattle.iiod_session.specs.Calls.{has_no_number, joined}
+use Rattle.iio_core.specs.Calls.{has_no_number, joined}
 use Rattle.iio_system.specs.Faults.{HasJoined, JoinsAny}
 use Rattle.iio_system.specs.Station.{KeepsHead, any_front, any_station, base_of, number_by}
 use Rattle.iio_system.proofs.ListLemmas.{element_at, numbered_after, same_element, within_map}

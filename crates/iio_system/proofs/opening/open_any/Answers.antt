@@ -3,8 +3,8 @@ use Rattle.std.specs.Prelude.{not}
 use Rattle.iio_desc.specs.Kind.{is_average}
 use Rattle.iio_device.specs.Plug.{driver_of}
 use Rattle.iio_device.specs.Site.{is_empty}
-use Rattle.iiod_session.specs.Calls.{open_of}
-use Rattle.iiod_session.specs.Machine.{Station}
+use Rattle.iio_core.specs.Calls.{open_of}
+use Rattle.iio_core.specs.Machine.{Station}
 use Rattle.iiod_session.specs.Seat.{Answers, number_by}
 use Rattle.iio_system.specs.Seat.{seen_of}
 use Rattle.iio_system.specs.Station.{any_front, any_station, base_of}

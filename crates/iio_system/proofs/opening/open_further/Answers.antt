@@ -2,8 +2,8 @@ use Rattle.std.proofs.Common.{◌≡◌, ◌∙◌, true, false, length, ap, sub
 use Rattle.iio_desc.specs.Kind.{is_average}
 use Rattle.iio_device.specs.Plug.{driver_of}
 use Rattle.iio_device.specs.Site.{is_empty}
-use Rattle.iiod_session.specs.Calls.{has_no_number}
-use Rattle.iiod_session.specs.Machine.{Station}
+use Rattle.iio_core.specs.Calls.{has_no_number}
+use Rattle.iio_core.specs.Machine.{Station}
 use Rattle.iio_system.specs.Station.{any_front, any_station}
 use Rattle.iio_system.proofs.ListLemmas.{element_at, numbered_after, same_element}
 use Rattle.iio_system.proofs.IioLemmas.{device_keeps}

@@ -2,7 +2,7 @@ use Rattle.std.proofs.Common.{rules, sym, ◌∙◌, Ok}
 use Rattle.std.specs.Option.{option_copied}
 use Rattle.iiod_grammar.specs.View.{place_view}
 use Rattle.iiod_session.specs.Desk.{desk_of}
-use Rattle.iiod_session.specs.Front.{kind_at, shape_at}
+use Rattle.iio_core.specs.Front.{kind_at, shape_at}
 use Rattle.iiod_session.specs.Targets.{named_of_code, named_view}
 use Rattle.iiod_session.proofs.AttributeLaws.{reads_found, reads_refused}
 use Rattle.iiod_session.proofs.NameLaws.{found_named, may_read}

@@ -1,5 +1,5 @@
 use Rattle.std.proofs.Common.{sym}
-use Rattle.iiod_session.specs.Front.{kind_at}
+use Rattle.iio_core.specs.Front.{kind_at}
 use Rattle.iiod_session.specs.Targets.{assignment_of_code}
 use Rattle.iiod_session.proofs.AttributeLaws.{writes, writes_refused}
 use Rattle.iiod_session.proofs.NameLaws.{may_write}

@@ -1,5 +1,5 @@
 use Rattle.std.proofs.Common.{◌≡◌, All, vec_len, IfSome, Some}
-use Rattle.iiod_session.specs.Machine.{Machine}
+use Rattle.iio_core.specs.Machine.{Machine}
 use Rattle.iiod_session.specs.Acts.{all_released}
 use Rattle.iiod_session.specs.Desk.{IsHolding}
 use Rattle.iiod_session.proofs.leave.release_all.Given as goal

@@ -1,6 +1,6 @@
 use Rattle.std.proofs.Common.{refl}
 use Rattle.iiod_grammar.specs.Stream.{Streamed}
-use Rattle.iiod_session.specs.Front.{find_device}
+use Rattle.iio_core.specs.Front.{find_device}
 use Rattle.iiod_session.proofs.AnswerLaws.{performed, serves_short}
 use Rattle.iiod_session.proofs.ServeLaws.{finished, short_at}
 use Rattle.iiod_session.proofs.perform.perform_streamed.Goals as goal

@@ -1,7 +1,7 @@
 use Rattle.std.proofs.Common.{rules, ◌≡◌, ◌+◌, ◌-◌, ◌*◌, ◌≤◌, ◌<◌, ◌^◌, ◌++◌, length, length-append, sym, ap, ◌∙◌, arith}
 use Rattle.std.specs.Prelude.{vec_capacity}
 use Rattle.iiod_reply.specs.Reply.{block_text, joined_scans}
-use Rattle.iiod_session.specs.Front.{channel_count}
+use Rattle.iio_core.specs.Front.{channel_count}
 use Rattle.iiod_session.proofs.BlockLaws.{closed, headed, room_stands}
 use Rattle.iiod_session.proofs.reading.read_into.Goals as goal
 

@@ -1,6 +1,6 @@
 use Rattle.std.proofs.Common.{rules}
 use Rattle.iiod_session.specs.Desk.{desk_of}
-use Rattle.iiod_session.specs.Front.{kind_at}
+use Rattle.iio_core.specs.Front.{kind_at}
 use Rattle.iiod_session.proofs.SeatsLaws.{opens, opens_by, refuses}
 use Rattle.iiod_session.proofs.seats.open_at.Goals as goal
 

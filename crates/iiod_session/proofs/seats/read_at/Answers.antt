@@ -3,7 +3,7 @@ use Rattle.std.proofs.lemmas.List.Elements.{All-set}
 use Rattle.iio_text.specs.declared.errors.Errno.TheVariants.{EBADF}
 use Rattle.iiod_reply.specs.Reply.{Refusal}
 use Rattle.iio_desc.specs.Kind.{is_output}
-use Rattle.iiod_session.specs.Front.{kind_at}
+use Rattle.iio_core.specs.Front.{kind_at}
 use Rattle.iiod_session.specs.Desk.{Bare, IsHeld, bare_of, desk_of, with_seats}
 use Rattle.iiod_session.proofs.SeatsLaws.{apart_set, dev_is, map_set_same, read_nowhere, reads_at}
 use Rattle.iiod_session.proofs.seats.read_at.Goals as goal

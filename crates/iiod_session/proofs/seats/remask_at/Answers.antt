@@ -1,7 +1,7 @@
 use Rattle.std.proofs.Common.{ℕ, ◌∙◌, ap, rules}
 use Rattle.std.proofs.lemmas.List.Elements.{All-set}
 use Rattle.iio_desc.specs.Kind.{is_input}
-use Rattle.iiod_session.specs.Front.{kind_at}
+use Rattle.iio_core.specs.Front.{kind_at}
 use Rattle.iiod_session.specs.Desk.{IsHeld, desk_of}
 use Rattle.iiod_session.proofs.SeatsLaws.{apart_under_mask, dev_is, remask_comes, remasks_by}
 use Rattle.iiod_session.proofs.seats.remask_at.Goals as goal

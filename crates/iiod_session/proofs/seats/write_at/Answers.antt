@@ -1,7 +1,7 @@
 use Rattle.std.proofs.Common.{ℕ, ◌∙◌, List, ap, rules}
 use Rattle.std.proofs.lemmas.List.Elements.{All-set}
 use Rattle.iio_desc.specs.Kind.{is_output}
-use Rattle.iiod_session.specs.Front.{kind_at}
+use Rattle.iio_core.specs.Front.{kind_at}
 use Rattle.iiod_session.specs.Desk.{Bare, IsHeld, bare_of, desk_of, tale_of, with_seats}
 use Rattle.iiod_session.proofs.SeatsLaws.{apart_set, dev_is, map_set_same, writes_at}
 use Rattle.iiod_session.proofs.seats.write_at.Goals as goal

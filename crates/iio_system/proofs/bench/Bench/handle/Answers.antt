@@ -4,8 +4,8 @@ use Rattle.iio_desc.specs.Description.{DeviceHead}
 use Rattle.iio_device.specs.Plug.{driver_of}
 use Rattle.iio_device.specs.Site.{no_driver}
 use Rattle.iio_trigger.specs.Trigger.{Handed}
-use Rattle.iiod_session.specs.Front.{Front, kind_at}
-use Rattle.iiod_session.specs.Machine.{Station, station_at}
+use Rattle.iio_core.specs.Front.{Front, kind_at}
+use Rattle.iio_core.specs.Machine.{Station, station_at}
 use Rattle.iio_history.specs.Registry.{entry_of}
 use Rattle.iio_system.specs.Bench.{has_ended, trigger_in}
 use Rattle.iio_system.specs.Handling.{IsRoom, counted, entry_machine, is_last}

@@ -7,8 +7,8 @@ use Rattle.iio_trigger.specs.Trigger.{State}
 use Rattle.iio_device.specs.declared.plug.Plug.TheVariants.{Given}
 use Rattle.iio_device.specs.Plug.{driver_of}
 use Rattle.iio_device.specs.Site.{no_driver}
-use Rattle.iiod_session.specs.Front.{Front, first_front}
-use Rattle.iiod_session.specs.Machine.{Machine, Station}
+use Rattle.iio_core.specs.Front.{Front, first_front}
+use Rattle.iio_core.specs.Machine.{Machine, Station}
 use Rattle.iio_system.specs.Averages.{HasBases}
 use Rattle.iio_system.specs.First.{first_machine, first_state, first_station}
 use Rattle.iio_system.specs.OutStation.{first_out_station}

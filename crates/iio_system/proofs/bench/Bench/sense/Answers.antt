@@ -2,8 +2,8 @@ use Rattle.std.proofs.Common.{◌∙◌, ap, sym, w64}
 use Rattle.std.proofs.lemmas.Int.{to_z-of_z}
 use Rattle.iio_layout.specs.Shape.{ShapeRecord}
 use Rattle.iio_desc.specs.Kind.{Kind}
-use Rattle.iiod_session.specs.Front.{kind_at, shape_at}
-use Rattle.iiod_session.specs.Machine.{Station, with_station}
+use Rattle.iio_core.specs.Front.{kind_at, shape_at}
+use Rattle.iio_core.specs.Machine.{Station, with_station}
 use Rattle.iio_device.specs.Plug.{driver_of}
 use Rattle.iio_system.specs.Handling.{kind_sensed, sensed_station}
 use Rattle.iio_system.specs.Station.{any_front, any_station, captures_by}

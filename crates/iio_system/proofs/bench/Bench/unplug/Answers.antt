@@ -4,8 +4,8 @@ use Rattle.iio_desc.specs.Description.{DeviceHead}
 use Rattle.iio_desc.specs.Kind.{is_average}
 use Rattle.iio_device.specs.Plug.{driver_of}
 use Rattle.iio_device.specs.Site.{no_driver}
-use Rattle.iiod_session.specs.Front.{Front}
-use Rattle.iiod_session.specs.Machine.{is_plugged}
+use Rattle.iio_core.specs.Front.{Front}
+use Rattle.iio_core.specs.Machine.{is_plugged}
 use Rattle.iio_system.specs.Station.{any_front, any_station, captures_by, number_by}
 use Rattle.iio_system.proofs.ListLemmas.{element_at, length_map_is}
 use Rattle.iio_system.proofs.TogetherLemmas.{map_unmoved, numbered_together}

@@ -5,9 +5,9 @@ use Rattle.iio_base.specs.Refusals.{ensure}
 use Rattle.iio_text.specs.declared.errors.Errno.TheVariants.{EBADF}
 use Rattle.iio_event.specs.Monitor.{after_close}
 use Rattle.iio_device.specs.Site.{with_monitor}
-use Rattle.iiod_session.specs.Calls.{holds_events}
+use Rattle.iio_core.specs.Calls.{holds_events}
 use Rattle.std.proofs.Common.{refl}
-use Rattle.iiod_session.specs.Machine.{with_site}
+use Rattle.iio_core.specs.Machine.{with_site}
 use Rattle.iio_system.proofs.InnerLemmas.{acts_named, acts_stay, facts_same, named}
 use Rattle.iio_system.proofs.KeepLemmas.{keeps_captures}
 use Rattle.iio_system.proofs.in_device.InDevice.ev_close.Goals as goal

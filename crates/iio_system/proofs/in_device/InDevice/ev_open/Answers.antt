@@ -2,9 +2,9 @@ use Rattle.iio_device.specs.Plug.{driver_of}
 use Rattle.iio_system.specs.Station.{station_by}
 use Rattle.iio_event.specs.Monitor.{after_open}
 use Rattle.iio_device.specs.Site.{with_monitor}
-use Rattle.iiod_session.specs.Calls.{ev_open_answer}
+use Rattle.iio_core.specs.Calls.{ev_open_answer}
 use Rattle.std.proofs.Common.{refl}
-use Rattle.iiod_session.specs.Machine.{with_site}
+use Rattle.iio_core.specs.Machine.{with_site}
 use Rattle.iio_system.proofs.InnerLemmas.{acts_named, acts_stay, facts_same, named}
 use Rattle.iio_system.proofs.KeepLemmas.{keeps_captures}
 use Rattle.iio_system.proofs.in_device.InDevice.ev_open.Goals as goal

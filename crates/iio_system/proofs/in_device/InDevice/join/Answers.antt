@@ -3,7 +3,7 @@ use Rattle.iio_base.specs.Refusals.{first_refusal}
 use Rattle.iio_desc.specs.Kind.{Input}
 use Rattle.iio_device.specs.Plug.{driver_of}
 use Rattle.iio_device.specs.Device.{has_no_place}
-use Rattle.iiod_session.specs.Calls.{newcomer}
+use Rattle.iio_core.specs.Calls.{newcomer}
 use Rattle.iio_system.specs.Station.{station_by}
 use Rattle.iio_system.proofs.InnerLemmas.{refusals_named}
 use Rattle.iio_system.proofs.InnerJoins.{joined_facts, joins_named, members_joined, next_free}

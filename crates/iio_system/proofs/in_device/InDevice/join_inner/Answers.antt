@@ -4,7 +4,7 @@ use Rattle.iio_desc.specs.Kind.{Input}
 use Rattle.iio_layout.specs.Layout.{scan_size}
 use Rattle.iio_device.specs.Plug.{driver_of}
 use Rattle.iio_device.specs.Device.{has_no_place}
-use Rattle.iiod_session.specs.Calls.{newcomer}
+use Rattle.iio_core.specs.Calls.{newcomer}
 use Rattle.iio_system.specs.declared.in_device.Inner.{Inner}
 use Rattle.iio_system.specs.Faults.{JoinsAny}
 use Rattle.iio_system.specs.Inner.{HasInners}

@@ -1,7 +1,7 @@
 use Rattle.iio_device.specs.Plug.{driver_of}
 use Rattle.iio_system.specs.Station.{station_by}
 use Rattle.std.proofs.Common.{refl, sym, ◌∙◌}
-use Rattle.iiod_session.specs.Calls.{remasked}
+use Rattle.iio_core.specs.Calls.{remasked}
 use Rattle.iio_system.specs.Acting.{id_of}
 use Rattle.iio_system.specs.Inner.{inner_at}
 use Rattle.iio_system.specs.Remasking.{remask_answer}

@@ -1,8 +1,8 @@
 use Rattle.iio_device.specs.Plug.{driver_of}
 use Rattle.iio_system.specs.Station.{station_by}
-use Rattle.iiod_session.specs.Calls.{trigger_answer}
+use Rattle.iio_core.specs.Calls.{trigger_answer}
 use Rattle.std.proofs.Common.{refl}
-use Rattle.iiod_session.specs.Machine.{with_site}
+use Rattle.iio_core.specs.Machine.{with_site}
 use Rattle.iio_system.proofs.InnerLemmas.{acts_named, acts_stay, empty_named, facts_same, named}
 use Rattle.iio_system.proofs.KeepLemmas.{keeps_captures}
 use Rattle.iio_system.proofs.in_device.InDevice.set_trigger.Goals as goal

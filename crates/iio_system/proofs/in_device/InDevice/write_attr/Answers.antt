@@ -4,7 +4,7 @@ use Rattle.iio_base.specs.Refusals.{ensure}
 use Rattle.iio_text.specs.declared.errors.Errno.TheVariants.{ENODEV}
 use Rattle.iio_device.specs.Site.{site_written}
 use Rattle.std.proofs.Common.{refl}
-use Rattle.iiod_session.specs.Machine.{with_site}
+use Rattle.iio_core.specs.Machine.{with_site}
 use Rattle.iio_system.proofs.InnerLemmas.{acts_named, acts_stay, facts_same, named}
 use Rattle.iio_system.proofs.KeepLemmas.{keeps_captures}
 use Rattle.iio_system.proofs.in_device.InDevice.write_attr.Goals as goal

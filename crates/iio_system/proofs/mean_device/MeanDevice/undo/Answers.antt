@@ -1,5 +1,5 @@
 use Rattle.std.proofs.Common.{◌≡◌, subst, map, false, None}
-use Rattle.iiod_session.specs.Calls.{joined}
+use Rattle.iio_core.specs.Calls.{joined}
 use Rattle.iio_system.specs.Faults.{HasJoined}
 use Rattle.iio_system.specs.MeanStation.{mean_member}
 use Rattle.iio_system.specs.Seated.{IsSeating}

@@ -2,7 +2,7 @@ use Rattle.std.proofs.Common.{rules, refl, subst, sym, ◌<◌, All, length, map
 use Rattle.iio_desc.specs.Description.{DeviceHead}
 use Rattle.iio_device.specs.declared.plug.Plug.TheVariants.{Given}
 use Rattle.iio_device.specs.Plug.{driver_of}
-use Rattle.iiod_session.specs.Front.{Front}
+use Rattle.iio_core.specs.Front.{Front}
 use Rattle.iio_history.specs.Bench.{Every, HasDeviceSizes}
 use Rattle.iio_system.specs.Station.{any_front, captures_by}
 use Rattle.iio_system.proofs.StartLaws.{holds_first, none_within, room_first, some_channels}

@@ -1,6 +1,6 @@
 use Rattle.std.specs.Str.{bytes_eq}
 use Rattle.iio_desc.specs.Description.{DeviceHead}
-use Rattle.iiod_session.specs.Front.{find_device}
+use Rattle.iio_core.specs.Front.{find_device}
 use Rattle.iiod_bank.specs.FrontOf.{face_of}
 use Rattle.iiod_bank.proofs.FrontLemmas.{position_seen}
 use Rattle.iiod_bank.proofs.front.HubFront.find.Goals as goal

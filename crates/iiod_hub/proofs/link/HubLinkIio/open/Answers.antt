@@ -2,7 +2,7 @@ use Rattle.std.proofs.Common.{rules, ◌∙◌, Ok, Err, ap}
 use Rattle.iio_kfifo.specs.contracts.writer.WriterTail.TheImpl.{ghosts}
 use Rattle.iio_layout.specs.Layout.{scan_size}
 use Rattle.iio_layout.specs.Shape.{ShapeRecord}
-use Rattle.iiod_session.specs.Front.{Front, size_at}
+use Rattle.iio_core.specs.Front.{Front, size_at}
 use Rattle.iiod_hub.proofs.OpenLaws.{opens}
 use Rattle.iiod_hub.proofs.link.HubLinkIio.open.Goals as goal
 

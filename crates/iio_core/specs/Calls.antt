@@ -13,7 +13,7 @@ use Rattle.iio_desc.specs.Kind.{Kind, Output, Average, is_input, is_output, is_o
 use Rattle.iio_derive.specs.Window.{Window, full_mask, no_window}
 use Rattle.std.specs.List.{list_any}
 use Rattle.iio_device.specs.declared.totals.Totals.{Totals}
-use Rattle.iiod_session.specs.Places.{map_from}
+use Rattle.iio_core.specs.Lists.{map_from}
 use Rattle.iio_layout.specs.Shape.{ShapeRecord}
 use Rattle.iio_output.specs.Written.{is_bad_size, is_full as is_full_of, is_standing, scans_of, taken_of}
 use Rattle.iio_sensor.specs.Driver.{value_of, ask_fails}
@@ -23,9 +23,9 @@ use Rattle.iio_device.specs.Active.{is_without_union}
 use Rattle.iio_device.specs.Site.{is_empty, attached, sampled, site_written, with_monitor}
 use Rattle.iio_device.specs.Stored.{attr_value}
 use Rattle.iio_device.specs.Totals.{with_left, with_lost}
-use Rattle.iiod_session.specs.Front.{Front, kind_at, shape_at, size_at, device_name, place_count}
-use Rattle.iiod_session.specs.Machine.{Member, MemberId, Station, Machine, queue_of, station_at, with_station, with_site, lost_by, masks_of, member_in, is_id_of, is_seat_of, without}
-use Rattle.iiod_session.specs.Opening.{join_refusals}
+use Rattle.iio_core.specs.Front.{Front, kind_at, shape_at, size_at, device_name, place_count}
+use Rattle.iio_core.specs.Machine.{Member, MemberId, Station, Machine, queue_of, station_at, with_station, with_site, lost_by, masks_of, member_in, is_id_of, is_seat_of, without}
+use Rattle.iio_core.specs.Opening.{join_refusals}
 
 -- an answer, and what stands then
 pub record Outcome (A : Type 0) : Type 0 where

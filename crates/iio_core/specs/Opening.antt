@@ -9,9 +9,7 @@ use Rattle.iio_device.specs.declared.roster.RemaskFault.{RemaskFault}
 use Rattle.iio_device.specs.declared.roster.RemaskFault.TheVariants as remask
 use Rattle.iio_device.specs.Joining.{member_faults}
 use Rattle.iio_kfifo.specs.declared.limits.TheConstants.{MAX_BYTES}
-use Rattle.iiod_session.specs.declared.iio.No.{No}
-use Rattle.iiod_session.specs.declared.iio.No.TheVariants.{Errno as NoErrno, Mem as NoMem}
-use Rattle.iiod_session.specs.declared.limits.TheConstants.{MAX_SCANS}
+use Rattle.iio_core.specs.declared.limits.TheConstants.{MAX_SCANS}
 
 -- whether a member can't have a queue of `capacity` scans of `size` bytes
 abbrev pub is_excess : ℕ → ℕ → Bool
@@ -66,16 +64,3 @@ remask_errno remask.NotLive = Some EBADF
 remask_errno remask.BadMask = Some EINVAL
 remask_errno remask.NoUnion = Some EINVAL
 remask_errno remask.Mem = None
-
--- how a session is told of it: without an errno, memory ran out
-abbrev pub no_by : Option Errno → No
-no_by (Some e) = NoErrno e
-no_by None = NoMem
-
--- of a fault of joining
-abbrev pub no_of : JoinFault → No
-no_of f = no_by (errno_of f)
-
--- of a fault of another mask
-abbrev pub remask_no : RemaskFault → No
-remask_no f = no_by (remask_errno f)

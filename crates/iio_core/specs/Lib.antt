@@ -1,0 +1,5 @@
+pub mod Lists
+pub mod Front
+pub mod Machine
+pub mod Opening
+pub mod Calls

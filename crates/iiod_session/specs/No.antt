@@ -1,0 +1,21 @@
+-- How a session is told of a refusal by a device. Want of memory has no errno.
+use Rattle.std.specs.Prelude.{Option, Some, None}
+use Rattle.iio_text.specs.declared.errors.Errno.{Errno}
+use Rattle.iio_device.specs.declared.roster.JoinFault.{JoinFault}
+use Rattle.iio_device.specs.declared.roster.RemaskFault.{RemaskFault}
+use Rattle.iio_core.specs.Opening.{errno_of, remask_errno}
+use Rattle.iiod_session.specs.declared.iio.No.{No}
+use Rattle.iiod_session.specs.declared.iio.No.TheVariants.{Errno as NoErrno, Mem as NoMem}
+
+-- without an errno, memory ran out
+abbrev pub no_by : Option Errno → No
+no_by (Some e) = NoErrno e
+no_by None = NoMem
+
+-- of a fault of joining
+abbrev pub no_of : JoinFault → No
+no_of f = no_by (errno_of f)
+
+-- of a fault of another mask
+abbrev pub remask_no : RemaskFault → No
+remask_no f = no_by (remask_errno f)
