@@ -3,3 +3,5 @@ pub mod Front
 pub mod Machine
 pub mod Opening
 pub mod Calls
+pub mod Trigger
+pub mod Moves

@@ -29,9 +29,8 @@ use Rattle.iio_core.specs.Machine.{Machine, Member, Station, masks_of as plain_m
 use Rattle.iio_desc.specs.Kind.{Input}
 use Rattle.iio_derive.specs.Window.{no_window}
 use Rattle.iio_output.specs.Last.{first_last}
-use Rattle.iio_history.specs.Registry.{Capture}
-use Rattle.iio_history.specs.BenchMoves.{asked_once, entry_made, offered_to}
-use Rattle.iio_history.specs.Devices.{AreMet, IsAt, IsMet, handled_answer, left_after, member_with, members_met, queue_waited, queue_waits, station_met, station_of, station_with, writer_waited, writer_waits}
+use Rattle.iio_core.specs.Moves.{Capture, asked_once, entry_made, offered_to, handled_answer}
+use Rattle.iio_history.specs.Devices.{AreMet, IsAt, IsMet, left_after, member_with, members_met, queue_waited, queue_waits, station_met, station_of, station_with, writer_waited, writer_waits}
 use Rattle.iio_history.proofs.DeviceLaws.{at_changed, empty_map, masks_are}
 
 -- ---- handlings

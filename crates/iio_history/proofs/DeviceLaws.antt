@@ -39,7 +39,7 @@ use Rattle.iio_history.proofs.BenchLists.{get_first}
 use Rattle.iio_core.specs.Front.{Front, device_name, kind_at, shape_at}
 use Rattle.iio_core.specs.Machine.{Machine, Member, Station, is_seat_of, lost_by, masks_of as plain_masks, no_station, station_at, with_site, with_station, without}
 use Rattle.iio_core.specs.Opening.{errno_of, join_refusals}
-use Rattle.iio_history.specs.BenchMoves.{look_made}
+use Rattle.iio_core.specs.Moves.{look_made}
 use Rattle.iio_history.specs.Devices.{Does, IsAt, IsJoined, IsRefused, held_errno, holder_errno, member_with, raw_value, station_of}
 use Rattle.iio_history.specs.DeviceLaw.{IsNewEnd, IsPlaced, SamePlaces}
 

@@ -15,11 +15,12 @@ use Rattle.iio_core.specs.Front.{kind_at, shape_at}
 use Rattle.iio_core.specs.Machine.{Machine, Station, with_site, with_station}
 use Rattle.iio_history.proofs.BenchLists.{get_first}
 use Rattle.iio_history.specs.Event.{Handled as HandledAt, Sensed as SensedAt, Unplugged}
-use Rattle.iio_history.specs.Registry.{Setup, entries_at, entry_of}
+use Rattle.iio_history.specs.Registry.{Setup}
+use Rattle.iio_core.specs.Trigger.{entries_at, entry_of}
 use Rattle.iio_history.specs.Told.{Told}
 use Rattle.iio_history.specs.Machine.{step}
 use Rattle.iio_history.specs.Bench.{IsBench, front_of, machine_of}
-use Rattle.iio_history.specs.BenchMoves.{entry_made, handles, handles_by, look_made, unplugs}
+use Rattle.iio_core.specs.Moves.{capture_at, entry_at, entry_made, look_made, unplugs}
 use Rattle.iio_history.specs.Devices.{AreMet, IsAt, station_met, station_of}
 use Rattle.iio_history.proofs.BenchMoves.{handling_is, look_is, unplugging_is}
 use Rattle.iio_history.proofs.DeviceLaws.{looks_agree}
@@ -59,10 +60,12 @@ module _ {Q : Type 0} (taken lost size capacity : Q → ℕ) (offer_gives : Q �
       let itself : (k == k) ≡ true = grind (arith, nat_tests) in
       let es = entries_at m.triggers trigger in
       let met : Station = station_met lost capacity waits waited r d d' in
+      let made : ℕ → Kind → Station → Station =
+      λ j kind st. entry_at (entry_of k es) (capture_at (front_of s) (entry_of k es) k (machine_of m)) k kind (shape_at (front_of s) j) j st in
       ap (λ (x : Machine). slice_get x.stations k) (handling_is s m trigger k bench)
-      ∙ get_first (handles (front_of s) (machine_of m) k es) (machine_of m).stations k
-      ∙ ap (λ (o : Option Station). option_map (handles (front_of s) (machine_of m) k es k) o) here
-      ∙ ap (λ (kind : Kind). Some (handles_by (front_of s) (machine_of m) k es kind k met)) input
+      ∙ get_first (λ j st. made j (kind_at (front_of s) j) st) (machine_of m).stations k
+      ∙ ap (λ (o : Option Station). option_map (made k (kind_at (front_of s) k)) o) here
+      ∙ ap (λ (kind : Kind). Some (made k kind met)) input
       ∙ ap (λ (b : Bool). Some (cond b (entry_made Input (shape_at (front_of s) k) (entry_of k es) met) met)) itself
       ∙ ap (λ (shape : ShapeRecord). Some (entry_made Input shape (entry_of k es) met)) shaped
       ∙ ap (λ o. Some (entry_made Input d.standing.shape o met)) entry

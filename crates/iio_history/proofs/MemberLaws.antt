@@ -4,7 +4,8 @@ use Rattle.iio_layout.specs.Shape.{ShapeRecord}
 use Rattle.iio_layout.specs.Layout.{scan_size}
 use Rattle.iiod_session.specs.Desk.{more_discarded}
 use Rattle.iio_history.specs.Who.{Who, Conn, Inner, same, is_among}
-use Rattle.iio_history.specs.Registry.{Member, Capture, is_member, without_members}
+use Rattle.iio_history.specs.Registry.{Member, is_member, without_members}
+use Rattle.iio_core.specs.Moves.{Capture}
 use Rattle.iio_history.specs.Act.{Act, Joining, Remasking, Leaving, Ending, Reading, Capturing, Writing, Giving}
 use Rattle.iio_history.specs.Fold.{with_mask, members_after}
 use Rattle.iio_history.specs.Log.{Logged, Taken, Offered, logged, logged_capture}

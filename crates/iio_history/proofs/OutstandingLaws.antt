@@ -1,10 +1,11 @@
 -- Outstanding entries, by the newest event.
-use Rattle.std.proofs.Common.{◌≡◌, ℕ, zero, suc, ℤ, List, [], ◌∷◌, Option, Some, None, slice_get, option_map, cond, refl, sym, ap, ◌∙◌}
+use Rattle.std.proofs.Common.{◌≡◌, ℕ, zero, suc, ℤ, List, [], ◌∷◌, Option, Some, slice_get, option_map, unwrap_or, cond, refl, sym, ap, ◌∙◌}
 use Rattle.iio_trigger.specs.Trigger.{Handed, poll_made}
 use Rattle.iio_history.specs.Event.{Event, Polled, Handled}
-use Rattle.iio_history.specs.Registry.{Setup, outlines_of, Trigger, entries_from, without_entry}
+use Rattle.iio_history.specs.Registry.{Setup, outlines_of, entries_from}
+use Rattle.iio_core.specs.Trigger.{Trigger, first_trigger, handled, without_entry}
 use Rattle.iio_device.specs.Site.{at_place, is_empty}
-use Rattle.iio_history.specs.Fold.{polled, handled, outstanding, registry_after}
+use Rattle.iio_history.specs.Fold.{polled, outstanding, registry_after}
 
 got_at : {A : Type 0} (k : ℕ) (f : A → A) (xs : List A) → slice_get (at_place k f xs) k ≡ option_map f (slice_get xs k)
 got_at k f [] = refl
@@ -20,8 +21,7 @@ got_elsewhere (suc k) (suc j) f (x ∷ xs) other = got_elsewhere k j f xs (λ sa
 
 -- the entries of what stands at a place
 abbrev entries_by : Option Trigger → List Handed
-entries_by None = []
-entries_by (Some t) = t.entries
+entries_by o = (unwrap_or o first_trigger).entries
 
 -- a poll is accepted exactly where nothing is outstanding
 made_is : (made es : List Handed) → poll_made made es ≡ cond (is_empty es) made es

@@ -15,7 +15,9 @@ use Rattle.iiod_session.specs.Attributes.{Assignment, Named, found as found_by, 
 use Rattle.iio_history.specs.Who.{Who, Conn, Inner}
 use Rattle.iiod_grammar.specs.Stream.{Item, Said, Written, Streamed, End}
 use Rattle.iio_history.specs.Event.{Event, Heard, Dropped, Handled, Sensed, Unplugged}
-use Rattle.iio_history.specs.Registry.{Setup, Member, Device, Outline, outline_of, Registry, Capture, is_member, is_named, buffers_of, entries_at, entry_of, is_left_empty}
+use Rattle.iio_history.specs.Registry.{Setup, Member, Device, Outline, outline_of, Registry, is_member, is_named, buffers_of, is_left_empty}
+use Rattle.iio_core.specs.Moves.{Capture}
+use Rattle.iio_core.specs.Trigger.{entries_at, entry_of}
 use Rattle.iio_history.specs.Opening.{open_answer, remask_answer, write_answer, trigger_answer}
 
 pub data Act : Type 0 where

@@ -25,12 +25,13 @@ use Rattle.iio_desc.specs.Kind.{Input}
 use Rattle.iio_core.specs.Front.{Front, device_name, kind_at, shape_at}
 use Rattle.iio_core.specs.Machine.{Machine, MemberId, lost_by, with_site, with_station}
 use Rattle.iio_history.specs.Event.{Handled as HandledAt, Sensed as SensedAt, Unplugged}
-use Rattle.iio_history.specs.Registry.{Setup, entries_at, entry_of}
+use Rattle.iio_history.specs.Registry.{Setup}
+use Rattle.iio_core.specs.Trigger.{entries_at, entry_of}
 use Rattle.iio_history.specs.Told.{Told}
 use Rattle.iio_history.specs.Machine.{step}
 use Rattle.iio_history.specs.Bench.{IsBench, front_of, machine_of}
-use Rattle.iio_history.specs.BenchMoves.{entry_made, look_made}
-use Rattle.iio_history.specs.Devices.{AreMet, Does, IsAt, IsJoined, IsMet, IsRemasked, handled_answer, held_errno, holder_errno, queue_waited, queue_waits, raw_value, station_met, station_of, writer_waited, writer_waits}
+use Rattle.iio_core.specs.Moves.{entry_made, look_made, handled_answer}
+use Rattle.iio_history.specs.Devices.{AreMet, Does, IsAt, IsJoined, IsMet, IsRemasked, held_errno, holder_errno, queue_waited, queue_waits, raw_value, station_met, station_of, writer_waited, writer_waits}
 
 module _ {Q : Type 0} where
   -- ---- members

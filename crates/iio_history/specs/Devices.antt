@@ -1,6 +1,6 @@
 -- What an input device is to the plain state, by its own view, whatever queues its members have; and how the laws of its calls say
 -- what becomes of it there. No member of it is an inner one. (Kernel, driver-api/iio: one device serves several buffers. What a queue's end tells is this project's own.)
-use Rattle.std.specs.Prelude.{◌≡◌, ℕ, ℤ, ⊤, ◌+◌, ◌≤◌, ◌<◌, not, false, List, [], ◌∷◌, ◌++◌, map, length, drop, slice_get, Option, Some, None, Result, Ok, Err, if◌then◌else◌}
+use Rattle.std.specs.Prelude.{◌≡◌, ℕ, ℤ, ⊤, ◌+◌, ◌≤◌, ◌<◌, false, List, [], ◌∷◌, ◌++◌, map, length, drop, slice_get, Option, Some, None, Result, Ok, Err, if◌then◌else◌}
 use Rattle.std.specs.List.{AllZip}
 use Rattle.iio_text.specs.declared.errors.Errno.{Errno}
 use Rattle.iio_text.specs.declared.errors.Errno.TheVariants.{EBADF, EBUSY, EIO, ENODEV}
@@ -12,10 +12,8 @@ use Rattle.iio_kfifo.specs.declared.view.Sent.{Sent}
 use Rattle.iio_kfifo.specs.Ends.{WriterEnd}
 use Rattle.iio_kfifo.specs.Offers.{accepted}
 use Rattle.iio_kfifo.specs.Queue.{Queue}
-use Rattle.iio_sensor.specs.Driver.{ask_fails}
 use Rattle.iio_output.specs.Last.{first_last}
 use Rattle.iio_derive.specs.Window.{no_window}
-use Rattle.iio_trigger.specs.Trigger.{Handed}
 use Rattle.iio_event.specs.declared.monitor.Held.{Held}
 use Rattle.iio_event.specs.declared.monitor.NotHolder.{NotHolder}
 use Rattle.iio_device.specs.declared.handling.Handled.{Handled}
@@ -27,7 +25,6 @@ use Rattle.iio_device.specs.declared.membership.Membership.{Membership}
 use Rattle.iio_device.specs.declared.roster.JoinRefused.{JoinRefused}
 use Rattle.iio_device.specs.declared.roster.RemaskRefused.{RemaskRefused}
 use Rattle.iio_device.specs.Device.{DeviceView}
-use Rattle.iio_device.specs.Site.{is_current}
 use Rattle.iio_core.specs.Calls.{Outcome}
 use Rattle.iio_core.specs.Machine.{Machine, Member, Station}
 use Rattle.iio_core.specs.Opening.{errno_of, remask_errno}
@@ -135,13 +132,6 @@ abbrev pub writer_waited : WriterEnd → WriterEnd → List (List ℕ)
 writer_waited old new = left_after new.knows.seen old
 
 -- ---- answers
-
--- the answer to a handling
-abbrev pub handled_answer : Handed → Station → Handled
-handled_answer e st =
-    if not (is_current e.attachment st.site.attachment st.members st.site.plugged) then handled.Idle
-    else if ask_fails st.site.driver then handled.Fault
-    else handled.Captured (length st.members)
 
 -- a sample as the value of `raw`, or the errno of its fault
 abbrev pub raw_value : Result ℤ RawFault → Result Value Errno

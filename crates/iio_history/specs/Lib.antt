@@ -27,3 +27,4 @@ pub mod Told
 pub mod Summary
 pub mod Transcript
 pub mod Who
+pub mod Words

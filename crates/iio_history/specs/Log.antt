@@ -3,7 +3,8 @@
 use Rattle.std.specs.Prelude.{ℕ, ◌/◌, List, [], ◌∷◌, if◌then◌else◌}
 use Rattle.iio_history.specs.Event.{Event}
 use Rattle.iio_history.specs.Who.{Who, Conn, Inner, same}
-use Rattle.iio_history.specs.Registry.{Setup, Capture}
+use Rattle.iio_history.specs.Registry.{Setup}
+use Rattle.iio_core.specs.Moves.{Capture}
 use Rattle.iio_history.specs.Act.{Act, Joining, Remasking, Reading, Capturing, Writing, Giving, act_at}
 use Rattle.iio_history.specs.Fold.{registry_after}
 

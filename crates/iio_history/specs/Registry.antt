@@ -1,6 +1,6 @@
 -- Who has which device open after a history, what is outstanding at the triggers, and what the drivers were asked: plain
 -- data. There is no queue, no scan and no copy table in it.
-use Rattle.std.specs.Prelude.{ℕ, suc, ◌==◌, ◌||◌, ◌&&◌, not, Bool, false, List, [], ◌∷◌, map, filter, find, slice_get, slice_index_or, Option, Some, None, if◌then◌else◌, ℤ}
+use Rattle.std.specs.Prelude.{ℕ, suc, ◌==◌, ◌||◌, ◌&&◌, not, Bool, false, List, [], ◌∷◌, map, slice_index_or, Option, Some, None, if◌then◌else◌, ℤ}
 use Rattle.std.specs.Str.{bytes_eq}
 use Rattle.iio_layout.specs.Shape.{ShapeRecord}
 use Rattle.iio_sensor.specs.Driver.{Driver}
@@ -9,6 +9,7 @@ use Rattle.iio_desc.specs.Description.{Description, find_device}
 use Rattle.iio_desc.specs.Kind.{Kind}
 use Rattle.iio_derive.specs.Window.{Window}
 use Rattle.iio_device.specs.Site.{Site, is_empty}
+use Rattle.iio_core.specs.Trigger.{Trigger}
 use Rattle.iiod_session.specs.declared.desk.TheConstants.{FIRST_BUFFERS}
 use Rattle.iio_history.specs.Who.{Who, same, is_among}
 
@@ -43,11 +44,6 @@ pub record Outline : Type 0 where
   pub site : Site Who
   pub masks : List ℕ
 
--- a trigger: the entries of its last accepted poll that were not handled since, and how many polls were missed
-pub record Trigger : Type 0 where
-  pub entries : List Handed
-  pub missed : ℕ
-
 -- a connection: whether it has ended, and the buffers count of each device
 pub record User : Type 0 where
   pub who : List ℕ
@@ -59,11 +55,6 @@ pub record Registry : Type 0 where
   pub users : List User
   pub triggers : List Trigger
   pub devices : List Device
-
--- one accepted trigger event of a device: its moment, and the value of every element of every channel, in order
-pub record Capture : Type 0 where
-  pub moment : ℤ
-  pub values : List ℤ
 
 -- ---- words on it
 
@@ -133,16 +124,6 @@ abbrev pub buffers_of : List User → List ℕ → ℕ → ℕ
 buffers_of us name k = elim (user_named name us) [ None ↦ first_buffers | Some u ↦ slice_index_or u.buffers k first_buffers ]
 
 -- ---- entries
-
-abbrev pub entries_at : List Trigger → ℕ → List Handed
-entries_at triggers trigger = elim (slice_get triggers trigger) [ None ↦ [] | Some t ↦ t.entries ]
-
--- the device's entry, and the entries without it
-abbrev pub entry_of : ℕ → List Handed → Option Handed
-entry_of device entries = find (λ (e : Handed). e.dev == device) entries
-
-abbrev pub without_entry : ℕ → List Handed → List Handed
-without_entry device entries = filter (λ (e : Handed). not (e.dev == device)) entries
 
 -- an entry for each device that is attached, in the order of devices; `device` is the first one's number
 abbrev pub entries_from : ℕ → ℕ → ℤ → List Outline → List Handed

@@ -10,10 +10,12 @@ use Rattle.iio_device.specs.declared.totals.Totals.{Totals}
 use Rattle.iio_device.specs.Site.{Site}
 use Rattle.iio_device.specs.Totals.{no_totals, with_given, with_lost}
 use Rattle.iio_core.specs.Lists.{map_from}
+use Rattle.iio_core.specs.Moves.{next_scan}
 use Rattle.iio_history.specs.Who.{Who, same, is_among}
 use Rattle.iiod_grammar.specs.Stream.{Scanner, InLine, scanner_after}
 use Rattle.iio_history.specs.Event.{Event, Arrived}
-use Rattle.iio_history.specs.Registry.{Setup, Member, Device, Trigger, User, Registry}
+use Rattle.iio_history.specs.Registry.{Setup, Member, Device, User, Registry}
+use Rattle.iio_core.specs.Trigger.{Trigger}
 use Rattle.iio_history.specs.Act.{Act, Remasking, Leaving, Ending, Reading, Capturing, Giving, act_at, act_of}
 use Rattle.iio_history.specs.Fold.{registry_after, registry_first}
 use Rattle.iio_history.specs.Log.{membership_log}
@@ -91,11 +93,6 @@ totals_after shape (Ending gone) xs t = with_gone gone xs t
 totals_after shape act xs t = t
 
 -- ---- what an output device is given
-
--- what it would be given next, under the mask of its one member
-abbrev pub next_scan : ℕ → List (List ℕ) → Option GivenScan
-next_scan mask [] = None
-next_scan mask (scan ∷ scans) = Some (record { mask = mask; bytes = scan })
 
 abbrev pub next_given : List Seat → Option GivenScan
 next_given [] = None

@@ -13,7 +13,8 @@ use Rattle.iio_device.specs.Site.{is_empty}
 use Rattle.iio_history.specs.Who.{Who}
 use Rattle.iiod_grammar.specs.Stream.{Scanner, InLine, items_from}
 use Rattle.iio_history.specs.Event.{Event, Arrived, Heard, Dropped, Polled, Handled, Clock, Sensed, Unplugged}
-use Rattle.iio_history.specs.Registry.{Setup, Trigger, entries_at, entry_of, entries_from, outline_of, outlines_of, has_ended, is_live}
+use Rattle.iio_history.specs.Registry.{Setup, entries_from, outline_of, outlines_of, has_ended, is_live}
+use Rattle.iio_core.specs.Trigger.{entries_at, entry_of, missed_at}
 use Rattle.iio_history.specs.Act.{Act, Capturing, Failing, Giving, handled_act}
 use Rattle.iio_history.specs.Told.{Line, Seat, Station, Told, device_of, next_given, registry_of, told}
 use Rattle.iio_history.specs.Reply.{reply}
@@ -69,9 +70,6 @@ spaced (w ∷ ws) = w ++ 32 ∷ spaced ws
 
 abbrev pub printed : List (List ℕ) → List ℕ
 printed words = line (spaced words)
-
-abbrev pub missed_at : List Trigger → ℕ → ℕ
-missed_at triggers trigger = elim (slice_get triggers trigger) [ None ↦ 0 | Some t ↦ t.missed ]
 
 abbrev pub poll_words : Told → ℕ → ℤ → List (List ℕ)
 poll_words m trigger moment =

@@ -1,19 +1,19 @@
 -- What the calls of a device of whichever kind are at each kind.
-use Rattle.std.proofs.Common.{◌≡◌, ℕ, ◌-◌, Bool, true, false, Option, Some, None, IfSome, Result, refl, sym, subst, ◌∙◌, cond, List, [], ◌∷◌, map}
+use Rattle.std.proofs.Common.{◌≡◌, ℕ, ◌-◌, Bool, true, false, Option, Some, None, IfSome, Result, refl, sym, subst, ◌∙◌, cond, List, [], ◌∷◌, map, ap}
 use Rattle.std.specs.Prelude.{◌&&◌}
 use Rattle.std.specs.List.{list_any}
 use Rattle.iio_desc.specs.Description.{DeviceHead}
-use Rattle.iio_desc.specs.Kind.{Output, Average, is_input}
+use Rattle.iio_desc.specs.Kind.{Output, Average, is_input, Kind}
 use Rattle.iio_layout.specs.Shape.{ShapeRecord}
 use Rattle.iio_mask.specs.declared.Mask.{Mask}
 use Rattle.iio_trigger.specs.Trigger.{Handed, State}
-use Rattle.iio_device.specs.Site.{is_current}
+use Rattle.iio_core.specs.declared.became.Became.{Became}
 use Rattle.iiod_session.specs.declared.iio.No.{No}
 use Rattle.iio_core.specs.Calls.{is_inner_of}
 use Rattle.iio_core.specs.Machine.{Member, Station}
-use Rattle.iio_history.specs.Registry.{Capture}
+use Rattle.iio_core.specs.Moves.{Capture, is_due}
 use Rattle.iio_device.specs.declared.handling.Handled.TheVariants.{Idle}
-use Rattle.iio_system.specs.declared.any_device.Became.TheVariants.{Asked}
+use Rattle.iio_core.specs.declared.became.Became.TheVariants.{Asked}
 use Rattle.iio_derive.specs.declared.members.Membership.{Membership}
 use Rattle.iio_output.specs.Out.{WriterRecord}
 use Rattle.iio_sensor.specs.Driver.{Driver}
@@ -25,7 +25,7 @@ use Rattle.iio_system.specs.declared.mean_device.MeanSeat.{MeanSeat}
 use Rattle.iio_system.specs.declared.out_device.OutDevice.{OutDevice}
 use Rattle.iio_system.specs.declared.seat.Seat.{Seat}
 use Rattle.iio_system.specs.Faults.{JoinsAny, MayHaveInner}
-use Rattle.iio_system.specs.Handling.{IsTakenWhole, entry_answer, entry_capture, entry_station}
+use Rattle.iio_system.specs.Handling.{IsTakenWhole, entry_capture, entry_station, entry_became, unless_ended}
 use Rattle.iio_system.specs.MeanStation.{mean_member}
 use Rattle.iio_system.specs.OutStation.{out_station, writers_of}
 use Rattle.iio_system.specs.Station.{any_station}
@@ -55,40 +55,42 @@ joins_output d st mask capacity cyclic inner number shape result old new trigger
     subst (λ (o : Option ℕ). JoinsAny mask capacity cyclic o number shape result old new trigger trigger')
     (sym (none_inner d mask.bits capacity st inner other may)) joins
 
+-- a choice between the same
+pub either : {A : Type 0} (b : Bool) (x : A) → cond b x x ≡ x
+either true x = refl
+either false x = refl
+
+none_whole : (shape : ShapeRecord) (o : Option Capture) (members : List Member) (scan : List ℕ) → o ≡ None → IsTakenWhole shape o members scan
+none_whole shape o members scan none = subst (λ (x : Option Capture). IsTakenWhole shape x members scan) (sym none) tt
+
+-- without an entry there is no capture, and nothing changes
+pub nothing_whole : (kind : Kind) (ended : Bool) (shape : ShapeRecord) (st : Station) (members : List Member) (scan : List ℕ)
+    → IsTakenWhole shape (entry_capture kind None ended shape st) members scan
+nothing_whole kind ended shape st members scan = none_whole shape _ members scan (either ended None)
+
+pub nothing_stays : (kind : Kind) (ended : Bool) (shape : ShapeRecord) (st : Station) → st ≡ entry_station kind None ended shape st
+nothing_stays kind ended shape st = sym (either ended st)
+
 -- an output device makes no capture
 pub output_whole : (e : Handed) (ended : Bool) (shape : ShapeRecord) (st : Station) (members : List Member) (scan : List ℕ)
     → IsTakenWhole shape (entry_capture Output (Some e) ended shape st) members scan
-output_whole e true shape st members scan = tt
-output_whole e false shape st members scan = by (is_current e.attachment st.site.attachment st.members st.site.plugged)
-  where
-    by : (b : Bool) → IsTakenWhole shape (cond b (let x : Option Capture = None in x) None) members scan
-    by true = tt
-    by false = tt
+output_whole e ended shape st members scan =
+    none_whole shape _ members scan (ap (λ (o : Option Capture). unless_ended ended None o) (either (is_due e st) None) ∙ either ended None)
 
 -- nor does an averaging device
 pub average_whole : (base window : ℕ) (e : Handed) (ended : Bool) (shape : ShapeRecord) (st : Station) (members : List Member) (scan : List ℕ)
     → IsTakenWhole shape (entry_capture (Average base window) (Some e) ended shape st) members scan
-average_whole base window e true shape st members scan = tt
-average_whole base window e false shape st members scan = by (is_current e.attachment st.site.attachment st.members st.site.plugged)
-  where
-    by : (b : Bool) → IsTakenWhole shape (cond b (let x : Option Capture = None in x) None) members scan
-    by true = tt
-    by false = tt
+average_whole base window e ended shape st members scan =
+    none_whole shape _ members scan (ap (λ (o : Option Capture). unless_ended ended None o) (either (is_due e st) None) ∙ either ended None)
 
 -- and its entries change nothing
 pub average_stays : (base window : ℕ) (e : Handed) (ended : Bool) (shape : ShapeRecord) (st : Station)
     → st ≡ entry_station (Average base window) (Some e) ended shape st
-average_stays base window e true shape st = refl
-average_stays base window e false shape st = by (is_current e.attachment st.site.attachment st.members st.site.plugged)
-  where
-    by : (b : Bool) → st ≡ cond b st st
-    by true = refl
-    by false = refl
+average_stays base window e ended shape st = sym (ap (λ (x : Station). unless_ended ended st x) (either (is_due e st) st) ∙ either ended st)
 
 pub average_idle : (base window : ℕ) (e : Handed) (ended : Bool) (st : Station)
-    → Some (Asked Idle) ≡ entry_answer (Average base window) (Some e) ended st
-average_idle base window e true st = refl
-average_idle base window e false st = refl
+    → Some (Asked Idle) ≡ entry_became (Average base window) (Some e) ended st
+average_idle base window e ended st = sym (ap (λ (x : Became). Some x) (either ended (Asked Idle)))
 
 -- an output device has no inner member
 pub out_inner : (j : ℕ) (x : OutDevice) → false ≡ list_any (is_inner_of j) (out_station x).members

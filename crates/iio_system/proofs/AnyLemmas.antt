@@ -25,7 +25,7 @@ use Rattle.iio_system.specs.Station.{KeepsFront, KeepsHead, any_station, view_by
 
 -- ---- maps with places
 
-pub as_from : {A : Type 0} (f g : ℕ → A → A) (i : ℕ) (xs : List A) → ((j : ℕ) (x : A) → f j x ≡ g j x) → map_from f i xs ≡ map_from g i xs
+as_from : {A : Type 0} (f g : ℕ → A → A) (i : ℕ) (xs : List A) → ((j : ℕ) (x : A) → f j x ≡ g j x) → map_from f i xs ≡ map_from g i xs
 as_from f g i [] same = refl
 as_from {A = A} f g i (x ∷ xs) same = ap (λ (y : A). y ∷ map_from f (suc i) xs) (same i x) ∙ ap (λ (ys : List A). g i x ∷ ys) (as_from f g (suc i) xs same)
 

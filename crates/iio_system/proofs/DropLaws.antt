@@ -22,7 +22,7 @@ use Rattle.iio_history.proofs.BenchLists.{name_same}
 use Rattle.iio_history.proofs.BenchOthers.{absent_is_desk}
 use Rattle.iio_system.specs.declared.connection.Connection.{Connection}
 use Rattle.iio_system.specs.Feeding.{left_by}
-use Rattle.iio_system.specs.Lines.{dropped_word}
+use Rattle.iio_history.specs.Words.{dropped_word}
 use Rattle.iio_system.specs.System.{AreLines, IsServed, Stands}
 use Rattle.iio_system.proofs.FedLaws.{user_is, user_of_line}
 use Rattle.iio_system.proofs.LineLaws.{OthersAre, SameLine, apart_sym, desks_kept, every_line_there, others_are, others_move}

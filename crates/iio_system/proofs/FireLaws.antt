@@ -1,9 +1,8 @@
 -- Handlings one after another, and a poll that they follow.
-use Rattle.std.proofs.Common.{◌≡◌, ℕ, zero, suc, ◌+◌, ◌^◌, ◌<◌, ◌≤◌, ℤ, Bool, true, false, cond, List, [], ◌∷◌, ◌++◌, map, length, codes, slice_get, Option, Some, None, option_map, refl, sym, ap, ◌∙◌, subst, append-nil, arith}
-use Rattle.std.specs.Prelude.{◌==◌, unwrap_or, not}
+use Rattle.std.proofs.Common.{◌≡◌, ℕ, zero, suc, ◌+◌, ◌^◌, ◌<◌, ◌≤◌, ℤ, Bool, true, false, cond, List, [], ◌∷◌, ◌++◌, length, codes, Option, Some, None, refl, sym, ap, ◌∙◌, subst, append-nil, arith}
+use Rattle.std.specs.Prelude.{◌==◌, not}
 use Rattle.std.proofs.lemmas.Bool.Decides.{nat_tests}
 use Rattle.std.proofs.lemmas.List.{append_assoc}
-use Rattle.std.proofs.lemmas.Option.{slice_get-map}
 use Rattle.iio_sensor.specs.Driver.{Driver}
 use Rattle.iio_trigger.specs.declared.Polled.{Polled as Answer}
 use Rattle.iio_trigger.specs.declared.Polled.TheVariants.{Accepted, Missed}
@@ -13,32 +12,32 @@ use Rattle.iio_device.specs.Site.{at_place, is_empty}
 use Rattle.iio_core.specs.Calls.{is_attached}
 use Rattle.iio_core.specs.Front.{Front, device_name, kind_at, trigger_name}
 use Rattle.iio_core.specs.Machine.{Machine, Station, station_at}
+use Rattle.iio_core.specs.Moves.{entry_answer, machine_after_handling}
 use Rattle.iio_history.specs.Event.{Handled, Polled}
-use Rattle.iio_history.specs.Registry.{Setup, Trigger, entries_at, entries_from as told_entries, outlines_of, entry_of, without_entry}
-use Rattle.iio_history.specs.Fold.{handled}
+use Rattle.iio_history.specs.Registry.{Setup, entries_from as told_entries, outlines_of}
+use Rattle.iio_core.specs.Trigger.{Trigger, entries_at, entry_of, without_entry, handled, bench_entries, polled_by, first_due, poll_answer, missed_at}
 use Rattle.iio_history.specs.Told.{Told, registry_of}
 use Rattle.iio_history.specs.Machine.{step}
 use Rattle.iio_history.specs.Played.{state_after, step_lines, steps, texts}
 use Rattle.iio_history.specs.Transcript.{Fire, event_text, poll_entries, printed}
 use Rattle.iio_history.specs.Bench.{machine_of}
-use Rattle.iio_history.specs.BenchMoves.{bench_entries, polled_by}
 use Rattle.iio_history.proofs.BenchMoves.{poll_is, triggers_are}
 use Rattle.iio_system.specs.declared.bench.Bench.{Bench}
 use Rattle.iio_system.specs.declared.connection.Connection.{Connection}
 use Rattle.iio_system.specs.declared.seat.Seat.{Seat}
-use Rattle.iio_system.specs.Bench.{front_of as bench_front, machine_of as bench_machine, trigger_in, triggers_of}
-use Rattle.iio_system.specs.declared.any_device.Became.{Became}
-use Rattle.iio_system.specs.Handling.{IsRoom, entry_answer, entry_machine}
-use Rattle.iio_system.specs.Lines.{became_word, polled_words}
+use Rattle.iio_system.specs.Bench.{front_of as bench_front, machine_of as bench_machine, triggers_of}
+use Rattle.iio_core.specs.declared.became.Became.{Became}
+use Rattle.iio_system.specs.Handling.{IsRoom}
+use Rattle.iio_history.specs.Words.{became_word, polled_words}
 use Rattle.iio_system.specs.Moves.{CanGoOn, HandlesAll, HandlesOne, InOrder, Plays, handling_of, handlings}
-use Rattle.iio_system.specs.Places.{first_due, first_trigger, poll_answer, trigger_of}
+use Rattle.iio_system.specs.Places.{trigger_of}
 use Rattle.iio_system.specs.Seat.{seen_of}
 use Rattle.iio_system.specs.Standing.{CanCapture, Holds, RiseBy}
 use Rattle.iio_system.specs.Station.{any_front, any_station}
 use Rattle.iio_system.specs.System.{AreLines}
 use Rattle.iio_system.proofs.ListLemmas.{length_map_is, filter_none}
 use Rattle.iio_system.proofs.GatherLemmas.{nothing_handled}
-use Rattle.iio_system.proofs.MoveLaws.{entry_here, handle_holds, handle_line, machine_told, poll_holds, poll_line, entries_in}
+use Rattle.iio_system.proofs.MoveLaws.{entry_here, handle_holds, handle_line, machine_told, poll_holds, poll_line}
 
 -- ---- one handling
 
@@ -54,10 +53,9 @@ handled_none dev (suc trigger) (t ∷ ts) none = ap (λ (xs : List Trigger). t �
 module _ {X : Type 0} {V : X → Type 0} (driver : Plug X V → Driver) where
   module _ (trigger dev : ℕ) (b b' : Bench X V) (cs : List (Connection Seat)) (less : dev < length (bench_front b).devices)
       (front : bench_front b' ≡ bench_front b)
-      (told : bench_machine driver b'
-      ≡ entry_machine (bench_front b) (entry_of dev (trigger_in (triggers_of b) trigger).entries) false dev (bench_machine driver b))
+      (told : bench_machine driver b' ≡ machine_after_handling (bench_front b) (entry_of dev (entries_at (triggers_of b) trigger)) dev (bench_machine driver b))
       (triggers : triggers_of b' ≡ at_place trigger (handled dev) (triggers_of b)) (s : Setup) (m : Told) (h : Holds driver s m b cs) where
-    own : entry_of dev (trigger_in (triggers_of b) trigger).entries ≡ entry_of dev (entries_at m.triggers trigger)
+    own : entry_of dev (entries_at (triggers_of b) trigger) ≡ entry_of dev (entries_at m.triggers trigger)
     own = entry_here driver trigger dev b b' cs less front told triggers s m h
 
     -- where it has none, nothing changes
@@ -67,9 +65,8 @@ module _ {X : Type 0} {V : X → Type 0} (driver : Plug X V → Driver) where
         front_is = front ∙ h.stands.front_is;
         told_is =
             ap (λ (x : Machine). Some x)
-            (told ∙ ap (λ (o : Option Handed). entry_machine (bench_front b) o false dev (bench_machine driver b))
-            (own ∙ none)
-            ∙ nothing_handled (bench_front b) false dev (bench_machine driver b))
+            (told ∙ ap (λ (o : Option Handed). machine_after_handling (bench_front b) o dev (bench_machine driver b)) (own ∙ none)
+            ∙ nothing_handled (bench_front b) dev (bench_machine driver b))
             ∙ h.stands.told_is;
         bench = h.stands.bench;
         lines = subst (λ (f : Front). AreLines seen_of f m m.lines cs) (sym front) h.stands.lines;
@@ -80,8 +77,7 @@ module _ {X : Type 0} {V : X → Type 0} (driver : Plug X V → Driver) where
     }
 
     pub plays_none : (before : List ℕ)
-        → None ≡ entry_answer (kind_at (bench_front b) dev) (entry_of dev (trigger_in (triggers_of b) trigger).entries) false
-        (station_at (bench_machine driver b) dev)
+        → None ≡ entry_answer (kind_at (bench_front b) dev) (entry_of dev (entries_at (triggers_of b) trigger)) (station_at (bench_machine driver b) dev)
         → Plays driver (handling_of trigger dev) s m trigger b' cs before before
     plays_none before answered = by (entry_of dev (entries_at m.triggers trigger)) refl
       where
@@ -91,13 +87,12 @@ module _ {X : Type 0} {V : X → Type 0} (driver : Plug X V → Driver) where
         by None is = (sym (append-nil before), stays is)
         by (Some e) is =
             absurd (let h = answered
-            ∙ ap (λ (o : Option Handed). entry_answer (kind_at (bench_front b) dev) o false (station_at (bench_machine driver b) dev))
+            ∙ ap (λ (o : Option Handed). entry_answer (kind_at (bench_front b) dev) o (station_at (bench_machine driver b) dev))
             (own ∙ is) in cc)
 
     pub plays_some : (before after name device room : List ℕ) (answer : Became) → name ≡ trigger_name (bench_front b') trigger
         → device ≡ device_name (bench_front b') dev
-        → Some answer ≡ entry_answer (kind_at (bench_front b) dev) (entry_of dev (trigger_in (triggers_of b) trigger).entries) false
-        (station_at (bench_machine driver b) dev)
+        → Some answer ≡ entry_answer (kind_at (bench_front b) dev) (entry_of dev (entries_at (triggers_of b) trigger)) (station_at (bench_machine driver b) dev)
         → IsRoom (Some answer) (station_at (bench_machine driver b) dev).members room
         → after ≡ before ++ printed (codes "handle" ∷ name ∷ device ∷ became_word (Some answer) room ∷ [])
         → Plays driver (handling_of trigger dev) s m trigger b' cs before after
@@ -108,7 +103,7 @@ module _ {X : Type 0} {V : X → Type 0} (driver : Plug X V → Driver) where
             × Holds driver s (steps s m (elim o [ None ↦ [] | Some e ↦ Handled trigger dev ∷ [] ])) b' cs
         by None is =
             absurd (let h = answered
-            ∙ ap (λ (o : Option Handed). entry_answer (kind_at (bench_front b) dev) o false (station_at (bench_machine driver b) dev))
+            ∙ ap (λ (o : Option Handed). entry_answer (kind_at (bench_front b) dev) o (station_at (bench_machine driver b) dev))
             (own ∙ is) in cc)
         by (Some e) is = (
           handle_line driver trigger dev b b' cs less front told triggers s m h before after name device room (Some answer) named called answered roomy line,
@@ -185,20 +180,20 @@ module _ {X : Type 0} {V : X → Type 0} (driver : Plug X V → Driver) where
     )
 
     -- the first entry at the bench's trigger is the first that is left
-    first_left : first_due (trigger_in (triggers_of b) trigger).entries ≡ first_due x.entries
+    first_left : first_due (entries_at (triggers_of b) trigger) ≡ first_due x.entries
     first_left =
         ap (λ (hs : List Handed). first_due hs)
-        (ap (λ (ts : List Trigger). (trigger_in ts trigger).entries) x.holds.triggers ∙ entries_in x.state.triggers trigger ∙ x.there)
+        (ap (λ (ts : List Trigger). entries_at ts trigger) x.holds.triggers ∙ x.there)
 
     -- as many turns as there are devices leave none
     pub left_last : high ≤ low → Plays driver (handlings trigger) s m trigger b cs before now
     left_last past = left_nothing (order_none low high x.entries past x.order)
 
-    pub left_none : first_due (trigger_in (triggers_of b) trigger).entries ≡ None → Plays driver (handlings trigger) s m trigger b cs before now
+    pub left_none : first_due (entries_at (triggers_of b) trigger) ≡ None → Plays driver (handlings trigger) s m trigger b cs before now
     left_none none = left_nothing (no_first x.entries (sym first_left ∙ none))
 
     -- none is of a device that isn't there
-    pub left_past : (dev : ℕ) → first_due (trigger_in (triggers_of b) trigger).entries ≡ Some dev → high ≤ dev
+    pub left_past : (dev : ℕ) → first_due (entries_at (triggers_of b) trigger) ≡ Some dev → high ≤ dev
         → Plays driver (handlings trigger) s m trigger b cs before now
     left_past dev first past = let h = first_below dev low high x.entries (sym first_left ∙ first) x.order in absurd (omega (arith, h, past))
 
@@ -241,7 +236,7 @@ module _ {X : Type 0} {V : X → Type 0} (driver : Plug X V → Driver) where
   -- the handling of the first entry that is left
   pub left_next : (s : Setup) (m : Told) (trigger dev low high : ℕ) (b b' : Bench X V) (cs : List (Connection Seat)) (before now after : List ℕ)
       → IsLeft s m trigger low high b cs before now
-      → first_due (trigger_in (triggers_of b) trigger).entries ≡ Some dev → HandlesOne driver trigger dev b b' cs now after
+      → first_due (entries_at (triggers_of b) trigger) ≡ Some dev → HandlesOne driver trigger dev b b' cs now after
       → IsLeft s m trigger (low + 1) high b' cs before after
   left_next s m trigger dev low high b b' cs before now after x first one =
       next_by s m x.state trigger dev low high b' cs before now after x.entries x.there (sym (first_left s m trigger low high b cs before now x) ∙ first)
@@ -286,24 +281,24 @@ module _ {X : Type 0} {V : X → Type 0} (driver : Plug X V → Driver) where
       (triggers : triggers_of b' ≡ at_place trigger (polled_by (bench_machine driver b).stations trigger t) (triggers_of b)) (s : Setup) (m : Told)
       (h : Holds driver s m b cs) where
     outstanding_told : (answer : Answer)
-        → answer ≡ poll_answer (bench_entries 0 trigger t (bench_machine driver b).stations) (trigger_in (triggers_of b) trigger).entries
-        (trigger_in (triggers_of b) trigger).missed
+        → answer ≡ poll_answer (bench_entries 0 trigger t (bench_machine driver b).stations) (entries_at (triggers_of b) trigger)
+        (missed_at (triggers_of b) trigger)
         → answer ≡ poll_answer (bench_entries 0 trigger t (bench_machine driver b).stations) (entries_at m.triggers trigger)
-        (trigger_in (triggers_of b) trigger).missed
+        (missed_at (triggers_of b) trigger)
     outstanding_told answer answered =
         answered
-        ∙ ap (λ (hs : List Handed). poll_answer (bench_entries 0 trigger t (bench_machine driver b).stations) hs (trigger_in (triggers_of b) trigger).missed)
-        (ap (λ (ts : List Trigger). (trigger_in ts trigger).entries) h.triggers ∙ entries_in m.triggers trigger)
+        ∙ ap (λ (hs : List Handed). poll_answer (bench_entries 0 trigger t (bench_machine driver b).stations) hs (missed_at (triggers_of b) trigger))
+        (ap (λ (ts : List Trigger). entries_at ts trigger) h.triggers)
 
     -- a missed poll is all
     pub fire_missed : (before after name : List ℕ) (answer : Answer) (n : ℕ) → answer ≡ Missed n → name ≡ trigger_name (bench_front b') trigger
-        → answer ≡ poll_answer (bench_entries 0 trigger t (bench_machine driver b).stations) (trigger_in (triggers_of b) trigger).entries
-        (trigger_in (triggers_of b) trigger).missed
+        → answer ≡ poll_answer (bench_entries 0 trigger t (bench_machine driver b).stations) (entries_at (triggers_of b) trigger)
+        (missed_at (triggers_of b) trigger)
         → after ≡ before ++ printed (codes "poll" ∷ name ∷ polled_words answer)
         → (after ≡ before ++ step_lines s m (Fire trigger t)) × Holds driver s (state_after s m (Fire trigger t)) b' cs
     fire_missed before after name answer n is named answered line =
         let busy =
-        misses (bench_entries 0 trigger t (bench_machine driver b).stations) (entries_at m.triggers trigger) n (trigger_in (triggers_of b) trigger).missed
+        misses (bench_entries 0 trigger t (bench_machine driver b).stations) (entries_at m.triggers trigger) n (missed_at (triggers_of b) trigger)
         (outstanding_told (Missed n) (sym is ∙ answered)) in
         let none : poll_entries m trigger t ≡ [] = ap (λ (c : Bool). cond c (told_entries 0 trigger t (outlines_of (registry_of m))) []) busy in
         subst (λ (es : List Handed). (after ≡ before ++ texts s m (Polled trigger t ∷ handlings trigger es))
@@ -336,14 +331,14 @@ module _ {X : Type 0} {V : X → Type 0} (driver : Plug X V → Driver) where
 
       pub fire_accepted : (b'' : Bench X V) (before mid after name : List ℕ) (answer : Answer) (n : ℕ) → answer ≡ Accepted n
           → name ≡ trigger_name (bench_front b') trigger
-          → answer ≡ poll_answer (bench_entries 0 trigger t (bench_machine driver b).stations) (trigger_in (triggers_of b) trigger).entries
-          (trigger_in (triggers_of b) trigger).missed
+          → answer ≡ poll_answer (bench_entries 0 trigger t (bench_machine driver b).stations) (entries_at (triggers_of b) trigger)
+          (missed_at (triggers_of b) trigger)
           → mid ≡ before ++ printed (codes "poll" ∷ name ∷ polled_words answer)
           → HandlesAll driver trigger (length (bench_front b').devices) b' b'' cs mid after
           → (after ≡ before ++ step_lines s m (Fire trigger t)) × Holds driver s (state_after s m (Fire trigger t)) b'' cs
       fire_accepted b'' before mid after name answer n is named answered line all =
           let idle =
-          accepts (bench_entries 0 trigger t (bench_machine driver b).stations) (entries_at m.triggers trigger) n (trigger_in (triggers_of b) trigger).missed
+          accepts (bench_entries 0 trigger t (bench_machine driver b).stations) (entries_at m.triggers trigger) n (missed_at (triggers_of b) trigger)
           (outstanding_told (Accepted n) (sym is ∙ answered)) in
           let made : entries_at (step s m (Polled trigger t)).triggers trigger ≡ bench_entries 0 trigger t (machine_of m).stations
           = polled_entries ∙ ap (λ (es : List Handed). poll_made (bench_entries 0 trigger t (machine_of m).stations) es) idle in

@@ -12,14 +12,12 @@ use Rattle.iio_device.specs.Device.{DeviceView, after_sense, at_site}
 use Rattle.iio_device.specs.Sensing.{sensed, with_sensed}
 use Rattle.iio_device.specs.Site.{at_place, unplugged}
 use Rattle.iio_core.specs.Machine.{Station, with_site}
-use Rattle.iio_history.specs.BenchMoves.{bench_entries, polled_by}
-use Rattle.iio_history.specs.Fold.{handled}
-use Rattle.iio_history.specs.Registry.{Trigger, entry_of}
+use Rattle.iio_core.specs.Trigger.{bench_entries, polled_by, handled, Trigger, entry_of, trigger_in, first_trigger, poll_answer, entries_at, missed_at}
+use Rattle.iio_core.specs.Moves.{look_made}
 use Rattle.iio_system.specs.Acting.{Keeps, KeepsCaptures}
-use Rattle.iio_system.specs.Bench.{trigger_in}
-use Rattle.iio_system.specs.declared.any_device.Became.{Became}
-use Rattle.iio_system.specs.Handling.{entry_answer, is_last, sensed_station}
-use Rattle.iio_system.specs.Places.{IsBench, IsTrigger, first_trigger, poll_answer, trigger_of}
+use Rattle.iio_core.specs.declared.became.Became.{Became}
+use Rattle.iio_system.specs.Handling.{is_last, entry_became}
+use Rattle.iio_system.specs.Places.{IsBench, IsTrigger, trigger_of}
 use Rattle.iio_system.specs.Station.{station_of}
 use Rattle.iio_system.proofs.ListLemmas.{after_set, map_at, map_changed, map_same}
 use Rattle.iio_system.proofs.BenchLemmas.{KeepsStanding, standing, stands_along, stands_same}
@@ -51,7 +49,7 @@ module _ (triggers : List TriggerDesc) (states : List State) (sts : List Station
   poll_triggers = map_changed trigger_of states t s s' (polled_by sts t moment) there (poll_told t sts moment s (bench.each t s there) answer s' p)
 
   pub poll_answer_is : answer
-      ≡ poll_answer (bench_entries 0 t moment sts) (trigger_in (map trigger_of states) t).entries (trigger_in (map trigger_of states) t).missed
+      ≡ poll_answer (bench_entries 0 t moment sts) (entries_at (map trigger_of states) t) (missed_at (map trigger_of states) t)
   poll_answer_is =
       let at : trigger_in (map trigger_of states) t ≡ trigger_of s =
       ap (λ (o : Option Trigger). unwrap_or o first_trigger) (map_at trigger_of states t s there) in
@@ -64,7 +62,7 @@ sense_by : (b : Bool) (v v' w : DeviceView Queue) → v' ≡ cond b w v → stat
 sense_by true v v' w e = ap station_of e
 sense_by false v v' w e = ap station_of e
 
-pub sense_station : (t : ℤ) (v v' : DeviceView Queue) → v' ≡ after_sense t v → station_of v' ≡ sensed_station v.standing.shape t (station_of v)
+pub sense_station : (t : ℤ) (v v' : DeviceView Queue) → v' ≡ after_sense t v → station_of v' ≡ look_made v.standing.shape t (station_of v)
 sense_station t v v' e = sense_by v.site.plugged v v' _ e
 
 sense_keeps_by : (b : Bool) (v v' w : DeviceView Queue) → w.name ≡ v.name → w.number ≡ v.number → w.standing.shape ≡ v.standing.shape → v' ≡ cond b w v
@@ -99,9 +97,9 @@ sensed_stands_by : (b : Bool) (st w : Station) → KeepsStanding st w → KeepsS
 sensed_stands_by true st w k = k
 sensed_stands_by false st w k = stands_same st st refl
 
-pub sense_stands : (shape : ShapeRecord) (t : ℤ) (st st' : Station) → st' ≡ sensed_station shape t st → KeepsStanding st st'
+pub sense_stands : (shape : ShapeRecord) (t : ℤ) (st st' : Station) → st' ≡ look_made shape t st → KeepsStanding st st'
 sense_stands shape t st st' e =
-    stands_along st (sensed_station shape t st) st'
+    stands_along st (look_made shape t st) st'
     (sensed_stands_by st.site.plugged st (with_site (with_sensed (sensed shape t st.site)) st) (standing st _ refl refl refl refl (λ j. refl) refl)) e
 
 -- ---- unplugging
@@ -134,12 +132,12 @@ pub entry_triggers : (states : List State) (t dev : ℕ) (s s' : State) → slic
 entry_triggers states t dev s s' there off = map_changed trigger_of states t s s' (handled dev) there (off_told dev s s' off)
 
 pub entry_here : (states : List State) (t dev : ℕ) (s : State) → slice_get states t ≡ Some s
-    → entry_of dev (trigger_in (map trigger_of states) t).entries ≡ entry_of dev (trigger_of s).entries
+    → entry_of dev (entries_at (map trigger_of states) t) ≡ entry_of dev (trigger_of s).entries
 entry_here states t dev s there = ap (λ (o : Option Trigger). entry_of dev (unwrap_or o first_trigger).entries) (map_at trigger_of states t s there)
 
 pub entry_answer_is : (kind kind' : Kind) (o o' : Option Handed) (ended ended' : Bool) (st st' : Station) (r : Option Became) → kind' ≡ kind → o' ≡ o
-    → ended' ≡ ended → st' ≡ st → r ≡ entry_answer kind o ended st
-    → r ≡ entry_answer kind' o' ended' st'
+    → ended' ≡ ended → st' ≡ st → r ≡ entry_became kind o ended st
+    → r ≡ entry_became kind' o' ended' st'
 entry_answer_is kind kind' o o' ended ended' st st' r sameK same sameE sameS e = rw (sameK, same, sameE, sameS) e
 
 -- the room of a device is the one that stands at its place

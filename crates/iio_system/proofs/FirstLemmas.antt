@@ -23,12 +23,12 @@ use Rattle.iio_desc.specs.declared.limits.TheConstants.{MAX_TRIGGERS, MAX_DEVICE
 use Rattle.iio_core.specs.Calls.{is_inner_of}
 use Rattle.iio_core.specs.Machine.{Member, Station, station_in}
 use Rattle.iio_probe.specs.Devices.{first_devices, first_driver}
-use Rattle.iio_history.specs.Registry.{Trigger}
+use Rattle.iio_core.specs.Trigger.{Trigger, first_trigger}
 use Rattle.iio_system.specs.First.{first_state, first_station, mean_head_over, mean_station_over, means_over}
 use Rattle.iio_system.specs.Averages.{HasBases, IsAveraged, IsBase, kind_in, shape_in}
 use Rattle.iio_system.specs.MeanStation.{first_mean_station, new_mean_station}
 use Rattle.iio_system.specs.OutStation.{first_out_station}
-use Rattle.iio_system.specs.Places.{IsBench, IsNumbered, first_trigger, has_in_hand, has_trigger, places_from, trigger_of}
+use Rattle.iio_system.specs.Places.{IsBench, IsNumbered, has_in_hand, has_trigger, places_from, trigger_of}
 use Rattle.iio_system.specs.declared.in_device.InDevice.{InDevice}
 use Rattle.iio_system.specs.declared.in_device.Inner.{Inner}
 use Rattle.iio_system.specs.Inner.{with_inner_name}

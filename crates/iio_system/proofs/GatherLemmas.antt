@@ -8,22 +8,22 @@ use Rattle.iio_desc.specs.Kind.{Kind, Input, Output, Average, is_unplugged_by}
 use Rattle.iio_derive.specs.Window.{is_filled_by, means_of, sums_with, window_with}
 use Rattle.iio_trigger.specs.Trigger.{Handed, State}
 use Rattle.iio_trigger.specs.declared.rows.Place.{Place}
-use Rattle.iio_device.specs.Site.{is_current, is_empty}
+use Rattle.iio_device.specs.Site.{is_empty, unplugged}
 use Rattle.iio_core.specs.Calls.{is_attached}
 use Rattle.iio_core.specs.Front.{Front, kind_at, shape_at}
-use Rattle.iio_core.specs.Machine.{Machine, Station, no_station, station_at, station_in}
+use Rattle.iio_core.specs.Machine.{Machine, Station, no_station, station_at, station_in, with_site}
 use Rattle.iio_core.specs.Lists.{map_from}
-use Rattle.iio_history.specs.Registry.{Capture}
-use Rattle.iio_history.specs.BenchMoves.{gathered_to, mean_made, offered_to, unplugs}
+use Rattle.iio_core.specs.Moves.{Capture, gathered_to, mean_made, offered_to, unplugs, machine_after_unplugging, entry_at, capture_at, capture_in, entry_made, is_due, machine_after_handling}
 use Rattle.iio_history.proofs.BenchLists.{same_number}
 use Rattle.iio_system.specs.Averages.{HasInner, IsAveraged, kind_in}
-use Rattle.iio_system.specs.Handling.{capture_at, entry_at, entry_capture, entry_machine, entry_station, is_last, unplugged_machine, unplugged_station}
+use Rattle.iio_system.specs.Handling.{is_last}
 use Rattle.iio_system.specs.Places.{IsBench, is_hosted, places_from}
 use Rattle.iio_system.proofs.ListLemmas.{is_empty-map}
 use Rattle.iio_system.proofs.BenchLemmas.{KeepsInner, KeepsPlace, inner_kept, inner_mapped}
 use Rattle.iio_system.proofs.AverageLemmas.{average_there, averaged_each, each_from, same_or}
 use Rattle.iio_system.proofs.AnyLemmas.{kept_from}
-use Rattle.iio_system.proofs.HandleLemmas.{entry_kept, offered_inner}
+use Rattle.iio_system.proofs.HandleLemmas.{entry_kept, offered_inner, current_kept}
+use Rattle.iio_system.proofs.AnyCalls.{either}
 
 -- ---- lists, element by element
 
@@ -88,59 +88,45 @@ gathered_more size shape c st = by (is_empty st.members) (is_filled_by size st.w
 
 -- ---- captures of the device whose entry is handled
 
-asked_more : (e : Handed) (shape : ShapeRecord) (st : Station) (o : Option Capture) → entry_capture Input (Some e) false shape st ≡ o
-    → (elim o [ None ↦ st.captures | Some c ↦ st.captures + 1 ]) ≡ (entry_station Input (Some e) false shape st).captures
-asked_more e shape st o is = by (is_current e.attachment st.site.attachment st.members st.site.plugged) (ask_fails st.site.driver) refl refl o is
+asked_more : (e : Handed) (shape : ShapeRecord) (st : Station) (o : Option Capture) → capture_in Input shape (Some e) st ≡ o
+    → (elim o [ None ↦ st.captures | Some c ↦ st.captures + 1 ]) ≡ (entry_made Input shape (Some e) st).captures
+asked_more e shape st o is = by (is_due e st) (ask_fails st.site.driver) refl refl o is
   where
     made : Capture
     made = record { moment = e.t; values = values_of st.site.driver shape e.t }
 
-    by : (a b : Bool) → is_current e.attachment st.site.attachment st.members st.site.plugged ≡ a → ask_fails st.site.driver ≡ b → (o : Option Capture)
-        → entry_capture Input (Some e) false shape st ≡ o
-        → (elim o [ None ↦ st.captures | Some c ↦ st.captures + 1 ]) ≡ (entry_station Input (Some e) false shape st).captures
-    by false b p q o is = let none : entry_capture Input (Some e) false shape st ≡ None = rw p refl in rw (sym is ∙ none, p) refl
-    by true true p q o is = let none : entry_capture Input (Some e) false shape st ≡ None = rw (p, q) refl in rw (sym is ∙ none, p, q) refl
-    by true false p q o is = let some : entry_capture Input (Some e) false shape st ≡ Some made = rw (p, q) refl in rw (sym is ∙ some, p, q) refl
+    by : (a b : Bool) → is_due e st ≡ a → ask_fails st.site.driver ≡ b → (o : Option Capture) → capture_in Input shape (Some e) st ≡ o
+        → (elim o [ None ↦ st.captures | Some c ↦ st.captures + 1 ]) ≡ (entry_made Input shape (Some e) st).captures
+    by false b p q o is = let none : capture_in Input shape (Some e) st ≡ None = rw p refl in rw (sym is ∙ none, p) refl
+    by true true p q o is = let none : capture_in Input shape (Some e) st ≡ None = rw (p, q) refl in rw (sym is ∙ none, p, q) refl
+    by true false p q o is = let some : capture_in Input shape (Some e) st ≡ Some made = rw (p, q) refl in rw (sym is ∙ some, p, q) refl
 
-pub entry_more : (o : Option Handed) (ended : Bool) (shape : ShapeRecord) (st : Station) (c : Option Capture) → entry_capture Input o ended shape st ≡ c
-    → (elim c [ None ↦ st.captures | Some x ↦ st.captures + 1 ]) ≡ (entry_station Input o ended shape st).captures
-entry_more None ended shape st c is = rw (sym is) refl
-entry_more (Some e) true shape st c is = rw (sym is) refl
-entry_more (Some e) false shape st c is = asked_more e shape st c is
+entry_more : (o : Option Handed) (shape : ShapeRecord) (st : Station) (c : Option Capture) → capture_in Input shape o st ≡ c
+    → (elim c [ None ↦ st.captures | Some x ↦ st.captures + 1 ]) ≡ (entry_made Input shape o st).captures
+entry_more None shape st c is = rw (sym is) refl
+entry_more (Some e) shape st c is = asked_more e shape st c is
 
 -- ---- all devices
 
-entry_at_kept : (o : Option Handed) (c : Option Capture) (ended : Bool) (dev : ℕ) (kind : Kind) (shape : ShapeRecord) (j : ℕ) (st : Station)
-    → KeepsInner st (entry_at o c ended dev kind shape j st)
-entry_at_kept o c ended dev Input shape j st = by (dev == j)
-  where
-    by : (b : Bool) → KeepsInner st (cond b (entry_station Input o ended shape st) st)
-    by true = entry_kept Input o ended shape st _ refl
-    by false = inner_kept st st refl refl refl refl (λ i. refl)
-entry_at_kept o c ended dev Output shape j st = by (dev == j)
-  where
-    by : (b : Bool) → KeepsInner st (cond b (entry_station Output o ended shape st) st)
-    by true = entry_kept Output o ended shape st _ refl
-    by false = inner_kept st st refl refl refl refl (λ i. refl)
-entry_at_kept o c ended dev (Average base window) shape j st = by (dev == base)
-  where
-    by : (b : Bool) → KeepsInner st (cond b (gathered_to window shape c st) st)
-    by true = gathered_kept window shape c st
-    by false = inner_kept st st refl refl refl refl (λ i. refl)
+entry_at_kept : (o : Option Handed) (c : Option Capture) (dev : ℕ) (kind : Kind) (shape : ShapeRecord) (j : ℕ) (st : Station)
+    → KeepsInner st (entry_at o c dev kind shape j st)
+entry_at_kept o c dev Input shape j st = current_kept (dev == j) st (entry_made Input shape o st) (entry_kept Input o shape st)
+entry_at_kept o c dev Output shape j st = current_kept (dev == j) st (entry_made Output shape o st) (entry_kept Output o shape st)
+entry_at_kept o c dev (Average base window) shape j st = current_kept (dev == base) st (gathered_to window shape c st) (gathered_kept window shape c st)
 
-module _ (front : Front) (o : Option Handed) (ended : Bool) (dev : ℕ) (m : Machine) where
+module _ (front : Front) (o : Option Handed) (dev : ℕ) (m : Machine) where
   abbrev handled_at : ℕ → Station → Station
-  handled_at j st = entry_at o (capture_at front o ended dev m) ended dev (kind_at front j) (shape_at front j) j st
+  handled_at j st = entry_at o (capture_at front o dev m) dev (kind_at front j) (shape_at front j) j st
 
-  handled_kept : (i : ℕ) → KeepsInner (station_in m.stations i) (station_in (entry_machine front o ended dev m).stations i)
+  handled_kept : (i : ℕ) → KeepsInner (station_in m.stations i) (station_in (machine_after_handling front o dev m).stations i)
   handled_kept i =
       each_from KeepsInner handled_at (inner_kept no_station no_station refl refl refl refl (λ j. refl)) 0 m.stations
-      (λ j st at. entry_at_kept o (capture_at front o ended dev m) ended dev (kind_at front (0 + j)) (shape_at front (0 + j)) (0 + j) st) i
+      (λ j st at. entry_at_kept o (capture_at front o dev m) dev (kind_at front (0 + j)) (shape_at front (0 + j)) (0 + j) st) i
 
   pub bench_handled : (triggers : List TriggerDesc) (states : List State) → IsBench triggers states m.stations
-      → IsBench triggers states (entry_machine front o ended dev m).stations
+      → IsBench triggers states (machine_after_handling front o dev m).stations
   bench_handled triggers states bench =
-      bench_each triggers states m.stations (entry_machine front o ended dev m).stations bench (length_from handled_at 0 m.stations)
+      bench_each triggers states m.stations (machine_after_handling front o dev m).stations bench (length_from handled_at 0 m.stations)
       (λ i. (handled_kept i).place)
 
   -- a station after it
@@ -151,28 +137,28 @@ module _ (front : Front) (o : Option Handed) (ended : Bool) (dev : ℕ) (m : Mac
       let same : x ≡ st = cc in ap (λ (y : Station). f n y) same ∙ ap (λ (k : ℕ). f k st) (let e : n ≡ n + 0 = omega arith in e)
   there_from f n (x ∷ xs) (suc i) st at = there_from f (suc n) xs i st at ∙ ap (λ (k : ℕ). f k st) (let e : suc n + i ≡ n + suc i = omega arith in e)
 
-  after_is : (i : ℕ) (st : Station) → slice_get m.stations i ≡ Some st → station_in (entry_machine front o ended dev m).stations i ≡ handled_at i st
+  after_is : (i : ℕ) (st : Station) → slice_get m.stations i ≡ Some st → station_in (machine_after_handling front o dev m).stations i ≡ handled_at i st
   after_is i st at = there_from handled_at 0 m.stations i st at ∙ ap (λ (k : ℕ). handled_at k st) (let e : 0 + i ≡ i = omega arith in e)
 
   -- an averaging device makes a mean only with a capture of its base
   module _ (j base window : ℕ) (st b : Station) (is : kind_at front j ≡ Average base window) (input : kind_at front base ≡ Input)
       (at : slice_get m.stations j ≡ Some st) (under : slice_get m.stations base ≡ Some b)
       (fewer : st.captures ≤ b.captures) where
-    own_is : handled_at j st ≡ cond (dev == base) (gathered_to window (shape_at front j) (capture_at front o ended dev m) st) st
-    own_is = ap (λ (kind : Kind). entry_at o (capture_at front o ended dev m) ended dev kind (shape_at front j) j st) is
+    own_is : handled_at j st ≡ cond (dev == base) (gathered_to window (shape_at front j) (capture_at front o dev m) st) st
+    own_is = ap (λ (kind : Kind). entry_at o (capture_at front o dev m) dev kind (shape_at front j) j st) is
 
-    base_is : handled_at base b ≡ cond (dev == base) (entry_station Input o ended (shape_at front base) b) b
-    base_is = ap (λ (kind : Kind). entry_at o (capture_at front o ended dev m) ended dev kind (shape_at front base) base b) input
+    base_is : handled_at base b ≡ cond (dev == base) (entry_made Input (shape_at front base) o b) b
+    base_is = ap (λ (kind : Kind). entry_at o (capture_at front o dev m) dev kind (shape_at front base) base b) input
 
-    capture_is : dev ≡ base → capture_at front o ended dev m ≡ entry_capture Input o ended (shape_at front base) b
+    capture_is : dev ≡ base → capture_at front o dev m ≡ capture_in Input (shape_at front base) o b
     unfolding station_at
     capture_is e =
-        ap (λ (k : ℕ). capture_at front o ended k m) e
-        ∙ ap (λ (kind : Kind). entry_capture kind o ended (shape_at front base) (station_in m.stations base)) input
-        ∙ ap (λ (x : Option Station). entry_capture Input o ended (shape_at front base) (unwrap_or x no_station)) under
+        ap (λ (k : ℕ). capture_at front o k m) e
+        ∙ ap (λ (kind : Kind). capture_in kind (shape_at front base) o (station_in m.stations base)) input
+        ∙ ap (λ (x : Option Station). capture_in Input (shape_at front base) o (unwrap_or x no_station)) under
 
-    rises : (c : Option Capture) → (elim c [ None ↦ b.captures | Some x ↦ b.captures + 1 ]) ≡ (entry_station Input o ended (shape_at front base) b).captures
-        → (gathered_to window (shape_at front j) c st).captures ≤ (entry_station Input o ended (shape_at front base) b).captures
+    rises : (c : Option Capture) → (elim c [ None ↦ b.captures | Some x ↦ b.captures + 1 ]) ≡ (entry_made Input (shape_at front base) o b).captures
+        → (gathered_to window (shape_at front j) c st).captures ≤ (entry_made Input (shape_at front base) o b).captures
     rises None more = omega (arith, more, fewer)
     rises (Some c) more = let most = gathered_more window (shape_at front j) c st in omega (arith, more, most, fewer)
 
@@ -180,40 +166,32 @@ module _ (front : Front) (o : Option Handed) (ended : Bool) (dev : ℕ) (m : Mac
     fewer_after = rw (own_is, base_is) (by (dev == base) refl)
       where
         by : (t : Bool) → (dev == base) ≡ t
-            → (cond t (gathered_to window (shape_at front j) (capture_at front o ended dev m) st) st).captures
-            ≤ (cond t (entry_station Input o ended (shape_at front base) b) b).captures
+            → (cond t (gathered_to window (shape_at front j) (capture_at front o dev m) st) st).captures
+            ≤ (cond t (entry_made Input (shape_at front base) o b) b).captures
         by true here =
             let e : dev ≡ base = same_number dev base here in
-            rises (capture_at front o ended dev m) (entry_more o ended (shape_at front base) b (capture_at front o ended dev m) (sym (capture_is e)))
+            rises (capture_at front o dev m) (entry_more o (shape_at front base) b (capture_at front o dev m) (sym (capture_is e)))
         by false away = fewer
 
-    most_after : b.captures ≤ 2 ^ 64 - 1 → (dev ≡ base → is_last b.captures ≡ ended) → (handled_at base b).captures ≤ 2 ^ 64 - 1
-    most_after most is_ended = rw base_is (by (dev == base) refl)
+    most_after : b.captures ≤ 2 ^ 64 - 1 → (dev ≡ base → is_last b.captures ≡ false) → (handled_at base b).captures ≤ 2 ^ 64 - 1
+    most_after most goes_on = rw base_is (by (dev == base) refl)
       where
-        counts : (c : Option Capture)
-            → (elim c [ None ↦ b.captures | Some x ↦ b.captures + 1 ]) ≡ (entry_station Input o ended (shape_at front base) b).captures
+        counts : (c : Option Capture) → (elim c [ None ↦ b.captures | Some x ↦ b.captures + 1 ]) ≡ (entry_made Input (shape_at front base) o b).captures
             → is_last b.captures ≡ false
-            → (entry_station Input o ended (shape_at front base) b).captures ≤ 2 ^ 64 - 1
+            → (entry_made Input (shape_at front base) o b).captures ≤ 2 ^ 64 - 1
         counts None more less = omega (arith, more, most)
         counts (Some c) more less =
             let apart : b.captures ≡ 2 ^ 64 - 1 → ⊥ =
             (λ e. absurd (let h : false ≡ true = sym less ∙ ap is_last e in cc)) in by_two (same_or b.captures (2 ^ 64 - 1)) apart
           where
             by_two : (b.captures ≡ 2 ^ 64 - 1) ⊎ (b.captures ≡ 2 ^ 64 - 1 → ⊥) → (b.captures ≡ 2 ^ 64 - 1 → ⊥)
-                → (entry_station Input o ended (shape_at front base) b).captures ≤ 2 ^ 64 - 1
+                → (entry_made Input (shape_at front base) o b).captures ≤ 2 ^ 64 - 1
             by_two (inl e) apart = absurd (apart e)
             by_two (inr other) apart = omega (arith, more, most, other)
 
-        goes : (t : Bool) → ended ≡ t → is_last b.captures ≡ t → (entry_station Input o ended (shape_at front base) b).captures ≤ 2 ^ 64 - 1
-        goes true e last = stays o e
-          where
-            stays : (o : Option Handed) → ended ≡ true → (entry_station Input o ended (shape_at front base) b).captures ≤ 2 ^ 64 - 1
-            stays None e = most
-            stays (Some h) e = rw e most
-        goes false e last = counts (entry_capture Input o ended (shape_at front base) b) (entry_more o ended (shape_at front base) b _ refl) last
-
-        by : (t : Bool) → (dev == base) ≡ t → (cond t (entry_station Input o ended (shape_at front base) b) b).captures ≤ 2 ^ 64 - 1
-        by true here = goes ended refl (is_ended (same_number dev base here))
+        by : (t : Bool) → (dev == base) ≡ t → (cond t (entry_made Input (shape_at front base) o b) b).captures ≤ 2 ^ 64 - 1
+        by true here =
+            counts (capture_in Input (shape_at front base) o b) (entry_more o (shape_at front base) b _ refl) (goes_on (same_number dev base here))
         by false away = most
 
   there_is : (sts : List Station) (i : ℕ) → i < length sts → slice_get sts i ≡ Some (station_in sts i)
@@ -222,16 +200,16 @@ module _ (front : Front) (o : Option Handed) (ended : Bool) (dev : ℕ) (m : Mac
   there_is (x ∷ xs) (suc i) less = there_is xs i (omega (arith, less))
 
   pub averaged_handled : (triggers first : ℕ) → IsAveraged triggers first front.devices m.stations → length m.stations ≡ length front.devices
-      → (kind_at front dev ≡ Input → is_last (station_in m.stations dev).captures ≡ ended)
-      → IsAveraged triggers first front.devices (entry_machine front o ended dev m).stations
+      → (kind_at front dev ≡ Input → is_last (station_in m.stations dev).captures ≡ false)
+      → IsAveraged triggers first front.devices (machine_after_handling front o dev m).stations
   unfolding kind_at
-  averaged_handled triggers first a many is_ended =
-      averaged_each triggers first front.devices m.stations (entry_machine front o ended dev m).stations a handled_kept
+  averaged_handled triggers first a many goes_on =
+      averaged_each triggers first front.devices m.stations (machine_after_handling front o dev m).stations a handled_kept
       (λ j base window is. each j base window is)
     where
       each : (j base window : ℕ) → kind_in front.devices j ≡ Average base window
-          → ((station_in (entry_machine front o ended dev m).stations j).captures ≤ (station_in (entry_machine front o ended dev m).stations base).captures)
-          × ((station_in (entry_machine front o ended dev m).stations base).captures ≤ 2 ^ 64 - 1)
+          → ((station_in (machine_after_handling front o dev m).stations j).captures ≤ (station_in (machine_after_handling front o dev m).stations base).captures)
+          × ((station_in (machine_after_handling front o dev m).stations base).captures ≤ 2 ^ 64 - 1)
       each j base window is =
           let its = a.bases.bases j base window is in
           let own = a.inners j base window is in
@@ -245,37 +223,37 @@ module _ (front : Front) (o : Option Handed) (ended : Bool) (dev : ℕ) (m : Mac
           rw (after_is j st at, after_is base b under) (
             fewer_after j base window st b is its.input at under own.fewer,
             most_after j base window st b is its.input at under own.fewer own.most
-                (λ e. subst (λ (k : ℕ). is_last (station_in m.stations k).captures ≡ ended) e
-                (is_ended (ap (λ (k : ℕ). kind_in front.devices k) e ∙ its.input))),
+                (λ e. subst (λ (k : ℕ). is_last (station_in m.stations k).captures ≡ false) e
+                (goes_on (ap (λ (k : ℕ). kind_in front.devices k) e ∙ its.input))),
           )
 
 -- ---- unpluggings
 
 module _ (front : Front) (dev : ℕ) (m : Machine) where
-  unplugged_place : (i : ℕ) → KeepsPlace (station_in m.stations i) (station_in (unplugged_machine front dev m).stations i)
+  unplugged_place : (i : ℕ) → KeepsPlace (station_in m.stations i) (station_in (machine_after_unplugging front dev m).stations i)
   unplugged_place i =
       each_from KeepsPlace (unplugs front dev) (record { attached = λ t. refl; attachment = refl }) 0 m.stations
       (λ j st at. by j st (is_unplugged_by (kind_at front (0 + j)) dev (0 + j))) i
     where
-      by : (j : ℕ) (st : Station) (b : Bool) → KeepsPlace st (cond b (unplugged_station st) st)
+      by : (j : ℕ) (st : Station) (b : Bool) → KeepsPlace st (cond b (with_site unplugged st) st)
       by j st true = record { attached = λ t. refl; attachment = refl }
       by j st false = record { attached = λ t. refl; attachment = refl }
 
   pub bench_unplugged : (triggers : List TriggerDesc) (states : List State) → IsBench triggers states m.stations
-      → IsBench triggers states (unplugged_machine front dev m).stations
+      → IsBench triggers states (machine_after_unplugging front dev m).stations
   bench_unplugged triggers states bench =
-      bench_each triggers states m.stations (unplugged_machine front dev m).stations bench (length_from (unplugs front dev) 0 m.stations) unplugged_place
+      bench_each triggers states m.stations (machine_after_unplugging front dev m).stations bench (length_from (unplugs front dev) 0 m.stations) unplugged_place
 
   gone_with : (kind : Kind) (j : ℕ) → Station → Station
-  gone_with kind j st = cond (is_unplugged_by kind dev j) (unplugged_station st) st
+  gone_with kind j st = cond (is_unplugged_by kind dev j) (with_site unplugged st) st
 
-  unplugged_at : (i : ℕ) → station_in (unplugged_machine front dev m).stations i ≡ gone_with (kind_at front i) i (station_in m.stations i)
+  unplugged_at : (i : ℕ) → station_in (machine_after_unplugging front dev m).stations i ≡ gone_with (kind_at front i) i (station_in m.stations i)
   unfolding gone_with
   unplugged_at i =
       from_at (unplugs front dev) (λ j. none j (is_unplugged_by (kind_at front j) dev j)) 0 m.stations i
       ∙ ap (λ (k : ℕ). unplugs front dev k (station_in m.stations i)) (let e : 0 + i ≡ i = omega arith in e)
     where
-      none : (j : ℕ) (b : Bool) → cond b (unplugged_station no_station) no_station ≡ no_station
+      none : (j : ℕ) (b : Bool) → cond b (with_site unplugged no_station) no_station ≡ no_station
       none j true = refl
       none j false = refl
 
@@ -287,7 +265,7 @@ module _ (front : Front) (dev : ℕ) (m : Machine) where
           from_at f nothing (suc n) xs i ∙ ap (λ (k : ℕ). f k (station_in xs i)) (let e : suc n + i ≡ n + suc i = omega arith in e)
 
   pub averaged_unplugged : (triggers first : ℕ) → IsAveraged triggers first front.devices m.stations
-      → IsAveraged triggers first front.devices (unplugged_machine front dev m).stations
+      → IsAveraged triggers first front.devices (machine_after_unplugging front dev m).stations
   unfolding kind_at gone_with
   averaged_unplugged triggers first a = record {
     bases = a.bases;
@@ -297,46 +275,34 @@ module _ (front : Front) (dev : ℕ) (m : Machine) where
     inners = λ j base window is. inner j base window is;
   }
     where
-      host : (b : Bool) (st : Station) → is_hosted triggers st ≡ true → is_hosted triggers (cond b (unplugged_station st) st) ≡ true
+      host : (b : Bool) (st : Station) → is_hosted triggers st ≡ true → is_hosted triggers (cond b (with_site unplugged st) st) ≡ true
       host true st h = h
       host false st h = h
 
-      both : (j : ℕ) (t : Bool) (b st : Station) → HasInner j b st → HasInner j (cond t (unplugged_station b) b) (cond t (unplugged_station st) st)
+      both : (j : ℕ) (t : Bool) (b st : Station) → HasInner j b st → HasInner j (cond t (with_site unplugged b) b) (cond t (with_site unplugged st) st)
       both j true b st own = record { plugged = refl; inner = own.inner; fewer = own.fewer; most = own.most }
       both j false b st own = own
 
       inner : (j base window : ℕ) → kind_in front.devices j ≡ Average base window
-          → HasInner j (station_in (unplugged_machine front dev m).stations base) (station_in (unplugged_machine front dev m).stations j)
+          → HasInner j (station_in (machine_after_unplugging front dev m).stations base) (station_in (machine_after_unplugging front dev m).stations j)
       inner j base window is =
           let b = station_in m.stations base in
           let st = station_in m.stations j in
-          let own : station_in (unplugged_machine front dev m).stations j ≡ cond (dev == base) (unplugged_station st) st
-          = unplugged_at j ∙ ap (λ (kind : Kind). cond (is_unplugged_by kind dev j) (unplugged_station st) st) is in
-          let its : station_in (unplugged_machine front dev m).stations base ≡ cond (dev == base) (unplugged_station b) b
-          = unplugged_at base ∙ ap (λ (kind : Kind). cond (is_unplugged_by kind dev base) (unplugged_station b) b) (a.bases.bases j base window is).input in
+          let own : station_in (machine_after_unplugging front dev m).stations j ≡ cond (dev == base) (with_site unplugged st) st
+          = unplugged_at j ∙ ap (λ (kind : Kind). cond (is_unplugged_by kind dev j) (with_site unplugged st) st) is in
+          let its : station_in (machine_after_unplugging front dev m).stations base ≡ cond (dev == base) (with_site unplugged b) b
+          = unplugged_at base ∙ ap (λ (kind : Kind). cond (is_unplugged_by kind dev base) (with_site unplugged b) b) (a.bases.bases j base window is).input in
           rw (own, its) (both j (dev == base) b st (a.inners j base window is))
 
 -- ---- no entry
 
 -- without one nothing changes
-pub nothing_handled : (front : Front) (ended : Bool) (dev : ℕ) (m : Machine) → entry_machine front None ended dev m ≡ m
-nothing_handled front ended dev m =
+pub nothing_handled : (front : Front) (dev : ℕ) (m : Machine) → machine_after_handling front None dev m ≡ m
+nothing_handled front dev m =
     ap (λ (sts : List Station). (let x : Machine = record m { stations = sts } in x))
     (kept_from _ 0 m.stations (λ j st. none (kind_at front j) (shape_at front j) j st))
   where
-    none : (kind : Kind) (shape : ShapeRecord) (j : ℕ) (st : Station) → entry_at None None ended dev kind shape j st ≡ st
-    none Input shape j st = by (dev == j)
-      where
-        by : (b : Bool) → cond b st st ≡ st
-        by true = refl
-        by false = refl
-    none Output shape j st = by (dev == j)
-      where
-        by : (b : Bool) → cond b st st ≡ st
-        by true = refl
-        by false = refl
-    none (Average base window) shape j st = by (dev == base)
-      where
-        by : (b : Bool) → cond b st st ≡ st
-        by true = refl
-        by false = refl
+    none : (kind : Kind) (shape : ShapeRecord) (j : ℕ) (st : Station) → entry_at None None dev kind shape j st ≡ st
+    none Input shape j st = either (dev == j) st
+    none Output shape j st = either (dev == j) st
+    none (Average base window) shape j st = either (dev == base) st

@@ -1,5 +1,5 @@
 -- The handling of an entry, as the machine has it.
-use Rattle.std.proofs.Common.{◌≡◌, ℕ, ◌+◌, ◌-◌, ◌^◌, Bool, true, false, [], ◌∷◌, ◌++◌, map, length, Option, Some, None, refl, sym, ap, subst, ◌∙◌, cond}
+use Rattle.std.proofs.Common.{◌≡◌, ℕ, ◌+◌, ◌-◌, ◌^◌, Bool, true, false, [], ◌∷◌, ◌++◌, map, length, Option, Some, None, refl, sym, ap, ◌∙◌, cond}
 use Rattle.std.specs.Prelude.{◌==◌, ◌&&◌, ℤ, nat_lt}
 use Rattle.iio_layout.specs.Shape.{ShapeRecord}
 use Rattle.iio_desc.specs.Kind.{Kind, Input, Output, Average}
@@ -18,27 +18,26 @@ use Rattle.iio_layout.specs.Scan.{scan_of}
 use Rattle.iio_core.specs.Calls.{is_inner_of}
 use Rattle.iio_core.specs.Machine.{Member, Station}
 use Rattle.iio_system.specs.Acting.{Keeps}
-use Rattle.iio_system.specs.declared.any_device.Became.TheVariants.{Asked}
-use Rattle.iio_system.specs.Handling.{counted, entry_answer, entry_station, is_due, is_last, kind_handled}
+use Rattle.iio_core.specs.declared.became.Became.TheVariants.{Asked}
+use Rattle.iio_system.specs.Handling.{counted, entry_station, is_last, entry_became}
+use Rattle.iio_core.specs.Moves.{is_due, Capture, asked_once, capture_made, emptied_of, gives, giving_made, offered_to, handled_answer, entry_made}
 use Rattle.iio_system.specs.Station.{station_of}
-use Rattle.iio_history.specs.Registry.{Capture}
-use Rattle.iio_history.specs.BenchMoves.{asked_once, capture_made, emptied_of, gives, giving_made, offered_to}
-use Rattle.iio_history.specs.Devices.{handled_answer, queue_waited, queue_waits}
+use Rattle.iio_history.specs.Devices.{queue_waited, queue_waits}
 use Rattle.iio_history.proofs.DeviceHandlings.{handled_is as plain_handled, queues_stand}
 use Rattle.iio_system.proofs.ListLemmas.{is_empty-map}
-use Rattle.iio_system.proofs.BenchLemmas.{KeepsInner, inner_kept, inner_mapped, stands_same}
+use Rattle.iio_system.proofs.BenchLemmas.{KeepsInner, inner_kept, inner_mapped}
 
 -- over queues in one hand the device that a handling met is the one that stood
 pub handled_is : (e : Handed) (r : Handled) (v v' : DeviceView Queue)
     → Handles (λ (q : Queue). q.taken) (λ q. q.lost) (λ q. q.size) (λ q. q.capacity) Offers e r v v' → e.dev ≡ v.number
     → (v.standing.captures == 2 ^ 64 - 1) ≡ false → v.standing.active ≡ active_for v.standing.shape (masks_of_memberships v.standing.members)
-    → (r ≡ handled_answer e (station_of v)) × (station_of v' ≡ kind_handled Input v.standing.shape e (station_of v))
+    → (r ≡ handled_answer e (station_of v)) × (station_of v' ≡ entry_made Input v.standing.shape (Some e) (station_of v))
 handled_is e r v v' h own fewer ruled =
     let stood = queues_stand e r v v' h in
     let is =
     plain_handled (λ (q : Queue). q.taken) (λ q. q.lost) (λ q. q.size) (λ q. q.capacity) Offers queue_waits queue_waited e r v v' h own fewer ruled stood.1 in (
       is.0 ∙ ap (λ (st : Station). handled_answer e st) stood.0,
-      sym is.1 ∙ ap (λ (st : Station). kind_handled Input v.standing.shape e st) stood.0,
+      sym is.1 ∙ ap (λ (st : Station). entry_made Input v.standing.shape (Some e) st) stood.0,
     )
 
 -- ---- where captures have ended
@@ -60,14 +59,14 @@ last_idle e (Captured n) v v' h last = absurd (let idle = last_is e v last in le
 handled_by : (b : Bool) (e : Handed) (r : Handled) (v v' : DeviceView Queue) → is_last v.standing.captures ≡ b
     → Handles (λ (q : Queue). q.taken) (λ q. q.lost) (λ q. q.size) (λ q. q.capacity) Offers e r v v' → e.dev ≡ v.number
     → v.standing.active ≡ active_for v.standing.shape (masks_of_memberships v.standing.members)
-    → (Some (Asked r) ≡ entry_answer Input (Some e) b (station_of v)) × (station_of v' ≡ entry_station Input (Some e) b v.standing.shape (station_of v))
+    → (Some (Asked r) ≡ entry_became Input (Some e) b (station_of v)) × (station_of v' ≡ entry_station Input (Some e) b v.standing.shape (station_of v))
 handled_by true e r v v' last h own ruled = let idle = last_idle e r v v' h last in (ap (λ (x : Handled). Some (Asked x)) idle.0, ap station_of idle.1)
 handled_by false e r v v' last h own ruled = let is = handled_is e r v v' h own last ruled in (ap (λ (x : Handled). Some (Asked x)) is.0, is.1)
 
 pub handled_any : (e : Handed) (r : Handled) (v v' : DeviceView Queue)
     → Handles (λ (q : Queue). q.taken) (λ q. q.lost) (λ q. q.size) (λ q. q.capacity) Offers e r v v' → e.dev ≡ v.number
     → v.standing.active ≡ active_for v.standing.shape (masks_of_memberships v.standing.members)
-    → (Some (Asked r) ≡ entry_answer Input (Some e) (is_last v.standing.captures) (station_of v))
+    → (Some (Asked r) ≡ entry_became Input (Some e) (is_last v.standing.captures) (station_of v))
     × (station_of v' ≡ entry_station Input (Some e) (is_last v.standing.captures) v.standing.shape (station_of v))
 handled_any e r v v' h own ruled = handled_by (is_last v.standing.captures) e r v v' refl h own ruled
 
@@ -130,13 +129,10 @@ capture_kept Input shape t st = asked_kept shape (record { moment = t; values = 
 capture_kept Output shape t st = given_kept shape st
 capture_kept (Average base window) shape t st = inner_kept st st refl refl refl refl (λ j. refl)
 
-current_kept : (b : Bool) (st w : Station) → KeepsInner st w → KeepsInner st (cond b w st)
+pub current_kept : (b : Bool) (st w : Station) → KeepsInner st w → KeepsInner st (cond b w st)
 current_kept true st w kept = kept
 current_kept false st w kept = inner_kept st st refl refl refl refl (λ j. refl)
 
-pub entry_kept : (kind : Kind) (o : Option Handed) (ended : Bool) (shape : ShapeRecord) (st st' : Station) → st' ≡ entry_station kind o ended shape st
-    → KeepsInner st st'
-entry_kept kind None ended shape st st' e = (stands_same st st' e).inner
-entry_kept kind (Some h) true shape st st' e = (stands_same st st' e).inner
-entry_kept kind (Some h) false shape st st' e =
-    subst (λ (x : Station). KeepsInner st x) (sym e) (current_kept (is_due h st) st (capture_made kind shape h.t st) (capture_kept kind shape h.t st))
+pub entry_kept : (kind : Kind) (o : Option Handed) (shape : ShapeRecord) (st : Station) → KeepsInner st (entry_made kind shape o st)
+entry_kept kind None shape st = inner_kept st st refl refl refl refl (λ j. refl)
+entry_kept kind (Some h) shape st = current_kept (is_due h st) st (capture_made kind shape h.t st) (capture_kept kind shape h.t st)

@@ -35,7 +35,7 @@ use Rattle.iio_core.specs.Front.{Front, kind_at, shape_at}
 use Rattle.iio_core.specs.Machine.{Member, MemberId, Station, is_id_of, member_in, scans_in, with_site}
 use Rattle.iio_core.specs.Calls.{ev_open_answer, ev_read_answer, holds_events, is_asking, is_inner_of, read_answer, trigger_answer, write_scans_at, writes}
 use Rattle.iiod_session.specs.Target.{MayRead, MayWrite}
-use Rattle.iio_history.specs.Registry.{Trigger}
+use Rattle.iio_core.specs.Trigger.{Trigger}
 use Rattle.iio_system.specs.Acting.{Acts, KeepsCaptures, MayReadOf, Reads, TakesAt, TakesScansAt, Turns, has_member, is_member, lost_in}
 use Rattle.iio_system.specs.Averages.{IsAveraged}
 use Rattle.iio_system.specs.Bench.{Kept}

@@ -17,11 +17,10 @@ use Rattle.iio_device.specs.declared.handling.Handled.TheVariants.{Captured, Fau
 use Rattle.iio_device.specs.declared.membership.Membership.{Membership}
 use Rattle.iio_device.specs.Site.{is_empty}
 use Rattle.iio_core.specs.Machine.{Member, Station}
-use Rattle.iio_history.specs.BenchMoves.{asked_once, offered_to}
-use Rattle.iio_history.specs.Registry.{Capture}
-use Rattle.iio_system.specs.declared.any_device.Became.TheVariants.{Asked}
+use Rattle.iio_core.specs.Moves.{asked_once, offered_to, Capture, is_due}
+use Rattle.iio_core.specs.declared.became.Became.TheVariants.{Asked}
 use Rattle.iio_system.specs.declared.in_device.Inner.{Inner}
-use Rattle.iio_system.specs.Handling.{IsTakenWhole, entry_answer, entry_capture, entry_station, has_inner, is_due}
+use Rattle.iio_system.specs.Handling.{IsTakenWhole, entry_capture, entry_station, has_inner, entry_became}
 use Rattle.iio_system.specs.Inner.{AreThere, AreWhole, HasInners, inner_at, with_inner_name}
 use Rattle.iio_system.specs.Station.{member_of}
 use Rattle.iio_system.specs.Taking.{IsTakenOf, with_taken}
@@ -46,16 +45,16 @@ pub record HasCaptured (shape : ShapeRecord) (e : Handed) (ended : Bool) (st : S
   pub answers : ask_fails st.site.driver ≡ false
 
 module _ (shape : ShapeRecord) (e : Handed) where
-  pub captured_by : (n : ℕ) (ended : Bool) (st : Station) → Some (Asked (Captured n)) ≡ entry_answer Input (Some e) ended st → HasCaptured shape e ended st
+  pub captured_by : (n : ℕ) (ended : Bool) (st : Station) → Some (Asked (Captured n)) ≡ entry_became Input (Some e) ended st → HasCaptured shape e ended st
   captured_by n ended st answer = by ended (is_due e st) (ask_fails st.site.driver) refl refl refl answer
     where
-      by : (a b f : Bool) → ended ≡ a → is_due e st ≡ b → ask_fails st.site.driver ≡ f → Some (Asked (Captured n)) ≡ entry_answer Input (Some e) a st
+      by : (a b f : Bool) → ended ≡ a → is_due e st ≡ b → ask_fails st.site.driver ≡ f → Some (Asked (Captured n)) ≡ entry_became Input (Some e) a st
           → HasCaptured shape e ended st
       by true b f last due fails answer = absurd (cc)
       by false false f last due fails answer =
-          absurd (let idle : entry_answer Input (Some e) false st ≡ Some (Asked Idle) = rw due refl in let both = answer ∙ idle in cc)
+          absurd (let idle : entry_became Input (Some e) false st ≡ Some (Asked Idle) = rw due refl in let both = answer ∙ idle in cc)
       by false true true last due fails answer =
-          absurd (let fault : entry_answer Input (Some e) false st ≡ Some (Asked Fault) = rw (due, fails) refl in let both = answer ∙ fault in cc)
+          absurd (let fault : entry_became Input (Some e) false st ≡ Some (Asked Fault) = rw (due, fails) refl in let both = answer ∙ fault in cc)
       by false true false last due fails answer = record { goes_on = last; due = due; answers = fails }
 
   -- what it makes of the members
@@ -78,33 +77,33 @@ module _ (shape : ShapeRecord) (e : Handed) where
 
   -- where the answer is no capture, none is made, and the members stay
   pub idle_capture : (r : Handled) (inners : List Inner) (ended : Bool) (st : Station) → ((n : ℕ) → r ≡ Captured n → ⊥)
-      → Some (Asked r) ≡ entry_answer Input (Some e) ended st → entry_capture Input (Some e) ended shape (named inners st) ≡ None
+      → Some (Asked r) ≡ entry_became Input (Some e) ended st → entry_capture Input (Some e) ended shape (named inners st) ≡ None
   idle_capture r inners ended st none answer = by ended (is_due e st) (ask_fails st.site.driver) refl refl answer
     where
       same : is_due e (named inners st) ≡ is_due e st
       same = rw (empty_named inners st.members) refl
 
-      by : (a b f : Bool) → is_due e st ≡ b → ask_fails st.site.driver ≡ f → Some (Asked r) ≡ entry_answer Input (Some e) a st
+      by : (a b f : Bool) → is_due e st ≡ b → ask_fails st.site.driver ≡ f → Some (Asked r) ≡ entry_became Input (Some e) a st
           → entry_capture Input (Some e) a shape (named inners st) ≡ None
       by true b f due fails is = refl
       by false false f due fails is = rw (same ∙ due) refl
       by false true true due fails is = rw (same ∙ due, fails) refl
       by false true false due fails is =
           absurd (none (length st.members)
-          (let made : entry_answer Input (Some e) false st ≡ Some (Asked (Captured (length st.members))) = rw (due, fails) refl in let both = is ∙ made in cc))
+          (let made : entry_became Input (Some e) false st ≡ Some (Asked (Captured (length st.members))) = rw (due, fails) refl in let both = is ∙ made in cc))
 
   pub idle_members : (r : Handled) (ended : Bool) (st new : Station) → ((n : ℕ) → r ≡ Captured n → ⊥)
-      → Some (Asked r) ≡ entry_answer Input (Some e) ended st → new ≡ entry_station Input (Some e) ended shape st → new.members ≡ st.members
+      → Some (Asked r) ≡ entry_became Input (Some e) ended st → new ≡ entry_station Input (Some e) ended shape st → new.members ≡ st.members
   idle_members r ended st new none answer is = ap (λ (x : Station). x.members) is ∙ by ended (is_due e st) (ask_fails st.site.driver) refl refl answer
     where
-      by : (a b f : Bool) → is_due e st ≡ b → ask_fails st.site.driver ≡ f → Some (Asked r) ≡ entry_answer Input (Some e) a st
+      by : (a b f : Bool) → is_due e st ≡ b → ask_fails st.site.driver ≡ f → Some (Asked r) ≡ entry_became Input (Some e) a st
           → (entry_station Input (Some e) a shape st).members ≡ st.members
       by true b f due fails is = refl
       by false false f due fails is = rw due refl
       by false true true due fails is = rw (due, fails) refl
       by false true false due fails is =
           absurd (none (length st.members)
-          (let made : entry_answer Input (Some e) false st ≡ Some (Asked (Captured (length st.members))) = rw (due, fails) refl in let both = is ∙ made in cc))
+          (let made : entry_became Input (Some e) false st ≡ Some (Asked (Captured (length st.members))) = rw (due, fails) refl in let both = is ∙ made in cc))
 
 -- ---- what the inner members are then
 
@@ -194,7 +193,7 @@ room_whole shape e inners room room' ended st ms ms' sound of h told taken sized
     })
 
 pub room_idle : (shape : ShapeRecord) (e : Handed) (r : Handled) (inners : List Inner) (room' : List ℕ) (ended : Bool) (st : Station)
-    → ((n : ℕ) → r ≡ Captured n → ⊥) → Some (Asked r) ≡ entry_answer Input (Some e) ended st
+    → ((n : ℕ) → r ≡ Captured n → ⊥) → Some (Asked r) ≡ entry_became Input (Some e) ended st
     → IsTakenWhole shape (entry_capture Input (Some e) ended shape (named inners st)) (map (with_inner_name inners) st.members) room'
 room_idle shape e r inners room' ended st none answer =
     subst (λ (o : Option Capture). IsTakenWhole shape o (map (with_inner_name inners) st.members) room')

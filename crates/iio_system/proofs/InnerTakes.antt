@@ -16,11 +16,10 @@ use Rattle.iio_device.specs.declared.membership.Membership.{Membership}
 use Rattle.iio_device.specs.declared.handling.Handled.{Handled}
 use Rattle.iio_device.specs.declared.handling.Handled.TheVariants.{Captured, Fault, Idle}
 use Rattle.iio_core.specs.Machine.{Member, Station}
-use Rattle.iio_history.specs.Registry.{Capture}
-use Rattle.iio_history.specs.BenchMoves.{asked_once, emptied_of, offered_to}
-use Rattle.iio_system.specs.declared.any_device.Became.TheVariants.{Asked}
+use Rattle.iio_core.specs.Moves.{Capture, asked_once, emptied_of, offered_to, is_due}
+use Rattle.iio_core.specs.declared.became.Became.TheVariants.{Asked}
 use Rattle.iio_system.specs.declared.in_device.Inner.{Inner}
-use Rattle.iio_system.specs.Handling.{entry_answer, entry_station, is_due}
+use Rattle.iio_system.specs.Handling.{entry_station, entry_became}
 use Rattle.iio_system.specs.Inner.{average_of, inner_at, number_of, with_inner_name}
 use Rattle.iio_system.specs.Taking.{AreWaiting, all_taken, with_taken}
 use Rattle.iio_system.proofs.InnerLemmas.{AreIdleTold, IsIdleTold, empty_named, has_number, masks_named, named}
@@ -158,19 +157,19 @@ module _ (shape : ShapeRecord) (inners : List Inner) (e : Handed) (ended : Bool)
       ∙ rw (masks_named inners st.members) refl
 
   -- where there was a capture, once its scans are taken
-  pub capture_named : (n : ℕ) (new : Station) → Some (Asked (Captured n)) ≡ entry_answer Input (Some e) ended st
+  pub capture_named : (n : ℕ) (new : Station) → Some (Asked (Captured n)) ≡ entry_became Input (Some e) ended st
       → new ≡ entry_station Input (Some e) ended shape st
       → named inners (all_taken inners new) ≡ entry_station Input (Some e) ended shape (named inners st)
   capture_named n new answer is = by ended (is_due e st) (ask_fails st.site.driver) refl refl answer is
     where
-      by : (a b f : Bool) → is_due e st ≡ b → ask_fails st.site.driver ≡ f → Some (Asked (Captured n)) ≡ entry_answer Input (Some e) a st
+      by : (a b f : Bool) → is_due e st ≡ b → ask_fails st.site.driver ≡ f → Some (Asked (Captured n)) ≡ entry_became Input (Some e) a st
           → new ≡ entry_station Input (Some e) a shape st
           → named inners (all_taken inners new) ≡ entry_station Input (Some e) a shape (named inners st)
       by true b f due fails answer is = absurd (cc)
       by false false f due fails answer is =
-          absurd (let idle2 : entry_answer Input (Some e) false st ≡ Some (Asked Idle) = rw due refl in let both = answer ∙ idle2 in cc)
+          absurd (let idle2 : entry_became Input (Some e) false st ≡ Some (Asked Idle) = rw due refl in let both = answer ∙ idle2 in cc)
       by false true true due fails answer is =
-          absurd (let fault : entry_answer Input (Some e) false st ≡ Some (Asked Fault) = rw (due, fails) refl in let both = answer ∙ fault in cc)
+          absurd (let fault : entry_became Input (Some e) false st ≡ Some (Asked Fault) = rw (due, fails) refl in let both = answer ∙ fault in cc)
       by false true false due fails answer is =
           let made : entry_station Input (Some e) false shape st
           ≡ record (asked_once shape e.t st) { captures = st.captures + 1; members = map (offered_to shape taken) st.members; window = no_window } =
@@ -182,12 +181,12 @@ module _ (shape : ShapeRecord) (inners : List Inner) (e : Handed) (ended : Bool)
           ap (λ (x : Station). named inners (all_taken inners x)) (is ∙ made) ∙ captured_named ∙ sym then
 
   -- and where there was none
-  pub idle_named : (r : Handled) (new : Station) → ((n : ℕ) → r ≡ Captured n → ⊥) → Some (Asked r) ≡ entry_answer Input (Some e) ended st
+  pub idle_named : (r : Handled) (new : Station) → ((n : ℕ) → r ≡ Captured n → ⊥) → Some (Asked r) ≡ entry_became Input (Some e) ended st
       → new ≡ entry_station Input (Some e) ended shape st
       → named inners new ≡ entry_station Input (Some e) ended shape (named inners st)
   idle_named r new none answer is = by ended (is_due e st) (ask_fails st.site.driver) refl refl answer is
     where
-      by : (a b f : Bool) → is_due e st ≡ b → ask_fails st.site.driver ≡ f → Some (Asked r) ≡ entry_answer Input (Some e) a st
+      by : (a b f : Bool) → is_due e st ≡ b → ask_fails st.site.driver ≡ f → Some (Asked r) ≡ entry_became Input (Some e) a st
           → new ≡ entry_station Input (Some e) a shape st
           → named inners new ≡ entry_station Input (Some e) a shape (named inners st)
       by true b f due fails answer is = ap (named inners) is
@@ -201,14 +200,14 @@ module _ (shape : ShapeRecord) (inners : List Inner) (e : Handed) (ended : Bool)
           ap (named inners) (is ∙ made) ∙ asked_named e.t ∙ sym then
       by false true false due fails answer is =
           absurd (none (length st.members)
-          (let made : entry_answer Input (Some e) false st ≡ Some (Asked (Captured (length st.members))) = rw (due, fails) refl in let both = answer ∙ made in
+          (let made : entry_became Input (Some e) false st ≡ Some (Asked (Captured (length st.members))) = rw (due, fails) refl in let both = answer ∙ made in
           cc))
 
   -- the answer is the same
-  pub answer_named : entry_answer Input (Some e) ended (named inners st) ≡ entry_answer Input (Some e) ended st
+  pub answer_named : entry_became Input (Some e) ended (named inners st) ≡ entry_became Input (Some e) ended st
   answer_named = by ended
     where
-      by : (a : Bool) → entry_answer Input (Some e) a (named inners st) ≡ entry_answer Input (Some e) a st
+      by : (a : Bool) → entry_became Input (Some e) a (named inners st) ≡ entry_became Input (Some e) a st
       by true = refl
       by false = rw (empty_named inners st.members, length-map st.members (with_inner_name inners)) refl
 

@@ -6,7 +6,7 @@ use Rattle.iio_trigger.specs.declared.rows.Place.{Place}
 use Rattle.iio_trigger.specs.Trigger.{Handed, entries_at, holds_place, with_place, without_place}
 use Rattle.iio_core.specs.Machine.{Station}
 use Rattle.iio_core.specs.Calls.{attached_count, is_attached}
-use Rattle.iio_history.specs.BenchMoves.{bench_entries}
+use Rattle.iio_core.specs.Trigger.{bench_entries}
 use Rattle.iio_system.specs.Places.{handed_of, places_from}
 
 module _ (trigger : ℕ) where

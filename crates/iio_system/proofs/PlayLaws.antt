@@ -27,7 +27,7 @@ use Rattle.iio_system.specs.declared.step.Step.TheVariants as code
 use Rattle.iio_system.specs.Step.{step_view}
 use Rattle.iio_system.specs.Bench.{Kept, captures_of, front_of, kept_of, machine_of}
 use Rattle.iio_system.specs.Feeding.{AreOwning, Feeds, IsOwning, left_by}
-use Rattle.iio_system.specs.Lines.{dropped_word}
+use Rattle.iio_history.specs.Words.{dropped_word}
 use Rattle.iio_system.specs.Seat.{seen_of}
 use Rattle.iio_system.specs.Standing.{Holds, IsNew, Makes, MakesFeed, MakesStep, RiseBy, has_room, name_by, names_with}
 use Rattle.iio_system.specs.System.{Stands}

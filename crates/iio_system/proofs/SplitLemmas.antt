@@ -5,11 +5,11 @@ use Rattle.iio_sensor.specs.Driver.{Driver}
 use Rattle.iio_layout.specs.Shape.{ShapeRecord}
 use Rattle.iio_desc.specs.Kind.{Kind, Input, Output, Average, is_average, is_unplugged_by}
 use Rattle.iio_device.specs.declared.plug.Plug.{Plug}
-use Rattle.iio_core.specs.Machine.{Station}
-use Rattle.iio_history.specs.Registry.{Capture}
+use Rattle.iio_core.specs.Machine.{Station, with_site}
+use Rattle.iio_core.specs.Moves.{Capture}
+use Rattle.iio_device.specs.Site.{unplugged}
 use Rattle.iio_system.specs.declared.any_device.AnyDevice.{AnyDevice}
 use Rattle.iio_system.specs.Averages.{HasBases}
-use Rattle.iio_system.specs.Handling.{unplugged_station}
 use Rattle.iio_system.specs.Station.{KeepsFront, any_front, any_station, full_scan_by}
 use Rattle.iio_system.specs.Together.{AreGathered, IsGathered, IsUnplugged, scan_at, with_capture}
 use Rattle.iio_system.proofs.OpenLemmas.{kind_there}
@@ -86,10 +86,10 @@ scan_before {X = X} {V = V} base os xs old d is at =
 
 module _ {X : Type 0} {V : X → Type 0} (drive : Plug X V → Driver) (dev i : ℕ) (x x' : AnyDevice X V) where
   abbrev gone_by : Bool → Station
-  gone_by goes = cond goes (unplugged_station (any_station drive x)) (any_station drive x)
+  gone_by goes = cond goes (with_site unplugged (any_station drive x)) (any_station drive x)
 
   -- a device that goes
-  pub goes_too : is_unplugged_by (any_front x).kind dev i ≡ true → any_station drive x' ≡ unplugged_station (any_station drive x) → KeepsFront x x'
+  pub goes_too : is_unplugged_by (any_front x).kind dev i ≡ true → any_station drive x' ≡ with_site unplugged (any_station drive x) → KeepsFront x x'
       → IsUnplugged drive dev i x x'
   goes_too goes station keeps = record { keeps = keeps; station = station ∙ sym (ap (λ (b : Bool). gone_by b) goes) }
 
@@ -98,5 +98,5 @@ pub stays_here : {X : Type 0} {V : X → Type 0} (drive : Plug X V → Driver) (
     → IsUnplugged drive dev i x x
 stays_here drive dev i x stays = record {
   keeps = record { head = record { front = refl; number = refl }; captures = refl };
-  station = sym (ap (λ (b : Bool). cond b (unplugged_station (any_station drive x)) (any_station drive x)) stays);
+  station = sym (ap (λ (b : Bool). cond b (with_site unplugged (any_station drive x)) (any_station drive x)) stays);
 }

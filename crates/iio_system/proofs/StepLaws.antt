@@ -10,7 +10,8 @@ use Rattle.iio_desc.specs.declared.limits.TheConstants.{MAX_DEVICES}
 use Rattle.iio_device.specs.declared.plug.Plug.{Plug}
 use Rattle.iio_device.specs.Site.{is_empty, no_driver}
 use Rattle.iio_history.specs.Event.{Event, Arrived, Handled, Heard, Polled}
-use Rattle.iio_history.specs.Registry.{Outline, Setup, entries_at, entries_from, has_ended, is_attached, outline_of, outlines_of}
+use Rattle.iio_history.specs.Registry.{Outline, Setup, entries_from, has_ended, is_attached, outline_of, outlines_of}
+use Rattle.iio_core.specs.Trigger.{entries_at}
 use Rattle.iio_history.specs.Told.{Told, device_of, registry_of, told}
 use Rattle.iio_history.specs.Machine.{step}
 use Rattle.iio_history.specs.Played.{state_after, steps}

@@ -9,10 +9,8 @@ use Rattle.iio_trigger.specs.declared.Polled.{Polled}
 use Rattle.iio_trigger.specs.declared.Polled.TheVariants.{Accepted, Missed}
 use Rattle.iio_trigger.specs.Trigger.{Handed, Polls, State, after_poll, due_of, entries_at, is_waiting, missed_after, poll_made, with_in_hand, without_entry as without_entry_of}
 use Rattle.iio_core.specs.Machine.{Station}
-use Rattle.iio_history.specs.BenchMoves.{bench_entries, polled_by}
-use Rattle.iio_history.specs.Fold.{handled}
-use Rattle.iio_history.specs.Registry.{Trigger, entry_of}
-use Rattle.iio_system.specs.Places.{IsTrigger, handed_of, has_in_hand, poll_answer, trigger_of}
+use Rattle.iio_core.specs.Trigger.{bench_entries, polled_by, handled, Trigger, entry_of, poll_answer}
+use Rattle.iio_system.specs.Places.{IsTrigger, handed_of, has_in_hand, trigger_of}
 use Rattle.iio_system.proofs.ListLemmas.{filter_map_is}
 use Rattle.iio_system.proofs.PlaceLemmas.{entries_of_places}
 

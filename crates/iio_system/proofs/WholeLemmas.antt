@@ -11,18 +11,17 @@ use Rattle.iio_desc.specs.Kind.{Kind, Input, Output, Average, is_average, is_unp
 use Rattle.iio_trigger.specs.Trigger.{Handed, State}
 use Rattle.iio_device.specs.declared.plug.Plug.{Plug}
 use Rattle.iio_device.specs.declared.handling.Handled.TheVariants.{Captured, Fault, Idle}
-use Rattle.iio_device.specs.Site.{is_current, is_empty, no_driver}
+use Rattle.iio_device.specs.Site.{is_empty, no_driver, unplugged}
 use Rattle.iio_core.specs.Calls.{is_inner_of}
 use Rattle.iio_core.specs.Front.{Front, kind_at, shape_at}
-use Rattle.iio_core.specs.Machine.{Machine, Member, Station, station_in}
-use Rattle.iio_history.specs.Registry.{Capture}
-use Rattle.iio_history.specs.BenchMoves.{gathered_to, unplugs}
+use Rattle.iio_core.specs.Machine.{Machine, Member, Station, station_in, with_site}
+use Rattle.iio_core.specs.Moves.{Capture, gathered_to, unplugs, machine_after_unplugging, entry_at, capture_at, capture_in, entry_answer, entry_made, is_due, machine_after_handling}
 use Rattle.iio_history.proofs.BenchLists.{itself, same_number}
 use Rattle.iio_system.specs.declared.any_device.AnyDevice.{AnyDevice}
-use Rattle.iio_system.specs.declared.any_device.Became.{Became}
-use Rattle.iio_system.specs.declared.any_device.Became.TheVariants.{Asked, Gave}
+use Rattle.iio_core.specs.declared.became.Became.{Became}
+use Rattle.iio_core.specs.declared.became.Became.TheVariants.{Asked, Gave}
 use Rattle.iio_system.specs.Averages.{HasBases, IsAveraged, kind_in, shape_in}
-use Rattle.iio_system.specs.Handling.{IsRoom, IsScanOf, IsTakenWhole, capture_at, entry_answer, entry_at, entry_capture, entry_machine, entry_station, has_inner, is_last, unplugged_machine, unplugged_station}
+use Rattle.iio_system.specs.Handling.{IsRoom, IsScanOf, IsTakenWhole, entry_capture, entry_station, has_inner, is_last, entry_became, unless_ended}
 use Rattle.iio_system.specs.Places.{IsBench, IsNumbered}
 use Rattle.iio_system.specs.declared.any_device.AnyDevice.TheVariants as any
 use Rattle.iio_system.specs.Station.{KeepsFront, KeepsHead, any_front, any_station, captures_by, full_scan_by, number_by, room_by, stations_by}
@@ -35,52 +34,39 @@ use Rattle.iio_system.proofs.GatherLemmas.{averaged_handled, averaged_unplugged,
 use Rattle.iio_system.proofs.OpenLemmas.{averaged_as, kind_there, sound_any, sound_as}
 use Rattle.iio_system.proofs.TogetherLemmas.{map_together, map_unmoved, numbered_together}
 use Rattle.iio_system.proofs.ToldLemmas.{fronts_by, kind_is, machine_by, shape_is, station_is}
+use Rattle.iio_system.proofs.AnyCalls.{either}
 
 -- ---- one device in a handling
 
 -- the device itself
-entry_own : (o : Option Handed) (c : Option Capture) (ended : Bool) (k : ℕ) (kind : Kind) (shape : ShapeRecord) (st : Station)
-    → (c ≡ entry_capture kind o ended shape st) → entry_at o c ended k kind shape k st ≡ entry_station kind o ended shape st
-entry_own o c ended k Input shape st is = ap (λ (b : Bool). cond b (entry_station Input o ended shape st) st) (itself k)
-entry_own o c ended k Output shape st is = ap (λ (b : Bool). cond b (entry_station Output o ended shape st) st) (itself k)
-entry_own o c ended k (Average base window) shape st is =
-    ap (λ (x : Option Capture). cond (k == base) (gathered_to window shape x st) st) (is ∙ none o ended) ∙ by (k == base) ∙ sym (stays o ended)
+entry_own : (o : Option Handed) (c : Option Capture) (k : ℕ) (kind : Kind) (shape : ShapeRecord) (st : Station) → (c ≡ capture_in kind shape o st)
+    → entry_at o c k kind shape k st ≡ entry_made kind shape o st
+entry_own o c k Input shape st is = ap (λ (b : Bool). cond b (entry_made Input shape o st) st) (itself k)
+entry_own o c k Output shape st is = ap (λ (b : Bool). cond b (entry_made Output shape o st) st) (itself k)
+entry_own o c k (Average base window) shape st is =
+    ap (λ (x : Option Capture). cond (k == base) (gathered_to window shape x st) st) (is ∙ none o) ∙ either (k == base) st ∙ sym (stays o)
   where
-    by : (b : Bool) → cond b st st ≡ st
-    by true = refl
-    by false = refl
+    none : (o : Option Handed) → capture_in (Average base window) shape o st ≡ None
+    none None = refl
+    none (Some e) = either (is_due e st) None
 
-    none : (o : Option Handed) (ended : Bool) → entry_capture (Average base window) o ended shape st ≡ None
-    none None ended = refl
-    none (Some e) true = refl
-    none (Some e) false = cases (is_current e.attachment st.site.attachment st.members st.site.plugged)
-      where
-        cases : (b : Bool) → cond b (let x : Option Capture = None in x) None ≡ None
-        cases true = refl
-        cases false = refl
-
-    stays : (o : Option Handed) (ended : Bool) → entry_station (Average base window) o ended shape st ≡ st
-    stays None ended = refl
-    stays (Some e) true = refl
-    stays (Some e) false = by (is_current e.attachment st.site.attachment st.members st.site.plugged)
+    stays : (o : Option Handed) → entry_made (Average base window) shape o st ≡ st
+    stays None = refl
+    stays (Some e) = either (is_due e st) st
 
 -- another one, where there was a capture
-entry_other : (o : Option Handed) (c : Capture) (ended : Bool) (k : ℕ) (kind : Kind) (shape : ShapeRecord) (j : ℕ) (st : Station) → (k == j) ≡ false
-    → with_capture k c kind shape st ≡ entry_at o (Some c) ended k kind shape j st
-entry_other o c ended k Input shape j st other = sym (ap (λ (b : Bool). cond b (entry_station Input o ended shape st) st) other)
-entry_other o c ended k Output shape j st other = sym (ap (λ (b : Bool). cond b (entry_station Output o ended shape st) st) other)
-entry_other o c ended k (Average base window) shape j st other = refl
+entry_other : (o : Option Handed) (c : Capture) (k : ℕ) (kind : Kind) (shape : ShapeRecord) (j : ℕ) (st : Station) → (k == j) ≡ false
+    → with_capture k c kind shape st ≡ entry_at o (Some c) k kind shape j st
+entry_other o c k Input shape j st other = sym (ap (λ (b : Bool). cond b (entry_made Input shape o st) st) other)
+entry_other o c k Output shape j st other = sym (ap (λ (b : Bool). cond b (entry_made Output shape o st) st) other)
+entry_other o c k (Average base window) shape j st other = refl
 
 -- and where there was none
-entry_none : (o : Option Handed) (ended : Bool) (k : ℕ) (kind : Kind) (shape : ShapeRecord) (j : ℕ) (st : Station) → (k == j) ≡ false
-    → st ≡ entry_at o None ended k kind shape j st
-entry_none o ended k Input shape j st other = sym (ap (λ (b : Bool). cond b (entry_station Input o ended shape st) st) other)
-entry_none o ended k Output shape j st other = sym (ap (λ (b : Bool). cond b (entry_station Output o ended shape st) st) other)
-entry_none o ended k (Average base window) shape j st other = by (k == base)
-  where
-    by : (b : Bool) → st ≡ cond b st st
-    by true = refl
-    by false = refl
+entry_none : (o : Option Handed) (k : ℕ) (kind : Kind) (shape : ShapeRecord) (j : ℕ) (st : Station) → (k == j) ≡ false
+    → st ≡ entry_at o None k kind shape j st
+entry_none o k Input shape j st other = sym (ap (λ (b : Bool). cond b (entry_made Input shape o st) st) other)
+entry_none o k Output shape j st other = sym (ap (λ (b : Bool). cond b (entry_made Output shape o st) st) other)
+entry_none o k (Average base window) shape j st other = sym (either (k == base) st)
 
 -- ---- which answers are captures
 
@@ -89,21 +75,21 @@ pub record IsCaptured (kind : Kind) (o : Option Handed) (ended : Bool) (shape : 
   pub input : kind ≡ Input
   pub goes_on : ended ≡ false
   pub capture : Capture
-  pub is : entry_capture kind o ended shape st ≡ Some capture
+  pub is : capture_in kind shape o st ≡ Some capture
 
-captured_by : (e : Handed) (shape : ShapeRecord) (st : Station) (n : ℕ) → entry_answer Input (Some e) false st ≡ Some (Asked (Captured n))
+captured_by : (e : Handed) (shape : ShapeRecord) (st : Station) (n : ℕ) → entry_became Input (Some e) false st ≡ Some (Asked (Captured n))
     → IsCaptured Input (Some e) false shape st
-captured_by e shape st n is = by (is_current e.attachment st.site.attachment st.members st.site.plugged) (ask_fails st.site.driver) refl refl is
+captured_by e shape st n is = by (is_due e st) (ask_fails st.site.driver) refl refl is
   where
-    by : (a b : Bool) → is_current e.attachment st.site.attachment st.members st.site.plugged ≡ a → ask_fails st.site.driver ≡ b
-        → entry_answer Input (Some e) false st ≡ Some (Asked (Captured n)) → IsCaptured Input (Some e) false shape st
+    by : (a b : Bool) → is_due e st ≡ a → ask_fails st.site.driver ≡ b
+        → entry_became Input (Some e) false st ≡ Some (Asked (Captured n)) → IsCaptured Input (Some e) false shape st
     by false b p q is = absurd (let h = rw p at is in cc)
     by true true p q is = absurd (let h = rw (p, q) at is in cc)
     by true false p q is =
         record { input = refl; goes_on = refl; capture = record { moment = e.t; values = values_of st.site.driver shape e.t }; is = rw (p, q) refl }
 
 pub captured_is : (kind : Kind) (o : Option Handed) (ended : Bool) (shape : ShapeRecord) (st : Station) (n : ℕ)
-    → Some (Asked (Captured n)) ≡ entry_answer kind o ended st → IsCaptured kind o ended shape st
+    → Some (Asked (Captured n)) ≡ entry_became kind o ended st → IsCaptured kind o ended shape st
 captured_is kind None ended shape st n is = absurd (cc)
 captured_is kind (Some e) true shape st n is = absurd (cc)
 captured_is Input (Some e) false shape st n is = captured_by e shape st n (sym is)
@@ -111,29 +97,20 @@ captured_is Output (Some e) false shape st n is = absurd (cc)
 captured_is (Average base window) (Some e) false shape st n is = absurd (cc)
 
 -- a capture is answered
-answered_by : (e : Handed) (shape : ShapeRecord) (st : Station) (c : Capture) → entry_capture Input (Some e) false shape st ≡ Some c
-    → entry_answer Input (Some e) false st ≡ Some (Asked (Captured (length st.members)))
-answered_by e shape st c is = by (is_current e.attachment st.site.attachment st.members st.site.plugged) (ask_fails st.site.driver) refl refl is
+answered_by : (e : Handed) (shape : ShapeRecord) (st : Station) (c : Capture) → capture_in Input shape (Some e) st ≡ Some c
+    → entry_answer Input (Some e) st ≡ Some (Asked (Captured (length st.members)))
+answered_by e shape st c is = by (is_due e st) (ask_fails st.site.driver) refl refl is
   where
-    by : (a b : Bool) → is_current e.attachment st.site.attachment st.members st.site.plugged ≡ a → ask_fails st.site.driver ≡ b
-        → entry_capture Input (Some e) false shape st ≡ Some c
-        → entry_answer Input (Some e) false st ≡ Some (Asked (Captured (length st.members)))
+    by : (a b : Bool) → is_due e st ≡ a → ask_fails st.site.driver ≡ b → capture_in Input shape (Some e) st ≡ Some c
+        → entry_answer Input (Some e) st ≡ Some (Asked (Captured (length st.members)))
     by false b p q is = absurd (let h = rw p at is in cc)
     by true true p q is = absurd (let h = rw (p, q) at is in cc)
     by true false p q is = rw (p, q) refl
 
-no_capture : (kind : Kind) (e : Handed) (shape : ShapeRecord) (st : Station) → (kind ≡ Input) ⊎ (entry_capture kind (Some e) false shape st ≡ None)
+no_capture : (kind : Kind) (e : Handed) (shape : ShapeRecord) (st : Station) → (kind ≡ Input) ⊎ (capture_in kind shape (Some e) st ≡ None)
 no_capture Input e shape st = inl refl
-no_capture Output e shape st = inr (by (is_current e.attachment st.site.attachment st.members st.site.plugged))
-  where
-    by : (b : Bool) → cond b (let x : Option Capture = None in x) None ≡ None
-    by true = refl
-    by false = refl
-no_capture (Average base window) e shape st = inr (by (is_current e.attachment st.site.attachment st.members st.site.plugged))
-  where
-    by : (b : Bool) → cond b (let x : Option Capture = None in x) None ≡ None
-    by true = refl
-    by false = refl
+no_capture Output e shape st = inr (either (is_due e st) None)
+no_capture (Average base window) e shape st = inr (either (is_due e st) None)
 
 -- whether an answer is a capture
 abbrev pub is_capture : Option Became → Bool
@@ -141,19 +118,18 @@ is_capture (Some (Asked (Captured n))) = true
 is_capture became = false
 
 -- another answer made none
-pub none_captured : (kind : Kind) (o : Option Handed) (ended : Bool) (shape : ShapeRecord) (st : Station) (r : Option Became) → r ≡ entry_answer kind o ended st
-    → is_capture r ≡ false → entry_capture kind o ended shape st ≡ None
-none_captured kind None ended shape st r is other = refl
-none_captured kind (Some e) true shape st r is other = refl
-none_captured kind (Some e) false shape st r is other = by kind (no_capture kind e shape st) is
+none_captured : (kind : Kind) (o : Option Handed) (shape : ShapeRecord) (st : Station) (r : Option Became) → r ≡ entry_answer kind o st
+    → is_capture r ≡ false → capture_in kind shape o st ≡ None
+none_captured kind None shape st r is other = refl
+none_captured kind (Some e) shape st r is other = by kind (no_capture kind e shape st) is
   where
-    by : (kind : Kind) → (kind ≡ Input) ⊎ (entry_capture kind (Some e) false shape st ≡ None) → r ≡ entry_answer kind (Some e) false st
-        → entry_capture kind (Some e) false shape st ≡ None
+    by : (kind : Kind) → (kind ≡ Input) ⊎ (capture_in kind shape (Some e) st ≡ None) → r ≡ entry_answer kind (Some e) st
+        → capture_in kind shape (Some e) st ≡ None
     by kind (inr none) is = none
     by kind (inl input) is =
-        rw input (cases (entry_capture Input (Some e) false shape st) refl (is ∙ ap (λ (y : Kind). entry_answer y (Some e) false st) input))
+        rw input (cases (capture_in Input shape (Some e) st) refl (is ∙ ap (λ (y : Kind). entry_answer y (Some e) st) input))
       where
-        cases : (c : Option Capture) → entry_capture Input (Some e) false shape st ≡ c → r ≡ entry_answer Input (Some e) false st → c ≡ None
+        cases : (c : Option Capture) → capture_in Input shape (Some e) st ≡ c → r ≡ entry_answer Input (Some e) st → c ≡ None
         cases None same is = refl
         cases (Some c) same is = absurd (let h = sym other ∙ ap is_capture (is ∙ answered_by e shape st c same) in cc)
 
@@ -161,8 +137,7 @@ none_captured kind (Some e) false shape st r is other = by kind (no_capture kind
 
 module _ {X : Type 0} {V : X → Type 0} (drive : Plug X V → Driver) (context : List ℕ) (triggers : List TriggerDesc) (ds : List (AnyDevice X V)) (clock : ℤ)
     (k : ℕ) (d d' : AnyDevice X V) (at : slice_get ds k ≡ Some d)
-    (o : Option Handed) (ended : Bool)
-    (station : any_station drive d' ≡ entry_station (any_front d).kind o ended (any_front d).shape (any_station drive d)) where
+    (o : Option Handed) (station : any_station drive d' ≡ entry_made (any_front d).kind (any_front d).shape o (any_station drive d)) where
   abbrev front : Front
   front = fronts_by any_front context triggers ds
 
@@ -170,41 +145,41 @@ module _ {X : Type 0} {V : X → Type 0} (drive : Plug X V → Driver) (context 
   machine = machine_by (any_station drive) clock ds
 
   abbrev own_capture : Option Capture
-  own_capture = entry_capture (any_front d).kind o ended (any_front d).shape (any_station drive d)
+  own_capture = capture_in (any_front d).kind (any_front d).shape o (any_station drive d)
 
-  capture_own : capture_at front o ended k machine ≡ own_capture
+  capture_own : capture_at front o k machine ≡ own_capture
   capture_own =
       rw (kind_is any_front context triggers ds k d at, shape_is any_front context triggers ds k d at, station_is (any_station drive) clock ds k d at) refl
 
   -- device j, as the machine has it after a handling with that capture
   abbrev made : Option Capture → ℕ → AnyDevice X V → Station
-  made c j x = entry_at o c ended k (any_front x).kind (any_front x).shape j (any_station drive x)
+  made c j x = entry_at o c k (any_front x).kind (any_front x).shape j (any_station drive x)
 
   at_machine : (c : Option Capture) (j : ℕ) (x : AnyDevice X V) → slice_get ds j ≡ Some x → own_capture ≡ c
-      → made c j x ≡ entry_at o (capture_at front o ended k machine) ended k (kind_at front j) (shape_at front j) j (any_station drive x)
+      → made c j x ≡ entry_at o (capture_at front o k machine) k (kind_at front j) (shape_at front j) j (any_station drive x)
   at_machine c j x there is =
       ap (λ (y : Option Capture). made y j x) (sym is ∙ sym capture_own)
-      ∙ ap (λ (kind : Kind). entry_at o (capture_at front o ended k machine) ended k kind (any_front x).shape j (any_station drive x))
+      ∙ ap (λ (kind : Kind). entry_at o (capture_at front o k machine) k kind (any_front x).shape j (any_station drive x))
       (sym (kind_is any_front context triggers ds j x there))
-      ∙ ap (λ (shape : ShapeRecord). entry_at o (capture_at front o ended k machine) ended k (kind_at front j) shape j (any_station drive x))
+      ∙ ap (λ (shape : ShapeRecord). entry_at o (capture_at front o k machine) k (kind_at front j) shape j (any_station drive x))
       (sym (shape_is any_front context triggers ds j x there))
 
   -- all of them
   told_by : (c : Option Capture) (ds' : List (AnyDevice X V)) → own_capture ≡ c → length ds' ≡ length ds
       → ((j : ℕ) (x x' : AnyDevice X V) → slice_get ds j ≡ Some x → slice_get ds' j ≡ Some x' → any_station drive x' ≡ made c j x)
-      → machine_by (any_station drive) clock ds' ≡ entry_machine front o ended k machine
+      → machine_by (any_station drive) clock ds' ≡ machine_after_handling front o k machine
   told_by c ds' is same each =
       ap (λ (sts : List Station). (let m : Machine = record { clock = clock; stations = sts } in m))
-      (map_together (any_station drive) (λ j st. entry_at o (capture_at front o ended k machine) ended k (kind_at front j) (shape_at front j) j st) 0 ds ds'
+      (map_together (any_station drive) (λ j st. entry_at o (capture_at front o k machine) k (kind_at front j) (shape_at front j) j st) 0 ds ds'
       same
       (λ j x x' there there'. (
       let place : j ≡ 0 + j = omega arith in
       each j x x' there there' ∙ at_machine c j x there is
-      ∙ ap (λ (i : ℕ). entry_at o (capture_at front o ended k machine) ended k (kind_at front i) (shape_at front i) i (any_station drive x)) place
+      ∙ ap (λ (i : ℕ). entry_at o (capture_at front o k machine) k (kind_at front i) (shape_at front i) i (any_station drive x)) place
       )))
 
   own_made : (c : Option Capture) → own_capture ≡ c → any_station drive d' ≡ made c k d
-  own_made c is = station ∙ sym (entry_own o c ended k (any_front d).kind (any_front d).shape (any_station drive d) (sym is))
+  own_made c is = station ∙ sym (entry_own o c k (any_front d).kind (any_front d).shape (any_station drive d) (sym is))
 
   apart : (j : ℕ) → (j ≡ k → ⊥) → (k == j) ≡ false
   apart j other = by (k == j) refl
@@ -214,7 +189,7 @@ module _ {X : Type 0} {V : X → Type 0} (drive : Plug X V → Driver) (context 
       by false e = refl
 
   -- without a capture the device alone has changed
-  pub told_alone : own_capture ≡ None → machine_by (any_station drive) clock (set ds k d') ≡ entry_machine front o ended k machine
+  pub told_alone : own_capture ≡ None → machine_by (any_station drive) clock (set ds k d') ≡ machine_after_handling front o k machine
   told_alone none = told_by None (set ds k d') none (length_after ds k d') (λ j x x' there there'. each j x x' there (after_set ds k j d' x' there'))
     where
       each : (j : ℕ) (x x' : AnyDevice X V) → slice_get ds j ≡ Some x → ((j ≡ k) × (x' ≡ d')) ⊎ ((j ≡ k → ⊥) × (slice_get ds j ≡ Some x'))
@@ -224,14 +199,14 @@ module _ {X : Type 0} {V : X → Type 0} (drive : Plug X V → Driver) (context 
           ap (any_station drive) p.1 ∙ own_made None none ∙ ap (λ (y : AnyDevice X V). made None k y) one ∙ ap (λ (i : ℕ). made None i x) (sym p.0)
       each j x x' there (inr p) =
           let one : x' ≡ x = (let h : Some x' ≡ Some x = sym p.1 ∙ there in cc) in
-          ap (any_station drive) one ∙ entry_none o ended k (any_front x).kind (any_front x).shape j (any_station drive x) (apart j p.0)
+          ap (any_station drive) one ∙ entry_none o k (any_front x).kind (any_front x).shape j (any_station drive x) (apart j p.0)
 
   -- with one, each averaging device over it takes it
   pub told_gathered : (c : Capture) (scan : List ℕ) (ds' : List (AnyDevice X V)) → own_capture ≡ Some c → (any_front d).kind ≡ Input → KeepsHead d d'
       → AreGathered drive k scan (set ds k d') ds'
       → ((j : ℕ) (x : AnyDevice X V) → slice_get ds j ≡ Some x → (j ≡ k → ⊥) → gathers k (any_front x).kind (any_station drive x) ≡ true
       → IsScanOf (any_front x).shape c scan)
-      → machine_by (any_station drive) clock ds' ≡ entry_machine front o ended k machine
+      → machine_by (any_station drive) clock ds' ≡ machine_after_handling front o k machine
   told_gathered c scan ds' is input keeps gathered taken =
       told_by (Some c) ds' is (gathered.same ∙ length_after ds k d') (λ j x x' there there'. by j x x' there there' (same_or j k))
     where
@@ -257,7 +232,7 @@ module _ {X : Type 0} {V : X → Type 0} (drive : Plug X V → Driver) (context 
           own_there (z ∷ zs) (suc i) y y' there = own_there zs i y y' there
       by j x x' there there' (inr other) =
           let own = gathered.each j x x' (away ds k j d' x other there) there' in
-          own.station c (λ g. taken j x there other g) ∙ entry_other o c ended k (any_front x).kind (any_front x).shape j (any_station drive x) (apart j other)
+          own.station c (λ g. taken j x there other g) ∙ entry_other o c k (any_front x).kind (any_front x).shape j (any_station drive x) (apart j other)
         where
           away : (xs : List (AnyDevice X V)) (k j : ℕ) (y x : AnyDevice X V) → (j ≡ k → ⊥) → slice_get xs j ≡ Some x → slice_get (set xs k y) j ≡ Some x
           away [] k j y x other there = there
@@ -412,8 +387,14 @@ module _ {X : Type 0} {V : X → Type 0} (drive : Plug X V → Driver) (context 
   fronts_now : map any_front (set ds k d') ≡ map any_front ds
   fronts_now = map_same any_front ds k d d' at keeps.front
 
+  taken_whole : (x : IsCaptured (any_front d).kind o ended (any_front d).shape (any_station drive d))
+      → IsTakenWhole (any_front d).shape (Some x.capture) (any_station drive d).members (full_scan_by d')
+  taken_whole x =
+      subst (λ (c : Option Capture). IsTakenWhole (any_front d).shape c (any_station drive d).members (full_scan_by d'))
+      (ap (λ (b : Bool). entry_capture (any_front d).kind o b (any_front d).shape (any_station drive d)) x.goes_on ∙ x.is) whole
+
   -- the averaging devices can take a capture
-  pub can_gather : (r : Option Became) → r ≡ entry_answer (any_front d).kind o ended (any_station drive d) → OnCapture r (CanGather drive first k (set ds k d'))
+  pub can_gather : (r : Option Became) → r ≡ entry_became (any_front d).kind o ended (any_station drive d) → OnCapture r (CanGather drive first k (set ds k d'))
   can_gather (Some (Asked (Captured n))) is =
       let x = captured_is (any_front d).kind o ended (any_front d).shape (any_station drive d) n is in
       let input' : (any_front d').kind ≡ Input = ap (λ (h : DeviceHead). h.kind) keeps.front ∙ x.input in
@@ -422,8 +403,7 @@ module _ {X : Type 0} {V : X → Type 0} (drive : Plug X V → Driver) (context 
         bases = subst (λ (hs : List DeviceHead). HasBases first hs) (sym fronts_now) averaged.bases;
         ready =
             subst (λ (scan : List ℕ). All (IsReady drive k scan) (set ds k d')) (sym (scan_there ds k d d' at))
-            (ready_all drive (length triggers) first ds averaged_now k d d' at x.capture (full_scan_by d')
-            (subst (λ (c : Option Capture). IsTakenWhole (any_front d).shape c (any_station drive d).members (full_scan_by d')) x.is whole) input'
+            (ready_all drive (length triggers) first ds averaged_now k d d' at x.capture (full_scan_by d') (taken_whole x) input'
             (ap is_last (sym (made_by drive d x.input)) ∙ x.goes_on));
       }
     where
@@ -458,21 +438,37 @@ module _ {X : Type 0} {V : X → Type 0} (drive : Plug X V → Driver) (context 
   can_gather (Some (Gave answer)) is = tt
   can_gather None is = tt
 
-  alone : (r : Option Became) → r ≡ entry_answer (any_front d).kind o ended (any_station drive d) → is_capture r ≡ false → ds' ≡ set ds k d'
-      → machine_by (any_station drive) clock ds' ≡ entry_machine (fronts_by any_front context triggers ds) o ended k (machine_by (any_station drive) clock ds)
-  alone r is other same =
-      ap (λ (xs : List (AnyDevice X V)). machine_by (any_station drive) clock xs) same
-      ∙ told_alone drive context triggers ds clock k d d' at o ended station
-      (none_captured (any_front d).kind o ended (any_front d).shape (any_station drive d) r is other)
+  abbrev machine_was : Machine
+  machine_was = machine_by (any_station drive) clock ds
 
-  pub told_after : (r : Option Became) → r ≡ entry_answer (any_front d).kind o ended (any_station drive d) → AfterEntry drive r k (set ds k d') ds'
-      → machine_by (any_station drive) clock ds' ≡ entry_machine (fronts_by any_front context triggers ds) o ended k (machine_by (any_station drive) clock ds)
+  -- where captures go on
+  made_at : (b : Bool) → ended ≡ b → any_station drive d' ≡ entry_station (any_front d).kind o b (any_front d).shape (any_station drive d)
+  made_at b e = station ∙ ap (λ (x : Bool). entry_station (any_front d).kind o x (any_front d).shape (any_station drive d)) e
+
+  alone : (r : Option Became) → r ≡ entry_became (any_front d).kind o ended (any_station drive d) → is_capture r ≡ false → ds' ≡ set ds k d'
+      → machine_by (any_station drive) clock ds'
+      ≡ unless_ended ended machine_was (machine_after_handling (fronts_by any_front context triggers ds) o k machine_was)
+  alone r is other same = ap (λ (xs : List (AnyDevice X V)). machine_by (any_station drive) clock xs) same ∙ by ended refl
+    where
+      by : (b : Bool) → ended ≡ b → machine_by (any_station drive) clock (set ds k d')
+          ≡ unless_ended b machine_was (machine_after_handling (fronts_by any_front context triggers ds) o k machine_was)
+      by true e =
+          ap (λ (sts : List Station). (let m : Machine = record { clock = clock; stations = sts } in m))
+          (map_same (any_station drive) ds k d d' at (made_at true e))
+      by false e =
+          told_alone drive context triggers ds clock k d d' at o (made_at false e)
+          (none_captured (any_front d).kind o (any_front d).shape (any_station drive d) r
+          (is ∙ ap (λ (x : Bool). entry_became (any_front d).kind o x (any_station drive d)) e) other)
+
+  pub told_after : (r : Option Became) → r ≡ entry_became (any_front d).kind o ended (any_station drive d) → AfterEntry drive r k (set ds k d') ds'
+      → machine_by (any_station drive) clock ds'
+      ≡ unless_ended ended machine_was (machine_after_handling (fronts_by any_front context triggers ds) o k machine_was)
   told_after (Some (Asked (Captured n))) is after =
       let x = captured_is (any_front d).kind o ended (any_front d).shape (any_station drive d) n is in
-      told_gathered drive context triggers ds clock k d d' at o ended station x.capture (full_scan_by d') ds' x.is x.input keeps
+      told_gathered drive context triggers ds clock k d d' at o (made_at false x.goes_on) x.capture (full_scan_by d') ds' x.is x.input keeps
       (subst (λ (scan : List ℕ). AreGathered drive k scan (set ds k d') ds') (scan_there ds k d d' at) after)
-      (taken_all drive (length triggers) first ds averaged_now k d d' at x.capture (full_scan_by d')
-      (subst (λ (c : Option Capture). IsTakenWhole (any_front d).shape c (any_station drive d).members (full_scan_by d')) x.is whole) x.input)
+      (taken_all drive (length triggers) first ds averaged_now k d d' at x.capture (full_scan_by d') (taken_whole x) x.input)
+      ∙ ap (λ (b : Bool). unless_ended b machine_was (machine_after_handling (fronts_by any_front context triggers ds) o k machine_was)) (sym x.goes_on)
   told_after (Some (Asked Fault)) is after = alone (Some (Asked Fault)) is refl after
   told_after (Some (Asked Idle)) is after = alone (Some (Asked Idle)) is refl after
   told_after (Some (Gave answer)) is after = alone (Some (Gave answer)) is refl after
@@ -521,68 +517,75 @@ module _ {X : Type 0} {V : X → Type 0} (drive : Plug X V → Driver) (context 
 
 module _ {X : Type 0} {V : X → Type 0} (drive : Plug X V → Driver) (context : List ℕ) (triggers : List TriggerDesc) (ds ds' : List (AnyDevice X V)) (clock : ℤ)
     (fronts : map any_front ds' ≡ map any_front ds) where
-  pub whole_handled : (states : List State) (first : ℕ) (o : Option Handed) (ended : Bool) (k : ℕ) (d : AnyDevice X V) → slice_get ds k ≡ Some d
-      → IsBench triggers states (stations_by (λ p. no_driver) ds) → IsAveraged (length triggers) first (map any_front ds) (stations_by (λ p. no_driver) ds)
-      → machine_by (any_station drive) clock ds' ≡ entry_machine (fronts_by any_front context triggers ds) o ended k (machine_by (any_station drive) clock ds)
-      → ((any_front d).kind ≡ Input → is_last (any_station drive d).captures ≡ ended)
+  abbrev told_front : Front
+  told_front = fronts_by any_front context triggers ds
+
+  abbrev told_before : Machine
+  told_before = machine_by (any_station drive) clock ds
+
+  whole_by : (states : List State) (first : ℕ) (m : Machine) → machine_by (any_station drive) clock ds' ≡ m → IsBench triggers states m.stations
+      → IsAveraged (length triggers) first (map any_front ds) m.stations
       → IsBench triggers states (stations_by (λ p. no_driver) ds') × IsAveraged (length triggers) first (map any_front ds') (stations_by (λ p. no_driver) ds')
-  whole_handled states first o ended k d at sound averaged told is_ended = (
-    sound_as drive (λ p. no_driver) triggers states ds'
-        (subst (λ (m : Machine). IsBench triggers states m.stations) (sym told)
-        (bench_handled (fronts_by any_front context triggers ds) o ended k (machine_by (any_station drive) clock ds) triggers states
-        (sound_any drive triggers states ds sound))),
+  whole_by states first m told sound averaged = (
+    sound_as drive (λ p. no_driver) triggers states ds' (subst (λ (x : Machine). IsBench triggers states x.stations) (sym told) sound),
     subst (λ (hs : List DeviceHead). IsAveraged (length triggers) first hs (stations_by (λ p. no_driver) ds')) (sym fronts)
         (averaged_as drive (λ p. no_driver) (length triggers) first (map any_front ds) ds'
-        (subst (λ (m : Machine). IsAveraged (length triggers) first (map any_front ds) m.stations) (sym told)
-        (averaged_handled (fronts_by any_front context triggers ds) o ended k (machine_by (any_station drive) clock ds) (length triggers) first
-        (averaged_as (λ p. no_driver) drive (length triggers) first (map any_front ds) ds averaged)
-        (length_map_is (any_station drive) ds ∙ sym (length_map_is any_front ds))
-        (λ input. (
-        ap (λ (st : Station). is_last st.captures) (here_is (map (any_station drive) ds) k (any_station drive d) (map_at (any_station drive) ds k d at))
-        ∙ is_ended (sym (kind_is any_front context triggers ds k d at) ∙ input)
-        ))))),
+        (subst (λ (x : Machine). IsAveraged (length triggers) first (map any_front ds) x.stations) (sym told) averaged)),
   )
+
+  pub whole_handled : (states : List State) (first : ℕ) (o : Option Handed) (ended : Bool) (k : ℕ) (d : AnyDevice X V) → slice_get ds k ≡ Some d
+      → IsBench triggers states (stations_by (λ p. no_driver) ds) → IsAveraged (length triggers) first (map any_front ds) (stations_by (λ p. no_driver) ds)
+      → machine_by (any_station drive) clock ds' ≡ unless_ended ended told_before (machine_after_handling told_front o k told_before)
+      → ((any_front d).kind ≡ Input → is_last (any_station drive d).captures ≡ ended)
+      → IsBench triggers states (stations_by (λ p. no_driver) ds') × IsAveraged (length triggers) first (map any_front ds') (stations_by (λ p. no_driver) ds')
+  whole_handled states first o true k d at sound averaged told is_ended =
+      whole_by states first told_before told (sound_any drive triggers states ds sound)
+      (averaged_as (λ p. no_driver) drive (length triggers) first (map any_front ds) ds averaged)
+  whole_handled states first o false k d at sound averaged told is_ended =
+      whole_by states first (machine_after_handling told_front o k told_before) told
+      (bench_handled told_front o k told_before triggers states (sound_any drive triggers states ds sound))
+      (averaged_handled told_front o k told_before (length triggers) first
+      (averaged_as (λ p. no_driver) drive (length triggers) first (map any_front ds) ds averaged)
+      (length_map_is (any_station drive) ds ∙ sym (length_map_is any_front ds))
+      (λ input. (
+      ap (λ (st : Station). is_last st.captures) (here_is (map (any_station drive) ds) k (any_station drive d) (map_at (any_station drive) ds k d at))
+      ∙ is_ended (sym (kind_is any_front context triggers ds k d at) ∙ input)
+      )))
 
   pub whole_unplugged : (states : List State) (first dev : ℕ) → IsBench triggers states (stations_by (λ p. no_driver) ds)
       → IsAveraged (length triggers) first (map any_front ds) (stations_by (λ p. no_driver) ds)
-      → machine_by (any_station drive) clock ds' ≡ unplugged_machine (fronts_by any_front context triggers ds) dev (machine_by (any_station drive) clock ds)
+      → machine_by (any_station drive) clock ds' ≡ machine_after_unplugging told_front dev told_before
       → IsBench triggers states (stations_by (λ p. no_driver) ds') × IsAveraged (length triggers) first (map any_front ds') (stations_by (λ p. no_driver) ds')
-  whole_unplugged states first dev sound averaged told = (
-    sound_as drive (λ p. no_driver) triggers states ds'
-        (subst (λ (m : Machine). IsBench triggers states m.stations) (sym told)
-        (bench_unplugged (fronts_by any_front context triggers ds) dev (machine_by (any_station drive) clock ds) triggers states
-        (sound_any drive triggers states ds sound))),
-    subst (λ (hs : List DeviceHead). IsAveraged (length triggers) first hs (stations_by (λ p. no_driver) ds')) (sym fronts)
-        (averaged_as drive (λ p. no_driver) (length triggers) first (map any_front ds) ds'
-        (subst (λ (m : Machine). IsAveraged (length triggers) first (map any_front ds) m.stations) (sym told)
-        (averaged_unplugged (fronts_by any_front context triggers ds) dev (machine_by (any_station drive) clock ds) (length triggers) first
-        (averaged_as (λ p. no_driver) drive (length triggers) first (map any_front ds) ds averaged)))),
-  )
+  whole_unplugged states first dev sound averaged told =
+      whole_by states first (machine_after_unplugging told_front dev told_before) told
+      (bench_unplugged told_front dev told_before triggers states (sound_any drive triggers states ds sound))
+      (averaged_unplugged told_front dev told_before (length triggers) first
+      (averaged_as (λ p. no_driver) drive (length triggers) first (map any_front ds) ds averaged))
 
 -- ---- unpluggings
 
 module _ {X : Type 0} {V : X → Type 0} (drive : Plug X V → Driver) (context : List ℕ) (triggers : List TriggerDesc) (ds ds' : List (AnyDevice X V)) (clock : ℤ)
     (dev : ℕ) where
   pub told_unplugged : AreUnplugged drive dev ds ds'
-      → machine_by (any_station drive) clock ds' ≡ unplugged_machine (fronts_by any_front context triggers ds) dev (machine_by (any_station drive) clock ds)
+      → machine_by (any_station drive) clock ds' ≡ machine_after_unplugging (fronts_by any_front context triggers ds) dev (machine_by (any_station drive) clock ds)
   told_unplugged all =
       ap (λ (sts : List Station). (let m : Machine = record { clock = clock; stations = sts } in m))
       (map_together (any_station drive) (unplugs (fronts_by any_front context triggers ds) dev) 0 ds ds' all.same
       (λ j x x' there there'. (
       let place : j ≡ 0 + j = omega arith in
       (all.each j x x' there there').station
-      ∙ ap (λ (kind : Kind). cond (is_unplugged_by kind dev j) (unplugged_station (any_station drive x)) (any_station drive x))
+      ∙ ap (λ (kind : Kind). cond (is_unplugged_by kind dev j) (with_site unplugged (any_station drive x)) (any_station drive x))
       (sym (kind_is any_front context triggers ds j x there))
       ∙ ap (λ (i : ℕ). unplugs (fronts_by any_front context triggers ds) dev i (any_station drive x)) place
       )))
 
 -- an averaging device isn't unplugged by itself
 pub none_unplugged : (front : Front) (dev : ℕ) (m : Machine) (first : ℕ) → HasBases first front.devices → is_average (kind_at front dev) ≡ true
-    → unplugged_machine front dev m ≡ m
+    → machine_after_unplugging front dev m ≡ m
 unfolding kind_at
 none_unplugged front dev m first bases average =
     ap (λ (sts : List Station). (let x : Machine = record m { stations = sts } in x))
-    (kept_from (unplugs front dev) 0 m.stations (λ j st. ap (λ (b : Bool). cond b (unplugged_station st) st) (stays j (kind_in front.devices j) refl)))
+    (kept_from (unplugs front dev) 0 m.stations (λ j st. ap (λ (b : Bool). cond b (with_site unplugged st) st) (stays j (kind_in front.devices j) refl)))
   where
     itself_not : (j : ℕ) → is_average (kind_in front.devices j) ≡ false → (dev == j) ≡ false
     itself_not j plain = by (dev == j) refl

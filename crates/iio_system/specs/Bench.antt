@@ -1,14 +1,14 @@
 -- A bench, as contracts see it.
-use Rattle.std.specs.Prelude.{ℕ, Bool, false, List, [], map, slice_get, unwrap_or}
+use Rattle.std.specs.Prelude.{ℕ, Bool, false, List, [], map, slice_get}
 use Rattle.std.specs.Option.{option_map_or}
 use Rattle.iio_sensor.specs.Driver.{Driver}
 use Rattle.iio_device.specs.declared.plug.Plug.{Plug}
 use Rattle.iio_core.specs.Front.{Front}
 use Rattle.iio_core.specs.Machine.{Machine}
-use Rattle.iio_history.specs.Registry.{Trigger}
+use Rattle.iio_core.specs.Trigger.{Trigger}
 use Rattle.iio_system.specs.declared.bench.Bench.{Bench}
 use Rattle.iio_system.specs.Handling.{is_last}
-use Rattle.iio_system.specs.Places.{first_trigger, trigger_of}
+use Rattle.iio_system.specs.Places.{trigger_of}
 use Rattle.iio_system.specs.Station.{any_front, captures_by, room_by, stations_by}
 
 -- the front, the outstanding entries and missed polls, and how many captures each device has made
@@ -45,7 +45,3 @@ module _ {X : Type 0} {V : X → Type 0} where
   -- what no connection's call changes
   abbrev pub kept_of : Bench X V → Kept
   kept_of b = record { front = front_of b; triggers = triggers_of b; captures = captures_of b }
-
--- the trigger of that number
-abbrev pub trigger_in : List Trigger → ℕ → Trigger
-trigger_in triggers trigger = unwrap_or (slice_get triggers trigger) first_trigger

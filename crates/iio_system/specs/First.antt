@@ -12,11 +12,10 @@ use Rattle.iio_output.specs.Last.{first_last}
 use Rattle.iio_probe.specs.Devices.{first_driver}
 use Rattle.iio_core.specs.Machine.{Machine, Station}
 use Rattle.iio_layout.specs.Shape.{ShapeRecord}
-use Rattle.iio_history.specs.Registry.{Trigger}
+use Rattle.iio_core.specs.Trigger.{Trigger, first_trigger}
 use Rattle.iio_system.specs.Averages.{shape_in}
 use Rattle.iio_system.specs.MeanStation.{first_mean_station, new_mean_station}
 use Rattle.iio_system.specs.OutStation.{first_out_station}
-use Rattle.iio_system.specs.Places.{first_trigger}
 
 -- an input device: no member yet, the trigger and the attributes of its description
 abbrev pub first_station : List Driver → DeviceRecord → Station

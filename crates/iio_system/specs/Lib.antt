@@ -14,7 +14,6 @@ pub mod Seat
 pub mod Bench
 pub mod First
 pub mod Connection
-pub mod Lines
 pub mod Step
 pub mod System
 pub mod Feeding

@@ -4,7 +4,8 @@ use Rattle.iio_sensor.specs.Driver.{Driver}
 use Rattle.iio_trigger.specs.Trigger.{Handed}
 use Rattle.iio_device.specs.declared.plug.Plug.{Plug}
 use Rattle.iio_history.specs.Event.{Event, Handled}
-use Rattle.iio_history.specs.Registry.{Setup, entries_at, entry_of}
+use Rattle.iio_history.specs.Registry.{Setup}
+use Rattle.iio_core.specs.Trigger.{entries_at, entry_of}
 use Rattle.iio_history.specs.Told.{Told}
 use Rattle.iio_history.specs.Played.{steps, texts}
 use Rattle.iio_system.specs.declared.bench.Bench.{Bench}

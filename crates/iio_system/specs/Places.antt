@@ -1,17 +1,15 @@
 -- The triggers beside the devices. (Kernel, driver-api/iio: a device is attached to its trigger while its buffer is enabled,
 -- and a poll calls each attached device once. Places and the count of missed polls are this project's own.)
-use Rattle.std.specs.Prelude.{◌≡◌, ℕ, suc, ◌+◌, ◌≤◌, ◌||◌, ◌==◌, not, nat_lt, Bool, true, false, List, [], ◌∷◌, map, length, slice_get, Option, Some, None, if◌then◌else◌}
+use Rattle.std.specs.Prelude.{◌≡◌, ℕ, suc, ◌+◌, ◌≤◌, ◌||◌, ◌==◌, not, nat_lt, Bool, false, List, [], ◌∷◌, map, length, slice_get, Option, Some, None, if◌then◌else◌}
 use Rattle.std.specs.List.{list_any}
 use Rattle.iio_trigger.specs.declared.rows.Place.{Place}
 use Rattle.iio_trigger.specs.declared.rows.Entry.{Entry}
-use Rattle.iio_trigger.specs.declared.Polled.{Polled}
-use Rattle.iio_trigger.specs.declared.Polled.TheVariants.{Accepted, Missed}
-use Rattle.iio_trigger.specs.Trigger.{Handed, State, missed_after, with_place, without_place}
+use Rattle.iio_trigger.specs.Trigger.{Handed, State, with_place, without_place}
 use Rattle.iio_desc.specs.declared.description.TriggerDesc.{TriggerDesc}
 use Rattle.iio_desc.specs.declared.limits.TheConstants.{MAX_TRIGGERS, MAX_DEVICES}
 use Rattle.iio_device.specs.Site.{is_empty}
 use Rattle.iio_core.specs.Machine.{Station}
-use Rattle.iio_history.specs.Registry.{Trigger}
+use Rattle.iio_core.specs.Trigger.{Trigger}
 use Rattle.iio_core.specs.Calls.{is_attached}
 
 -- an entry of the code, and its trigger, as they are told
@@ -20,10 +18,6 @@ handed_of e = record { dev = e.dev; attachment = e.attachment; t = e.t }
 
 abbrev pub trigger_of : State → Trigger
 trigger_of s = record { entries = map handed_of s.outstanding; missed = s.missed }
-
--- before the first poll
-abbrev pub first_trigger : Trigger
-first_trigger = record { entries = []; missed = 0 }
 
 -- the places of the devices that are attached to a trigger, in their order; `dev` is the first device's number
 abbrev pub places_from : ℕ → ℕ → List Station → List Place
@@ -35,17 +29,7 @@ places_from dev trigger (st ∷ sts) =
 
 -- ---- polls
 
--- the answer to a poll: how many entries it made, or how many polls were missed with it
-abbrev pub poll_answer : (made outstanding : List Handed) → (missed : ℕ) → Polled
-poll_answer made [] missed = Accepted (length made)
-poll_answer made (e ∷ es) missed = Missed (missed_after (e ∷ es) missed)
-
 -- ---- entries
-
--- the device of the first of some entries
-abbrev pub first_due : List Handed → Option ℕ
-first_due [] = None
-first_due (e ∷ es) = Some e.dev
 
 -- ---- places of members
 

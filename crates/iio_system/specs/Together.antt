@@ -7,16 +7,15 @@ use Rattle.iio_desc.specs.Kind.{Kind, Average, is_over, is_unplugged_by}
 use Rattle.iio_derive.specs.Window.{full_mask}
 use Rattle.iio_sensor.specs.Driver.{Driver}
 use Rattle.iio_device.specs.declared.plug.Plug.{Plug}
-use Rattle.iio_device.specs.Site.{is_empty}
-use Rattle.iio_core.specs.Machine.{Station}
-use Rattle.iio_history.specs.Registry.{Capture}
-use Rattle.iio_history.specs.BenchMoves.{gathered_to}
+use Rattle.iio_device.specs.Site.{is_empty, unplugged}
+use Rattle.iio_core.specs.Machine.{Station, with_site}
+use Rattle.iio_core.specs.Moves.{Capture, gathered_to}
 use Rattle.iio_device.specs.declared.handling.Handled.TheVariants.{Captured}
 use Rattle.iio_system.specs.declared.any_device.AnyDevice.{AnyDevice}
-use Rattle.iio_system.specs.declared.any_device.Became.{Became}
-use Rattle.iio_system.specs.declared.any_device.Became.TheVariants.{Asked}
+use Rattle.iio_core.specs.declared.became.Became.{Became}
+use Rattle.iio_core.specs.declared.became.Became.TheVariants.{Asked}
 use Rattle.iio_system.specs.Averages.{HasBases}
-use Rattle.iio_system.specs.Handling.{IsScanOf, is_last, unplugged_station}
+use Rattle.iio_system.specs.Handling.{IsScanOf, is_last}
 use Rattle.iio_system.specs.Station.{KeepsFront, any_front, any_station, full_scan_by}
 
 -- each device, by its number, is as this says
@@ -79,7 +78,7 @@ module _ {X : Type 0} {V : X → Type 0} (driver : Plug X V → Driver) where
   pub record IsUnplugged (dev i : ℕ) (old new : AnyDevice X V) : Type 0 where
     pub keeps : KeepsFront old new
     pub station : any_station driver new
-        ≡ (if is_unplugged_by (any_front old).kind dev i then unplugged_station (any_station driver old) else any_station driver old)
+        ≡ (if is_unplugged_by (any_front old).kind dev i then with_site unplugged (any_station driver old) else any_station driver old)
 
   abbrev pub AreUnplugged : (dev : ℕ) → (old new : List (AnyDevice X V)) → Type 0
   AreUnplugged dev old new = Together (IsUnplugged dev) old new

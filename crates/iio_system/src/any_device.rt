@@ -15,23 +15,25 @@ ghost use Rattle.iio_layout.specs.Shape.{count_of};
 ghost use Rattle.iio_output.specs.Written.{scans_of};
 ghost use Rattle.iio_trigger.specs.Trigger.{without_entry};
 ghost use Rattle.iio_device.specs.Device.{has_no_place};
-ghost use Rattle.iio_device.specs.Site.{is_empty, site_written, with_monitor};
+ghost use Rattle.iio_device.specs.Site.{is_empty, site_written, with_monitor, unplugged};
 ghost use Rattle.iiod_session.specs.declared.iio.No.TheVariants.{Mem};
 ghost use Rattle.iio_core.specs.Calls.{ev_open_answer, ev_read_answer, has_no_number, holds_events, inner_gone, is_inner_of, joined, left, remasked, trigger_answer, write_scans_at, writes};
 ghost use Rattle.iio_core.specs.Machine.{Station, scans_in, with_site};
-ghost use Rattle.iio_history.specs.Registry.{Capture, entry_of};
+ghost use Rattle.iio_core.specs.Moves.{Capture, kind_sensed, look_made};
+ghost use Rattle.iio_core.specs.Trigger.{entry_of};
 ghost use Rattle.iio_system.specs.Acting.{Acts, MayReadOf, Reads, TakesAt, TakesScansAt, id_of, lost_in};
 ghost use Rattle.iio_system.specs.Faults.{HasJoined, HostsAny, IsServedAlone, JoinsAny, JoinsMean, MayHaveInner, any_refusals};
-ghost use Rattle.iio_system.specs.Handling.{IsRoom, IsScanOf, IsTakenWhole, counted, entry_answer, entry_capture, entry_station, is_last, kind_gathered, kind_sensed, sensed_station, unplugged_station};
+ghost use Rattle.iio_system.specs.Handling.{IsRoom, IsScanOf, IsTakenWhole, counted, entry_capture, entry_station, is_last, kind_gathered, entry_became};
 ghost use Rattle.iio_system.specs.Places.{has_in_hand, is_hosted, place_left, trigger_of};
 ghost use Rattle.iio_system.specs.Remasking.{remask_answer};
 ghost use Rattle.iio_system.specs.Station.{KeepsFront, KeepsHead, any_front, any_station, base_of, captures_by, full_scan_by, number_by, room_by};
 
 use crate::in_device::InDevice;
 use crate::mean_device::MeanDevice;
-use crate::out_device::{Gave, OutDevice};
+use crate::out_device::OutDevice;
 use crate::seat::Seat;
 use iio_attr::{Attr, Name, Value};
+use iio_core::Became;
 use iio_device::{Handled, Plug, Sensed};
 use iio_event::EventData;
 use iio_layout::Shape;
@@ -51,15 +53,6 @@ pub enum AnyDevice {
     Output(OutDevice),
     /// It makes means of the captures of an input device.
     Average(MeanDevice),
-}
-
-/// What became of a device's entry.
-#[derive(Clone, Copy, Debug, PartialEq, Eq, Hash)]
-pub enum Became {
-    /// At an input device.
-    Asked(Handled),
-    /// At an output device.
-    Gave(Gave),
 }
 
 impl AnyDevice {
@@ -501,7 +494,7 @@ impl AnyDevice {
     fn handle_due(&mut self, due: &Due) -> Became
         requires { due.now.dev ≡ number_by self.old }
         ensures answer { Some result
-            ≡ entry_answer (any_front self.old).kind (Some due.now) (is_last (captures_by self.old)) (any_station ⟦<Plug as Sensor>⟧.driver self.old) }
+            ≡ entry_became (any_front self.old).kind (Some due.now) (is_last (captures_by self.old)) (any_station ⟦<Plug as Sensor>⟧.driver self.old) }
         ensures station { any_station ⟦<Plug as Sensor>⟧.driver self.new
             ≡ entry_station (any_front self.old).kind (Some due.now) (is_last (captures_by self.old)) (any_front self.old).shape
             (any_station ⟦<Plug as Sensor>⟧.driver self.old) }
@@ -526,7 +519,7 @@ impl AnyDevice {
     pub(crate) fn handle(&mut self, trigger: &mut Trigger, dev: u32) -> Option<Became>
         requires number { dev ≡ number_by self.old }
         requires idle { has_in_hand trigger.old.outstanding ≡ false }
-        ensures answer { result ≡ entry_answer (any_front self.old).kind (entry_of dev (trigger_of trigger.old).entries) (is_last (captures_by self.old))
+        ensures answer { result ≡ entry_became (any_front self.old).kind (entry_of dev (trigger_of trigger.old).entries) (is_last (captures_by self.old))
             (any_station ⟦<Plug as Sensor>⟧.driver self.old) }
         ensures station { any_station ⟦<Plug as Sensor>⟧.driver self.new
             ≡ entry_station (any_front self.old).kind (entry_of dev (trigger_of trigger.old).entries) (is_last (captures_by self.old))
@@ -575,7 +568,7 @@ impl AnyDevice {
     pub(crate) fn sense(&mut self, t: i64) -> Sensed
         ensures answer { result ≡ kind_sensed (any_front self.old).kind (any_front self.old).shape t (any_station ⟦<Plug as Sensor>⟧.driver self.old) }
         ensures station { any_station ⟦<Plug as Sensor>⟧.driver self.new
-            ≡ sensed_station (any_front self.old).shape t (any_station ⟦<Plug as Sensor>⟧.driver self.old) }
+            ≡ look_made (any_front self.old).shape t (any_station ⟦<Plug as Sensor>⟧.driver self.old) }
         ensures keeps { KeepsFront self.old self.new }
     {
         match self {
@@ -588,7 +581,7 @@ impl AnyDevice {
     /// Unplugs it. It says whether it was plugged.
     pub(crate) fn unplug(&mut self) -> bool
         ensures answer { result ≡ (any_station ⟦<Plug as Sensor>⟧.driver self.old).site.plugged }
-        ensures station { any_station ⟦<Plug as Sensor>⟧.driver self.new ≡ unplugged_station (any_station ⟦<Plug as Sensor>⟧.driver self.old) }
+        ensures station { any_station ⟦<Plug as Sensor>⟧.driver self.new ≡ with_site unplugged (any_station ⟦<Plug as Sensor>⟧.driver self.old) }
         ensures keeps { KeepsFront self.old self.new }
     {
         match self {

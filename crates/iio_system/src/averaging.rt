@@ -7,11 +7,12 @@ ghost use Rattle.iio_layout.specs.Layout.{scan_size};
 ghost use Rattle.iio_layout.specs.Shape.{count_of};
 ghost use Rattle.iio_derive.specs.Window.{full_mask};
 ghost use Rattle.iio_core.specs.Calls.{has_no_number, joined, left};
-ghost use Rattle.iio_core.specs.Machine.{Station, scans_in};
-ghost use Rattle.iio_history.specs.Registry.{Capture};
+ghost use Rattle.iio_core.specs.Machine.{Station, scans_in, with_site};
+ghost use Rattle.iio_core.specs.Moves.{Capture, kind_sensed, look_made};
+ghost use Rattle.iio_device.specs.Site.{unplugged};
 ghost use Rattle.iio_system.specs.Acting.{MayReadOf, Reads, TakesAt, TakesScansAt, id_of, lost_in, nothing_at};
 ghost use Rattle.iio_system.specs.Faults.{HasJoined, JoinsMean};
-ghost use Rattle.iio_system.specs.Handling.{IsScanOf, is_last, kind_gathered, kind_sensed, sensed_station, unplugged_station};
+ghost use Rattle.iio_system.specs.Handling.{IsScanOf, is_last, kind_gathered};
 ghost use Rattle.iio_system.specs.Seated.{attachment_with, attachment_without, seats_without, slot_at, slot_by};
 ghost use Rattle.iio_system.specs.MeanStation.{KeepsMean, lost_of_means, mean_head, mean_station, means_head, new_mean_station};
 
@@ -325,7 +326,7 @@ impl MeanDevice {
     /// A look at its thresholds, of which it has none.
     pub(crate) fn sense(&self, _t: i64) -> Sensed
         ensures answer { result ≡ kind_sensed (mean_head self.now).kind self.now.average.shape _t (mean_station self.now) }
-        ensures station { mean_station self.now ≡ sensed_station self.now.average.shape _t (mean_station self.now) }
+        ensures station { mean_station self.now ≡ look_made self.now.average.shape _t (mean_station self.now) }
     {
         Sensed::Fired(0)
     }
@@ -333,7 +334,7 @@ impl MeanDevice {
     /// Unplugs it. It says whether it was plugged.
     pub(crate) fn unplug(&mut self) -> bool
         ensures answer { result ≡ self.old.plugged }
-        ensures station { mean_station self.new ≡ unplugged_station (mean_station self.old) }
+        ensures station { mean_station self.new ≡ with_site unplugged (mean_station self.old) }
         ensures keeps { KeepsMean self.old self.new }
     {
         let was_plugged = self.plugged;

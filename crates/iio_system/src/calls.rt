@@ -13,8 +13,8 @@ ghost use Rattle.iiod_session.specs.declared.iio.No.TheVariants.{Mem};
 ghost use Rattle.iio_core.specs.Calls.{ev_open_answer, ev_read_answer, holds_events, trigger_answer};
 ghost use Rattle.iio_core.specs.Machine.{scans_in, with_site};
 ghost use Rattle.iio_system.specs.Acting.{Acts, Keeps, KeepsCaptures, ReadsInput, TakesAt, TakesScansAt, has_member, id_of, lost_in, nothing_at};
-ghost use Rattle.iio_system.specs.Handling.{counted, entry_answer, entry_station, is_last};
-ghost use Rattle.iio_system.specs.declared.any_device.Became.TheVariants.{Asked};
+ghost use Rattle.iio_system.specs.Handling.{counted, entry_station, is_last, entry_became};
+ghost use Rattle.iio_core.specs.declared.became.Became.TheVariants.{Asked};
 ghost use Rattle.iio_system.specs.Station.{station_by, view_by};
 
 use iio_attr::{Attr, Value};
@@ -245,7 +245,7 @@ pub(crate) fn counts(device: &Device<Kfifo>, number: u64, mask: Mask) -> Counts
 pub(crate) fn handle_due(device: &mut Device<Kfifo>, due: &Due) -> Handled
     requires { due.now.dev ≡ device.old.core.number }
     ensures answer { Some (Asked result)
-        ≡ entry_answer Input (Some due.now) (is_last device.old.core.roster.captures) (station_by ⟦<Plug as Sensor>⟧.driver device.old) }
+        ≡ entry_became Input (Some due.now) (is_last device.old.core.roster.captures) (station_by ⟦<Plug as Sensor>⟧.driver device.old) }
     ensures station { station_by ⟦<Plug as Sensor>⟧.driver device.new
         ≡ entry_station Input (Some due.now) (is_last device.old.core.roster.captures) device.old.core.roster.shape
         (station_by ⟦<Plug as Sensor>⟧.driver device.old) }

@@ -4,17 +4,15 @@ ghost use Rattle.std.specs.Prelude.{◌≡◌, ◌<◌, ◌&&◌, not, ⊤, leng
 ghost use Rattle.iio_desc.specs.Kind.{is_average};
 ghost use Rattle.iio_device.specs.Site.{at_place};
 ghost use Rattle.iio_core.specs.Front.{kind_at, shape_at};
-ghost use Rattle.iio_core.specs.Machine.{is_plugged, station_at, with_station};
-ghost use Rattle.iio_history.specs.BenchMoves.{bench_entries, polled_by};
-ghost use Rattle.iio_history.specs.Fold.{handled};
-ghost use Rattle.iio_history.specs.Registry.{entry_of};
-ghost use Rattle.iio_system.specs.Bench.{captures_of, front_of, has_ended, machine_of, room_at, trigger_in, triggers_of};
-ghost use Rattle.iio_system.specs.Handling.{IsRoom, counted, entry_answer, entry_machine, kind_sensed, sensed_station, unplugged_machine};
-ghost use Rattle.iio_system.specs.Places.{first_due, poll_answer};
+ghost use Rattle.iio_core.specs.Machine.{is_plugged, station_at};
+ghost use Rattle.iio_core.specs.Moves.{kind_sensed, machine_after_handling, machine_after_look, machine_after_unplugging};
+ghost use Rattle.iio_core.specs.Trigger.{bench_entries, entries_at, entry_of, first_due, handled, poll_answer, polled_by, missed_at};
+ghost use Rattle.iio_system.specs.Bench.{captures_of, front_of, has_ended, machine_of, room_at, triggers_of};
+ghost use Rattle.iio_system.specs.Handling.{IsRoom, counted, entry_became, unless_ended};
 
-use crate::any_device::Became;
 use crate::bench::Bench;
 use crate::together::{gather, unplug_all};
+use iio_core::Became;
 use iio_device::{Plug, Sensed};
 use iio_sensor::Sensor;
 use iio_trigger::Polled;
@@ -40,7 +38,7 @@ impl Bench {
             ≡ at_place trigger (polled_by (machine_of ⟦<Plug as Sensor>⟧.driver self.old).stations trigger t) (triggers_of self.old) }
         ensures captures { captures_of self.new ≡ captures_of self.old }
         ensures answer { result ≡ poll_answer (bench_entries 0 trigger t (machine_of ⟦<Plug as Sensor>⟧.driver self.old).stations)
-            (trigger_in (triggers_of self.old) trigger).entries (trigger_in (triggers_of self.old) trigger).missed }
+            (entries_at (triggers_of self.old) trigger) (missed_at (triggers_of self.old) trigger) }
     {
         self.triggers[trigger as usize].poll(t)
     }
@@ -48,7 +46,7 @@ impl Bench {
     /// The device of the first entry at a trigger, in the order of devices. `None` comes exactly where no entry is there.
     pub(crate) fn first_due(&self, trigger: u32) -> Option<u32>
         requires { trigger < length (front_of self.now).triggers }
-        ensures { result ≡ first_due (trigger_in (triggers_of self.now) trigger).entries }
+        ensures { result ≡ first_due (entries_at (triggers_of self.now) trigger) }
     {
         self.triggers[trigger as usize].first()
     }
@@ -62,11 +60,12 @@ impl Bench {
         requires dev { dev < length (front_of self.old).devices }
         ensures front { front_of self.new ≡ front_of self.old }
         ensures told { machine_of ⟦<Plug as Sensor>⟧.driver self.new
-            ≡ entry_machine (front_of self.old) (entry_of dev (trigger_in (triggers_of self.old) trigger).entries) (has_ended self.old dev) dev
-            (machine_of ⟦<Plug as Sensor>⟧.driver self.old) }
+            ≡ unless_ended (has_ended self.old dev) (machine_of ⟦<Plug as Sensor>⟧.driver self.old)
+            (machine_after_handling (front_of self.old) (entry_of dev (entries_at (triggers_of self.old) trigger)) dev
+            (machine_of ⟦<Plug as Sensor>⟧.driver self.old)) }
         ensures triggers { triggers_of self.new ≡ at_place trigger (handled dev) (triggers_of self.old) }
         ensures captures { captures_of self.new ≡ at_place dev (counted result) (captures_of self.old) }
-        ensures answer { result ≡ entry_answer (kind_at (front_of self.old) dev) (entry_of dev (trigger_in (triggers_of self.old) trigger).entries)
+        ensures answer { result ≡ entry_became (kind_at (front_of self.old) dev) (entry_of dev (entries_at (triggers_of self.old) trigger))
             (has_ended self.old dev) (station_at (machine_of ⟦<Plug as Sensor>⟧.driver self.old) dev) }
         ensures room { IsRoom result (station_at (machine_of ⟦<Plug as Sensor>⟧.driver self.old) dev).members (room_at self.new dev) }
     {
@@ -80,7 +79,7 @@ impl Bench {
         requires { dev < length (front_of self.old).devices }
         ensures front { front_of self.new ≡ front_of self.old }
         ensures told { machine_of ⟦<Plug as Sensor>⟧.driver self.new
-            ≡ with_station (sensed_station (shape_at (front_of self.old) dev) t) dev (machine_of ⟦<Plug as Sensor>⟧.driver self.old) }
+            ≡ machine_after_look (front_of self.old) dev t (machine_of ⟦<Plug as Sensor>⟧.driver self.old) }
         ensures triggers { triggers_of self.new ≡ triggers_of self.old }
         ensures captures { captures_of self.new ≡ captures_of self.old }
         ensures answer { result ≡ kind_sensed (kind_at (front_of self.old) dev) (shape_at (front_of self.old) dev) t
@@ -95,7 +94,7 @@ impl Bench {
         requires { dev < length (front_of self.old).devices }
         ensures front { front_of self.new ≡ front_of self.old }
         ensures told { machine_of ⟦<Plug as Sensor>⟧.driver self.new
-            ≡ unplugged_machine (front_of self.old) dev (machine_of ⟦<Plug as Sensor>⟧.driver self.old) }
+            ≡ machine_after_unplugging (front_of self.old) dev (machine_of ⟦<Plug as Sensor>⟧.driver self.old) }
         ensures triggers { triggers_of self.new ≡ triggers_of self.old }
         ensures captures { captures_of self.new ≡ captures_of self.old }
         ensures answer { result ≡ (is_plugged (machine_of ⟦<Plug as Sensor>⟧.driver self.old) dev && not (is_average (kind_at (front_of self.old) dev))) }

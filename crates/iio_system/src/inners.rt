@@ -13,14 +13,15 @@ ghost use Rattle.iio_layout.specs.Active.{has_data};
 ghost use Rattle.iio_layout.specs.Layout.{scan_size};
 ghost use Rattle.iio_layout.specs.Shape.{count_of};
 ghost use Rattle.iio_device.specs.Device.{has_no_place};
-ghost use Rattle.iio_device.specs.Site.{site_written, with_monitor};
+ghost use Rattle.iio_device.specs.Site.{site_written, with_monitor, unplugged};
 ghost use Rattle.iiod_session.specs.declared.iio.No.TheVariants.{Mem};
 ghost use Rattle.iio_core.specs.Calls.{ev_open_answer, ev_read_answer, holds_events, inner_gone, is_inner_of, left, remasked, trigger_answer};
 ghost use Rattle.iio_core.specs.Machine.{scans_in, with_site};
 ghost use Rattle.iio_system.specs.Acting.{Acts, KeepsCaptures, Reads, TakesAt, TakesScansAt, id_of, lost_in};
 ghost use Rattle.iio_system.specs.Faults.{HostsAny, IsServedAlone, JoinsAny, MayHaveInner, any_refusals};
-ghost use Rattle.iio_system.specs.Handling.{IsTakenWhole, counted, entry_answer, entry_capture, entry_station, is_last, sensed_answer, sensed_station, unplugged_station};
-ghost use Rattle.iio_system.specs.declared.any_device.Became.TheVariants.{Asked};
+ghost use Rattle.iio_system.specs.Handling.{IsTakenWhole, counted, entry_capture, entry_station, is_last, entry_became};
+ghost use Rattle.iio_core.specs.Moves.{sensed_answer, look_made};
+ghost use Rattle.iio_core.specs.declared.became.Became.TheVariants.{Asked};
 ghost use Rattle.iio_system.specs.Inner.{AreApart, AreThere, AreWhole, HasRoom, inner_at, inners_without, number_by, number_of};
 ghost use Rattle.iio_system.specs.Taking.{IsTakenOf, all_taken};
 ghost use Rattle.iio_system.specs.Places.{is_hosted, place_left};
@@ -393,7 +394,7 @@ impl InDevice {
     pub(crate) fn handle(&mut self, due: &Due) -> Handled
         requires { due.now.dev ≡ self.old.device.core.number }
         ensures answer { Some (Asked result)
-            ≡ entry_answer Input (Some due.now) (is_last self.old.device.core.roster.captures) (in_station ⟦<Plug as Sensor>⟧.driver self.old) }
+            ≡ entry_became Input (Some due.now) (is_last self.old.device.core.roster.captures) (in_station ⟦<Plug as Sensor>⟧.driver self.old) }
         ensures station { in_station ⟦<Plug as Sensor>⟧.driver self.new
             ≡ entry_station Input (Some due.now) (is_last self.old.device.core.roster.captures) self.old.device.core.roster.shape
             (in_station ⟦<Plug as Sensor>⟧.driver self.old) }
@@ -417,7 +418,7 @@ impl InDevice {
     pub(crate) fn sense(&mut self, t: i64) -> Sensed
         ensures answer { result ≡ sensed_answer self.old.device.core.roster.shape t (in_station ⟦<Plug as Sensor>⟧.driver self.old) }
         ensures station { in_station ⟦<Plug as Sensor>⟧.driver self.new
-            ≡ sensed_station self.old.device.core.roster.shape t (in_station ⟦<Plug as Sensor>⟧.driver self.old) }
+            ≡ look_made self.old.device.core.roster.shape t (in_station ⟦<Plug as Sensor>⟧.driver self.old) }
         ensures keeps { KeepsInCaptures self.old self.new }
     {
         self.device.sense(t)
@@ -426,7 +427,7 @@ impl InDevice {
     /// Unplugs it. It says whether it was plugged.
     pub(crate) fn unplug(&mut self) -> bool
         ensures answer { result ≡ (in_station ⟦<Plug as Sensor>⟧.driver self.old).site.plugged }
-        ensures station { in_station ⟦<Plug as Sensor>⟧.driver self.new ≡ unplugged_station (in_station ⟦<Plug as Sensor>⟧.driver self.old) }
+        ensures station { in_station ⟦<Plug as Sensor>⟧.driver self.new ≡ with_site unplugged (in_station ⟦<Plug as Sensor>⟧.driver self.old) }
         ensures keeps { KeepsInCaptures self.old self.new }
     {
         self.device.unplug()

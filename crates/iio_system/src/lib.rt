@@ -30,14 +30,15 @@ mod tally;
 mod together;
 mod writing;
 
-pub use any_device::{AnyDevice, Became};
+pub use any_device::AnyDevice;
 pub use bench::Bench;
 pub use connection::Connection;
 pub use iio_base::Mem;
+pub use iio_core::{Became, Gave};
 pub use iio_history::MAX_NAMES;
 pub use in_device::{InDevice, Inner};
 pub use mean_device::{MeanDevice, MeanSeat};
-pub use out_device::{Gave, OutDevice};
+pub use out_device::OutDevice;
 pub use quoted::Quoted;
 pub use seat::Seat;
 pub use step::Step;

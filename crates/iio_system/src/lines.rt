@@ -5,11 +5,11 @@ ghost use Rattle.std.specs.Fmt.{decimal, signed_decimal};
 ghost use Rattle.hex.specs.Hex.{encode_lower};
 ghost use Rattle.iio_text.specs.Escape.{quoted};
 ghost use Rattle.iio_history.specs.Transcript.{closed_line, printed};
-ghost use Rattle.iio_system.specs.Lines.{dropped_word, gave_word, handled_word, polled_words, sensed_words, unplugged_word};
+ghost use Rattle.iio_history.specs.Words.{dropped_word, gave_word, handled_word, polled_words, sensed_words, unplugged_word};
 
-use crate::out_device::Gave;
 use iio_attr::Name;
 use iio_base::Mem;
+use iio_core::Gave;
 use iio_device::{Handled, Sensed};
 use iio_text::{escape_to, push_hex};
 use iio_trigger::Polled;

@@ -8,15 +8,15 @@ ghost use Rattle.iio_history.specs.Transcript.{Fire, Handle, Poll, Sense, SetClo
 ghost use Rattle.iio_system.specs.declared.connection.Connection.{Connection};
 ghost use Rattle.iio_system.specs.declared.seat.Seat.{Seat};
 ghost use Rattle.iio_system.specs.Bench.{captures_of, front_of, room_at};
-ghost use Rattle.iio_system.specs.Lines.{became_word};
+ghost use Rattle.iio_history.specs.Words.{became_word};
 ghost use Rattle.iio_system.specs.Moves.{CanGoOn, HandlesAll, HandlesOne};
 ghost use Rattle.iio_system.specs.Standing.{CanCapture, Makes, RiseBy};
 
-use crate::any_device::Became;
 use crate::bench::Bench;
 use crate::lines::{push_clock, push_gave, push_handle, push_poll, push_sense, push_unplug};
 use iio_attr::Name;
 use iio_base::Mem;
+use iio_core::Became;
 use iio_device::Plug;
 use iio_sensor::Sensor;
 use iio_trigger::Polled;

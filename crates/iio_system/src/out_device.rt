@@ -8,17 +8,6 @@ use iio_attr::Name;
 use iio_base::Sum;
 use iio_output::Out;
 
-/// What became of an output device's entry.
-#[derive(Clone, Copy, Debug, PartialEq, Eq, Hash)]
-pub enum Gave {
-    /// It was given a scan.
-    Given,
-    /// No scan waited.
-    Underrun,
-    /// The entry isn't current.
-    Idle,
-}
-
 /// An output device, which has one member at most, its writer.
 #[derive(Drop)]
 pub struct OutDevice {

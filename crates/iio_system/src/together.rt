@@ -6,7 +6,8 @@ ghost use Rattle.iio_desc.specs.declared.limits.TheConstants.{MAX_DEVICES};
 ghost use Rattle.iio_system.specs.Together.{AfterEntry, AreGathered, AreUnplugged, CanGather, IsGathered, IsReady, OnCapture, scan_at};
 ghost use Rattle.iio_system.specs.Station.{any_front};
 
-use crate::any_device::{AnyDevice, Became};
+use crate::any_device::AnyDevice;
+use iio_core::Became;
 use iio_device::{Handled, Plug};
 use iio_sensor::Sensor;
 

@@ -12,17 +12,20 @@ ghost use Rattle.iio_output.specs.Out.{WriterRecord};
 ghost use Rattle.iio_output.specs.Written.{scans_of};
 ghost use Rattle.iio_device.specs.Device.{has_no_place};
 ghost use Rattle.iio_core.specs.Calls.{left, trigger_answer, write_scans_at, writes};
+ghost use Rattle.iio_device.specs.Site.{unplugged};
 ghost use Rattle.iio_core.specs.Machine.{member_in, scans_in, with_site};
+ghost use Rattle.iio_core.specs.Moves.{entry_made, gave_answer, is_due, look_made, sensed_answer};
 ghost use Rattle.iio_system.specs.Acting.{Acts, MayReadOf, Reads, id_of, lost_in};
 ghost use Rattle.iio_system.specs.Faults.{HostsAny, JoinsAny, any_refusals, lacks_place};
-ghost use Rattle.iio_system.specs.Handling.{IsGiven, gave_answer, is_due, kind_handled, sensed_answer, sensed_station, unplugged_station};
+ghost use Rattle.iio_system.specs.Handling.{IsGiven};
 ghost use Rattle.iio_system.specs.OutStation.{KeepsOut, answer_of, first_out_station, nowhere_answer, out_head, out_station};
 ghost use Rattle.iio_system.specs.Places.{place_left};
 
-use crate::out_device::{Gave, OutDevice};
+use crate::out_device::OutDevice;
 use crate::seat::Seat;
 use iio_attr::{Attr, Value};
 use iio_base::{Mem, Sum};
+use iio_core::Gave;
 use iio_desc::OutDesc;
 use iio_device::Sensed;
 use iio_layout::scan_size;
@@ -263,7 +266,7 @@ impl OutDevice {
     /// A look at its thresholds, of which it has none.
     pub(crate) fn sense(&self, _t: i64) -> Sensed
         ensures answer { result ≡ sensed_answer self.now.out.shape _t (out_station self.now) }
-        ensures station { out_station self.now ≡ sensed_station self.now.out.shape _t (out_station self.now) }
+        ensures station { out_station self.now ≡ look_made self.now.out.shape _t (out_station self.now) }
     {
         if self.plugged {
             Sensed::Fired(0)
@@ -275,7 +278,7 @@ impl OutDevice {
     /// Unplugs it. It says whether it was plugged.
     pub(crate) fn unplug(&mut self) -> bool
         ensures answer { result ≡ self.old.plugged }
-        ensures station { out_station self.new ≡ unplugged_station (out_station self.old) }
+        ensures station { out_station self.new ≡ with_site unplugged (out_station self.old) }
         ensures keeps { KeepsOut self.old self.new }
     {
         let was_plugged = self.plugged;
@@ -293,7 +296,7 @@ impl OutDevice {
     /// Handles an entry of it that was handed out: it is given the first scan that waits, which then stands in `room`.
     pub(crate) fn handle(&mut self, due: &Due) -> Gave
         ensures answer { result ≡ gave_answer due.now (out_station self.old) }
-        ensures station { out_station self.new ≡ kind_handled Output self.old.out.shape due.now (out_station self.old) }
+        ensures station { out_station self.new ≡ entry_made Output self.old.out.shape (Some due.now) (out_station self.old) }
         ensures given { IsGiven result (out_station self.old).members self.new.room.items }
         ensures keeps { KeepsOut self.old self.new }
     {

@@ -1,6 +1,7 @@
 use Rattle.std.proofs.Common.{◌≡◌, ◌≤◌, List, length}
 use Rattle.iio_device.specs.Plug.{driver_of}
-use Rattle.iio_history.specs.Registry.{Setup, entries_at}
+use Rattle.iio_history.specs.Registry.{Setup}
+use Rattle.iio_core.specs.Trigger.{entries_at}
 use Rattle.iio_history.specs.Told.{Told}
 use Rattle.iio_system.specs.declared.connection.Connection.{Connection}
 use Rattle.iio_system.specs.declared.seat.Seat.{Seat}

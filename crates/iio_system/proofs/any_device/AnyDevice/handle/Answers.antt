@@ -1,7 +1,8 @@
 use Rattle.std.proofs.Common.{◌∙◌, ap, sym, subst}
 use Rattle.iio_device.specs.Plug.{driver_of}
-use Rattle.iio_system.specs.Handling.{IsTakenWhole, entry_answer, entry_capture, entry_station, is_last}
+use Rattle.iio_system.specs.Handling.{IsTakenWhole, entry_capture, entry_station, is_last, entry_became}
 use Rattle.iio_system.specs.Station.{any_front, any_station, captures_by, full_scan_by}
+use Rattle.iio_system.proofs.AnyCalls.{nothing_stays, nothing_whole}
 use Rattle.iio_system.proofs.TriggerLemmas.{done_off, due_dev, due_is, none_off}
 use Rattle.iio_system.proofs.any_device.AnyDevice.handle.Goals as goal
 
@@ -10,13 +11,15 @@ handle_due-became-requires g c = due_dev c.args.dev c.args.trigger.now.outstandi
 
 pub returns-in-None-clause-answer : goal.returns-in-None-clause-answer
 returns-in-None-clause-answer g c =
-    ap (λ o. entry_answer (any_front c.args.self.now).kind o (is_last (captures_by c.args.self.now))
+    ap (λ o. entry_became (any_front c.args.self.now).kind o (is_last (captures_by c.args.self.now))
     (any_station (driver_of (λ b. (g.dyn-1.0.entry b.vtable).1.driver b.value)) c.args.self.now))
     (c.in-None.ensures.due ∙ due_is c.args.dev c.args.trigger.now.outstanding c.requires.idle)
 
 pub returns-in-None-clause-station : goal.returns-in-None-clause-station
 returns-in-None-clause-station g c =
-    ap (λ o. entry_station (any_front c.args.self.now).kind o (is_last (captures_by c.args.self.now)) (any_front c.args.self.now).shape
+    nothing_stays (any_front c.args.self.now).kind (is_last (captures_by c.args.self.now)) (any_front c.args.self.now).shape
+    (any_station (driver_of (λ b. (g.dyn-1.0.entry b.vtable).1.driver b.value)) c.args.self.now)
+    ∙ ap (λ o. entry_station (any_front c.args.self.now).kind o (is_last (captures_by c.args.self.now)) (any_front c.args.self.now).shape
     (any_station (driver_of (λ b. (g.dyn-1.0.entry b.vtable).1.driver b.value)) c.args.self.now))
     (c.in-None.ensures.due ∙ due_is c.args.dev c.args.trigger.now.outstanding c.requires.idle)
 
@@ -26,7 +29,7 @@ returns-in-None-clause-trigger g c = none_off c.args.dev c.args.trigger.now c.du
 pub returns-in-Some-clause-answer : goal.returns-in-Some-clause-answer
 returns-in-Some-clause-answer g c =
     c.handle_due-became.ensures.answer
-    ∙ ap (λ o. entry_answer (any_front c.args.self.now).kind o (is_last (captures_by c.args.self.now))
+    ∙ ap (λ o. entry_became (any_front c.args.self.now).kind o (is_last (captures_by c.args.self.now))
     (any_station (driver_of (λ b. (g.dyn-1.0.entry b.vtable).1.driver b.value)) c.args.self.now))
     (c.in-Some.ensures.due ∙ due_is c.args.dev c.args.trigger.now.outstanding c.requires.idle)
 
@@ -47,7 +50,9 @@ returns-in-None-clause-scan g c =
     let st = any_station (driver_of (λ b. (g.dyn-1.0.entry b.vtable).1.driver b.value)) c.args.self.now in
     subst (λ o. IsTakenWhole (any_front c.args.self.now).shape
     (entry_capture (any_front c.args.self.now).kind o (is_last (captures_by c.args.self.now)) (any_front c.args.self.now).shape st) st.members
-    (full_scan_by c.args.self.now)) (c.in-None.ensures.due ∙ due_is c.args.dev c.args.trigger.now.outstanding c.requires.idle) tt
+    (full_scan_by c.args.self.now)) (c.in-None.ensures.due ∙ due_is c.args.dev c.args.trigger.now.outstanding c.requires.idle)
+    (nothing_whole (any_front c.args.self.now).kind (is_last (captures_by c.args.self.now)) (any_front c.args.self.now).shape st st.members
+    (full_scan_by c.args.self.now))
 
 pub returns-in-Some-clause-scan : goal.returns-in-Some-clause-scan
 returns-in-Some-clause-scan g c =

@@ -9,6 +9,9 @@ use Rattle.iio_system.proofs.any_device.AnyDevice.handle_due.Goals as goal
 pub returns-in-Input-clause-keeps : goal.returns-in-Input-clause-keeps
 returns-in-Input-clause-keeps g c = rw c.in-Input.is (head_input _ _ c.handle.ensures.keeps)
 
+pub returns-in-Input-clause-station : goal.returns-in-Input-clause-station
+returns-in-Input-clause-station g c = rw c.in-Input.is c.handle.ensures.station
+
 pub returns-in-Output-clause-scan : goal.returns-in-Output-clause-scan
 returns-in-Output-clause-scan g c =
     rw c.in-Output.is

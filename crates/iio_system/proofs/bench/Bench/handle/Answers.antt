@@ -6,9 +6,10 @@ use Rattle.iio_device.specs.Site.{no_driver}
 use Rattle.iio_trigger.specs.Trigger.{Handed}
 use Rattle.iio_core.specs.Front.{Front, kind_at}
 use Rattle.iio_core.specs.Machine.{Station, station_at}
-use Rattle.iio_history.specs.Registry.{entry_of}
-use Rattle.iio_system.specs.Bench.{has_ended, trigger_in}
-use Rattle.iio_system.specs.Handling.{IsRoom, counted, entry_machine, is_last}
+use Rattle.iio_core.specs.Trigger.{entry_of, entries_at}
+use Rattle.iio_core.specs.Moves.{machine_after_handling}
+use Rattle.iio_system.specs.Bench.{has_ended}
+use Rattle.iio_system.specs.Handling.{IsRoom, counted, is_last, unless_ended}
 use Rattle.iio_system.specs.Places.{trigger_of}
 use Rattle.iio_system.specs.Station.{any_front, any_station, captures_by, room_by, stations_by}
 use Rattle.iio_system.proofs.ListLemmas.{element_at, map_changed}
@@ -98,10 +99,10 @@ returns-clause-told g c =
     c.args.self.now.devices.items c.gather.new.devices.items c.args.self.now.clock c.args.self.now.first_average c.args.dev d c.handle-became.new.self at
     c.args.self.now.averaged (entry_of c.args.dev (trigger_of c.index_mut-2.result.now).entries) c.handle-became.ensures.station c.handle-became.ensures.keeps
     c.handle-became.ensures.scan c.handle-became.result c.handle-became.ensures.answer c.gather.ensures
-    ∙ ap (λ (o : Option Handed). entry_machine front o (is_last (captures_by d)) c.args.dev m)
+    ∙ ap (λ (o : Option Handed). unless_ended (is_last (captures_by d)) m (machine_after_handling front o c.args.dev m))
     (sym (entry_here c.args.self.now.triggers.items c.args.trigger c.args.dev c.index_mut-2.result.now there))
-    ∙ ap (λ (b : Bool). entry_machine front (entry_of c.args.dev (trigger_in (map trigger_of c.args.self.now.triggers.items) c.args.trigger).entries) b
-    c.args.dev m) (sym (ended_here captures_by c.args.self.now.devices.items c.args.dev d at))
+    ∙ ap (λ (b : Bool). unless_ended b m (machine_after_handling front
+    (entry_of c.args.dev (entries_at (map trigger_of c.args.self.now.triggers.items) c.args.trigger)) c.args.dev m)) (sym (ended_here captures_by c.args.self.now.devices.items c.args.dev d at))
 
 pub returns-clause-triggers : goal.returns-clause-triggers
 returns-clause-triggers g c =
@@ -130,7 +131,7 @@ returns-clause-answer g c =
     entry_answer_is (any_front d).kind
     (kind_at (fronts_by any_front c.args.self.now.context.items c.args.self.now.described.items c.args.self.now.devices.items) c.args.dev)
     (entry_of c.args.dev (trigger_of c.index_mut-2.result.now).entries)
-    (entry_of c.args.dev (trigger_in (map trigger_of c.args.self.now.triggers.items) c.args.trigger).entries)
+    (entry_of c.args.dev (entries_at (map trigger_of c.args.self.now.triggers.items) c.args.trigger))
     (is_last (captures_by d)) (has_ended c.args.self.now c.args.dev)
     (any_station (driver_of (λ b. (g.dyn-1.0.entry b.vtable).1.driver b.value)) d)
     (station_at (machine_by (any_station (driver_of (λ b. (g.dyn-1.0.entry b.vtable).1.driver b.value))) c.args.self.now.clock c.args.self.now.devices.items)

@@ -12,7 +12,8 @@ use Rattle.iio_core.specs.Machine.{Machine, Station}
 use Rattle.iio_system.specs.Averages.{HasBases}
 use Rattle.iio_system.specs.First.{first_machine, first_state, first_station}
 use Rattle.iio_system.specs.OutStation.{first_out_station}
-use Rattle.iio_system.specs.Places.{first_trigger, trigger_of}
+use Rattle.iio_system.specs.Places.{trigger_of}
+use Rattle.iio_core.specs.Trigger.{first_trigger}
 use Rattle.iio_system.specs.Station.{any_front, any_station, stations_by}
 use Rattle.iio_system.proofs.AnyLemmas.{members_as}
 use Rattle.iio_system.proofs.FirstLemmas.{AreBare, AreFresh, added_heads, added_stations, first_averaged, first_bare, first_bases, first_bench, first_fresh, first_told, firsts_few, formed_more}

@@ -5,7 +5,7 @@ use Rattle.iio_desc.specs.Kind.{Kind}
 use Rattle.iio_core.specs.Front.{kind_at, shape_at}
 use Rattle.iio_core.specs.Machine.{Station, with_station}
 use Rattle.iio_device.specs.Plug.{driver_of}
-use Rattle.iio_system.specs.Handling.{kind_sensed, sensed_station}
+use Rattle.iio_core.specs.Moves.{kind_sensed, look_made}
 use Rattle.iio_system.specs.Station.{any_front, any_station, captures_by}
 use Rattle.iio_system.proofs.ListLemmas.{element_at, map_same, numbered_after}
 use Rattle.iio_system.proofs.IioLemmas.{averaged_kept, fronts_keep, sound_kept}
@@ -36,9 +36,9 @@ returns-clause-told g c =
     let shape =
     shape_is any_front c.args.self.now.context.items c.args.self.now.described.items c.args.self.now.devices.items c.args.dev c.index_mut.result.now at in
     told_changed (any_station drive) c.args.self.now.clock c.args.self.now.devices.items c.args.dev c.index_mut.result.now c.sense.new.self at
-    (sensed_station (any_front c.index_mut.result.now).shape c.args.t)
+    (look_made (any_front c.index_mut.result.now).shape c.args.t)
     (rw (to_z-of_z w64 c.args.t c.ranges.t) at c.sense.ensures.station)
-    ∙ ap (λ (s : ShapeRecord). with_station (sensed_station s c.args.t) c.args.dev
+    ∙ ap (λ (s : ShapeRecord). with_station (look_made s c.args.t) c.args.dev
     (machine_by (any_station drive) c.args.self.now.clock c.args.self.now.devices.items)) (sym shape)
 
 pub returns-clause-answer : goal.returns-clause-answer

@@ -3,7 +3,7 @@ use Rattle.std.proofs.lemmas.List.{with_items_is}
 use Rattle.iio_derive.specs.Window.{full_mask}
 use Rattle.iio_device.specs.Plug.{driver_of}
 use Rattle.iio_layout.specs.Layout.{scan_size}
-use Rattle.iio_system.specs.declared.any_device.Became.TheVariants.{Asked}
+use Rattle.iio_core.specs.declared.became.Became.TheVariants.{Asked}
 use Rattle.iio_system.specs.Handling.{is_last}
 use Rattle.iio_system.specs.Station.{member_of, station_by}
 use Rattle.iio_system.specs.Taking.{IsTakenOf, all_taken, with_taken}

@@ -8,10 +8,10 @@ use Rattle.iio_device.specs.declared.handling.Handled.{Handled}
 use Rattle.iio_device.specs.declared.handling.Handled.TheVariants.{Captured, Fault, Idle}
 use Rattle.iio_device.specs.declared.handling.Sensed.{Sensed}
 use Rattle.iio_device.specs.declared.handling.Sensed.TheVariants as sense
-use Rattle.iio_system.specs.declared.any_device.Became.{Became}
-use Rattle.iio_system.specs.declared.any_device.Became.TheVariants.{Asked, Gave}
-use Rattle.iio_system.specs.declared.out_device.Gave.{Gave as Giving}
-use Rattle.iio_system.specs.declared.out_device.Gave.TheVariants as gave
+use Rattle.iio_core.specs.declared.became.Became.{Became}
+use Rattle.iio_core.specs.declared.became.Became.TheVariants.{Asked, Gave}
+use Rattle.iio_core.specs.declared.became.Gave.{Gave as Giving}
+use Rattle.iio_core.specs.declared.became.Gave.TheVariants as gave
 
 abbrev pub polled_words : Polled → List (List ℕ)
 polled_words (Accepted n) = codes "accepted" ∷ decimal n ∷ []

@@ -1,0 +1,65 @@
+-- The triggers beside the devices. (Kernel, driver-api/iio: a device is attached to its trigger while its buffer is enabled, and a
+-- poll calls each attached device once. The count of missed polls is this project's own.)
+use Rattle.std.specs.Prelude.{ℕ, ℤ, suc, ◌==◌, not, List, [], ◌∷◌, find, filter, length, slice_get, unwrap_or, Option, Some, None, if◌then◌else◌}
+use Rattle.iio_trigger.specs.declared.Polled.{Polled}
+use Rattle.iio_trigger.specs.declared.Polled.TheVariants.{Accepted, Missed}
+use Rattle.iio_trigger.specs.Trigger.{Handed, poll_made, missed_after}
+use Rattle.iio_core.specs.Calls.{is_attached}
+use Rattle.iio_core.specs.Machine.{Station}
+
+-- a trigger: the entries of its last accepted poll that were not handled since, and how many polls were missed
+pub record Trigger : Type 0 where
+  pub entries : List Handed
+  pub missed : ℕ
+
+-- before the first poll
+abbrev pub first_trigger : Trigger
+first_trigger = record { entries = []; missed = 0 }
+
+-- the trigger of that number, its entries, and how many polls it missed
+abbrev pub trigger_in : List Trigger → ℕ → Trigger
+trigger_in triggers trigger = unwrap_or (slice_get triggers trigger) first_trigger
+
+abbrev pub entries_at : List Trigger → ℕ → List Handed
+entries_at triggers trigger = (trigger_in triggers trigger).entries
+
+abbrev pub missed_at : List Trigger → ℕ → ℕ
+missed_at triggers trigger = (trigger_in triggers trigger).missed
+
+-- ---- polls
+
+-- an entry for each device that is attached, in the order of devices; `device` is the first one's number
+abbrev pub bench_entries : ℕ → ℕ → ℤ → List Station → List Handed
+bench_entries device trigger moment [] = []
+bench_entries device trigger moment (st ∷ sts) =
+    if is_attached trigger st
+    then record { dev = device; attachment = st.site.attachment; t = moment } ∷ bench_entries (suc device) trigger moment sts
+    else bench_entries (suc device) trigger moment sts
+
+-- the entries that a poll makes of a trigger's
+abbrev pub polled_by : List Station → ℕ → ℤ → Trigger → Trigger
+polled_by stations trigger moment t =
+    record { entries = poll_made (bench_entries 0 trigger moment stations) t.entries; missed = missed_after t.entries t.missed }
+
+-- the answer to a poll: how many entries it made, or how many polls were missed with it
+abbrev pub poll_answer : (made outstanding : List Handed) → (missed : ℕ) → Polled
+poll_answer made [] missed = Accepted (length made)
+poll_answer made (e ∷ es) missed = Missed (missed_after (e ∷ es) missed)
+
+-- ---- entries
+
+-- the device's entry, and the entries without it
+abbrev pub entry_of : ℕ → List Handed → Option Handed
+entry_of device entries = find (λ (e : Handed). e.dev == device) entries
+
+abbrev pub without_entry : ℕ → List Handed → List Handed
+without_entry device entries = filter (λ (e : Handed). not (e.dev == device)) entries
+
+-- a trigger of which a device's entry is handled
+abbrev pub handled : ℕ → Trigger → Trigger
+handled device t = record t { entries = without_entry device t.entries }
+
+-- the device of the first of some entries
+abbrev pub first_due : List Handed → Option ℕ
+first_due [] = None
+first_due (e ∷ es) = Some e.dev
