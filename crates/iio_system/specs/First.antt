@@ -6,11 +6,9 @@ use Rattle.iio_desc.specs.Kind.{Average}
 use Rattle.iio_desc.specs.declared.description.TriggerDesc.{TriggerDesc}
 use Rattle.iio_trigger.specs.Trigger.{State}
 use Rattle.iio_device.specs.Site.{first_site}
-use Rattle.iio_device.specs.Totals.{no_totals}
-use Rattle.iio_derive.specs.Window.{no_window}
 use Rattle.iio_output.specs.Last.{first_last}
 use Rattle.iio_probe.specs.Devices.{first_driver}
-use Rattle.iio_core.specs.Machine.{Machine, Station}
+use Rattle.iio_core.specs.Machine.{Machine, Station, new_station}
 use Rattle.iio_layout.specs.Shape.{ShapeRecord}
 use Rattle.iio_core.specs.Trigger.{Trigger, first_trigger}
 use Rattle.iio_system.specs.Averages.{shape_in}
@@ -19,17 +17,7 @@ use Rattle.iio_system.specs.OutStation.{first_out_station}
 
 -- an input device: no member yet, the trigger and the attributes of its description
 abbrev pub first_station : List Driver → DeviceRecord → Station
-first_station drivers d =
-    record {
-      next = 0;
-      captures = 0;
-      totals = no_totals;
-      members = [];
-      site = first_site d.shape d.trigger (first_driver drivers d) d.attrs;
-      last =
-          first_last d.shape;
-      window = no_window;
-    }
+first_station drivers d = new_station (first_site d.shape d.trigger (first_driver drivers d) d.attrs) (first_last d.shape)
 
 abbrev pub first_machine : List Driver → Description → Machine
 first_machine drivers desc = record {

@@ -6,12 +6,10 @@ use Rattle.iio_desc.specs.Description.{AverageRecord, DeviceHead, DeviceRecord, 
 use Rattle.iio_desc.specs.Kind.{Average}
 use Rattle.iio_derive.specs.declared.members.Membership.{Membership}
 use Rattle.iio_derive.specs.Members.{member_at}
-use Rattle.iio_derive.specs.Window.{no_window}
 use Rattle.iio_output.specs.Last.{first_last}
 use Rattle.iio_layout.specs.Shape.{ShapeRecord}
 use Rattle.iio_device.specs.Site.{new_site, no_driver}
-use Rattle.iio_device.specs.Totals.{no_totals}
-use Rattle.iio_core.specs.Machine.{Member, Station}
+use Rattle.iio_core.specs.Machine.{Member, Station, new_station}
 use Rattle.iio_system.specs.declared.mean_device.MeanDevice.{MeanDevice}
 use Rattle.iio_system.specs.declared.mean_device.MeanSeat.{MeanSeat}
 
@@ -48,8 +46,7 @@ mean_head d = means_head d.name d.base d.average.size d.average.shape
 
 -- before the first step, over a base of that shape
 abbrev pub new_mean_station : ShapeRecord → Station
-new_mean_station shape =
-    record { next = 0; captures = 0; totals = no_totals; members = []; site = new_site shape None no_driver; last = first_last shape; window = no_window }
+new_mean_station shape = new_station (new_site shape None no_driver) (first_last shape)
 
 abbrev pub first_mean_station : List DeviceRecord → AverageRecord → Station
 first_mean_station devices x = new_mean_station (average_shape devices x)

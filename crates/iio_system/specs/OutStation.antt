@@ -12,7 +12,7 @@ use Rattle.iio_device.specs.Site.{is_empty, new_site, no_driver}
 use Rattle.iio_device.specs.Totals.{no_totals}
 use Rattle.iiod_session.specs.declared.iio.No.{No}
 use Rattle.iiod_session.specs.declared.iio.No.TheVariants.{Errno as NoErrno}
-use Rattle.iio_core.specs.Machine.{Member, Station}
+use Rattle.iio_core.specs.Machine.{Member, Station, new_station}
 use Rattle.iio_system.specs.declared.out_device.OutDevice.{OutDevice}
 
 -- its writer as a member, which has lost as many as its underruns are
@@ -39,17 +39,7 @@ out_head d = record { name = d.name; kind = Output; shape = d.out.shape }
 
 -- before the first step
 abbrev pub first_out_station : OutputRecord → Station
-first_out_station x =
-    record {
-      next = 0;
-      captures = 0;
-      totals = no_totals;
-      members = [];
-      site = new_site x.shape x.trigger no_driver;
-      last = first_last x.shape;
-      window =
-          no_window;
-    }
+first_out_station x = new_station (new_site x.shape x.trigger no_driver) (first_last x.shape)
 
 -- ---- for this crate's private functions alone
 

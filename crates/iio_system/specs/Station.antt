@@ -1,9 +1,7 @@
 -- A device, as an `Iio` tells it.
-use Rattle.std.specs.Prelude.{◌≡◌, ℕ, false, List, [], map, Option, None, Some}
+use Rattle.std.specs.Prelude.{◌≡◌, ℕ, List, [], map, Option, None, Some}
 use Rattle.iio_desc.specs.Description.{DeviceHead}
 use Rattle.iio_desc.specs.Kind.{Kind, Input, Output, Average}
-use Rattle.iio_derive.specs.Window.{no_window}
-use Rattle.iio_output.specs.Last.{first_last}
 use Rattle.iio_kfifo.specs.Queue.{Queue}
 use Rattle.iio_kfifo.specs.declared.tail.Tail.{Ghosts}
 use Rattle.iio_sensor.specs.Driver.{Driver}
@@ -13,6 +11,7 @@ use Rattle.iio_device.specs.declared.membership.Membership.{Membership}
 use Rattle.iio_device.specs.declared.plug.Plug.{Plug}
 use Rattle.iio_device.specs.Device.{DeviceView, view_of}
 use Rattle.iio_core.specs.Machine.{Member, Station}
+use Rattle.iio_history.specs.Devices.{member_of as plain_member, queue_waits, station_of as plain_station}
 use Rattle.iio_system.specs.declared.any_device.AnyDevice.{AnyDevice}
 use Rattle.iio_system.specs.declared.any_device.AnyDevice.TheVariants as any
 use Rattle.iio_system.specs.declared.in_device.InDevice.{InDevice}
@@ -20,22 +19,12 @@ use Rattle.iio_system.specs.Inner.{with_inner_name}
 use Rattle.iio_system.specs.MeanStation.{mean_head, mean_station}
 use Rattle.iio_system.specs.OutStation.{out_head, out_station}
 
--- a member of an input device
+-- a member of an input device, and the device
 abbrev pub member_of : Membership Queue → Member
-member_of m =
-    record { number = m.number; mask = m.mask.bits; capacity = m.tail.capacity; scans = m.tail.scans; lost = m.tail.lost; cyclic = false; inner = None }
+member_of m = plain_member (λ (q : Queue). q.lost) (λ q. q.capacity) queue_waits m
 
--- an input device: the number of the next member, what it counted, its members, and what else stands at it
 abbrev pub station_of : DeviceView Queue → Station
-station_of d = record {
-  next = d.standing.next;
-  captures = d.standing.captures;
-  totals = d.totals;
-  members = map member_of d.standing.members;
-  site = d.site;
-  last = first_last d.standing.shape;
-  window = no_window;
-}
+station_of d = plain_station (λ (q : Queue). q.lost) (λ q. q.capacity) queue_waits d
 
 module _ {X : Type 0} {V : X → Type 0} {g : Ghosts Queue} (driver : Plug X V → Driver) where
   -- the view of a device that samples by this driver
