@@ -208,7 +208,8 @@ module _ (front : Front) (o : Option Handed) (dev : ℕ) (m : Machine) where
       (λ j base window is. each j base window is)
     where
       each : (j base window : ℕ) → kind_in front.devices j ≡ Average base window
-          → ((station_in (machine_after_handling front o dev m).stations j).captures ≤ (station_in (machine_after_handling front o dev m).stations base).captures)
+          → ((station_in (machine_after_handling front o dev m).stations j).captures
+          ≤ (station_in (machine_after_handling front o dev m).stations base).captures)
           × ((station_in (machine_after_handling front o dev m).stations base).captures ≤ 2 ^ 64 - 1)
       each j base window is =
           let its = a.bases.bases j base window is in

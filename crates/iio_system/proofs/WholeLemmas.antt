@@ -567,7 +567,8 @@ module _ {X : Type 0} {V : X → Type 0} (drive : Plug X V → Driver) (context 
 module _ {X : Type 0} {V : X → Type 0} (drive : Plug X V → Driver) (context : List ℕ) (triggers : List TriggerDesc) (ds ds' : List (AnyDevice X V)) (clock : ℤ)
     (dev : ℕ) where
   pub told_unplugged : AreUnplugged drive dev ds ds'
-      → machine_by (any_station drive) clock ds' ≡ machine_after_unplugging (fronts_by any_front context triggers ds) dev (machine_by (any_station drive) clock ds)
+      → machine_by (any_station drive) clock ds'
+      ≡ machine_after_unplugging (fronts_by any_front context triggers ds) dev (machine_by (any_station drive) clock ds)
   told_unplugged all =
       ap (λ (sts : List Station). (let m : Machine = record { clock = clock; stations = sts } in m))
       (map_together (any_station drive) (unplugs (fronts_by any_front context triggers ds) dev) 0 ds ds' all.same

@@ -102,7 +102,8 @@ returns-clause-told g c =
     ∙ ap (λ (o : Option Handed). unless_ended (is_last (captures_by d)) m (machine_after_handling front o c.args.dev m))
     (sym (entry_here c.args.self.now.triggers.items c.args.trigger c.args.dev c.index_mut-2.result.now there))
     ∙ ap (λ (b : Bool). unless_ended b m (machine_after_handling front
-    (entry_of c.args.dev (entries_at (map trigger_of c.args.self.now.triggers.items) c.args.trigger)) c.args.dev m)) (sym (ended_here captures_by c.args.self.now.devices.items c.args.dev d at))
+    (entry_of c.args.dev (entries_at (map trigger_of c.args.self.now.triggers.items) c.args.trigger)) c.args.dev m))
+    (sym (ended_here captures_by c.args.self.now.devices.items c.args.dev d at))
 
 pub returns-clause-triggers : goal.returns-clause-triggers
 returns-clause-triggers g c =
