@@ -6,7 +6,8 @@ ghost use Rattle.std.specs.List.{list_any};
 ghost use Rattle.iio_layout.specs.Id.{same_id};
 ghost use Rattle.iio_layout.specs.Layout.{format_at};
 ghost use Rattle.iio_layout.specs.Scan.{first_value};
-ghost use Rattle.iio_layout.specs.Shape.{IsShape, channel_of, count_of, formats_of, id_at, same_channel, stamp_formats, width_of};
+ghost use Rattle.iio_layout.specs.Shape.{IsShape, channel_of, channel_with, count_of, formats_of, id_at, same_channel, stamp_formats, width_of};
+ghost use Rattle.iio_layout.specs.View.{AreNumbered};
 
 use crate::{Channel, Kind, Mem, Suffix, read_id};
 use iio_mask::Mask;
@@ -27,6 +28,8 @@ pub struct Shape {
     // Where each channel's values begin among those of a capture, and how many there are in all.
     starts: [u16; MAX_CHANNELS],
     width: u16,
+    // Whether each channel's ID has its number: then an ID is looked for at one place alone.
+    numbered: bool,
 }
 
 impl Model for Shape {
@@ -54,12 +57,14 @@ impl Shape {
             return None;
         }
         let (starts, width) = starts_of(&channels);
+        let numbered = are_numbered(&channels);
         Some(Shape {
             channels,
             stamp,
             listed,
             starts,
             width,
+            numbered,
         })
     }
 
@@ -129,8 +134,20 @@ impl Shape {
         ensures { result ≡ channel_of self.now id.now }
     {
         let (kind, suffix) = read_id(id)?;
-        let at = first_with(&self.channels, kind, suffix)?;
+        let at = self.place_of(kind, suffix)?;
         Some(at as u32)
+    }
+
+    // The place of the first channel of that ID.
+    fn place_of(&self, kind: Kind, suffix: Suffix) -> Option<usize>
+        ensures value { result ≡ channel_with self.now (kind, suffix) }
+        ensures sound { IsShape self.now }
+    {
+        if self.numbered {
+            numbered_with(&self.channels, kind, suffix)
+        } else {
+            first_with(&self.channels, kind, suffix)
+        }
     }
 
     /// An equal shape.
@@ -143,6 +160,7 @@ impl Shape {
             listed: Vec::from_slice(alloc, &self.listed)?,
             starts: self.starts,
             width: self.width,
+            numbered: self.numbered,
         })
     }
 
@@ -195,6 +213,35 @@ fn first_with(channels: &[Channel], kind: Kind, suffix: Suffix) -> Option<usize>
     channels
         .iter()
         .position(|channel| has_id(channel, kind, suffix))
+}
+
+// The same among channels of which each has its place for its number.
+fn numbered_with(channels: &[Channel], kind: Kind, suffix: Suffix) -> Option<usize>
+    requires { AreNumbered channels.now }
+    ensures { result ≡ position (λ channel. same_id (id_at channel) (kind, suffix)) channels.now }
+{
+    let Suffix::Number(number) = suffix else {
+        return None;
+    };
+    let at = usize::from(number);
+    if at < channels.len() && channels[at].kind == kind {
+        Some(at)
+    } else {
+        None
+    }
+}
+
+// Whether each has.
+fn are_numbered(channels: &[Channel]) -> bool
+    requires { length channels.now ≤ MAX_CHANNELS }
+    ensures { IsTrue result → AreNumbered channels.now }
+{
+    for (c, channel) in channels.iter().enumerate() {
+        if channel.suffix != Suffix::Number(c as u16) {
+            return false;
+        }
+    }
+    true
 }
 
 // Most channels of a device are of one kind, so the suffix is looked at first.
