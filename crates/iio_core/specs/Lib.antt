@@ -1,6 +1,7 @@
 pub mod Lists
 pub mod Front
 pub mod Machine
+pub mod Faults
 pub mod Opening
 pub mod Calls
 pub mod Trigger

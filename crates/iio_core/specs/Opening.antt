@@ -2,14 +2,12 @@
 -- project's own, is said in docs/FORMATS.md.)
 use Rattle.std.specs.Prelude.{ℕ, ◌*◌, ◌==◌, ◌||◌, nat_lt, Bool, List, [], ◌∷◌, Option, Some, None}
 use Rattle.iio_text.specs.declared.errors.Errno.{Errno}
-use Rattle.iio_text.specs.declared.errors.Errno.TheVariants.{EBADF, EBUSY, ENODEV, EINVAL, ENOSPC, ENOSYS}
+use Rattle.iio_text.specs.declared.errors.Errno.TheVariants.{EBUSY, ENODEV, EINVAL, ENOSYS}
 use Rattle.iio_device.specs.declared.roster.JoinFault.{JoinFault}
-use Rattle.iio_device.specs.declared.roster.JoinFault.TheVariants as fault
-use Rattle.iio_device.specs.declared.roster.RemaskFault.{RemaskFault}
-use Rattle.iio_device.specs.declared.roster.RemaskFault.TheVariants as remask
 use Rattle.iio_device.specs.Joining.{member_faults}
 use Rattle.iio_kfifo.specs.declared.limits.TheConstants.{MAX_BYTES}
 use Rattle.iio_core.specs.declared.limits.TheConstants.{MAX_SCANS}
+use Rattle.iio_core.specs.Faults.{errno_of}
 
 -- whether a member can't have a queue of `capacity` scans of `size` bytes
 abbrev pub is_excess : ℕ → ℕ → Bool
@@ -34,15 +32,6 @@ mask_refusals is_no_mask is_without_data is_too_much =
     ∷ (is_too_much, EINVAL)
     ∷ []
 
--- what a fault of joining is answered with; want of memory has its own answer, which is no errno
-abbrev pub errno_of : JoinFault → Option Errno
-errno_of fault.Gone = Some ENODEV
-errno_of fault.BadMask = Some EINVAL
-errno_of fault.NoTrigger = Some EINVAL
-errno_of fault.NoUnion = Some EINVAL
-errno_of fault.NoPlace = Some ENOSPC
-errno_of fault.Mem = None
-
 -- one refusal more, where its fault has an errno
 abbrev pub with_errno : Bool → Option Errno → List (Bool × Errno) → List (Bool × Errno)
 with_errno applies None refusals = refusals
@@ -56,11 +45,3 @@ errnos_of (r ∷ rs) = with_errno r.0 (errno_of r.1) (errnos_of rs)
 -- a member more at a device
 abbrev pub join_refusals : Bool → Bool → Bool → List (Bool × Errno)
 join_refusals is_without_trigger is_without_union is_full = errnos_of (member_faults is_without_trigger is_without_union is_full)
-
--- what a fault of another mask is answered with; want of memory has its own answer, which is no errno
-abbrev pub remask_errno : RemaskFault → Option Errno
-remask_errno remask.Gone = Some ENODEV
-remask_errno remask.NotLive = Some EBADF
-remask_errno remask.BadMask = Some EINVAL
-remask_errno remask.NoUnion = Some EINVAL
-remask_errno remask.Mem = None

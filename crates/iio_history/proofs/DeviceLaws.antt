@@ -38,9 +38,10 @@ use Rattle.iio_derive.specs.Window.{Window, no_window}
 use Rattle.iio_history.proofs.BenchLists.{get_first}
 use Rattle.iio_core.specs.Front.{Front, device_name, kind_at, shape_at}
 use Rattle.iio_core.specs.Machine.{Machine, Member, Station, is_seat_of, lost_by, masks_of as plain_masks, no_station, station_at, with_site, with_station, without}
-use Rattle.iio_core.specs.Opening.{errno_of, join_refusals}
+use Rattle.iio_core.specs.Faults.{errno_of, held_errno, holder_errno, map_err, raw_value}
+use Rattle.iio_core.specs.Opening.{join_refusals}
 use Rattle.iio_core.specs.Moves.{look_made}
-use Rattle.iio_history.specs.Devices.{Does, IsAt, IsJoined, IsRefused, held_errno, holder_errno, member_with, raw_value, station_of}
+use Rattle.iio_history.specs.Devices.{Does, IsAt, IsJoined, IsRefused, member_with, station_of}
 use Rattle.iio_history.specs.DeviceLaw.{IsNewEnd, IsPlaced, SamePlaces}
 
 -- ---- a machine at a device
@@ -183,14 +184,14 @@ module _ {Q : Type 0} (lost capacity : Q → ℕ) (waits : Q → List (List ℕ)
   -- ---- events
 
   pub holdings_agree : (m : Machine) (dev who : ℕ) (d : DeviceView Q) → IsAt lost capacity waits m dev d → d.site.plugged ≡ true
-      → Does lost capacity waits (ev_open_of m dev who) (held_errno (open_answer d.site.monitor)) dev (at_site (with_monitor (after_open who) d.site) d)
+      → Does lost capacity waits (ev_open_of m dev who) (map_err held_errno (open_answer d.site.monitor)) dev (at_site (with_monitor (after_open who) d.site) d)
   unfolding ev_open_of
   holdings_agree m dev who d here plugged = rw (station_here m dev (seen d) here) (by d.site.plugged d.site.monitor.holder plugged refl)
     where
       by : (p : Bool) (o : Option ℕ) → p ≡ true → d.site.monitor.holder ≡ o
           → Does lost capacity waits
           (unless (with_site (with_monitor (after_open who))) dev m (ensure p ENODEV >>= (λ there. ensure (is_none d.site.monitor.holder) EBUSY)))
-          (held_errno (open_answer d.site.monitor)) dev (at_site (with_monitor (after_open who) d.site) d)
+          (map_err held_errno (open_answer d.site.monitor)) dev (at_site (with_monitor (after_open who) d.site) d)
       by true None p e = rw e (record { answered = refl; device = at_changed m dev (seen d) (with_site (with_monitor (after_open who))) here ∙ rw e refl })
       by true (Some x) p e =
           let held : is_none d.site.monitor.holder ≡ false = rw e refl in
@@ -203,7 +204,7 @@ module _ {Q : Type 0} (lost capacity : Q → ℕ) (waits : Q → List (List ℕ)
       by false o p e = absurd (cc)
 
   pub events_agree : (m : Machine) (dev who : ℕ) (d : DeviceView Q) → IsAt lost capacity waits m dev d → d.site.plugged ≡ true
-      → Does lost capacity waits (ev_read_of m dev who) (holder_errno (read_answer (λ a b. a == b) who d.site.monitor)) dev
+      → Does lost capacity waits (ev_read_of m dev who) (map_err holder_errno (read_answer (λ a b. a == b) who d.site.monitor)) dev
       (at_site (with_monitor (after_read (λ a b. a == b) who) d.site) d)
   unfolding ev_read_of
   events_agree m dev who d here plugged = rw (station_here m dev (seen d) here) (by d.site.plugged (is_holder (λ a b. a == b) who d.site.monitor) plugged refl)
@@ -212,14 +213,14 @@ module _ {Q : Type 0} (lost capacity : Q → ℕ) (waits : Q → List (List ℕ)
           → Does lost capacity waits
           (unless (with_site (with_monitor (after_read (λ a b. a == b) who))) dev m
           (ensure p ENODEV >>= (λ there. ensure (is_holder (λ a b. a == b) who d.site.monitor) EBADF >>= (λ holds. Ok (slice_get d.site.monitor.events 0)))))
-          (holder_errno (read_answer (λ a b. a == b) who d.site.monitor)) dev (at_site (with_monitor (after_read (λ a b. a == b) who) d.site) d)
+          (map_err holder_errno (read_answer (λ a b. a == b) who d.site.monitor)) dev (at_site (with_monitor (after_read (λ a b. a == b) who) d.site) d)
       by true true p e =
           rw e (record { answered = refl; device = at_changed m dev (seen d) (with_site (with_monitor (after_read (λ a b. a == b) who))) here ∙ rw e refl })
       by true false p e = rw e (record { answered = refl; device = here })
       by false h p e = absurd (cc)
 
   pub releases_agree : (m : Machine) (dev who : ℕ) (d : DeviceView Q) → IsAt lost capacity waits m dev d
-      → Does lost capacity waits (ev_close_of m dev who) (holder_errno (close_answer (λ a b. a == b) who d.site.monitor)) dev
+      → Does lost capacity waits (ev_close_of m dev who) (map_err holder_errno (close_answer (λ a b. a == b) who d.site.monitor)) dev
       (at_site (with_monitor (after_close (λ a b. a == b) who) d.site) d)
   unfolding ev_close_of
   releases_agree m dev who d here = rw (station_here m dev (seen d) here) (by (is_holder (λ a b. a == b) who d.site.monitor) refl)
@@ -227,7 +228,7 @@ module _ {Q : Type 0} (lost capacity : Q → ℕ) (waits : Q → List (List ℕ)
       by : (h : Bool) → is_holder (λ a b. a == b) who d.site.monitor ≡ h
           → Does lost capacity waits
           (unless (with_site (with_monitor (after_close (λ a b. a == b) who))) dev m (ensure (is_holder (λ a b. a == b) who d.site.monitor) EBADF))
-          (holder_errno (close_answer (λ a b. a == b) who d.site.monitor)) dev (at_site (with_monitor (after_close (λ a b. a == b) who) d.site) d)
+          (map_err holder_errno (close_answer (λ a b. a == b) who d.site.monitor)) dev (at_site (with_monitor (after_close (λ a b. a == b) who) d.site) d)
       by true e =
           rw e (record { answered = refl; device = at_changed m dev (seen d) (with_site (with_monitor (after_close (λ a b. a == b) who))) here ∙ rw e refl })
       by false e = rw e (record { answered = refl; device = here })

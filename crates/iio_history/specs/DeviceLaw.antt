@@ -22,6 +22,7 @@ use Rattle.iio_kfifo.specs.Offers.{accepted, lost_in}
 use Rattle.iio_kfifo.specs.Queue.{Offers as QueueOffers, Queue}
 use Rattle.iio_core.specs.Calls.{closed, ev_close_of, ev_open_of, ev_read_of, has_no_place, is_attached, is_raw, open_of, read_attr_of, remask_of, set_trigger_of, write_attr_of}
 use Rattle.iio_desc.specs.Kind.{Input}
+use Rattle.iio_core.specs.Faults.{held_errno, holder_errno, map_err, raw_value}
 use Rattle.iio_core.specs.Front.{Front, device_name, kind_at, shape_at}
 use Rattle.iio_core.specs.Machine.{Machine, MemberId, lost_by, with_site, with_station}
 use Rattle.iio_history.specs.Event.{Handled as HandledAt, Sensed as SensedAt, Unplugged}
@@ -31,7 +32,7 @@ use Rattle.iio_history.specs.Told.{Told}
 use Rattle.iio_history.specs.Machine.{step}
 use Rattle.iio_history.specs.Bench.{IsBench, front_of, machine_of}
 use Rattle.iio_core.specs.Moves.{entry_made, look_made, handled_answer}
-use Rattle.iio_history.specs.Devices.{AreMet, Does, IsAt, IsJoined, IsMet, IsRemasked, held_errno, holder_errno, queue_waited, queue_waits, raw_value, station_met, station_of, writer_waited, writer_waits}
+use Rattle.iio_history.specs.Devices.{AreMet, Does, IsAt, IsJoined, IsMet, IsRemasked, queue_waited, queue_waits, station_met, station_of, writer_waited, writer_waits}
 
 module _ {Q : Type 0} where
   -- ---- members
@@ -149,20 +150,20 @@ module _ {Q : Type 0} where
   abbrev pub HoldingsAgree : (lost capacity : Q → ℕ) → Type 0
   HoldingsAgree lost capacity =
       (waits : Q → List (List ℕ)) (m : Machine) (dev who : ℕ) (d : DeviceView Q) → IsAt lost capacity waits m dev d → d.site.plugged ≡ true
-      → Does lost capacity waits (ev_open_of m dev who) (held_errno (open_answer d.site.monitor)) dev (at_site (with_monitor (after_open who) d.site) d)
+      → Does lost capacity waits (ev_open_of m dev who) (map_err held_errno (open_answer d.site.monitor)) dev (at_site (with_monitor (after_open who) d.site) d)
 
   -- EVREAD at a plugged device
   abbrev pub EventsAgree : (lost capacity : Q → ℕ) → Type 0
   EventsAgree lost capacity =
       (waits : Q → List (List ℕ)) (m : Machine) (dev who : ℕ) (d : DeviceView Q) → IsAt lost capacity waits m dev d → d.site.plugged ≡ true
-      → Does lost capacity waits (ev_read_of m dev who) (holder_errno (read_answer (λ a b. a == b) who d.site.monitor)) dev
+      → Does lost capacity waits (ev_read_of m dev who) (map_err holder_errno (read_answer (λ a b. a == b) who d.site.monitor)) dev
       (at_site (with_monitor (after_read (λ a b. a == b) who) d.site) d)
 
   -- EVCLOSE at any device
   abbrev pub ReleasesAgree : (lost capacity : Q → ℕ) → Type 0
   ReleasesAgree lost capacity =
       (waits : Q → List (List ℕ)) (m : Machine) (dev who : ℕ) (d : DeviceView Q) → IsAt lost capacity waits m dev d
-      → Does lost capacity waits (ev_close_of m dev who) (holder_errno (close_answer (λ a b. a == b) who d.site.monitor)) dev
+      → Does lost capacity waits (ev_close_of m dev who) (map_err holder_errno (close_answer (λ a b. a == b) who d.site.monitor)) dev
       (at_site (with_monitor (after_close (λ a b. a == b) who) d.site) d)
 
   -- ---- the history's device, after what isn't a connection's

@@ -1,11 +1,8 @@
 -- What an input device is to the plain state, by its own view, whatever queues its members have; and how the laws of its calls say
 -- what becomes of it there. No member of it is an inner one. (Kernel, driver-api/iio: one device serves several buffers. What a queue's end tells is this project's own.)
-use Rattle.std.specs.Prelude.{◌≡◌, ℕ, ℤ, ⊤, ◌+◌, ◌≤◌, ◌<◌, false, List, [], ◌∷◌, ◌++◌, map, length, drop, slice_get, Option, Some, None, Result, Ok, Err, if◌then◌else◌}
+use Rattle.std.specs.Prelude.{◌≡◌, ℕ, ◌+◌, ◌≤◌, ◌<◌, false, List, [], ◌∷◌, ◌++◌, map, length, drop, slice_get, Option, Some, None, Result, Ok, Err, if◌then◌else◌}
 use Rattle.std.specs.List.{AllZip}
 use Rattle.iio_text.specs.declared.errors.Errno.{Errno}
-use Rattle.iio_text.specs.declared.errors.Errno.TheVariants.{EBADF, EBUSY, EIO, ENODEV}
-use Rattle.iio_attr.specs.declared.values.Value.{Value}
-use Rattle.iio_attr.specs.declared.values.Value.TheVariants.{Int}
 use Rattle.iio_kfifo.specs.declared.tail.Offered.{Offered}
 use Rattle.iio_kfifo.specs.declared.tail.Offered.TheVariants.{Taken, Lost}
 use Rattle.iio_kfifo.specs.declared.view.Sent.{Sent}
@@ -14,12 +11,8 @@ use Rattle.iio_kfifo.specs.Offers.{accepted}
 use Rattle.iio_kfifo.specs.Queue.{Queue}
 use Rattle.iio_output.specs.Last.{first_last}
 use Rattle.iio_derive.specs.Window.{no_window}
-use Rattle.iio_event.specs.declared.monitor.Held.{Held}
-use Rattle.iio_event.specs.declared.monitor.NotHolder.{NotHolder}
 use Rattle.iio_device.specs.declared.handling.Handled.{Handled}
 use Rattle.iio_device.specs.declared.handling.Handled.TheVariants as handled
-use Rattle.iio_device.specs.declared.handling.RawFault.{RawFault}
-use Rattle.iio_device.specs.declared.handling.RawFault.TheVariants as raw
 use Rattle.iio_device.specs.declared.membership.Member.{Member as MemberNumber}
 use Rattle.iio_device.specs.declared.membership.Membership.{Membership}
 use Rattle.iio_device.specs.declared.roster.JoinRefused.{JoinRefused}
@@ -27,7 +20,7 @@ use Rattle.iio_device.specs.declared.roster.RemaskRefused.{RemaskRefused}
 use Rattle.iio_device.specs.Device.{DeviceView}
 use Rattle.iio_core.specs.Calls.{Outcome}
 use Rattle.iio_core.specs.Machine.{Machine, Member, Station}
-use Rattle.iio_core.specs.Opening.{errno_of, remask_errno}
+use Rattle.iio_core.specs.Faults.{errno_of, remask_errno}
 
 -- ---- a device
 
@@ -133,18 +126,3 @@ writer_waited old new = left_after new.knows.seen old
 
 -- ---- answers
 
--- a sample as the value of `raw`, or the errno of its fault
-abbrev pub raw_value : Result ℤ RawFault → Result Value Errno
-raw_value (Ok v) = Ok (Int v)
-raw_value (Err raw.Gone) = Err ENODEV
-raw_value (Err raw.Busy) = Err EBUSY
-raw_value (Err raw.Fault) = Err EIO
-
--- an answer of a device's events, or the errno of its refusal
-abbrev pub held_errno : Result ⊤ Held → Result ⊤ Errno
-held_errno (Ok done) = Ok done
-held_errno (Err held) = Err EBUSY
-
-abbrev pub holder_errno : {A : Type 0} → Result A NotHolder → Result A Errno
-holder_errno (Ok x) = Ok x
-holder_errno (Err none) = Err EBADF

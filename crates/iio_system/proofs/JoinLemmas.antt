@@ -23,7 +23,8 @@ use Rattle.iio_device.specs.Site.{is_empty}
 use Rattle.iiod_session.specs.declared.iio.No.{No}
 use Rattle.iio_core.specs.Front.{Front, place_count}
 use Rattle.iio_core.specs.Machine.{Station, masks_of}
-use Rattle.iio_core.specs.Opening.{errno_of, join_refusals}
+use Rattle.iio_core.specs.Faults.{errno_of}
+use Rattle.iio_core.specs.Opening.{join_refusals}
 use Rattle.iiod_session.specs.No.{no_of}
 use Rattle.iio_core.specs.Calls.{attached_count, has_no_place, joined, open_refusals, own_host}
 use Rattle.iio_history.specs.Devices.{queue_waits}

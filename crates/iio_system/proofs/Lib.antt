@@ -6,6 +6,7 @@ pub mod BenchLemmas
 pub mod AverageLemmas
 pub mod TriggerLemmas
 pub mod IioLemmas
+pub mod RawLemmas
 pub mod JoinLemmas
 pub mod HostLemmas
 pub mod TakeLemmas

@@ -22,7 +22,7 @@ use Rattle.iiod_session.specs.declared.iio.No.{No}
 use Rattle.iiod_session.specs.declared.iio.No.TheVariants.{Errno as NoErrno}
 use Rattle.iio_core.specs.Calls.{is_inner_of, remask_of, remask_refusals, remasked, with_mask}
 use Rattle.iio_core.specs.Machine.{Member, MemberId, Station, is_seat_of, member_in, queue_of, scans_in}
-use Rattle.iio_core.specs.Opening.{remask_errno}
+use Rattle.iio_core.specs.Faults.{remask_errno}
 use Rattle.iiod_session.specs.No.{remask_no}
 use Rattle.iiod_session.specs.Seat.{Answers}
 use Rattle.iio_history.specs.Devices.{queue_waits}

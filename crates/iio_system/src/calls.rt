@@ -18,14 +18,14 @@ ghost use Rattle.iio_core.specs.declared.became.Became.TheVariants.{Asked};
 ghost use Rattle.iio_system.specs.Station.{station_by, view_by};
 
 use iio_attr::{Attr, Value};
-use iio_device::{Device, Handled, Member, Plug, RawFault};
+use iio_device::{Device, Handled, Member, Plug};
 use iio_event::EventData;
 use iio_kfifo::Kfifo;
 use iio_mask::Mask;
 use iio_sensor::Sensor;
 use iio_text::{Errno, Fixed};
 use iio_trigger::Due;
-use iiod_session::{Counts, No, Took};
+use iiod_session::{Counts, No, Took, held_no, holder_no, raw_no};
 
 /// The value of an attribute. `raw` asks the sensor at `t`.
 pub(crate) fn read_attr(
@@ -64,9 +64,7 @@ fn read_raw(device: &mut Device<Kfifo>, t: i64, c: u32) -> Result<Value, No>
 {
     match device.raw(c, t) {
         Ok(value) => Ok(Value::Int(value)),
-        Err(RawFault::Gone) => Err(No::Errno(Errno::ENODEV)),
-        Err(RawFault::Busy) => Err(No::Errno(Errno::EBUSY)),
-        Err(RawFault::Fault) => Err(No::Errno(Errno::EIO)),
+        Err(fault) => Err(raw_no(fault)),
     }
 }
 
@@ -125,7 +123,7 @@ pub(crate) fn ev_open(device: &mut Device<Kfifo>, who: u32) -> Result<(), No>
     }
     match device.ev_open(who) {
         Ok(()) => Ok(()),
-        Err(_) => Err(No::Errno(Errno::EBUSY)),
+        Err(held) => Err(held_no(held)),
     }
 }
 
@@ -141,7 +139,7 @@ pub(crate) fn ev_read(device: &mut Device<Kfifo>, who: u32) -> Result<Option<Eve
     }
     match device.ev_read(who) {
         Ok(event) => Ok(event),
-        Err(_) => Err(No::Errno(Errno::EBADF)),
+        Err(none) => Err(holder_no(none)),
     }
 }
 
@@ -156,7 +154,7 @@ pub(crate) fn ev_close(device: &mut Device<Kfifo>, who: u32) -> Result<(), No>
 {
     match device.ev_close(who) {
         Ok(()) => Ok(()),
-        Err(_) => Err(No::Errno(Errno::EBADF)),
+        Err(none) => Err(holder_no(none)),
     }
 }
 

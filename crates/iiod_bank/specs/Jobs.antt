@@ -2,28 +2,23 @@
 use Rattle.std.specs.Prelude.{◌≡◌, ℕ, ℤ, ◌<◌, ◌^◌, Bool, ⊤, zero, suc, [], length, Option, Some, None, IfSome, nat_eq, option_map, option_and_then, Result, Ok, Err, MatchBool, if◌then◌else◌}
 use Rattle.iio_base.specs.Refusals.{first_refusal}
 use Rattle.iio_text.specs.declared.errors.Errno.{Errno}
-use Rattle.iio_text.specs.declared.errors.Errno.TheVariants.{EBADF, EBUSY, EIO, ENODEV}
+use Rattle.iio_text.specs.declared.errors.Errno.TheVariants.{ENODEV}
 use Rattle.iio_text.specs.declared.values.Fixed.{Fixed}
 use Rattle.iio_attr.specs.declared.attributes.Attr.{Attr}
 use Rattle.iio_attr.specs.declared.attributes.Attr.TheVariants.{Raw}
 use Rattle.iio_attr.specs.declared.values.Value.{Value}
-use Rattle.iio_attr.specs.declared.values.Value.TheVariants.{Int}
 use Rattle.iio_mask.specs.declared.Mask.{Mask}
 use Rattle.iio_event.specs.declared.event.EventData.{EventData}
-use Rattle.iio_event.specs.declared.monitor.Held.{Held}
-use Rattle.iio_event.specs.declared.monitor.NotHolder.{NotHolder}
 use Rattle.iio_event.specs.Monitor.{MonitorRecord, after_close, after_open, after_read, close_answer, open_answer, read_answer}
 use Rattle.iio_trigger.specs.Trigger.{State}
 use Rattle.iio_layout.specs.Layout.{scan_size}
 use Rattle.iio_layout.specs.Shape.{ShapeRecord, count_of}
-use Rattle.iio_device.specs.declared.handling.RawFault.{RawFault}
-use Rattle.iio_device.specs.declared.handling.RawFault.TheVariants as raw
 use Rattle.iio_device.specs.declared.membership.Membership.{Membership}
 use Rattle.iio_device.specs.Device.{DeviceView, LeavesDevice, RemasksDevice, after_raw, after_trigger, after_write, at_site, device_joined, join_faults, raw_answer, remask_faults, trigger_answer, trigger_joined, write_answer}
 use Rattle.iio_device.specs.Members.{first_number, member_of}
 use Rattle.iio_device.specs.Site.{unplugged, with_monitor}
 use Rattle.iio_device.specs.Stored.{attr_value}
-use Rattle.iio_core.specs.Opening.{errno_of, remask_errno}
+use Rattle.iio_core.specs.Faults.{errno_of, held_errno, holder_errno, map_err, raw_value, remask_errno}
 use Rattle.iiod_session.specs.declared.iio.No.{No}
 use Rattle.iiod_session.specs.declared.iio.No.TheVariants.{Errno as NoErrno, Mem as NoMem}
 use Rattle.iio_kfifo.specs.Ends.{WriterEnd}
@@ -109,21 +104,12 @@ module _ (taken lost size capacity : WriterEnd → ℕ) where
 abbrev pub HasChannel : Option ℕ → ShapeRecord → Type 0
 HasChannel channel shape = IfSome channel (λ c. c < length shape.channels)
 
-abbrev pub raw_no : RawFault → No
-raw_no raw.Gone = NoErrno ENODEV
-raw_no raw.Busy = NoErrno EBUSY
-raw_no raw.Fault = NoErrno EIO
-
-abbrev pub raw_value : Result ℤ RawFault → Result Value No
-raw_value (Ok v) = Ok (Int v)
-raw_value (Err f) = Err (raw_no f)
-
 abbrev pub kept_value : Option ℕ → Attr → DeviceView WriterEnd → Result Value No
 kept_value channel attr a = if a.site.plugged then Ok (attr_value a.name channel attr a.site) else Err (NoErrno ENODEV)
 
 -- the answer to a READ at a moment: `raw` asks the sensor
 abbrev pub value_at : ℤ → Option ℕ → Attr → DeviceView WriterEnd → Result Value No
-value_at t (Some c) Raw a = raw_value (raw_answer c t a)
+value_at t (Some c) Raw a = refused (raw_value (raw_answer c t a))
 value_at t channel attr a = kept_value channel attr a
 
 abbrev pub after_value : Option ℕ → Attr → DeviceView WriterEnd → DeviceView WriterEnd
@@ -146,28 +132,21 @@ LostMakes lost number a o b = (o ≡ option_map (λ (m : Membership WriterEnd). 
 
 -- ---- events
 
-abbrev pub held_no : Result ⊤ Held → Result ⊤ No
-held_no (Ok x) = Ok x
-held_no (Err held) = Err (NoErrno EBUSY)
-
-abbrev pub holder_no : {A : Type 0} → Result A NotHolder → Result A No
-holder_no (Ok x) = Ok x
-holder_no (Err none) = Err (NoErrno EBADF)
-
 abbrev pub with_events : (MonitorRecord ℕ → MonitorRecord ℕ) → DeviceView WriterEnd → DeviceView WriterEnd
 with_events change a = at_site (with_monitor change a.site) a
 
 abbrev pub EvOpenMakes : ℕ → DeviceView WriterEnd → Result ⊤ No → DeviceView WriterEnd → Type 0
 EvOpenMakes who a o b =
-    MatchBool a.site.plugged ((o ≡ held_no (open_answer a.site.monitor)) × (b ≡ with_events (after_open who) a)) ((o ≡ Err (NoErrno ENODEV)) × (b ≡ a))
+    MatchBool a.site.plugged ((o ≡ refused (map_err held_errno (open_answer a.site.monitor))) × (b ≡ with_events (after_open who) a))
+    ((o ≡ Err (NoErrno ENODEV)) × (b ≡ a))
 
 abbrev pub EvReadMakes : ℕ → DeviceView WriterEnd → Result (Option EventData) No → DeviceView WriterEnd → Type 0
 EvReadMakes who a o b =
-    MatchBool a.site.plugged ((o ≡ holder_no (read_answer nat_eq who a.site.monitor)) × (b ≡ with_events (after_read nat_eq who) a))
+    MatchBool a.site.plugged ((o ≡ refused (map_err holder_errno (read_answer nat_eq who a.site.monitor))) × (b ≡ with_events (after_read nat_eq who) a))
     ((o ≡ Err (NoErrno ENODEV)) × (b ≡ a))
 
 abbrev pub EvCloseMakes : ℕ → DeviceView WriterEnd → Result ⊤ No → DeviceView WriterEnd → Type 0
-EvCloseMakes who a o b = (o ≡ holder_no (close_answer nat_eq who a.site.monitor)) × (b ≡ with_events (after_close nat_eq who) a)
+EvCloseMakes who a o b = (o ≡ refused (map_err holder_errno (close_answer nat_eq who a.site.monitor))) × (b ≡ with_events (after_close nat_eq who) a)
 
 -- ---- the end of a device
 

@@ -9,12 +9,12 @@ ghost use Rattle.iiod_bank.specs.Lent.{Kept, lent_by};
 
 use crate::bank::Work;
 use iio_attr::{Attr, Fixed, Value};
-use iio_device::{Device, Member, Plug, RawFault};
+use iio_device::{Device, Member, Plug};
 use iio_kfifo::{Tail, Writer};
 use iio_layout::Shape;
 use iio_sensor::Sensor;
 use iio_text::Errno;
-use iiod_session::No;
+use iiod_session::{No, raw_no};
 
 // Whether a channel, where one is given, is one of the shape.
 fn has_channel(shape: &Shape, channel: Option<u32>) -> bool
@@ -42,9 +42,7 @@ fn read_raw(device: &mut Device<Writer>, t: i64, c: u32) -> Result<Value, No>
 {
     match device.raw(c, t) {
         Ok(value) => Ok(Value::Int(value)),
-        Err(RawFault::Gone) => Err(No::Errno(Errno::ENODEV)),
-        Err(RawFault::Busy) => Err(No::Errno(Errno::EBUSY)),
-        Err(RawFault::Fault) => Err(No::Errno(Errno::EIO)),
+        Err(fault) => Err(raw_no(fault)),
     }
 }
 

@@ -13,7 +13,7 @@ use iio_layout::Shape;
 use iio_sensor::Sensor;
 use iio_text::Errno;
 use iio_trigger::Due;
-use iiod_session::No;
+use iiod_session::{No, held_no, holder_no};
 
 /// EVOPEN of a connection.
 #[derive(Drop)]
@@ -40,7 +40,7 @@ impl Work for EvOpenWork {
         }
         match device.ev_open(self.who) {
             Ok(()) => Ok(()),
-            Err(_) => Err(No::Errno(Errno::EBUSY)),
+            Err(held) => Err(held_no(held)),
         }
     }
 }
@@ -70,7 +70,7 @@ impl Work for EvReadWork {
         }
         match device.ev_read(self.who) {
             Ok(event) => Ok(event),
-            Err(_) => Err(No::Errno(Errno::EBADF)),
+            Err(none) => Err(holder_no(none)),
         }
     }
 }
@@ -97,7 +97,7 @@ impl Work for EvCloseWork {
     fn run(self, device: &mut Device<Writer>) -> Result<(), No> {
         match device.ev_close(self.who) {
             Ok(()) => Ok(()),
-            Err(_) => Err(No::Errno(Errno::EBADF)),
+            Err(none) => Err(holder_no(none)),
         }
     }
 }

@@ -1,9 +1,12 @@
 -- How a session is told of a refusal by a device. Want of memory has no errno.
 use Rattle.std.specs.Prelude.{Option, Some, None}
 use Rattle.iio_text.specs.declared.errors.Errno.{Errno}
+use Rattle.iio_event.specs.declared.monitor.Held.{Held}
+use Rattle.iio_event.specs.declared.monitor.NotHolder.{NotHolder}
+use Rattle.iio_device.specs.declared.handling.RawFault.{RawFault}
 use Rattle.iio_device.specs.declared.roster.JoinFault.{JoinFault}
 use Rattle.iio_device.specs.declared.roster.RemaskFault.{RemaskFault}
-use Rattle.iio_core.specs.Opening.{errno_of, remask_errno}
+use Rattle.iio_core.specs.Faults.{errno_of, held_errno, holder_errno, raw_errno, remask_errno}
 use Rattle.iiod_session.specs.declared.iio.No.{No}
 use Rattle.iiod_session.specs.declared.iio.No.TheVariants.{Errno as NoErrno, Mem as NoMem}
 
@@ -19,3 +22,15 @@ no_of f = no_by (errno_of f)
 -- of a fault of another mask
 abbrev pub remask_no : RemaskFault → No
 remask_no f = no_by (remask_errno f)
+
+-- of a fault of a sample
+abbrev pub raw_no : RawFault → No
+raw_no f = NoErrno (raw_errno f)
+
+-- of events that have a holder
+abbrev pub held_no : Held → No
+held_no held = NoErrno (held_errno held)
+
+-- of one who is not their holder
+abbrev pub holder_no : NotHolder → No
+holder_no none = NoErrno (holder_errno none)

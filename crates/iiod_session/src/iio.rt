@@ -1,11 +1,11 @@
 //! What a session needs of the devices.
 
 ghost use Rattle.std.specs.Prelude.{◌≡◌, ◌≢◌, ℕ, ◌+◌, ◌*◌, ◌^◌, ◌≤◌, ◌<◌, true, false, length, Option, Some, option_map, vec_capacity, IfOk, IfSome, Ok, Err};
-ghost use Rattle.iiod_session.specs.No.{no_of, remask_no};
+ghost use Rattle.iiod_session.specs.No.{held_no, holder_no, no_of, raw_no, remask_no};
 
 use iio_attr::{Attr, Scope, Value};
-use iio_device::{JoinFault, RemaskFault};
-use iio_event::EventData;
+use iio_device::{JoinFault, RawFault, RemaskFault};
+use iio_event::{EventData, Held, NotHolder};
 use iio_layout::Shape;
 use iio_mask::Mask;
 use iio_text::{Errno, Fixed};
@@ -41,6 +41,31 @@ pub fn remask_no(fault: RemaskFault) -> No
         RemaskFault::BadMask | RemaskFault::NoUnion => No::Errno(Errno::EINVAL),
         RemaskFault::Mem => No::Mem,
     }
+}
+
+/// What a fault of a sample is answered with.
+pub fn raw_no(fault: RawFault) -> No
+    ensures { result ≡ raw_no fault }
+{
+    match fault {
+        RawFault::Gone => No::Errno(Errno::ENODEV),
+        RawFault::Busy => No::Errno(Errno::EBUSY),
+        RawFault::Fault => No::Errno(Errno::EIO),
+    }
+}
+
+/// What is answered where the events of a device have a holder.
+pub fn held_no(_held: Held) -> No
+    ensures { result ≡ held_no _held }
+{
+    No::Errno(Errno::EBUSY)
+}
+
+/// What one is answered who is not their holder.
+pub fn holder_no(_none: NotHolder) -> No
+    ensures { result ≡ holder_no _none }
+{
+    No::Errno(Errno::EBADF)
 }
 
 /// What became of a take.

@@ -23,7 +23,7 @@ mod watch;
 mod word;
 
 pub use desk::{FIRST_BUFFERS, MAX_BUFFERS};
-pub use iio::{Bells, Counts, Iio, No, Took, no_of, remask_no};
+pub use iio::{Bells, Counts, Iio, No, Took, held_no, holder_no, no_of, raw_no, remask_no};
 pub use iio_base::Mem;
 pub use iio_core::MAX_SCANS;
 pub use manner::{Going, Manner};
