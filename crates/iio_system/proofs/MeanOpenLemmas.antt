@@ -1,15 +1,16 @@
 -- OPEN at an averaging device of a bench.
-use Rattle.std.proofs.Common.{◌≡◌, ℕ, zero, suc, ◌<◌, ℤ, Bool, true, false, List, [], ◌∷◌, map, length, set, slice_get, Option, Some, None, Result, Ok, Err, refl, sym, ap, subst, ◌∙◌, arith, cond}
+use Rattle.std.proofs.Common.{◌≡◌, ℕ, zero, suc, ◌<◌, ◌^◌, Bool, true, false, List, [], ◌∷◌, map, length, set, get_or, slice_get, Option, Some, None, Result, Ok, Err, refl, sym, ap, subst, ◌∙◌, arith, cond}
 use Rattle.std.specs.Prelude.{◌==◌, ◌&&◌, ◌||◌, ◌-◌, ◌≤◌, ◌*◌, IfOk, is_none, not}
 use Rattle.std.specs.List.{list_any}
 use Rattle.std.proofs.lemmas.Bool.Decides.{nat_tests}
 use Rattle.std.proofs.lemmas.List.{map-set}
+use Rattle.std.proofs.lemmas.Option.{slice_get_read}
 use Rattle.iio_base.specs.Refusals.{first_refusal, unless_refused}
 use Rattle.iio_text.specs.declared.errors.Errno.{Errno}
 use Rattle.iio_text.specs.declared.errors.Errno.TheVariants.{EBUSY, ENODEV, ENOSPC}
 use Rattle.iio_mask.specs.declared.Mask.{Mask}
 use Rattle.iio_layout.specs.Layout.{scan_size}
-use Rattle.iio_layout.specs.Shape.{ShapeRecord}
+use Rattle.iio_layout.specs.Shape.{ShapeRecord, count_of}
 use Rattle.iio_desc.specs.Description.{DeviceHead}
 use Rattle.iio_desc.specs.declared.description.TriggerDesc.{TriggerDesc}
 use Rattle.iio_desc.specs.Kind.{Kind, Input, Output, Average, is_average, is_input, is_output}
@@ -29,18 +30,20 @@ use Rattle.iiod_session.specs.Seat.{Answers, IsNew, number_by as number_of}
 use Rattle.iio_history.proofs.BenchLists.{same_number}
 use Rattle.iio_system.specs.declared.any_device.AnyDevice.{AnyDevice}
 use Rattle.iio_system.specs.declared.any_device.AnyDevice.TheVariants as any
+use Rattle.iio_system.specs.declared.bench.Bench.{Bench}
 use Rattle.iio_system.specs.declared.seat.Seat.{Seat}
 use Rattle.iio_system.specs.Averages.{HasInner, IsAveraged, has_inner, kind_in}
-use Rattle.iio_system.specs.Faults.{HasJoined, HostsAny, IsServedAlone, JoinsAny, JoinsMean, MayHaveInner, any_refusals, lacks_place}
-use Rattle.iio_system.specs.Places.{IsBench, IsNumbered, has_trigger, is_hosted, place_left}
+use Rattle.iio_system.specs.Bench.{front_of}
+use Rattle.iio_system.specs.Faults.{HasJoined, HostsAny, IsServedAlone, JoinsMean, MayHaveInner, any_refusals, lacks_place}
+use Rattle.iio_system.specs.Places.{IsBench, IsNumbered, has_trigger, is_hosted, place_left, place_taken}
 use Rattle.iio_system.specs.Seat.{seen_of}
 use Rattle.iio_system.specs.Station.{KeepsHead, any_front, any_station, base_of, number_by, stations_by}
-use Rattle.iio_system.proofs.ListLemmas.{length_after, length_map_is, map_at, map_same, same_element, set_same}
+use Rattle.iio_system.proofs.ListLemmas.{element_at, length_after, length_map_is, map_at, map_same, numbered_after, same_element, set_same, within_map}
 use Rattle.iio_system.proofs.BenchLemmas.{bench_by, hosted_is}
 use Rattle.iio_system.proofs.AverageLemmas.{average_other, averaged_pair, get_here, get_there, got_there, here_is, input_plain, set_twice}
 use Rattle.iio_system.proofs.MeanLemmas.{base_is, base_list, bench_unattached, first_is, further_is, has_first, has_further, has_left, inner_stays, mean_closed, mean_full, mean_joined, mean_list, mean_may, mean_refused, open_mean}
-use Rattle.iio_system.proofs.OpenLemmas.{IsMean, as_many, attached_plugged, attached_trigger, averaged_as, base_within, bench_gone, bench_joined, gone_none, hosted_at, hosted_none, inner_more, kind_there, mean_of, sound_any, sound_as}
-use Rattle.iio_system.proofs.ToldLemmas.{fronts_by, kind_is, machine_by, shape_is, station_is, told_same}
+use Rattle.iio_system.proofs.OpenLemmas.{IsMean, as_many, attached_plugged, attached_trigger, averaged_as, base_within, bench_gone, bench_joined, full_below, gone_none, hosted_at, hosted_none, inner_more, kind_there, mean_of, sound_any, sound_as}
+use Rattle.iio_system.proofs.ToldLemmas.{kind_is, machine_by, shape_is, station_is, told_same}
 
 -- refusals of a further member, by its plug and its numbers
 further_gone : (full : Bool) → first_refusal ((true, ENODEV) ∷ (false, EBUSY) ∷ join_refusals false false full) ≡ Some ENODEV
@@ -96,85 +99,156 @@ no_longer_empty false e = refl
 pub trigger_past : (t m n : ℕ) → m ≡ n → m ≤ t → has_trigger n (Some t) ≡ false
 trigger_past t m n same past = grind (arith, nat_tests)
 
--- an averaging device is not its base
-pub base_apart : {X : Type 0} {V : X → Type 0} (triggers first : ℕ) (sts : List Station) (ds : List (AnyDevice X V)) (k base : ℕ) (d : AnyDevice X V)
-    → IsAveraged triggers first (map any_front ds) sts → slice_get ds k ≡ Some d → base_of (any_front d).kind ≡ Some base → base ≡ k → ⊥
-base_apart triggers first sts ds k base d averaged at over e =
-    let mean = mean_of (any_front d).kind base over in
-    let is = kind_there ds k d at ∙ mean.is in
-    average_other (map any_front ds) k base base mean.window is
-    (input_plain (kind_in (map any_front ds) base) (averaged.bases.bases k base mean.window is).input) (sym e)
+-- an averaging device is on no trigger
+mean_off : {X : Type 0} {V : X → Type 0} (drive : Plug X V → Driver) (base : ℕ) (d : AnyDevice X V) → base_of (any_front d).kind ≡ Some base
+    → (any_station drive d).site.trigger ≡ None
+mean_off drive base (any.Input d) over = absurd (cc)
+mean_off drive base (any.Output x) over = absurd (cc)
+mean_off drive base (any.Average a) over = refl
 
--- an averaging device's base
-pub record Over {X : Type 0} {V : X → Type 0} (ds : List (AnyDevice X V)) (d : AnyDevice X V) : Type 0 where
+-- ---- an averaging device and its base, as the code reads them
+
+-- an averaging device of a bench
+pub record MeanAt {X : Type 0} {V : X → Type 0} (bench : Bench X V) (k base : ℕ) (d : AnyDevice X V) : Type 0 where
+  pub at : slice_get bench.devices.items k ≡ Some d
+  pub over : base_of (any_front d).kind ≡ Some base
+
+-- and its base
+pub record PairAt {X : Type 0} {V : X → Type 0} (bench : Bench X V) (k base : ℕ) (d e : AnyDevice X V) : Type 0 where
+  pub mean : MeanAt bench k base d
+  pub under : slice_get bench.devices.items base ≡ Some e
+
+-- or some base
+pub record MeanOver {X : Type 0} {V : X → Type 0} (bench : Bench X V) (k : ℕ) (d : AnyDevice X V) : Type 0 where
   pub base : ℕ
   pub device : AnyDevice X V
-  pub under : slice_get ds base ≡ Some device
-  pub over : base_of (any_front d).kind ≡ Some base
+  pub pair : PairAt bench k base d device
+
+-- the devices of a bench, and its triggers, as the bench wants them
+pub record Holds {X : Type 0} {V : X → Type 0} (bench : Bench X V) (ss : List State) (xs : List (AnyDevice X V)) : Type 0 where
+  pub sound : IsBench bench.described.items ss (stations_by (λ p. no_driver) xs)
+  pub numbered : IsNumbered number_by xs
+  pub averaged : IsAveraged (length bench.described.items) bench.first_average (map any_front xs) (stations_by (λ p. no_driver) xs)
 
 base_some : (kind : Kind) → is_average kind ≡ true → (base : ℕ) × (base_of kind ≡ Some base)
 base_some Input is = absurd (cc)
 base_some Output is = absurd (cc)
 base_some (Average base window) is = (base, refl)
 
-pub element_there : {A : Type 0} (xs : List A) (i : ℕ) → i < length xs → (x : A) × (slice_get xs i ≡ Some x)
+element_there : {A : Type 0} (xs : List A) (i : ℕ) → i < length xs → (x : A) × (slice_get xs i ≡ Some x)
 element_there [] i h = absurd (omega (arith, h))
 element_there (x ∷ xs) zero h = (x, refl)
 element_there (x ∷ xs) (suc i) h = element_there xs i (omega (arith, h))
 
-pub over_of : {X : Type 0} {V : X → Type 0} (triggers first : ℕ) (sts : List Station) (ds : List (AnyDevice X V)) (k : ℕ) (d : AnyDevice X V)
-    → IsAveraged triggers first (map any_front ds) sts → slice_get ds k ≡ Some d → is_average (any_front d).kind ≡ true → Over ds d
-over_of triggers first sts ds k d averaged at is =
-    let base = base_some (any_front d).kind is in
-    let there = element_there ds base.0 (base_within triggers first sts ds k base.0 d averaged at base.1) in
-    record { base = base.0; device = there.0; under = there.1; over = base.1 }
-
--- its base by the front
-pub over_told : {X : Type 0} {V : X → Type 0} (context : List ℕ) (triggers : List TriggerDesc) (ds : List (AnyDevice X V)) (k base : ℕ) (d : AnyDevice X V)
-    → slice_get ds k ≡ Some d → base_of (kind_at (fronts_by any_front context triggers ds) k) ≡ Some base → base_of (any_front d).kind ≡ Some base
-over_told context triggers ds k base d at over = ap base_of (sym (kind_is any_front context triggers ds k d at)) ∙ over
-
-pub base_element : {X : Type 0} {V : X → Type 0} (triggers first : ℕ) (sts : List Station) (ds : List (AnyDevice X V)) (k base : ℕ) (d : AnyDevice X V)
-    → IsAveraged triggers first (map any_front ds) sts → slice_get ds k ≡ Some d → base_of (any_front d).kind ≡ Some base
-    → (e : AnyDevice X V) × (slice_get ds base ≡ Some e)
-base_element triggers first sts ds k base d averaged at over = element_there ds base (base_within triggers first sts ds k base d averaged at over)
-
-pub base_within_set : {X : Type 0} {V : X → Type 0} (triggers first : ℕ) (sts : List Station) (ds : List (AnyDevice X V)) (k base : ℕ) (d d' : AnyDevice X V)
-    → IsAveraged triggers first (map any_front ds) sts → slice_get ds k ≡ Some d → base_of (any_front d).kind ≡ Some base
-    → base < length (map any_front (set ds k d'))
-base_within_set triggers first sts ds k base d d' averaged at over =
-    let within = base_within triggers first sts ds k base d averaged at over in
+within_set : {X : Type 0} {V : X → Type 0} (ds : List (AnyDevice X V)) (k i : ℕ) (d' : AnyDevice X V) → i < length ds
+    → i < length (map any_front (set ds k d'))
+within_set ds k i d' within =
     let seen = length_map_is any_front (set ds k d') in
     let same = length_after ds k d' in
     omega (arith, within, seen, same)
 
-pub mean_within : {X : Type 0} {V : X → Type 0} (ds : List (AnyDevice X V)) (k : ℕ) (d' : AnyDevice X V) → k < length (map any_front ds)
-    → k < length (map any_front (set ds k d'))
-mean_within ds k d' within =
-    let was = length_map_is any_front ds in
-    let seen = length_map_is any_front (set ds k d') in
-    let same = length_after ds k d' in
-    omega (arith, within, was, seen, same)
+module _ {X : Type 0} {V : X → Type 0} {bench : Bench X V} {k base : ℕ} {d : AnyDevice X V} (m : MeanAt bench k base d) where
+  abbrev there : List (AnyDevice X V)
+  there = bench.devices.items
 
-pub mean_within_set : {X : Type 0} {V : X → Type 0} (ds : List (AnyDevice X V)) (k base : ℕ) (d' e' : AnyDevice X V) → k < length (map any_front ds)
-    → k < length (map any_front (set (set ds k d') base e'))
-mean_within_set ds k base d' e' within =
-    let was = length_map_is any_front ds in
-    let seen = length_map_is any_front (set (set ds k d') base e') in
-    let same = length_after (set ds k d') base e' in
-    let before = length_after ds k d' in
-    omega (arith, within, was, seen, same, before)
+  pub base_inside : base < length there
+  base_inside =
+      base_within (length bench.described.items) bench.first_average (stations_by (λ p. no_driver) there) there k base d bench.averaged m.at m.over
 
-module _ {X : Type 0} {V : X → Type 0} (drive : Plug X V → Driver) (context : List ℕ) (triggers : List TriggerDesc) (ds : List (AnyDevice X V)) (clock : ℤ)
-    (first k base : ℕ) (d e : AnyDevice X V)
-    (averaged : IsAveraged (length triggers) first (map any_front ds) (stations_by (λ p. no_driver) ds)) (at : slice_get ds k ≡ Some d)
-    (under : slice_get ds base ≡ Some e)
-    (over : base_of (any_front d).kind ≡ Some base) where
+  -- an averaging device is not its base
+  base_apart : base ≡ k → ⊥
+  base_apart e =
+      let mean = mean_of (any_front d).kind base m.over in
+      let is = kind_there there k d m.at ∙ mean.is in
+      average_other (map any_front there) k base base mean.window is
+      (input_plain (kind_in (map any_front there) base) (bench.averaged.bases.bases k base mean.window is).input) (sym e)
+
+  -- it is read again
+  pub same_mean : {d' : AnyDevice X V} → MeanAt bench k base d' → d ≡ d'
+  same_mean {d' = d'} m' = same_element there k d d' m.at m'.at
+
+  pub pair_there : (e : AnyDevice X V) × PairAt bench k base d e
+  pair_there = let e = element_there there base base_inside in (e.0, record { mean = m; under = e.1 })
+
+  -- the base, read once the averaging device has changed
+  pub pair_read : (d' e : AnyDevice X V) → e ≡ get_or (set there k d') base e → PairAt bench k base d e
+  pair_read d' e read = record {
+    mean = m;
+    under = got_there there k base d' e base_apart (element_at any_front (set there k d') base e (within_set there k base d' base_inside) read);
+  }
+
+module _ {X : Type 0} {V : X → Type 0} (bench : Bench X V) (k : ℕ) (known : k < length (map any_front bench.devices.items)) where
+  kind_read : (d : AnyDevice X V) → d ≡ get_or bench.devices.items k d → (any_front d).kind ≡ kind_at (front_of bench) k
+  kind_read d read =
+      sym (kind_is any_front bench.context.items bench.described.items bench.devices.items k d (element_at any_front bench.devices.items k d known read))
+
+  -- by the base that the front has
+  pub mean_read : (base : ℕ) (d : AnyDevice X V) → d ≡ get_or bench.devices.items k d → base_of (kind_at (front_of bench) k) ≡ Some base
+      → MeanAt bench k base d
+  mean_read base d read over = record { at = element_at any_front bench.devices.items k d known read; over = ap base_of (kind_read d read) ∙ over }
+
+  pub pair_after : (base : ℕ) (d d' e : AnyDevice X V) → base_of (kind_at (front_of bench) k) ≡ Some base → d ≡ get_or bench.devices.items k d
+      → e ≡ get_or (set bench.devices.items k d') base e → PairAt bench k base d e
+  pair_after base d d' e over read after = pair_read (mean_read base d read over) d' e after
+
+  -- where it isn't read itself
+  pub mean_unread : (base : ℕ) → base_of (kind_at (front_of bench) k) ≡ Some base → (d : AnyDevice X V) × MeanAt bench k base d
+  mean_unread base over =
+      let d = element_there bench.devices.items k (within_map any_front bench.devices.items k known) in (
+        d.0,
+        record {
+          at = d.1;
+          over = ap base_of (sym (kind_is any_front bench.context.items bench.described.items bench.devices.items k d.0 d.1)) ∙ over;
+        },
+      )
+
+  pub base_first : (base : ℕ) (e : AnyDevice X V) → base_of (kind_at (front_of bench) k) ≡ Some base → e ≡ get_or bench.devices.items base e
+      → (d : AnyDevice X V) × PairAt bench k base d e
+  base_first base e over read =
+      let d = mean_unread base over in (
+        d.0,
+        record {
+          mean = d.1;
+          under = slice_get_read bench.devices.items (length bench.devices.items) base e refl (base_inside d.1) read;
+        },
+      )
+
+  -- by its kind alone
+  pub over_read : (d : AnyDevice X V) → d ≡ get_or bench.devices.items k d → is_average (kind_at (front_of bench) k) ≡ true → MeanOver bench k d
+  over_read d read average =
+      let base = base_some (any_front d).kind (ap is_average (kind_read d read) ∙ average) in
+      let mean : MeanAt bench k base.0 d = record { at = element_at any_front bench.devices.items k d known read; over = base.1 } in
+      let pair = pair_there mean in
+      record { base = base.0; device = pair.0; pair = pair.1 }
+
+-- two reads of it are one
+pub same_read : {X : Type 0} {V : X → Type 0} {bench : Bench X V} {k : ℕ} {d d' : AnyDevice X V} → MeanOver bench k d → MeanOver bench k d' → d ≡ d'
+same_read {bench = bench} {k = k} {d = d} {d' = d'} o o' = same_element bench.devices.items k d d' o.pair.mean.at o'.pair.mean.at
+
+module _ {X : Type 0} {V : X → Type 0} (drive : Plug X V → Driver) {bench : Bench X V} {k base : ℕ} {d e : AnyDevice X V} (p : PairAt bench k base d e) where
+  abbrev ds : List (AnyDevice X V)
+  ds = bench.devices.items
+
+  abbrev context : List ℕ
+  context = bench.context.items
+
+  abbrev triggers : List TriggerDesc
+  triggers = bench.described.items
+
+  abbrev states : List State
+  states = bench.triggers.items
+
   abbrev front : Front
-  front = fronts_by any_front context triggers ds
+  front = front_of bench
 
   abbrev machine : Machine
-  machine = machine_by (any_station drive) clock ds
+  machine = machine_by (any_station drive) bench.clock ds
+
+  abbrev at_stations : List Station → Machine
+  at_stations sts = record { clock = bench.clock; stations = sts }
+
+  abbrev told_by : List (AnyDevice X V) → Machine
+  told_by xs = machine_by (any_station drive) bench.clock xs
 
   abbrev st : Station
   st = any_station drive d
@@ -182,33 +256,39 @@ module _ {X : Type 0} {V : X → Type 0} (drive : Plug X V → Driver) (context 
   abbrev b : Station
   b = any_station drive e
 
+  here : slice_get (map (any_station drive) ds) k ≡ Some st
+  here = map_at (any_station drive) ds k d p.mean.at
+
+  below : slice_get (map (any_station drive) ds) base ≡ Some b
+  below = map_at (any_station drive) ds base e p.under
+
   mean : IsMean (any_front d).kind base
-  mean = mean_of (any_front d).kind base over
+  mean = mean_of (any_front d).kind base p.mean.over
 
   kind_here : kind_at front k ≡ Average base mean.window
-  kind_here = kind_is any_front context triggers ds k d at ∙ mean.is
+  kind_here = kind_is any_front context triggers ds k d p.mean.at ∙ mean.is
 
   kind_over : kind_in (map any_front ds) k ≡ Average base mean.window
-  kind_over = kind_there ds k d at ∙ mean.is
+  kind_over = kind_there ds k d p.mean.at ∙ mean.is
 
   base_input : kind_in (map any_front ds) base ≡ Input
-  base_input = (averaged.bases.bases k base mean.window kind_over).input
+  base_input = (bench.averaged.bases.bases k base mean.window kind_over).input
 
   pub input_base : (any_front e).kind ≡ Input
-  input_base = sym (kind_there ds base e under) ∙ base_input
+  input_base = sym (kind_there ds base e p.under) ∙ base_input
 
   kind_base : kind_at front base ≡ Input
-  kind_base = kind_is any_front context triggers ds base e under ∙ input_base
+  kind_base = kind_is any_front context triggers ds base e p.under ∙ input_base
 
-  pub apart_base : k ≡ base → ⊥
-  apart_base = average_other (map any_front ds) k base base mean.window kind_over (input_plain (kind_in (map any_front ds) base) base_input)
+  apart_base : k ≡ base → ⊥
+  apart_base same = base_apart p.mean (sym same)
 
-  pub own_inner : HasInner k b st
+  own_inner : HasInner k b st
   own_inner =
-      subst (λ (x : Station). HasInner k x st) (here_is (map (any_station drive) ds) base b (map_at (any_station drive) ds base e under))
+      subst (λ (x : Station). HasInner k x st) (here_is (map (any_station drive) ds) base b below)
       (subst (λ (x : Station). HasInner k (station_in (map (any_station drive) ds) base) x)
-      (here_is (map (any_station drive) ds) k st (map_at (any_station drive) ds k d at))
-      ((averaged_as (λ p. no_driver) drive (length triggers) first (map any_front ds) ds averaged).inners k base mean.window kind_over))
+      (here_is (map (any_station drive) ds) k st here)
+      ((averaged_as (λ p. no_driver) drive (length triggers) bench.first_average (map any_front ds) ds bench.averaged).inners k base mean.window kind_over))
 
   -- ---- a further member
 
@@ -220,7 +300,7 @@ module _ {X : Type 0} {V : X → Type 0} (drive : Plug X V → Driver) (context 
     on =
         on_trigger (length triggers) b.site.trigger
         (subst (λ (t : Bool). (t || has_trigger (length triggers) b.site.trigger) ≡ true) (inner_some k b.members inner_here)
-        (hosted_at drive (length triggers) first ds averaged base e under (ap is_average input_base)))
+        (hosted_at drive (length triggers) bench.first_average ds bench.averaged base e p.under (ap is_average input_base)))
 
     further_by : (mask capacity : ℕ) (r : Option Errno)
         → first_refusal ((not st.site.plugged, ENODEV) ∷ (false, EBUSY) ∷ join_refusals false false (has_no_number st)) ≡ r
@@ -232,8 +312,8 @@ module _ {X : Type 0} {V : X → Type 0} (drive : Plug X V → Driver) (context 
         → first_refusal ((not st.site.plugged, ENODEV) ∷ (false, EBUSY) ∷ join_refusals false false (has_no_number st)) ≡ Some err
         → Answers (open_of front machine k mask capacity false) machine (Err (NoErrno err)) (Some machine)
     further_refused mask capacity err is =
-        rw (open_mean front k base mean.window kind_here kind_base apart_base machine mask capacity false st b (Some err) (map_at (any_station drive) ds k d at)
-        (map_at (any_station drive) ds base e under) (further_by mask capacity (Some err) is)) (refl, refl)
+        rw (open_mean front k base mean.window kind_here kind_base apart_base machine mask capacity false st b (Some err) here
+        below (further_by mask capacity (Some err) is)) (refl, refl)
 
     pub told_further_gone : (mask capacity : ℕ) → st.site.plugged ≡ false
         → Answers (open_of front machine k mask capacity false) machine (Err (NoErrno ENODEV)) (Some machine)
@@ -251,29 +331,29 @@ module _ {X : Type 0} {V : X → Type 0} (drive : Plug X V → Driver) (context 
 
     pub told_further : (mask : Mask) (capacity : ℕ) (d' : AnyDevice X V) (r : Result Seat No) → st.site.plugged ≡ true → has_no_number st ≡ false
         → JoinsMean mask capacity (any_front d).shape r st (any_station drive d')
-        → Answers (open_of front machine k mask.bits capacity false) machine (number_of seen_of r) (Some (machine_by (any_station drive) clock (set ds k d')))
+        → Answers (open_of front machine k mask.bits capacity false) machine (number_of seen_of r) (Some (told_by (set ds k d')))
     told_further mask capacity d' (Ok seat) plugged goes j =
-        rw (open_mean front k base mean.window kind_here kind_base apart_base machine mask.bits capacity false st b None (map_at (any_station drive) ds k d at)
-        (map_at (any_station drive) ds base e under)
+        rw (open_mean front k base mean.window kind_here kind_base apart_base machine mask.bits capacity false st b None here
+        below
         (further_by mask.bits capacity None
         (ap (λ (p : Bool). first_refusal ((not p, ENODEV) ∷ (false, EBUSY) ∷ join_refusals false false (has_no_number st))) plugged
         ∙ ap (λ (f : Bool). first_refusal ((false, ENODEV) ∷ (false, EBUSY) ∷ join_refusals false false f)) goes ∙ further_goes)))
         (ap (λ (x : Seat). Ok x.number) (sym j.0), ap (λ (m : Machine). Some m) told)
       where
-        told : machine_by (any_station drive) clock (set ds k d') ≡ all_joined front k (joined mask.bits capacity false None) machine
+        told : told_by (set ds k d') ≡ all_joined front k (joined mask.bits capacity false None) machine
         told =
-            ap (λ (sts : List Station). (let m : Machine = record { clock = clock; stations = sts } in m))
+            ap at_stations
             (map-set (any_station drive) ds k d'
             ∙ sym (set_same (set machine.stations k (any_station drive d')) base b
-            (get_there machine.stations k base (any_station drive d') b (λ e. apart_base (sym e)) (map_at (any_station drive) ds base e under))))
-            ∙ mean_joined front k base mean.window kind_here kind_base apart_base machine st b (any_station drive d') b (map_at (any_station drive) ds k d at)
-            (map_at (any_station drive) ds base e under)
+            (get_there machine.stations k base (any_station drive d') b (base_apart p.mean) below)))
+            ∙ mean_joined front k base mean.window kind_here kind_base apart_base machine st b (any_station drive d') b here
+            below
             (joined mask.bits capacity false None) j.1
             (sym (ap (λ (t : Bool). cond t b (joined (full_mask (shape_at front base)) 1 false (Some k) b)) inner_here))
     told_further mask capacity d' (Err x) plugged goes j =
         subst (λ (y : No). Answers (open_of front machine k mask.bits capacity false) machine (Err y)
-        (Some (machine_by (any_station drive) clock (set ds k d')))) (sym j.0)
-        (ap (λ (m : Machine). Some m) (told_same (any_station drive) clock ds k d d' at j.1))
+        (Some (told_by (set ds k d')))) (sym j.0)
+        (ap (λ (m : Machine). Some m) (told_same (any_station drive) bench.clock ds k d d' p.mean.at j.1))
 
   -- ---- the first member
 
@@ -281,47 +361,47 @@ module _ {X : Type 0} {V : X → Type 0} (drive : Plug X V → Driver) (context 
   module _ (none : is_empty st.members ≡ true) (mask : Mask) (capacity : ℕ) where
     told_first : (d' e' : AnyDevice X V) → any_station drive d' ≡ joined mask.bits capacity false None st
         → any_station drive e' ≡ joined (full_mask (shape_at front base)) 1 false (Some k) b
-        → machine_by (any_station drive) clock (set (set ds k d') base e') ≡ all_joined front k (joined mask.bits capacity false None) machine
+        → told_by (set (set ds k d') base e') ≡ all_joined front k (joined mask.bits capacity false None) machine
     told_first d' e' j is =
-        ap (λ (sts : List Station). (let m : Machine = record { clock = clock; stations = sts } in m))
+        ap at_stations
         (map-set (any_station drive) (set ds k d') base e'
         ∙ ap (λ (sts : List Station). set sts base (any_station drive e')) (map-set (any_station drive) ds k d'))
         ∙ mean_joined front k base mean.window kind_here kind_base apart_base machine st b (any_station drive d') (any_station drive e')
-        (map_at (any_station drive) ds k d at) (map_at (any_station drive) ds base e under)
+        here below
         (joined mask.bits capacity false None) j
         (is ∙ sym (ap (λ (t : Bool). cond t b (joined (full_mask (shape_at front base)) 1 false (Some k) b)) (own_inner.inner ∙ ap not none)))
 
   -- ---- the base as it is told
 
-  shape_base : shape_at front base ≡ (any_front e).shape
-  shape_base = shape_is any_front context triggers ds base e under
+  pub shape_base : shape_at front base ≡ (any_front e).shape
+  shape_base = shape_is any_front context triggers ds base e p.under
 
   station_base : station_at machine base ≡ b
-  station_base = station_is (any_station drive) clock ds base e under
+  station_base = station_is (any_station drive) bench.clock ds base e p.under
 
   pub none_told : (c : Bool) → is_empty (station_at machine k).members ≡ c → is_empty st.members ≡ c
-  none_told c told = ap (λ (x : Station). is_empty x.members) (sym (station_is (any_station drive) clock ds k d at)) ∙ told
+  none_told c told = ap (λ (x : Station). is_empty x.members) (sym (station_is (any_station drive) bench.clock ds k d p.mean.at)) ∙ told
 
-  module _ (states : List State) (full : ℕ) where
+  module _ (full : ℕ) where
     abbrev pub HostsTold : Result ℕ No → Type 0
     HostsTold r = HostsAny states Input base (shape_at front base) (station_at machine base) full r
 
-    pub hosts_told : (r : Result ℕ No) → IsNumbered number_by ds → HostsAny states (any_front e).kind (number_by e) (any_front e).shape b full r → HostsTold r
-    hosts_told r numbered h =
+    pub hosts_told : (r : Result ℕ No) → HostsAny states (any_front e).kind (number_by e) (any_front e).shape b full r → HostsTold r
+    hosts_told r h =
         subst (λ (x : Station). HostsAny states Input base (shape_at front base) x full r) (sym station_base)
         (subst (λ (shape : ShapeRecord). HostsAny states Input base shape b full r) (sym shape_base)
-        (subst (λ (n : ℕ). HostsAny states Input n (any_front e).shape b full r) (numbered base e under)
+        (subst (λ (n : ℕ). HostsAny states Input n (any_front e).shape b full r) (bench.numbered base e p.under)
         (subst (λ (kind : Kind). HostsAny states kind (number_by e) (any_front e).shape b full r) input_base h)))
 
-    pub hosts_triggers : (r : Result ℕ No) (xs : List State) → IsNumbered number_by ds → xs ≡ states
+    pub hosts_triggers : (r : Result ℕ No) (xs : List State) → xs ≡ states
         → HostsAny xs (any_front e).kind (number_by e) (any_front e).shape b full r → HostsTold r
-    hosts_triggers r xs numbered same h =
-        hosts_told r numbered (subst (λ (ys : List State). HostsAny ys (any_front e).kind (number_by e) (any_front e).shape b full r) same h)
+    hosts_triggers r xs same h =
+        hosts_told r (subst (λ (ys : List State). HostsAny ys (any_front e).kind (number_by e) (any_front e).shape b full r) same h)
 
-    pub hosts_here : (r : Result ℕ No) → IsNumbered number_by ds → HostsTold r → HostsAny states (any_front e).kind (number_by e) (any_front e).shape b full r
-    hosts_here r numbered h =
+    pub hosts_here : (r : Result ℕ No) → HostsTold r → HostsAny states (any_front e).kind (number_by e) (any_front e).shape b full r
+    hosts_here r h =
         subst (λ (kind : Kind). HostsAny states kind (number_by e) (any_front e).shape b full r) (sym input_base)
-        (subst (λ (n : ℕ). HostsAny states Input n (any_front e).shape b full r) (sym (numbered base e under))
+        (subst (λ (n : ℕ). HostsAny states Input n (any_front e).shape b full r) (sym (bench.numbered base e p.under))
         (subst (λ (shape : ShapeRecord). HostsAny states Input base shape b full r) shape_base
         (subst (λ (x : Station). HostsAny states Input base (shape_at front base) x full r) station_base h)))
 
@@ -333,6 +413,11 @@ module _ {X : Type 0} {V : X → Type 0} (drive : Plug X V → Driver) (context 
 
     pub alone_here : IsServedAlone Input (shape_at front base) (station_at machine base) full → IsServedAlone Input (shape_at front base) b full
     alone_here h = subst (λ (x : Station). IsServedAlone Input (shape_at front base) x full) station_base h
+
+    -- a queue may have scans of all its channels
+    pub full_fits : full ≡ full_mask (shape_at front base) → full < 2 ^ count_of (any_front e).shape
+    full_fits whole =
+        subst (λ (m : ℕ). m < 2 ^ count_of (any_front e).shape) (sym (whole ∙ ap full_mask shape_base)) (full_below (count_of (any_front e).shape))
 
     -- the inner member may be there
     pub may_have_inner : (capacity : ℕ) → is_empty st.members ≡ true → full ≡ full_mask (shape_at front base) → capacity ≡ 1
@@ -346,8 +431,7 @@ module _ {X : Type 0} {V : X → Type 0} (drive : Plug X V → Driver) (context 
 
   -- ---- the refusals of the first member
 
-  module _ (states : List State) (sound : IsBench triggers states (stations_by (λ p. no_driver) ds)) (empty : is_empty (station_at machine k).members ≡ true)
-      (full : ℕ) (whole : full ≡ full_mask (shape_at front base))
+  module _ (empty : is_empty (station_at machine k).members ≡ true) (full : ℕ) (whole : full ≡ full_mask (shape_at front base))
       (served : IsServedAlone Input (shape_at front base) (station_at machine base) full) where
     none : is_empty st.members ≡ true
     none = none_told true empty
@@ -362,11 +446,11 @@ module _ {X : Type 0} {V : X → Type 0} (drive : Plug X V → Driver) (context 
     base_refusals =
         ap (λ (mask : ℕ). first_refusal (any_refusals (lacks_place base states b.site.trigger) Input (shape_at front base) b mask)) whole
         ∙ ap first_refusal (base_is front states machine.stations base (shape_at front base) b st.site.plugged
-        (sound_any drive triggers states ds sound) (map_at (any_station drive) ds base e under) (sym own_inner.plugged)
+        (sound_any drive triggers states ds bench.sound) below (sym own_inner.plugged)
         (subst (λ (mask : ℕ). is_without_union (shape_at front base) (masks_of b.members) mask ≡ is_without_union (shape_at front base) [] mask) whole
-        (alone_here states full served refl whole)))
+        (alone_here full served refl whole)))
 
-    hosts_by : (r : Result ℕ No) → HostsTold states full r → HostsAny states Input base (shape_at front base) b full r
+    hosts_by : (r : Result ℕ No) → HostsTold full r → HostsAny states Input base (shape_at front base) b full r
     hosts_by r h = subst (λ (x : Station). HostsAny states Input base (shape_at front base) x full r) station_base h
 
     first_by : (r : Option Errno)
@@ -375,11 +459,11 @@ module _ {X : Type 0} {V : X → Type 0} (drive : Plug X V → Driver) (context 
         → (mask capacity : ℕ)
         → open_of front machine k mask capacity false ≡ unless_made (all_joined front k (joined mask capacity false None)) machine (unless_refused st.next r)
     first_by r is mask capacity =
-        open_mean front k base mean.window kind_here kind_base apart_base machine mask capacity false st b r (map_at (any_station drive) ds k d at)
-        (map_at (any_station drive) ds base e under)
+        open_mean front k base mean.window kind_here kind_base apart_base machine mask capacity false st b r here
+        below
         (ap first_refusal (first_is front base mean.window machine.stations st b none) ∙ is)
 
-    pub told_first_refused : (mask capacity : ℕ) (refusal : No) → HostsTold states full (Err refusal)
+    pub told_first_refused : (mask capacity : ℕ) (refusal : No) → HostsTold full (Err refusal)
         → Answers (open_of front machine k mask capacity false) machine (Err refusal) (Some machine)
     told_first_refused mask capacity (NoErrno err) hosts =
         rw (first_by (Some err)
@@ -388,7 +472,7 @@ module _ {X : Type 0} {V : X → Type 0} (drive : Plug X V → Driver) (context 
         mask capacity) (refl, refl)
     told_first_refused mask capacity NoMem hosts = refl
 
-    module _ (t : ℕ) (hosts : HostsTold states full (Ok t)) where
+    module _ (t : ℕ) (hosts : HostsTold full (Ok t)) where
       pub told_first_ends : (mask capacity : ℕ) → has_no_number st ≡ true
           → Answers (open_of front machine k mask capacity false) machine (Err (NoErrno ENOSPC)) (Some machine)
       told_first_ends mask capacity ends =
@@ -402,7 +486,7 @@ module _ {X : Type 0} {V : X → Type 0} (drive : Plug X V → Driver) (context 
           → JoinsMean mask capacity shape (Ok seat) st (any_station drive d')
           → any_station drive e' ≡ joined full 1 false (Some k) b
           → Answers (open_of front machine k mask.bits capacity false) machine (number_of seen_of (Ok seat))
-          (Some (machine_by (any_station drive) clock (set (set ds k d') base e')))
+          (Some (told_by (set (set ds k d') base e')))
       told_first_goes mask capacity d' e' seat shape goes j is =
           rw (first_by None
           (ap (λ (ns : Bool). first_refusal (mean_list (not st.site.plugged) (is_none b.site.trigger) (is_without_union (shape_at front base) [] whole_mask)
@@ -422,49 +506,43 @@ module _ {X : Type 0} {V : X → Type 0} (drive : Plug X V → Driver) (context 
     owned = record {
       under = ap (λ (x : Seat). x.mask.bits) j.0;
       sized =
-          ap (λ (x : Seat). x.size) j.0 ∙ ap (λ (shape : ShapeRecord). scan_size shape mask.bits) (sym (shape_is any_front context triggers ds k d at));
+          ap (λ (x : Seat). x.size) j.0 ∙ ap (λ (shape : ShapeRecord). scan_size shape mask.bits) (sym (shape_is any_front context triggers ds k d p.mean.at));
       bounded = ap (λ (x : Seat). x.capacity) j.0;
     };
     fresh = refl;
   }
   mean_seat mask capacity st' (Err refusal) j = tt
 
--- ---- what holds then
+  -- ---- what holds then
 
--- an averaging device is on no trigger
-mean_off : {X : Type 0} {V : X → Type 0} (drive : Plug X V → Driver) (base : ℕ) (d : AnyDevice X V) → base_of (any_front d).kind ≡ Some base
-    → (any_station drive d).site.trigger ≡ None
-mean_off drive base (any.Input d) over = absurd (cc)
-mean_off drive base (any.Output x) over = absurd (cc)
-mean_off drive base (any.Average a) over = refl
+  abbrev Stand : List State → List (AnyDevice X V) → Type 0
+  Stand ss xs = IsBench triggers ss (stations_by (λ p. no_driver) xs)
 
-module _ {X : Type 0} {V : X → Type 0} (drive : Plug X V → Driver) (context : List ℕ) (triggers : List TriggerDesc) (states : List State)
-    (ds : List (AnyDevice X V)) (clock : ℤ) (first k base : ℕ) (d e : AnyDevice X V) (sound : IsBench triggers states (stations_by (λ p. no_driver) ds))
-    (averaged : IsAveraged (length triggers) first (map any_front ds) (stations_by (λ p. no_driver) ds)) (at : slice_get ds k ≡ Some d)
-    (under : slice_get ds base ≡ Some e)
-    (over : base_of (any_front d).kind ≡ Some base) where
-  apart : base ≡ k → ⊥
-  apart q = apart_base drive context triggers ds clock first k base d e averaged at under over (sym q)
-
-  abbrev own : Station
-  own = any_station drive d
-
-  abbrev b_own : Station
-  b_own = any_station drive e
-
-  mean_over : IsMean (any_front d).kind base
-  mean_over = mean_of (any_front d).kind base over
+  abbrev AreAveraged : List (AnyDevice X V) → Type 0
+  AreAveraged xs = IsAveraged (length triggers) bench.first_average (map any_front xs) (stations_by (λ p. no_driver) xs)
 
   -- the base is where it was, beside a change of the averaging device
   pub base_there : (d' : AnyDevice X V) → slice_get (set ds k d') base ≡ Some e
-  base_there d' = get_there ds k base d' e apart under
-
-  pub base_same_by : (d' x : AnyDevice X V) → slice_get (set ds k d') base ≡ Some x → x ≡ e
-  base_same_by d' x there = same_element ds base x e (got_there ds k base d' x apart there) under
+  base_there d' = get_there ds k base d' e (base_apart p.mean) p.under
 
   -- and so is the averaging device, beside a change of its base
-  pub mean_there : (d' e' : AnyDevice X V) → slice_get (set (set ds k d') base e') k ≡ Some d'
-  mean_there d' e' = get_there (set ds k d') base k e' d' (λ q. apart (sym q)) (get_here ds k d d' at)
+  mean_there : (d' e' : AnyDevice X V) → slice_get (set (set ds k d') base e') k ≡ Some d'
+  mean_there d' e' = get_there (set ds k d') base k e' d' apart_base (get_here ds k d d' p.mean.at)
+
+  -- where it is read again
+  pub mean_once : (d' x : AnyDevice X V) → k < length (map any_front ds) → x ≡ get_or (set ds k d') k x → x ≡ d'
+  mean_once d' x known read =
+      same_element (set ds k d') k x d' (element_at any_front (set ds k d') k x (within_set ds k k d' (within_map any_front ds k known)) read)
+      (get_here ds k d d' p.mean.at)
+
+  pub read_again : (d' e' x : AnyDevice X V) → k < length (map any_front ds) → x ≡ get_or (set (set ds k d') base e') k x
+      → slice_get (set (set ds k d') base e') k ≡ Some x
+  read_again d' e' x known read =
+      element_at any_front (set (set ds k d') base e') k x
+      (within_set (set ds k d') base k e' (within_map any_front (set ds k d') k (within_set ds k k d' (within_map any_front ds k known)))) read
+
+  pub mean_again : (d' e' x : AnyDevice X V) → k < length (map any_front ds) → x ≡ get_or (set (set ds k d') base e') k x → x ≡ d'
+  mean_again d' e' x known read = same_element (set (set ds k d') base e') k x d' (read_again d' e' x known read) (mean_there d' e')
 
   seen : (d' e' : AnyDevice X V) → stations_by drive (set (set ds k d') base e')
       ≡ set (set (stations_by drive ds) k (any_station drive d')) base (any_station drive e')
@@ -473,7 +551,14 @@ module _ {X : Type 0} {V : X → Type 0} (drive : Plug X V → Driver) (context 
       ∙ ap (λ (sts : List Station). set sts base (any_station drive e')) (map-set (any_station drive) ds k d')
 
   heads : (d' e' : AnyDevice X V) → KeepsHead d d' → KeepsHead e e' → map any_front (set (set ds k d') base e') ≡ map any_front ds
-  heads d' e' keeps keeps' = map_same any_front (set ds k d') base e e' (base_there d') keeps'.front ∙ map_same any_front ds k d d' at keeps.front
+  heads d' e' keeps keeps' = map_same any_front (set ds k d') base e e' (base_there d') keeps'.front ∙ map_same any_front ds k d d' p.mean.at keeps.front
+
+  -- each has its place for its number
+  numbered_mean : (d' : AnyDevice X V) → KeepsHead d d' → IsNumbered number_by (set ds k d')
+  numbered_mean d' keeps = numbered_after number_by ds k d d' bench.numbered p.mean.at keeps.number
+
+  numbered_both : (d' e' : AnyDevice X V) → KeepsHead d d' → KeepsHead e e' → IsNumbered number_by (set (set ds k d') base e')
+  numbered_both d' e' keeps keeps' = numbered_after number_by (set ds k d') base e e' (numbered_mean d' keeps) (base_there d') keeps'.number
 
   -- where the base is as it was
   alone : (d' : AnyDevice X V) → set (set ds k d') base e ≡ set ds k d'
@@ -483,94 +568,96 @@ module _ {X : Type 0} {V : X → Type 0} (drive : Plug X V → Driver) (context 
   bench_mean : (d' : AnyDevice X V) → KeepsHead d d' → IsBench triggers states (stations_by drive (set ds k d'))
   bench_mean d' keeps =
       bench_by (any_station drive) triggers states ds k d'
-      (bench_unattached triggers states (stations_by drive ds) k (any_station drive d) (any_station drive d') (sound_any drive triggers states ds sound)
-      (map_at (any_station drive) ds k d at) (mean_off drive base d over)
-      (mean_off drive base d' (ap (λ (h : DeviceHead). base_of h.kind) keeps.front ∙ over)))
+      (bench_unattached triggers states (stations_by drive ds) k (any_station drive d) (any_station drive d') (sound_any drive triggers states ds bench.sound)
+      here (mean_off drive base d p.mean.over)
+      (mean_off drive base d' (ap (λ (h : DeviceHead). base_of h.kind) keeps.front ∙ p.mean.over)))
 
-  pub sound_further : (d' : AnyDevice X V) → KeepsHead d d' → IsBench triggers states (stations_by (λ p. no_driver) (set ds k d'))
-  sound_further d' keeps = sound_as drive (λ p. no_driver) triggers states (set ds k d') (bench_mean d' keeps)
+  sound_mean : (d' : AnyDevice X V) → KeepsHead d d' → Stand states (set ds k d')
+  sound_mean d' keeps = sound_as drive (λ p. no_driver) triggers states (set ds k d') (bench_mean d' keeps)
 
-  base_hosted : is_hosted (length triggers) b_own ≡ true
-  base_hosted =
-      hosted_at drive (length triggers) first ds averaged base e under
-      (ap is_average (input_base drive context triggers ds clock first k base d e averaged at under over))
+  base_hosted : is_hosted (length triggers) b ≡ true
+  base_hosted = hosted_at drive (length triggers) bench.first_average ds bench.averaged base e p.under (ap is_average input_base)
 
   -- what averaging devices have of their bases, after both have changed
-  pub averaged_both : (d' e' : AnyDevice X V) → KeepsHead d d' → KeepsHead e e' → is_hosted (length triggers) (any_station drive e') ≡ true
-      → HasInner k (any_station drive e') (any_station drive d') → (any_station drive e').site.plugged ≡ b_own.site.plugged
-      → (any_station drive e').captures ≡ b_own.captures
-      → ((i : ℕ) → (i ≡ k → ⊥) → has_inner i (any_station drive e') ≡ has_inner i b_own)
-      → IsAveraged (length triggers) first (map any_front (set (set ds k d') base e')) (stations_by (λ p. no_driver) (set (set ds k d') base e'))
+  averaged_both : (d' e' : AnyDevice X V) → KeepsHead d d' → KeepsHead e e' → is_hosted (length triggers) (any_station drive e') ≡ true
+      → HasInner k (any_station drive e') (any_station drive d') → (any_station drive e').site.plugged ≡ b.site.plugged
+      → (any_station drive e').captures ≡ b.captures
+      → ((i : ℕ) → (i ≡ k → ⊥) → has_inner i (any_station drive e') ≡ has_inner i b)
+      → AreAveraged (set (set ds k d') base e')
   averaged_both d' e' keeps keeps' hosted has plugged captures others =
-      subst (λ (hs : List DeviceHead). IsAveraged (length triggers) first hs (stations_by (λ p. no_driver) (set (set ds k d') base e')))
+      subst (λ (hs : List DeviceHead). IsAveraged (length triggers) bench.first_average hs (stations_by (λ p. no_driver) (set (set ds k d') base e')))
       (sym (heads d' e' keeps keeps'))
-      (averaged_as drive (λ p. no_driver) (length triggers) first (map any_front ds) (set (set ds k d') base e')
-      (subst (λ (sts : List Station). IsAveraged (length triggers) first (map any_front ds) sts) (sym (seen d' e'))
-      (averaged_pair (length triggers) first (map any_front ds) (stations_by drive ds) k base mean_over.window own (any_station drive d')
-      b_own (any_station drive e')
-      (averaged_as (λ p. no_driver) drive (length triggers) first (map any_front ds) ds averaged) (kind_there ds k d at ∙ mean_over.is)
-      (map_at (any_station drive) ds k d at) (map_at (any_station drive) ds base e under) hosted has plugged captures others)))
+      (averaged_as drive (λ p. no_driver) (length triggers) bench.first_average (map any_front ds) (set (set ds k d') base e')
+      (subst (λ (sts : List Station). IsAveraged (length triggers) bench.first_average (map any_front ds) sts) (sym (seen d' e'))
+      (averaged_pair (length triggers) bench.first_average (map any_front ds) (stations_by drive ds) k base mean.window st (any_station drive d')
+      b (any_station drive e')
+      (averaged_as (λ p. no_driver) drive (length triggers) bench.first_average (map any_front ds) ds bench.averaged) (kind_there ds k d p.mean.at ∙ mean.is)
+      here below hosted has plugged captures others)))
 
   -- after the averaging device alone has
-  pub averaged_alone : (d' : AnyDevice X V) → KeepsHead d d' → HasInner k b_own (any_station drive d')
-      → IsAveraged (length triggers) first (map any_front (set ds k d')) (stations_by (λ p. no_driver) (set ds k d'))
+  averaged_alone : (d' : AnyDevice X V) → KeepsHead d d' → HasInner k b (any_station drive d') → AreAveraged (set ds k d')
   averaged_alone d' keeps has =
-      subst (λ (xs : List (AnyDevice X V)). IsAveraged (length triggers) first (map any_front xs) (stations_by (λ p. no_driver) xs)) (alone d')
+      subst (λ (xs : List (AnyDevice X V)). AreAveraged xs) (alone d')
       (averaged_both d' e keeps (record { front = refl; number = refl }) base_hosted has refl refl (λ i other. refl))
 
-  abbrev had : HasInner k b_own own
-  had = own_inner drive context triggers ds clock first k base d e averaged at under over
+  holds_alone : (d' : AnyDevice X V) → KeepsHead d d' → HasInner k b (any_station drive d') → Holds bench states (set ds k d')
+  holds_alone d' keeps has = record { sound = sound_mean d' keeps; numbered = numbered_mean d' keeps; averaged = averaged_alone d' keeps has }
+
+  pub holds_same : (d' : AnyDevice X V) → KeepsHead d d' → any_station drive d' ≡ st → Holds bench states (set ds k d')
+  holds_same d' keeps same = holds_alone d' keeps (subst (λ (x : Station). HasInner k b x) (sym same) own_inner)
 
   -- a further member, or none
-  pub averaged_further : (mask : Mask) (capacity : ℕ) (d' : AnyDevice X V) (shape : ShapeRecord) (r : Result Seat No) → KeepsHead d d'
-      → is_empty own.members ≡ false
-      → JoinsMean mask capacity shape r own (any_station drive d')
-      → IsAveraged (length triggers) first (map any_front (set ds k d')) (stations_by (λ p. no_driver) (set ds k d'))
-  averaged_further mask capacity d' shape (Ok seat) keeps some j =
-      averaged_alone d' keeps (has_further k mask.bits capacity own b_own (any_station drive d') had some j.1)
-  averaged_further mask capacity d' shape (Err refusal) keeps some j = averaged_alone d' keeps (subst (λ (x : Station). HasInner k b_own x) (sym j.1) had)
+  pub holds_further : (mask : Mask) (capacity : ℕ) (d' : AnyDevice X V) (shape : ShapeRecord) (r : Result Seat No) → KeepsHead d d'
+      → is_empty st.members ≡ false → JoinsMean mask capacity shape r st (any_station drive d') → Holds bench states (set ds k d')
+  holds_further mask capacity d' shape (Ok seat) keeps some j =
+      holds_alone d' keeps (has_further k mask.bits capacity st b (any_station drive d') own_inner some j.1)
+  holds_further mask capacity d' shape (Err refusal) keeps some j = holds_same d' keeps j.1
 
-  pub averaged_same : (d' : AnyDevice X V) → KeepsHead d d' → any_station drive d' ≡ own
-      → IsAveraged (length triggers) first (map any_front (set ds k d')) (stations_by (λ p. no_driver) (set ds k d'))
-  averaged_same d' keeps same = averaged_alone d' keeps (subst (λ (x : Station). HasInner k b_own x) (sym same) had)
+  -- ---- both change, the base by its trigger
 
-  -- ---- the first member
+  at_base : (d' : AnyDevice X V) → slice_get (stations_by drive (set ds k d')) base ≡ Some b
+  at_base d' = map_at (any_station drive) (set ds k d') base e (base_there d')
 
-  module _ (t : ℕ) (s : State) (there : slice_get states t ≡ Some s) (on : b_own.site.trigger ≡ Some t) (within : t < length states) where
-    inside : t < length triggers
-    inside = subst (λ (n : ℕ). t < n) (as_many triggers states sound.places) within
+  sound_both : (t : ℕ) (d' e' : AnyDevice X V) (s' : State)
+      → IsBench triggers (set states t s') (set (stations_by drive (set ds k d')) base (any_station drive e'))
+      → Stand (set states t s') (set (set ds k d') base e')
+  sound_both t d' e' s' stands =
+      sound_as drive (λ p. no_driver) triggers (set states t s') (set (set ds k d') base e')
+      (bench_by (any_station drive) triggers (set states t s') (set ds k d') base e' stands)
 
-    at_base : (d' : AnyDevice X V) → slice_get (stations_by drive (set ds k d')) base ≡ Some b_own
-    at_base d' = map_at (any_station drive) (set ds k d') base e (base_there d')
+  -- the first member, where the base hosts the inner one by trigger t
+  module _ (full : Mask) (t : ℕ) (hosts : HostsTold full.bits (Ok t)) (s : State) (read : s ≡ get_or states t s) where
+    on_base : b.site.trigger ≡ Some t
+    on_base = (hosts_here full.bits (Ok t) hosts).0
 
-    -- both have changed, the base by its trigger
-    sound_both : (d' e' : AnyDevice X V) (s' : State) → IsBench triggers (set states t s') (set (stations_by drive (set ds k d')) base (any_station drive e'))
-        → IsBench triggers (set states t s') (stations_by (λ p. no_driver) (set (set ds k d') base e'))
-    sound_both d' e' s' bench =
-        sound_as drive (λ p. no_driver) triggers (set states t s') (set (set ds k d') base e')
-        (bench_by (any_station drive) triggers (set states t s') (set ds k d') base e' bench)
+    trigger_there : slice_get states t ≡ Some s
+    trigger_there = slice_get_read states (length states) t s refl hosts.1 read
 
-    pub sound_first : (mask : Mask) (shape : ShapeRecord) (d' e' : AnyDevice X V) (s' : State) (r : Result Seat No) → KeepsHead d d'
-        → JoinsAny mask 1 false (Some k) base shape r b_own (any_station drive e') s s'
-        → IsBench triggers (set states t s') (stations_by (λ p. no_driver) (set (set ds k d') base e'))
-    sound_first mask shape d' e' s' r keeps j =
-        sound_both d' e' s'
-        (bench_joined triggers states (stations_by drive (set ds k d')) base t b_own (any_station drive e') s s' (bench_mean d' keeps)
-        (at_base d') there on within mask 1 false (Some k) shape r j)
+    sound_first : (d' e' : AnyDevice X V) (s' : State) → KeepsHead d d' → any_station drive e' ≡ joined full.bits 1 false (Some k) b
+        → s' ≡ place_taken (number_by e) b s → Stand (set states t s') (set (set ds k d') base e')
+    sound_first d' e' s' keeps joins taken =
+        sound_both t d' e' s'
+        (bench_joined triggers states (stations_by drive (set ds k d')) base t b (any_station drive e') s s' (bench_mean d' keeps)
+        (at_base d') trigger_there on_base hosts.1 full 1 false (Some k) (any_front e).shape
+        (Ok (record { number = b.next; mask = full; size = scan_size (any_front e).shape full.bits; capacity = 1 }))
+        (refl, joins, subst (λ (n : ℕ). s' ≡ place_taken n b s) (bench.numbered base e p.under) taken))
 
-    pub averaged_first : (shape : ShapeRecord) (mask : Mask) (capacity : ℕ) (d' e' : AnyDevice X V) → KeepsHead d d' → KeepsHead e e'
-        → any_station drive d' ≡ joined mask.bits capacity false None own
-        → any_station drive e' ≡ joined (full_mask shape) 1 false (Some k) b_own
-        → IsAveraged (length triggers) first (map any_front (set (set ds k d') base e')) (stations_by (λ p. no_driver) (set (set ds k d') base e'))
-    averaged_first shape mask capacity d' e' keeps keeps' is inner =
+    averaged_first : (mask : Mask) (capacity : ℕ) (d' e' : AnyDevice X V) → KeepsHead d d' → KeepsHead e e'
+        → full.bits ≡ full_mask (shape_at front base)
+        → any_station drive d' ≡ joined mask.bits capacity false None st
+        → any_station drive e' ≡ joined full.bits 1 false (Some k) b
+        → AreAveraged (set (set ds k d') base e')
+    averaged_first mask capacity d' e' keeps keeps' whole is joins =
         averaged_both d' e' keeps keeps'
         (hosted_is t (length triggers) (any_station drive e')
-        (ap (λ (x : Station). x.site.trigger) inner ∙ attached_trigger (is_empty b_own.members) b_own.site ∙ on) inside)
-        (has_first k mask.bits capacity shape own b_own (any_station drive d') (any_station drive e') had is inner)
-        (ap (λ (x : Station). x.site.plugged) inner ∙ attached_plugged (is_empty b_own.members) b_own.site)
-        (ap (λ (x : Station). x.captures) inner)
-        (λ i other. ap (λ (x : Station). has_inner i x) inner
-        ∙ inner_more i b_own.members (newcomer (full_mask shape) 1 false (Some k) b_own) (none_of i other))
+        (ap (λ (x : Station). x.site.trigger) joins ∙ attached_trigger (is_empty b.members) b.site ∙ on_base)
+        (subst (λ (n : ℕ). t < n) (as_many triggers states bench.sound.places) hosts.1))
+        (has_first k mask.bits capacity (any_front e).shape st b (any_station drive d') (any_station drive e') own_inner is
+        (joins ∙ ap (λ (m : ℕ). joined m 1 false (Some k) b) (whole ∙ ap full_mask shape_base)))
+        (ap (λ (x : Station). x.site.plugged) joins ∙ attached_plugged (is_empty b.members) b.site)
+        (ap (λ (x : Station). x.captures) joins)
+        (λ i other. ap (λ (x : Station). has_inner i x) joins
+        ∙ inner_more i b.members (newcomer full.bits 1 false (Some k) b) (none_of i other))
       where
         none_of : (i : ℕ) → (i ≡ k → ⊥) → (k == i) ≡ false
         none_of i other = by (k == i) refl
@@ -579,99 +666,155 @@ module _ {X : Type 0} {V : X → Type 0} (drive : Plug X V → Driver) (context 
             by true q = absurd (other (sym (same_number k i q)))
             by false q = refl
 
-    -- where the inner member takes no memory, all is as before
-    module _ (d' e' d'' : AnyDevice X V) (s' : State) (keeps : KeepsHead d d') (keeps' : KeepsHead e e') (again : KeepsHead d' d'')
-        (same : any_station drive e' ≡ b_own) (undone : any_station drive d'' ≡ own) (still : s' ≡ s) where
+    pub holds_first : (mask : Mask) (capacity : ℕ) (d' e' : AnyDevice X V) (s' : State) → KeepsHead d d' → KeepsHead e e'
+        → full.bits ≡ full_mask (shape_at front base)
+        → any_station drive d' ≡ joined mask.bits capacity false None st
+        → any_station drive e' ≡ joined full.bits 1 false (Some k) b
+        → s' ≡ place_taken (number_by e) b s
+        → Holds bench (set states t s') (set (set ds k d') base e')
+    holds_first mask capacity d' e' s' keeps keeps' whole is joins taken = record {
+      sound = sound_first d' e' s' keeps joins taken;
+      numbered = numbered_both d' e' keeps keeps';
+      averaged = averaged_first mask capacity d' e' keeps keeps' whole is joins;
+    }
+
+    -- where the inner member takes no memory, the first one's joining is undone at device x, which is it, and all is as before
+    module _ (mask : Mask) (capacity : ℕ) (seat : Seat) (d' e' x d'' : AnyDevice X V) (s' : State) (known : k < length (map any_front ds))
+        (again : x ≡ get_or (set (set ds k d') base e') k x)
+        (keeps : KeepsHead d d') (keeps' : KeepsHead e e') (keeps'' : KeepsHead x d'')
+        (joins : JoinsMean mask capacity (any_front d).shape (Ok seat) st (any_station drive d')) (same : any_station drive e' ≡ b)
+        (undoes : (before : Station) → any_station drive x ≡ joined seat.mask.bits seat.capacity false None before → any_station drive d'' ≡ before)
+        (still : s' ≡ s) where
       abbrev undone_devices : List (AnyDevice X V)
       undone_devices = set (set (set ds k d') base e') k d''
+
+      undone : any_station drive d'' ≡ st
+      undone =
+          undoes st
+          (ap (λ (y : AnyDevice X V). any_station drive y) (mean_again d' e' x known again)
+          ∙ joined_by_seat mask capacity (any_front d).shape seat st (any_station drive d') joins)
 
       stations_undone : stations_by drive undone_devices ≡ stations_by drive ds
       stations_undone =
           map-set (any_station drive) (set (set ds k d') base e') k d''
           ∙ ap (λ (x : Station). set (stations_by drive (set (set ds k d') base e')) k x) undone
-          ∙ ap (λ (sts : List Station). set sts k own)
+          ∙ ap (λ (sts : List Station). set sts k st)
           (seen d' e' ∙ ap (λ (x : Station). set (set (stations_by drive ds) k (any_station drive d')) base x) same
-          ∙ set_same (set (stations_by drive ds) k (any_station drive d')) base b_own
-          (get_there (stations_by drive ds) k base (any_station drive d') b_own apart (map_at (any_station drive) ds base e under)))
-          ∙ set_twice (stations_by drive ds) k (any_station drive d') own
-          ∙ set_same (stations_by drive ds) k own (map_at (any_station drive) ds k d at)
+          ∙ set_same (set (stations_by drive ds) k (any_station drive d')) base b
+          (get_there (stations_by drive ds) k base (any_station drive d') b (base_apart p.mean) below))
+          ∙ set_twice (stations_by drive ds) k (any_station drive d') st
+          ∙ set_same (stations_by drive ds) k st here
+
+      keeps_mean : KeepsHead d' d''
+      keeps_mean = subst (λ (y : AnyDevice X V). KeepsHead y d'') (mean_again d' e' x known again) keeps''
 
       heads_undone : map any_front undone_devices ≡ map any_front ds
-      heads_undone = map_same any_front (set (set ds k d') base e') k d' d'' (mean_there d' e') again.front ∙ heads d' e' keeps keeps'
+      heads_undone = map_same any_front (set (set ds k d') base e') k d' d'' (mean_there d' e') keeps_mean.front ∙ heads d' e' keeps keeps'
 
-      pub told_undone : machine_by (any_station drive) clock undone_devices ≡ machine_by (any_station drive) clock ds
-      told_undone = ap (λ (sts : List Station). (let m : Machine = record { clock = clock; stations = sts } in m)) stations_undone
+      pub told_undone : told_by undone_devices ≡ machine
+      told_undone = ap at_stations stations_undone
 
-      pub sound_undone : IsBench triggers (set states t s') (stations_by (λ p. no_driver) undone_devices)
-      sound_undone =
-          sound_as drive (λ p. no_driver) triggers (set states t s') undone_devices
-          (subst (λ (sts : List Station). IsBench triggers (set states t s') sts) (sym stations_undone)
-          (subst (λ (xs : List State). IsBench triggers xs (stations_by drive ds))
-          (sym (ap (λ (x : State). set states t x) still ∙ set_same states t s there)) (sound_any drive triggers states ds sound)))
+      pub holds_undone : Holds bench (set states t s') undone_devices
+      holds_undone = record {
+        sound =
+            sound_as drive (λ p. no_driver) triggers (set states t s') undone_devices
+            (subst (λ (sts : List Station). IsBench triggers (set states t s') sts) (sym stations_undone)
+            (subst (λ (xs : List State). IsBench triggers xs (stations_by drive ds))
+            (sym (ap (λ (x : State). set states t x) still ∙ set_same states t s trigger_there)) (sound_any drive triggers states ds bench.sound)));
+        numbered =
+            numbered_after number_by (set (set ds k d') base e') k d' d'' (numbered_both d' e' keeps keeps') (mean_there d' e') keeps_mean.number;
+        averaged =
+            subst (λ (hs : List DeviceHead). IsAveraged (length triggers) bench.first_average hs (stations_by (λ p. no_driver) undone_devices))
+            (sym heads_undone)
+            (averaged_as drive (λ p. no_driver) (length triggers) bench.first_average (map any_front ds) undone_devices
+            (subst (λ (sts : List Station). IsAveraged (length triggers) bench.first_average (map any_front ds) sts) (sym stations_undone)
+            (averaged_as (λ p. no_driver) drive (length triggers) bench.first_average (map any_front ds) ds bench.averaged)));
+      }
 
-      pub averaged_undone : IsAveraged (length triggers) first (map any_front undone_devices) (stations_by (λ p. no_driver) undone_devices)
-      averaged_undone =
-          subst (λ (hs : List DeviceHead). IsAveraged (length triggers) first hs (stations_by (λ p. no_driver) undone_devices)) (sym heads_undone)
-          (averaged_as drive (λ p. no_driver) (length triggers) first (map any_front ds) undone_devices
-          (subst (λ (sts : List Station). IsAveraged (length triggers) first (map any_front ds) sts) (sym stations_undone)
-          (averaged_as (λ p. no_driver) drive (length triggers) first (map any_front ds) ds averaged)))
+  -- ---- one leaves
 
-    -- ---- the last member
+  -- whether one is left, as it is asked of device x, which is the averaging device
+  pub asked_left : (n : ℕ) (d' x : AnyDevice X V) (has c : Bool) → k < length (map any_front ds) → x ≡ get_or (set ds k d') k x
+      → has ≡ not (is_empty (any_station drive x).members) → any_station drive d' ≡ left n st → has ≡ c → is_empty (left n st).members ≡ not c
+  asked_left n d' x has c known read asked is answer =
+      by (is_empty (left n st).members) c
+      (sym answer ∙ asked ∙ ap (λ (y : AnyDevice X V). not (is_empty (any_station drive y).members)) (mean_once d' x known read)
+      ∙ ap (λ (y : Station). not (is_empty y.members)) is)
+    where
+      by : (a c : Bool) → c ≡ not a → a ≡ not c
+      by true c q = ap not (sym q)
+      by false c q = ap not (sym q)
 
-    pub sound_gone : (d' e' : AnyDevice X V) (s' : State) → KeepsHead d d' → any_station drive e' ≡ inner_gone k b_own
-        → s' ≡ place_left base b_own (any_station drive e') s
-        → IsBench triggers (set states t s') (stations_by (λ p. no_driver) (set (set ds k d') base e'))
-    sound_gone d' e' s' keeps gone after =
-        sound_both d' e' s'
-        (bench_gone triggers states (stations_by drive (set ds k d')) base t b_own (any_station drive e') s s' (bench_mean d' keeps)
-        (at_base d') there on within k gone after)
+  -- the base keeps its inner member where there is a member still
+  inner_needed : (n : ℕ) → is_empty (left n st).members ≡ false → b ≡ cond (is_empty (left n st).members) (inner_gone k b) b
+  inner_needed n some = sym (ap (λ (c : Bool). cond c (inner_gone k b) b) some)
 
-  -- one leaves, and the last one takes the inner member with it
-  pub averaged_gone : (n : ℕ) (d' e' : AnyDevice X V) → KeepsHead d d' → KeepsHead e e' → is_hosted (length triggers) (any_station drive e') ≡ true
-      → any_station drive d' ≡ left n own → is_empty (left n own).members ≡ true → any_station drive e' ≡ inner_gone k b_own
-      → IsAveraged (length triggers) first (map any_front (set (set ds k d') base e')) (stations_by (λ p. no_driver) (set (set ds k d') base e'))
-  averaged_gone n d' e' keeps keeps' hosted is none gone =
-      averaged_both d' e' keeps keeps' hosted
-      (has_left k n own b_own (any_station drive d') (any_station drive e') had is
-      (gone ∙ sym (ap (λ (c : Bool). cond c (inner_gone k b_own) b_own) none)))
-      (ap (λ (x : Station). x.site.plugged) gone) (ap (λ (x : Station). x.captures) gone)
-      (λ i other. ap (λ (x : Station). has_inner i x) gone ∙ inner_stays k i b_own.members other)
-
-  pub averaged_left : (n : ℕ) (d' : AnyDevice X V) → KeepsHead d d' → any_station drive d' ≡ left n own
-      → b_own ≡ cond (is_empty (left n own).members) (inner_gone k b_own) b_own
-      → IsAveraged (length triggers) first (map any_front (set ds k d')) (stations_by (λ p. no_driver) (set ds k d'))
-  averaged_left n d' keeps is same = averaged_alone d' keeps (has_left k n own b_own (any_station drive d') b_own had is same)
+  -- and has none where it is on no trigger that is there
+  inner_none : (n : ℕ) (trigger : Option ℕ) → b.site.trigger ≡ trigger → has_trigger (length states) trigger ≡ false
+      → b ≡ cond (is_empty (left n st).members) (inner_gone k b) b
+  inner_none n trigger on none = by (is_empty (left n st).members)
+    where
+      by : (c : Bool) → b ≡ cond c (inner_gone k b) b
+      by true =
+          sym (gone_none k b (hosted_none (length triggers) b trigger on
+          (subst (λ (m : ℕ). has_trigger m trigger ≡ false) (as_many triggers states bench.sound.places) none) base_hosted))
+      by false = refl
 
   -- what is told then
-  pub told_gone : (n : ℕ) (d' e' : AnyDevice X V) → any_station drive d' ≡ left n own
-      → any_station drive e' ≡ cond (is_empty (left n own).members) (inner_gone k b_own) b_own
-      → Some (machine_by (any_station drive) clock (set (set ds k d') base e'))
-      ≡ Some (closed (fronts_by any_front context triggers ds) (machine_by (any_station drive) clock ds) k n)
-  told_gone n d' e' is gone =
+  told_both : (n : ℕ) (d' e' : AnyDevice X V) → any_station drive d' ≡ left n st
+      → any_station drive e' ≡ cond (is_empty (left n st).members) (inner_gone k b) b
+      → Some (told_by (set (set ds k d') base e')) ≡ Some (closed front machine k n)
+  told_both n d' e' is gone =
       ap (λ (m : Machine). Some m)
-      (ap (λ (sts : List Station). (let m : Machine = record { clock = clock; stations = sts } in m)) (seen d' e')
-      ∙ mean_closed (fronts_by any_front context triggers ds) k base mean_over.window
-      (kind_is any_front context triggers ds k d at ∙ mean_over.is)
-      (kind_is any_front context triggers ds base e under ∙ input_base drive context triggers ds clock first k base d e averaged at under over)
-      (λ q. apart (sym q)) (machine_by (any_station drive) clock ds) own b_own (any_station drive d') (any_station drive e')
-      (map_at (any_station drive) ds k d at) (map_at (any_station drive) ds base e under) n is gone)
+      (ap at_stations (seen d' e')
+      ∙ mean_closed front k base mean.window kind_here kind_base apart_base machine st b (any_station drive d') (any_station drive e')
+      here below n is gone)
 
-  pub told_left : (n : ℕ) (d' : AnyDevice X V) → any_station drive d' ≡ left n own
-      → b_own ≡ cond (is_empty (left n own).members) (inner_gone k b_own) b_own
-      → Some (machine_by (any_station drive) clock (set ds k d'))
-      ≡ Some (closed (fronts_by any_front context triggers ds) (machine_by (any_station drive) clock ds) k n)
-  told_left n d' is same =
-      ap (λ (xs : List (AnyDevice X V)). Some (machine_by (any_station drive) clock xs)) (sym (alone d')) ∙ told_gone n d' e is same
+  -- one leaves, and the base stays as it is
+  module _ (n : ℕ) (d' : AnyDevice X V) (is : any_station drive d' ≡ left n st) where
+    holds_beside : KeepsHead d d' → b ≡ cond (is_empty (left n st).members) (inner_gone k b) b → Holds bench states (set ds k d')
+    holds_beside keeps same = holds_alone d' keeps (has_left k n st b (any_station drive d') b own_inner is same)
 
-  -- where there is a member still
-  pub same_some : (n : ℕ) → is_empty (left n own).members ≡ false → b_own ≡ cond (is_empty (left n own).members) (inner_gone k b_own) b_own
-  same_some n some = sym (ap (λ (c : Bool). cond c (inner_gone k b_own) b_own) some)
+    told_beside : b ≡ cond (is_empty (left n st).members) (inner_gone k b) b → Some (told_by (set ds k d')) ≡ Some (closed front machine k n)
+    told_beside same = ap (λ (xs : List (AnyDevice X V)). Some (told_by xs)) (sym (alone d')) ∙ told_both n d' e is same
 
-  -- and where the base is on no trigger that is there
-  pub same_off : (n : ℕ) (trigger : Option ℕ) → b_own.site.trigger ≡ trigger → has_trigger (length triggers) trigger ≡ false
-      → b_own ≡ cond (is_empty (left n own).members) (inner_gone k b_own) b_own
-  same_off n trigger e none = by (is_empty (left n own).members)
-    where
-      by : (c : Bool) → b_own ≡ cond c (inner_gone k b_own) b_own
-      by true = sym (gone_none k b_own (hosted_none (length triggers) b_own trigger e none base_hosted))
-      by false = refl
+    pub holds_left : KeepsHead d d' → is_empty (left n st).members ≡ false → Holds bench states (set ds k d')
+    holds_left keeps some = holds_beside keeps (inner_needed n some)
+
+    pub told_left : is_empty (left n st).members ≡ false → Some (told_by (set ds k d')) ≡ Some (closed front machine k n)
+    told_left some = told_beside (inner_needed n some)
+
+    pub holds_off : KeepsHead d d' → (trigger : Option ℕ) → b.site.trigger ≡ trigger → has_trigger (length states) trigger ≡ false
+        → Holds bench states (set ds k d')
+    holds_off keeps trigger on none = holds_beside keeps (inner_none n trigger on none)
+
+    pub told_off : (trigger : Option ℕ) → b.site.trigger ≡ trigger → has_trigger (length states) trigger ≡ false
+        → Some (told_by (set ds k d')) ≡ Some (closed front machine k n)
+    told_off trigger on none = told_beside (inner_none n trigger on none)
+
+    -- the last one takes the inner member with it, by trigger t
+    module _ (e' : AnyDevice X V) (none : is_empty (left n st).members ≡ true) (gone : any_station drive e' ≡ inner_gone k b) where
+      whole : any_station drive e' ≡ cond (is_empty (left n st).members) (inner_gone k b) b
+      whole = gone ∙ sym (ap (λ (c : Bool). cond c (inner_gone k b) b) none)
+
+      pub told_gone : Some (told_by (set (set ds k d') base e')) ≡ Some (closed front machine k n)
+      told_gone = told_both n d' e' is whole
+
+      pub holds_gone : (t : ℕ) (s s' : State) → slice_get states t ≡ Some s → b.site.trigger ≡ Some t → t < length states
+          → KeepsHead d d' → KeepsHead e e' → s' ≡ place_left (number_by e) b (any_station drive e') s
+          → Holds bench (set states t s') (set (set ds k d') base e')
+      holds_gone t s s' there on within keeps keeps' after = record {
+        sound =
+            sound_both t d' e' s'
+            (bench_gone triggers states (stations_by drive (set ds k d')) base t b (any_station drive e') s s' (bench_mean d' keeps)
+            (at_base d') there on within k gone
+            (subst (λ (number : ℕ). s' ≡ place_left number b (any_station drive e') s) (bench.numbered base e p.under) after));
+        numbered = numbered_both d' e' keeps keeps';
+        averaged =
+            averaged_both d' e' keeps keeps'
+            (hosted_is t (length triggers) (any_station drive e') (ap (λ (x : Station). x.site.trigger) gone ∙ on)
+            (subst (λ (m : ℕ). t < m) (as_many triggers states bench.sound.places) within))
+            (has_left k n st b (any_station drive d') (any_station drive e') own_inner is whole)
+            (ap (λ (x : Station). x.site.plugged) gone) (ap (λ (x : Station). x.captures) gone)
+            (λ i other. ap (λ (x : Station). has_inner i x) gone ∙ inner_stays k i b.members other);
+      }
