@@ -13,8 +13,9 @@ use Rattle.iio_layout.specs.declared.channel.Direction.{Direction}
 use Rattle.iio_layout.specs.declared.channel.Direction.TheVariants.{Input, Output}
 use Rattle.iio_desc.specs.PartialDesc.{device_by, devices_of, is_current_whole, output_by, outputs_of}
 use Rattle.iio_desc.specs.PartialDevice.{PartialDevice, device_of, output_of}
+use Rattle.iio_desc.specs.declared.desc_builder.DescBuilder.TheInside.{Inside}
 use Rattle.iio_desc.specs.declared.limits.TheConstants.{MAX_ROWS}
-use Rattle.iio_desc.specs.View.{FitsCurrent}
+use Rattle.iio_desc.specs.View.{FitsCurrent, IsSound}
 use Rattle.iio_desc.specs.WellFormed.{IsWellFormedAverage, IsWellFormedDevice, IsWellFormedOutput, IsWrite, share_driver}
 use Rattle.iio_desc.proofs.ListLemmas.{none_at}
 
@@ -147,3 +148,46 @@ pub averages_with : (devices others : List DeviceRecord) (averages : List Averag
     → All (IsWellFormedAverage (length (devices ++ others))) averages
 averages_with devices others averages sound =
     averages_over (length devices) (length (devices ++ others)) averages (omega (arith, length-append devices others)) sound
+
+-- ---- the device whose lines were being read, with the others
+
+-- the devices xs and the output devices ys are those before it and it, with n rows
+pub record Ended (b : Inside) (xs : List DeviceRecord) (ys : List OutputRecord) (n : ℕ) : Type 0 where
+  pub devices : xs ≡ b.devices.items ++ devices_of b.current
+  pub outputs : ys ≡ b.outputs.items ++ outputs_of b.current
+  pub sound : All (IsWellFormedDevice (length b.triggers.items) b.drivers) xs
+  pub formed : All (IsWellFormedOutput (length b.triggers.items)) ys
+  pub averages : All (IsWellFormedAverage (length xs)) b.averages.items
+  pub apart : AllPairs (λ v u. share_driver v u ≡ false) xs
+  pub earlier : b.earlier + n ≡ sum_by (λ (d : DeviceRecord). length d.rows.moments) xs
+  pub rows : b.earlier + n ≤ MAX_ROWS
+
+pub ended : (b : Inside) (before : Option PartialDevice) (ds xs : List DeviceRecord) (os ys : List OutputRecord) (n : ℕ) → IsSound b → before ≡ b.current
+    → ds ≡ b.devices.items → os ≡ b.outputs.items → is_current_whole b.current ≡ true → xs ≡ ds ++ devices_of before → ys ≡ os ++ outputs_of before
+    → All (λ (d : DeviceRecord). IsRecording d.rows) (devices_of before)
+    → All (λ (d : DeviceRecord). All (IsWrite (length d.shape.channels)) d.attrs) (devices_of before)
+    → n ≡ sum_by (λ (d : DeviceRecord). length d.rows.moments) (devices_of before)
+    → n ≤ option_map_or (λ (s : PartialDevice). length s.moments) before 0
+    → Ended b xs ys n
+ended b before ds xs os ys n inv current here there whole pushed pushed_outputs recording writes counted within =
+    let triggers : ℕ = length b.triggers.items in
+    let devices : List DeviceRecord = b.devices.items in
+    let outputs : List OutputRecord = b.outputs.items in
+    let all : xs ≡ devices ++ devices_of b.current =
+    pushed ∙ ap (λ (zs : List DeviceRecord). zs ++ devices_of before) here ∙ ap (λ (o : Option PartialDevice). devices ++ devices_of o) current in
+    let all_outputs : ys ≡ outputs ++ outputs_of b.current =
+    pushed_outputs ∙ ap (λ (zs : List OutputRecord). zs ++ outputs_of before) there ∙ ap (λ (o : Option PartialDevice). outputs ++ outputs_of o) current in
+    let within_here : n ≤ option_map_or (λ (s : PartialDevice). length s.moments) b.current 0 = rw current at within in
+    let counted_here : n ≡ sum_by (λ (d : DeviceRecord). length d.rows.moments) (devices_of b.current) = rw current at counted in
+    let most = rows_with triggers b.drivers b.earlier devices b.current inv.rows inv.current in
+    record {
+      devices = all;
+      outputs = all_outputs;
+      sound =
+          rw all (sound_with triggers b.drivers b.earlier devices b.current inv.sound inv.current whole (rw current at recording) (rw current at writes));
+      formed = rw all_outputs (outputs_with triggers b.drivers b.earlier devices b.current outputs inv.outputs inv.current whole);
+      averages = rw all (averages_with devices (devices_of b.current) b.averages.items inv.averages);
+      apart = rw all (apart_with triggers b.drivers b.earlier devices b.current inv.apart inv.current);
+      earlier = rw all (omega (arith, inv.earlier, counted_here, count_with devices b.current));
+      rows = omega (arith, within_here, most);
+    }

@@ -1,53 +1,39 @@
-use Rattle.std.proofs.Common.{◌≡◌, ℕ, ◌+◌, ◌<◌, ◌≤◌, List, ◌++◌, length, sum_by, Option, Some, true, arith, ap, ◌∙◌, length-append}
+use Rattle.std.proofs.Common.{◌≡◌, ◌+◌, ◌<◌, List, ◌++◌, length, Some, arith, ap, ◌∙◌, length-append}
 use Rattle.std.specs.Prelude.{IfSome}
-use Rattle.std.specs.Option.{option_map_or}
-use Rattle.iio_desc.specs.declared.limits.TheConstants.{MAX_DEVICES, MAX_ROWS}
+use Rattle.iio_desc.specs.declared.limits.TheConstants.{MAX_DEVICES}
 use Rattle.iio_desc.specs.Description.{DeviceRecord, OutputRecord}
-use Rattle.iio_desc.specs.PartialDesc.{devices_of, is_current_whole, outputs_of}
+use Rattle.iio_desc.specs.PartialDesc.{devices_of, outputs_of}
 use Rattle.iio_desc.specs.PartialDevice.{PartialDevice, new_device}
-use Rattle.iio_desc.proofs.DeviceLemmas.{apart_with, averages_with, count_with, one_of_kind, outputs_with, rows_with, sound_with}
+use Rattle.iio_desc.proofs.DeviceLemmas.{ended, one_of_kind}
 use Rattle.iio_desc.proofs.desc_builder.DescBuilder.begin_device.Goals as goal
 
 pub invariant_of-self-2 : goal.invariant_of-self-2
 invariant_of-self-2 c =
     let inside = c.self.inside in
     let inv = c.self.invariant in
-    let triggers : ℕ = length inside.triggers.items in
-    let devices : List DeviceRecord = inside.devices.items in
-    let outputs : List OutputRecord = inside.outputs.items in
-    let before : Option PartialDevice = inside.current in
-    let put_of : c.replace-before.result ≡ before = c.replace-before.ensures.value in
-    let pushed : c.put_before.new.devices.items ≡ devices ++ devices_of before =
-    c.put_before.ensures.devices ∙ ap (λ (ds : List DeviceRecord). ds ++ devices_of c.replace-before.result) c.in_ok-reserve.ensures.items
-    ∙ ap (λ (o : Option PartialDevice). devices ++ devices_of o) put_of in
-    let pushed_outputs : c.put_before.new.outputs.items ≡ outputs ++ outputs_of before =
-    c.put_before.ensures.outputs ∙ ap (λ (os : List OutputRecord). os ++ outputs_of c.replace-before.result) c.in_ok-reserve-2.ensures.items
-    ∙ ap (λ (o : Option PartialDevice). outputs ++ outputs_of o) put_of in
-    let whole : is_current_whole before ≡ true = rw (← c.self.view_is) at c.requires.whole in
-    let recording = rw put_of at c.put_before.ensures.recording in
-    let writes = rw put_of at c.put_before.ensures.writes in
-    let within : c.put_before.result ≤ option_map_or (λ (s : PartialDevice). length s.moments) before 0 = rw put_of at c.put_before.ensures.within in
-    let counted : c.put_before.result ≡ sum_by (λ (d : DeviceRecord). length d.rows.moments) (devices_of before) = rw put_of at c.put_before.ensures.rows in
-    let most = rows_with triggers inside.drivers inside.earlier devices before inv.rows inv.current in
-    let rows : inside.earlier + c.put_before.result ≤ MAX_ROWS = omega (arith, within, most) in
+    let e =
+    ended inside c.replace-before.result _ c.put_before.new.devices.items _ c.put_before.new.outputs.items c.put_before.result inv
+    c.replace-before.ensures.value c.in_ok-reserve.ensures.items c.in_ok-reserve-2.ensures.items (rw (← c.self.view_is) at c.requires.whole)
+    c.put_before.ensures.devices c.put_before.ensures.outputs c.put_before.ensures.recording c.put_before.ensures.writes c.put_before.ensures.rows
+    c.put_before.ensures.within in
+    let ds : List DeviceRecord = inside.devices.items ++ devices_of inside.current in
+    let os : List OutputRecord = inside.outputs.items ++ outputs_of inside.current in
     let begun : PartialDevice = new_device c.args.direction c.args.name c.args.trigger in
     let next : c.replace-before.new.dest ≡ Some begun = c.replace-before.ensures.after ∙ ap (λ (n : PartialDevice). Some n) c.new-next.ensures in
     let attached : IfSome c.args.trigger (λ n. n < length inside.triggers.items) = rw (← c.self.view_is) at c.requires.attached in
     let one : length (devices_of (Some begun)) + length (outputs_of (Some begun)) ≡ 1 = one_of_kind begun c.args.direction in
-    let ds : List DeviceRecord = devices ++ devices_of before in
-    let os : List OutputRecord = outputs ++ outputs_of before in
     let more = length-append ds (devices_of (Some begun)) in
     let more_outputs = length-append os (outputs_of (Some begun)) in
     let few : length ds + length os + length inside.averages.items < MAX_DEVICES = rw (← c.self.view_is) at c.requires.few in
     record {
       triggers = inv.triggers;
       places = inv.places;
-      devices = rw (pushed, pushed_outputs, next) (omega (arith, few, one, more, more_outputs));
-      sound = rw pushed (sound_with triggers inside.drivers inside.earlier devices before inv.sound inv.current whole recording writes);
-      outputs = rw pushed_outputs (outputs_with triggers inside.drivers inside.earlier devices before outputs inv.outputs inv.current whole);
-      averages = rw pushed (averages_with devices (devices_of before) inside.averages.items inv.averages);
-      apart = rw pushed (apart_with triggers inside.drivers inside.earlier devices before inv.apart inv.current);
-      earlier = rw pushed (omega (arith, inv.earlier, counted, count_with devices before));
-      rows = rows;
-      current = rw next (record { attached = attached; driven = tt; rows = omega (arith, rows) });
+      devices = rw (e.devices, e.outputs, next) (omega (arith, few, one, more, more_outputs));
+      sound = e.sound;
+      outputs = e.formed;
+      averages = e.averages;
+      apart = e.apart;
+      earlier = e.earlier;
+      rows = e.rows;
+      current = rw next (record { attached = attached; driven = tt; rows = omega (arith, e.rows) });
     }
