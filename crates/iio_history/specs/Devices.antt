@@ -123,6 +123,3 @@ writer_waits w = left_after w.knows.seen w
 
 abbrev pub writer_waited : WriterEnd → WriterEnd → List (List ℕ)
 writer_waited old new = left_after new.knows.seen old
-
--- ---- answers
-
