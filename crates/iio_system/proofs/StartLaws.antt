@@ -8,7 +8,6 @@ use Rattle.iio_layout.specs.declared.channel.Channel.{Channel}
 use Rattle.iio_derive.specs.Window.{Window}
 use Rattle.iio_output.specs.Last.{first_last}
 use Rattle.iio_desc.specs.declared.description.AttrDesc.{AttrDesc}
-use Rattle.iio_desc.specs.declared.description.TriggerDesc.{TriggerDesc}
 use Rattle.iio_desc.specs.Description.{AverageRecord, Description, DeviceHead, DeviceRecord, OutputRecord, average_head, average_shape, heads_of, input_head, output_head, shape_of_means}
 use Rattle.iio_desc.specs.WellFormed.{IsWellFormed, IsWellFormedAverage, IsWellFormedDevice, IsWellFormedOutput}
 use Rattle.iio_device.specs.declared.plug.Plug.{Plug}

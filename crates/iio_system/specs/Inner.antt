@@ -1,5 +1,5 @@
 -- The members of an input device that averaging devices have there. Cited by this crate's private functions alone.
-use Rattle.std.specs.Prelude.{◌≡◌, ℕ, All, ◌==◌, not, Bool, true, false, List, [], ◌∷◌, find, filter, length, map, Option, option_map, IfSome, is_some}
+use Rattle.std.specs.Prelude.{◌≡◌, ℕ, All, ◌==◌, not, true, false, List, [], ◌∷◌, find, filter, length, map, Option, option_map, is_some}
 use Rattle.std.specs.List.{AllByRecursion, IsDistinct}
 use Rattle.iio_kfifo.specs.Queue.{Queue}
 use Rattle.iio_scan_type.specs.Format.{IsInProfile}

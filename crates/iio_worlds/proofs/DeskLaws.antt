@@ -6,7 +6,7 @@ use Rattle.std.proofs.lemmas.Slice.Eq.{bytes_eq-Decides}
 use Rattle.std.proofs.lemmas.Bool.{and_parts, and_from, or_parts, or_from, true≢false}
 use Rattle.std.proofs.lemmas.Bool.Decides.{nat_tests}
 use Rattle.iio_desc.specs.Kind.{Kind, Input, is_input}
-use Rattle.iio_desc.specs.Description.{Description, DeviceHead, heads_of}
+use Rattle.iio_desc.specs.Description.{DeviceHead, heads_of}
 use Rattle.iio_desc.specs.Description as desc_spec
 use Rattle.iio_device.specs.Site.{is_empty}
 use Rattle.iiod_grammar.specs.Command.{Close, Remask}

@@ -5,7 +5,7 @@ use Rattle.std.specs.List.{prefix_len}
 use Rattle.std.specs.Option.{option_map_or}
 use Rattle.std.proofs.lemmas.Option.{slice_get_read, slice_get_past}
 use Rattle.iio_desc.specs.Description.{DeviceHead, no_shape}
-use Rattle.iio_desc.specs.Kind.{Kind, Input}
+use Rattle.iio_desc.specs.Kind.{Input}
 use Rattle.iio_desc.specs.declared.description.TriggerDesc.{TriggerDesc}
 use Rattle.iio_core.specs.Front.{Front, kind_at, shape_at, trigger_name}
 use Rattle.iiod_bank.specs.declared.front.Face.{Face}
