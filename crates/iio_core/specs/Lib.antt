@@ -6,3 +6,5 @@ pub mod Opening
 pub mod Calls
 pub mod Trigger
 pub mod Moves
+pub mod Devices
+pub mod DeviceLaw

@@ -34,7 +34,8 @@ use Rattle.iio_history.specs.Machine.{remasked_seat, station_after, station_by, 
 use Rattle.iio_history.specs.Reply.{Known, replied, reply, seat_of}
 use Rattle.iio_history.specs.Bench.{IsAct, IsBench, IsDeskOf, bare_by, bench_by, front_of, machine_of, names_of, numbered, place_in, seat_at, seat_in}
 use Rattle.iio_history.proofs.WhoLaws.{same_is}
-use Rattle.iio_history.proofs.BenchLists.{first_appended, first_of_two, get_first, itself, same_number}
+use Rattle.iio_core.proofs.PlaceLists.{get_first, itself, same_number}
+use Rattle.iio_history.proofs.BenchLists.{first_appended, first_of_two}
 use Rattle.iio_history.proofs.BenchSeats.{TellSame, id_of_seat, left_same, lost_same, masks_same, member_same, scans_same}
 use Rattle.iio_history.proofs.BenchSteps.{bench_at, named_by, names_kept, shape_same}
 use Rattle.iio_history.proofs.BenchDesks.{counts_kept, HolderStays, holds_kept, keeps_spared, seat_kept, users_after}

@@ -16,7 +16,7 @@ use Rattle.iio_history.specs.Reply.{seat_of}
 use Rattle.iio_history.specs.Law.{AreApart}
 use Rattle.iio_history.specs.Bench.{Every, NumbersRise, inner_of, numbered}
 use Rattle.iio_history.proofs.WhoLaws.{either, same_is, same_sym}
-use Rattle.iio_history.proofs.BenchLists.{itself}
+use Rattle.iio_core.proofs.PlaceLists.{itself}
 
 -- a connection's seat: an inner member has none
 abbrev pub IsSeats : Who → Type 0

@@ -13,7 +13,7 @@ use Rattle.iio_device.specs.Site.{unplugged}
 use Rattle.iio_desc.specs.Kind.{Kind, Input, is_unplugged_by}
 use Rattle.iio_core.specs.Front.{kind_at, shape_at}
 use Rattle.iio_core.specs.Machine.{Machine, Station, with_site, with_station}
-use Rattle.iio_history.proofs.BenchLists.{get_first}
+use Rattle.iio_core.proofs.PlaceLists.{get_first}
 use Rattle.iio_history.specs.Event.{Handled as HandledAt, Sensed as SensedAt, Unplugged}
 use Rattle.iio_history.specs.Registry.{Setup}
 use Rattle.iio_core.specs.Trigger.{entries_at, entry_of}
@@ -21,10 +21,10 @@ use Rattle.iio_history.specs.Told.{Told}
 use Rattle.iio_history.specs.Machine.{step}
 use Rattle.iio_history.specs.Bench.{IsBench, front_of, machine_of}
 use Rattle.iio_core.specs.Moves.{capture_at, entry_at, entry_made, look_made, unplugs}
-use Rattle.iio_history.specs.Devices.{AreMet, IsAt, station_met, station_of}
+use Rattle.iio_core.specs.Devices.{AreMet, IsAt, station_met, station_of}
 use Rattle.iio_history.proofs.BenchMoves.{handling_is, look_is, unplugging_is}
-use Rattle.iio_history.proofs.DeviceLaws.{looks_agree}
-use Rattle.iio_history.proofs.DeviceHandlings.{handled_is}
+use Rattle.iio_core.proofs.DeviceLaws.{looks_agree}
+use Rattle.iio_core.proofs.DeviceHandlings.{handled_is}
 
 module _ {Q : Type 0} (lost capacity : Q → ℕ) where
   pub ends_agree : (waits : Q → List (List ℕ)) (s : Setup) (m : Told) (k : ℕ) (d : DeviceView Q) → IsBench s m → kind_at (front_of s) k ≡ Input

@@ -37,9 +37,6 @@ pub mod BenchLeaving
 pub mod BenchEnds
 pub mod BenchFeeds
 pub mod BenchMoves
-pub mod DeviceLaws
-pub mod DeviceRemasks
-pub mod DeviceHandlings
 pub mod DeviceMoves
 pub mod InnerLaws
 mod Rows

@@ -3,8 +3,7 @@ pub mod Attributes
 pub mod Bench
 pub mod BenchLaw
 pub mod BenchMoves
-pub mod Devices
-pub mod DeviceLaw
+pub mod ToldDevice
 pub mod Event
 pub mod Fold
 pub mod Input

@@ -5,7 +5,7 @@ ghost use Rattle.iio_history.specs.Law.{StepIsTold, MachineIsTold, QueuesArePriv
 ghost use Rattle.iio_history.specs.Numbered.{NumberedAreSteps};
 ghost use Rattle.iio_history.specs.BenchLaw.{FirstIsBench, BenchIsKept, ToldIsBench, SizesAreSome, NamesStay, ArrivedIsThere, LiveIsThere, RoomLasts, ItemsAreActs, ActsTell, DesksAreKept, NewIsDesk, ArrivalIsNothing, EndsAreLeft, FeedsAreActs, ScriptFeedsTell, FeedsKeepDesks};
 ghost use Rattle.iio_history.specs.BenchMoves.{UnpluggingIs, ClockIs, PollIs, LookIs, HandlingIs, TriggersAre, MovesPrint};
-ghost use Rattle.iio_history.specs.DeviceLaw.{JoinsAgree, LeavesAgree, RemasksAgree, RemasksStay, HandlingsAgree, WritesAgree, TriggersAgree, SamplesAgree, ReadsAgree, LooksAgree, UnpluggingsAgree, PlacesAgree, HoldingsAgree, EventsAgree, ReleasesAgree, EndsAgree, ToldLooksAgree, ToldHandlingsAgree, QueuesAreMet, QueuesStand, RingsAreMet};
+ghost use Rattle.iio_history.specs.ToldDevice.{EndsAgree, ToldHandlingsAgree, ToldLooksAgree};
 
 mod limits;
 
@@ -65,32 +65,10 @@ pub fn move_law()
     ensures printed { MovesPrint }
 {}
 
-/// What each call of a device makes of its own view is what the plain state makes of the device, whatever ends of queues its
-/// members have.
-pub fn device_law<Q: Tail>()
-    ensures joins { JoinsAgree Q.lost Q.capacity }
-    ensures leaves { LeavesAgree Q.lost Q.capacity }
-    ensures remasks { RemasksAgree Q.lost Q.capacity }
-    ensures stay { RemasksStay Q.lost Q.capacity }
-    ensures places { PlacesAgree Q.lost Q.capacity }
-    ensures handlings { HandlingsAgree Q.taken Q.lost Q.size Q.capacity Q.offer_gives }
-    ensures writes { WritesAgree Q.lost Q.capacity }
-    ensures triggers { TriggersAgree Q.lost Q.capacity }
-    ensures samples { SamplesAgree Q.lost Q.capacity }
-    ensures reads { ReadsAgree Q.lost Q.capacity }
-    ensures looks { LooksAgree Q.lost Q.capacity }
-    ensures unpluggings { UnpluggingsAgree Q.lost Q.capacity }
-    ensures holdings { HoldingsAgree Q.lost Q.capacity }
-    ensures events { EventsAgree Q.lost Q.capacity }
-    ensures releases { ReleasesAgree Q.lost Q.capacity }
-    ensures told_ends { EndsAgree Q.lost Q.capacity }
-    ensures told_looks { ToldLooksAgree Q.lost Q.capacity }
-    ensures told_handlings { ToldHandlingsAgree Q.taken Q.lost Q.size Q.capacity Q.offer_gives }
-{}
-
-/// The queues that are there meet an offer as a bounded queue does.
-pub fn queue_law()
-    ensures queues { QueuesAreMet }
-    ensures stand { QueuesStand }
-    ensures rings { RingsAreMet }
+/// What an unplugging, a look and the handling of an entry make of a device's own view is what the history makes of the device,
+/// whatever ends of queues its members have.
+pub fn told_device_law<Q: Tail>()
+    ensures ends { EndsAgree Q.lost Q.capacity }
+    ensures looks { ToldLooksAgree Q.lost Q.capacity }
+    ensures handlings { ToldHandlingsAgree Q.taken Q.lost Q.size Q.capacity Q.offer_gives }
 {}

@@ -13,7 +13,7 @@ use Rattle.iio_core.specs.Lists.{map_from}
 use Rattle.iio_core.specs.Calls.{Outcome, all_joined, closed, host_by, inner_gone, inner_joined, inner_left, is_attached, joined, left, open_of, open_refusals, own_host, trigger_by, trigger_of, unless, unless_made, with_inner, without_inner}
 use Rattle.iio_core.specs.Front.{Front, kind_at, shape_at}
 use Rattle.iio_core.specs.Machine.{Machine, Station, station_at, with_station}
-use Rattle.iio_history.proofs.BenchLists.{placed_from}
+use Rattle.iio_core.proofs.PlaceLists.{placed_from}
 use Rattle.iio_system.specs.declared.any_device.AnyDevice.{AnyDevice}
 use Rattle.iio_system.specs.declared.any_device.AnyDevice.TheVariants as any
 use Rattle.iio_system.specs.declared.out_device.OutDevice.{OutDevice}

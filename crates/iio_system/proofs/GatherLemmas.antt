@@ -14,7 +14,7 @@ use Rattle.iio_core.specs.Front.{Front, kind_at, shape_at}
 use Rattle.iio_core.specs.Machine.{Machine, Station, no_station, station_at, station_in, with_site}
 use Rattle.iio_core.specs.Lists.{map_from}
 use Rattle.iio_core.specs.Moves.{Capture, gathered_to, mean_made, offered_to, unplugs, machine_after_unplugging, entry_at, capture_at, capture_in, entry_made, is_due, machine_after_handling}
-use Rattle.iio_history.proofs.BenchLists.{same_number}
+use Rattle.iio_core.proofs.PlaceLists.{same_number}
 use Rattle.iio_system.specs.Averages.{HasInner, IsAveraged, kind_in}
 use Rattle.iio_system.specs.Handling.{is_last}
 use Rattle.iio_system.specs.Places.{IsBench, is_hosted, places_from}

@@ -22,8 +22,8 @@ use Rattle.iio_core.specs.declared.became.Became.TheVariants.{Asked}
 use Rattle.iio_system.specs.Handling.{counted, entry_station, is_last, entry_became}
 use Rattle.iio_core.specs.Moves.{is_due, Capture, asked_once, capture_made, emptied_of, gives, giving_made, offered_to, handled_answer, entry_made}
 use Rattle.iio_system.specs.Station.{station_of}
-use Rattle.iio_history.specs.Devices.{queue_waited, queue_waits}
-use Rattle.iio_history.proofs.DeviceHandlings.{handled_is as plain_handled, queues_stand}
+use Rattle.iio_core.specs.Devices.{queue_waited, queue_waits}
+use Rattle.iio_core.proofs.DeviceHandlings.{handled_is as plain_handled, queues_stand}
 use Rattle.iio_system.proofs.ListLemmas.{is_empty-map}
 use Rattle.iio_system.proofs.BenchLemmas.{KeepsInner, inner_kept, inner_mapped}
 

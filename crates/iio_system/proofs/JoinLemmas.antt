@@ -27,8 +27,8 @@ use Rattle.iio_core.specs.Faults.{errno_of}
 use Rattle.iio_core.specs.Opening.{join_refusals}
 use Rattle.iiod_session.specs.No.{no_of}
 use Rattle.iio_core.specs.Calls.{attached_count, has_no_place, joined, open_refusals, own_host}
-use Rattle.iio_history.specs.Devices.{queue_waits}
-use Rattle.iio_history.proofs.DeviceLaws.{agree, joined_is as plain_joined, masks_are as plain_masks}
+use Rattle.iio_core.specs.Devices.{queue_waits}
+use Rattle.iio_core.proofs.DeviceLaws.{agree, joined_is as plain_joined, masks_are as plain_masks}
 use Rattle.iio_system.specs.declared.seat.Seat.{Seat}
 use Rattle.iio_system.specs.Acting.{KeepsCaptures}
 use Rattle.iio_system.specs.Faults.{Hosts, HostsAny, JoinsAny, JoinsBy, any_refusals, faults_at, first_queue, is_full as is_full_at, lacks_place}

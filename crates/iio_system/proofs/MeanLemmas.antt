@@ -18,7 +18,7 @@ use Rattle.iio_core.specs.Front.{Front, kind_at, shape_at}
 use Rattle.iio_core.specs.Machine.{Machine, Member, Station, masks_of, no_station, station_at, is_seat_of, station_in, with_station}
 use Rattle.iio_core.specs.Opening.{join_refusals}
 use Rattle.iio_core.specs.Lists.{map_from}
-use Rattle.iio_history.proofs.BenchLists.{itself, placed_from, same_number, twice_from}
+use Rattle.iio_core.proofs.PlaceLists.{itself, placed_from, same_number, twice_from}
 use Rattle.iio_system.specs.Averages.{HasInner, has_inner}
 use Rattle.iio_system.specs.Faults.{any_refusals, lacks_place}
 use Rattle.iio_system.specs.Places.{IsBench}

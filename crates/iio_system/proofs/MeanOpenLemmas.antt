@@ -27,7 +27,7 @@ use Rattle.iio_core.specs.Front.{Front, kind_at, shape_at}
 use Rattle.iio_core.specs.Machine.{Machine, Member, Station, masks_of, station_at, station_in}
 use Rattle.iio_core.specs.Opening.{join_refusals}
 use Rattle.iiod_session.specs.Seat.{Answers, IsNew, number_by as number_of}
-use Rattle.iio_history.proofs.BenchLists.{same_number}
+use Rattle.iio_core.proofs.PlaceLists.{same_number}
 use Rattle.iio_system.specs.declared.any_device.AnyDevice.{AnyDevice}
 use Rattle.iio_system.specs.declared.any_device.AnyDevice.TheVariants as any
 use Rattle.iio_system.specs.declared.bench.Bench.{Bench}

@@ -35,8 +35,8 @@ use Rattle.iio_desc.specs.Kind.{Kind, Input, Output, Average, is_average}
 use Rattle.iio_core.specs.Machine.{Machine, Member, Station, is_seat_of, no_station, station_at, station_in, with_station}
 use Rattle.iio_core.specs.Calls.{closed, inner_gone, is_attached, is_inner_of, joined, left, newcomer, open_of, open_refusals, own_host, trigger_by, trigger_of as trigger_told_of, unless}
 use Rattle.iiod_session.specs.Seat.{Answers, IsNew, MayOpen, number_by as number_of}
-use Rattle.iio_history.specs.Devices.{queue_waits}
-use Rattle.iio_history.proofs.DeviceLaws.{left_is as plain_left}
+use Rattle.iio_core.specs.Devices.{queue_waits}
+use Rattle.iio_core.proofs.DeviceLaws.{left_is as plain_left}
 use Rattle.iio_system.specs.declared.any_device.AnyDevice.{AnyDevice}
 use Rattle.iio_system.specs.declared.any_device.AnyDevice.TheVariants as any
 use Rattle.iio_system.specs.declared.seat.Seat.{Seat}

@@ -25,8 +25,8 @@ use Rattle.iio_core.specs.Machine.{Member, MemberId, Station, is_seat_of, member
 use Rattle.iio_core.specs.Faults.{remask_errno}
 use Rattle.iiod_session.specs.No.{remask_no}
 use Rattle.iiod_session.specs.Seat.{Answers}
-use Rattle.iio_history.specs.Devices.{queue_waits}
-use Rattle.iio_history.proofs.DeviceRemasks.{refusals_are, remasked_is, waited_is}
+use Rattle.iio_core.specs.Devices.{queue_waits}
+use Rattle.iio_core.proofs.DeviceRemasks.{refusals_are, remasked_is, waited_is}
 use Rattle.iio_system.specs.Acting.{Acts, KeepsCaptures, has_member}
 use Rattle.iio_system.specs.Remasking.{remask_answer}
 use Rattle.iio_system.specs.declared.any_device.AnyDevice.{AnyDevice}

@@ -16,7 +16,7 @@ use Rattle.iio_core.specs.Calls.{is_inner_of}
 use Rattle.iio_core.specs.Front.{Front, kind_at, shape_at}
 use Rattle.iio_core.specs.Machine.{Machine, Member, Station, station_in, with_site}
 use Rattle.iio_core.specs.Moves.{Capture, gathered_to, unplugs, machine_after_unplugging, entry_at, capture_at, capture_in, entry_answer, entry_made, is_due, machine_after_handling}
-use Rattle.iio_history.proofs.BenchLists.{itself, same_number}
+use Rattle.iio_core.proofs.PlaceLists.{itself, same_number}
 use Rattle.iio_system.specs.declared.any_device.AnyDevice.{AnyDevice}
 use Rattle.iio_core.specs.declared.became.Became.{Became}
 use Rattle.iio_core.specs.declared.became.Became.TheVariants.{Asked, Gave}

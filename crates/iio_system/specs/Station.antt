@@ -11,7 +11,7 @@ use Rattle.iio_device.specs.declared.membership.Membership.{Membership}
 use Rattle.iio_device.specs.declared.plug.Plug.{Plug}
 use Rattle.iio_device.specs.Device.{DeviceView, view_of}
 use Rattle.iio_core.specs.Machine.{Member, Station}
-use Rattle.iio_history.specs.Devices.{member_of as plain_member, queue_waits, station_of as plain_station}
+use Rattle.iio_core.specs.Devices.{member_of as plain_member, queue_waits, station_of as plain_station}
 use Rattle.iio_system.specs.declared.any_device.AnyDevice.{AnyDevice}
 use Rattle.iio_system.specs.declared.any_device.AnyDevice.TheVariants as any
 use Rattle.iio_system.specs.declared.in_device.InDevice.{InDevice}

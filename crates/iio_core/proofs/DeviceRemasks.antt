@@ -22,9 +22,9 @@ use Rattle.iio_core.specs.Calls.{Outcome, remask_of, remask_refusals, remasked, 
 use Rattle.iio_core.specs.Front.{Front, shape_at}
 use Rattle.iio_core.specs.Machine.{Machine, Member, MemberId, Station, is_id_of, lost_by, masks_of as plain_masks, member_in, queue_of, scans_in, without}
 use Rattle.iio_core.specs.Faults.{remask_errno}
-use Rattle.iio_history.specs.Devices.{IsAt, IsRefused, IsRemasked}
-use Rattle.iio_history.specs.DeviceLaw.{IsNewEnd, IsPlaced, IsSeatAt}
-use Rattle.iio_history.proofs.DeviceLaws.{at_changed, empty_map, lost_told, masks_are, member, station, station_here, without_is}
+use Rattle.iio_core.specs.Devices.{IsAt, IsRefused, IsRemasked}
+use Rattle.iio_core.specs.DeviceLaw.{IsNewEnd, IsPlaced, IsSeatAt}
+use Rattle.iio_core.proofs.DeviceLaws.{at_changed, empty_map, lost_told, masks_are, member, station, station_here, without_is}
 
 -- the errno of a fault of another mask, where the mask is a good one
 agree : (gone dead without_union : Bool) (r : Option RemaskFault)

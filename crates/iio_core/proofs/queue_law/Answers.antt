@@ -1,5 +1,5 @@
-use Rattle.iio_history.proofs.DeviceHandlings.{queues_are_met, queues_stand, rings_are_met}
-use Rattle.iio_history.proofs.queue_law.Goals as goal
+use Rattle.iio_core.proofs.DeviceHandlings.{queues_are_met, queues_stand, rings_are_met}
+use Rattle.iio_core.proofs.queue_law.Goals as goal
 
 pub returns-clause-queues : goal.returns-clause-queues
 returns-clause-queues c = queues_are_met

@@ -25,14 +25,8 @@ use Rattle.iio_desc.specs.Kind.{Input}
 use Rattle.iio_core.specs.Faults.{held_errno, holder_errno, map_err, raw_value}
 use Rattle.iio_core.specs.Front.{Front, device_name, kind_at, shape_at}
 use Rattle.iio_core.specs.Machine.{Machine, MemberId, lost_by, with_site, with_station}
-use Rattle.iio_history.specs.Event.{Handled as HandledAt, Sensed as SensedAt, Unplugged}
-use Rattle.iio_history.specs.Registry.{Setup}
-use Rattle.iio_core.specs.Trigger.{entries_at, entry_of}
-use Rattle.iio_history.specs.Told.{Told}
-use Rattle.iio_history.specs.Machine.{step}
-use Rattle.iio_history.specs.Bench.{IsBench, front_of, machine_of}
 use Rattle.iio_core.specs.Moves.{entry_made, look_made, handled_answer}
-use Rattle.iio_history.specs.Devices.{AreMet, Does, IsAt, IsJoined, IsMet, IsRemasked, queue_waited, queue_waits, station_met, station_of, writer_waited, writer_waits}
+use Rattle.iio_core.specs.Devices.{AreMet, Does, IsAt, IsJoined, IsMet, IsRemasked, queue_waited, queue_waits, station_met, station_of, writer_waited, writer_waits}
 
 module _ {Q : Type 0} where
   -- ---- members
@@ -165,29 +159,6 @@ module _ {Q : Type 0} where
       (waits : Q → List (List ℕ)) (m : Machine) (dev who : ℕ) (d : DeviceView Q) → IsAt lost capacity waits m dev d
       → Does lost capacity waits (ev_close_of m dev who) (map_err holder_errno (close_answer (λ a b. a == b) who d.site.monitor)) dev
       (at_site (with_monitor (after_close (λ a b. a == b) who) d.site) d)
-
-  -- ---- the history's device, after what isn't a connection's
-
-  abbrev pub EndsAgree : (lost capacity : Q → ℕ) → Type 0
-  EndsAgree lost capacity =
-      (waits : Q → List (List ℕ)) (s : Setup) (m : Told) (k : ℕ) (d : DeviceView Q) → IsBench s m → kind_at (front_of s) k ≡ Input
-      → IsAt lost capacity waits (machine_of m) k d
-      → IsAt lost capacity waits (machine_of (step s m (Unplugged k))) k (at_site (unplugged d.site) d)
-
-  abbrev pub ToldLooksAgree : (lost capacity : Q → ℕ) → Type 0
-  ToldLooksAgree lost capacity =
-      (waits : Q → List (List ℕ)) (s : Setup) (m : Told) (k : ℕ) (t : ℤ) (d : DeviceView Q) → IsBench s m → shape_at (front_of s) k ≡ d.standing.shape
-      → IsAt lost capacity waits (machine_of m) k d → IsAt lost capacity waits (machine_of (step s m (SensedAt k t))) k (after_sense t d)
-
-  abbrev pub ToldHandlingsAgree : (taken lost size capacity : Q → ℕ) → (Q → List ℕ → Offered → Q → Type 0) → Type 0
-  ToldHandlingsAgree taken lost size capacity offer_gives =
-      (waits : Q → List (List ℕ)) (waited : Q → Q → List (List ℕ)) (s : Setup) (m : Told) (trigger k : ℕ) (due : Handed) (r : Handled) (old new : DeviceView Q)
-      → IsBench s m → kind_at (front_of s) k ≡ Input → shape_at (front_of s) k ≡ old.standing.shape
-      → entry_of k (entries_at m.triggers trigger) ≡ Some due
-      → Handles taken lost size capacity offer_gives due r old new → due.dev ≡ old.number → (old.standing.captures == 2 ^ 64 - 1) ≡ false
-      → old.standing.active ≡ active_for old.standing.shape (masks_of old.standing.members) → AreMet lost capacity waits waited offer_gives r old new
-      → slice_get (machine_of m).stations k ≡ Some (station_met lost capacity waits waited r old new)
-      → IsAt lost capacity waits (machine_of (step s m (HandledAt trigger k))) k new
 
 -- ---- the ends that are there
 

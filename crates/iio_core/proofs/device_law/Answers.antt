@@ -1,8 +1,7 @@
-use Rattle.iio_history.proofs.DeviceHandlings.{handlings_agree}
-use Rattle.iio_history.proofs.DeviceLaws.{events_agree, holdings_agree, joins_agree, leaves_agree, looks_agree, places_agree, reads_agree, releases_agree, samples_agree, triggers_agree, unpluggings_agree, writes_agree}
-use Rattle.iio_history.proofs.DeviceMoves.{ends_agree, told_handlings_agree, told_looks_agree}
-use Rattle.iio_history.proofs.DeviceRemasks.{remasks_agree, remasks_stay}
-use Rattle.iio_history.proofs.device_law.Goals as goal
+use Rattle.iio_core.proofs.DeviceHandlings.{handlings_agree}
+use Rattle.iio_core.proofs.DeviceLaws.{events_agree, holdings_agree, joins_agree, leaves_agree, looks_agree, places_agree, reads_agree, releases_agree, samples_agree, triggers_agree, unpluggings_agree, writes_agree}
+use Rattle.iio_core.proofs.DeviceRemasks.{remasks_agree, remasks_stay}
+use Rattle.iio_core.proofs.device_law.Goals as goal
 
 pub returns-clause-joins : goal.returns-clause-joins
 returns-clause-joins g c = joins_agree _ _
@@ -48,12 +47,3 @@ returns-clause-events g c = events_agree _ _
 
 pub returns-clause-releases : goal.returns-clause-releases
 returns-clause-releases g c = releases_agree _ _
-
-pub returns-clause-told_ends : goal.returns-clause-told_ends
-returns-clause-told_ends g c = ends_agree _ _
-
-pub returns-clause-told_looks : goal.returns-clause-told_looks
-returns-clause-told_looks g c = told_looks_agree _ _
-
-pub returns-clause-told_handlings : goal.returns-clause-told_handlings
-returns-clause-told_handlings g c = told_handlings_agree _ _ _ _ _

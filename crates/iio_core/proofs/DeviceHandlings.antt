@@ -30,8 +30,8 @@ use Rattle.iio_desc.specs.Kind.{Input}
 use Rattle.iio_derive.specs.Window.{no_window}
 use Rattle.iio_output.specs.Last.{first_last}
 use Rattle.iio_core.specs.Moves.{Capture, asked_once, entry_made, offered_to, handled_answer}
-use Rattle.iio_history.specs.Devices.{AreMet, IsAt, IsMet, left_after, member_with, members_met, queue_waited, queue_waits, station_met, station_of, station_with, writer_waited, writer_waits}
-use Rattle.iio_history.proofs.DeviceLaws.{at_changed, empty_map, masks_are}
+use Rattle.iio_core.specs.Devices.{AreMet, IsAt, IsMet, left_after, member_with, members_met, queue_waited, queue_waits, station_met, station_of, station_with, writer_waited, writer_waits}
+use Rattle.iio_core.proofs.DeviceLaws.{at_changed, empty_map, masks_are}
 
 -- ---- handlings
 

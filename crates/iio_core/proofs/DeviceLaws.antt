@@ -35,14 +35,14 @@ use Rattle.iio_device.specs.Totals.{with_left, with_lost}
 use Rattle.iio_core.specs.Calls.{Outcome, all_joined, attr_answer, closed, ev_close_of, ev_open_of, ev_read_of, has_no_place, inner_gone, inner_left, is_attached, is_full, is_raw, joined, left, open_of, open_refusals, own_host, read_attr_of, set_trigger_of, unless, unless_made, window_left, with_inner, without_inner, write_attr_of}
 use Rattle.iio_desc.specs.Kind.{Kind, Input, is_input, is_over}
 use Rattle.iio_derive.specs.Window.{Window, no_window}
-use Rattle.iio_history.proofs.BenchLists.{get_first}
+use Rattle.iio_core.proofs.PlaceLists.{get_first}
 use Rattle.iio_core.specs.Front.{Front, device_name, kind_at, shape_at}
 use Rattle.iio_core.specs.Machine.{Machine, Member, Station, is_seat_of, lost_by, masks_of as plain_masks, no_station, station_at, with_site, with_station, without}
 use Rattle.iio_core.specs.Faults.{errno_of, held_errno, holder_errno, map_err, raw_value}
 use Rattle.iio_core.specs.Opening.{join_refusals}
 use Rattle.iio_core.specs.Moves.{look_made}
-use Rattle.iio_history.specs.Devices.{Does, IsAt, IsJoined, IsRefused, member_with, station_of}
-use Rattle.iio_history.specs.DeviceLaw.{IsNewEnd, IsPlaced, SamePlaces}
+use Rattle.iio_core.specs.Devices.{Does, IsAt, IsJoined, IsRefused, member_with, station_of}
+use Rattle.iio_core.specs.DeviceLaw.{IsNewEnd, IsPlaced, SamePlaces}
 
 -- ---- a machine at a device
 

@@ -1,0 +1,4 @@
+pub mod PlaceLists
+pub mod DeviceLaws
+pub mod DeviceRemasks
+pub mod DeviceHandlings

@@ -1,0 +1,11 @@
+use Rattle.iio_history.proofs.DeviceMoves.{ends_agree, told_handlings_agree, told_looks_agree}
+use Rattle.iio_history.proofs.told_device_law.Goals as goal
+
+pub returns-clause-ends : goal.returns-clause-ends
+returns-clause-ends g c = ends_agree _ _
+
+pub returns-clause-looks : goal.returns-clause-looks
+returns-clause-looks g c = told_looks_agree _ _
+
+pub returns-clause-handlings : goal.returns-clause-handlings
+returns-clause-handlings g c = told_handlings_agree _ _ _ _ _
