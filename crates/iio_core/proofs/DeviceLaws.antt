@@ -32,14 +32,15 @@ use Rattle.iio_device.specs.Sensing.{sensed, with_sensed}
 use Rattle.iio_device.specs.Site.{Site, at_place, attached, is_empty, sampled, site_written, unplugged, with_monitor}
 use Rattle.iio_device.specs.Stored.{attr_value}
 use Rattle.iio_device.specs.Totals.{with_left, with_lost}
-use Rattle.iio_core.specs.Calls.{Outcome, all_joined, attr_answer, closed, ev_close_of, ev_open_of, ev_read_of, has_no_place, inner_gone, inner_left, is_attached, is_full, is_raw, joined, left, open_of, open_refusals, own_host, read_attr_of, set_trigger_of, unless, unless_made, window_left, with_inner, without_inner, write_attr_of}
+use Rattle.iio_core.specs.Attached.{has_no_place, is_attached}
+use Rattle.iio_core.specs.Calls.{Outcome, all_joined, attr_answer, closed, ev_close_of, ev_open_of, ev_read_of, inner_gone, inner_left, is_full, is_raw, joined, left, open_of, open_refusals, read_attr_of, set_trigger_of, unless, unless_made, window_left, with_inner, without_inner, write_attr_of}
 use Rattle.iio_desc.specs.Kind.{Kind, Input, is_input, is_over}
 use Rattle.iio_derive.specs.Window.{Window, no_window}
 use Rattle.iio_core.proofs.PlaceLists.{get_first}
 use Rattle.iio_core.specs.Front.{Front, device_name, kind_at, shape_at}
-use Rattle.iio_core.specs.Machine.{Machine, Member, Station, is_seat_of, lost_by, masks_of as plain_masks, no_station, station_at, with_site, with_station, without}
+use Rattle.iio_core.specs.Machine.{attachment_of, attachments_of, Machine, Member, Station, is_seat_of, lost_by, masks_of as plain_masks, no_station, station_at, with_site, with_station, without}
 use Rattle.iio_core.specs.Faults.{errno_of, held_errno, holder_errno, map_err, raw_value}
-use Rattle.iio_core.specs.Opening.{join_refusals}
+use Rattle.iio_core.specs.Opening.{join_refusals, own_host}
 use Rattle.iio_core.specs.Moves.{look_made}
 use Rattle.iio_core.specs.Devices.{Does, IsAt, IsJoined, IsRefused, member_with, station_of}
 use Rattle.iio_core.specs.DeviceLaw.{IsNewEnd, IsPlaced, SamePlaces}
@@ -353,16 +354,18 @@ module _ {Q : Type 0} (lost capacity : Q → ℕ) (waits : Q → List (List ℕ)
   refusals_are : (front : Front) (m : Machine) (d : DeviceView Q) (mask : ℕ) (s : State) (r : Option JoinFault) → is_bad_mask d.standing.shape mask ≡ false
       → SamePlaces front m d s
       → first_refusal (join_faults d mask (Some s)) ≡ r
-      → first_refusal (open_refusals front m.stations Input (own_host (station d) d.standing.shape mask) (station d)) ≡ option_and_then errno_of r
+      → first_refusal (open_refusals front m.stations Input (own_host (station d) d.standing.shape mask (plain_masks (station d).members)) (station d))
+      ≡ option_and_then errno_of r
   refusals_are front m d mask s r good places e =
       let same : first_refusal ((not d.site.plugged, fault.Gone) ∷ (false, fault.BadMask)
       ∷ member_faults (is_none d.site.trigger) (is_without_union d.standing.shape (masks_of d.standing.members) mask) (is_full_view d (Some s))) ≡ r
       = rw good at e in
-      let full : is_full front m.stations (own_host (station d) d.standing.shape mask) (station d) ≡ is_full_view d (Some s)
+      let full : is_full front m.stations (own_host (station d) d.standing.shape mask (plain_masks (station d).members)) (station d) ≡ is_full_view d (Some s)
       =
       rw (empty_map member d.standing.members)
-      (or_twice (is_empty d.standing.members && has_no_place front m.stations d.site.trigger) (d.standing.next == 2 ^ 64 - 1)
-      ∙ full_by (is_empty d.standing.members) (lacks_place d.number s) (has_no_place front m.stations d.site.trigger) (d.standing.next == 2 ^ 64 - 1) places) in
+      (or_twice (is_empty d.standing.members && has_no_place front (attachments_of m.stations) d.site.trigger) (d.standing.next == 2 ^ 64 - 1)
+      ∙ full_by (is_empty d.standing.members) (lacks_place d.number s) (has_no_place front (attachments_of m.stations) d.site.trigger)
+      (d.standing.next == 2 ^ 64 - 1) places) in
       rw (masks_are d.standing.members, full)
       (agree (not d.site.plugged) (is_none d.site.trigger) (is_without_union d.standing.shape (masks_of d.standing.members) mask) (is_full_view d (Some s)) r
       same)
@@ -374,7 +377,8 @@ module _ {Q : Type 0} (lost capacity : Q → ℕ) (waits : Q → List (List ℕ)
 
   open_is : (front : Front) (m : Machine) (dev mask cap : ℕ) (d : DeviceView Q) (r : Option Errno) → IsAt lost capacity waits m dev d
       → kind_at front dev ≡ Input → shape_at front dev ≡ d.standing.shape
-      → first_refusal (open_refusals front m.stations Input (own_host (station d) d.standing.shape mask) (station d)) ≡ r
+      → first_refusal (open_refusals front m.stations Input (own_host (station d) d.standing.shape mask (plain_masks (station d).members)) (station d))
+      ≡ r
       → open_of front m dev mask cap false ≡ unless_made (all_joined front dev (joined mask cap false None)) m (unless_refused d.standing.next r)
   unfolding open_of
   open_is front m dev mask cap d r here input shaped e = rw (station_here m dev (station d) here, input, shaped, e) refl
@@ -436,7 +440,7 @@ module _ {Q : Type 0} (lost capacity : Q → ℕ) (waits : Q → List (List ℕ)
       by true e h = h
       by false e h = rw (e, h) refl
 
-  attached_is : (t : ℕ) (d : DeviceView Q) → d.site.trigger ≡ Some t → is_attached t (station d) ≡ not (is_empty d.standing.members)
+  attached_is : (t : ℕ) (d : DeviceView Q) → d.site.trigger ≡ Some t → is_attached t (attachment_of (station d)) ≡ not (is_empty d.standing.members)
   attached_is t d own = let same : (t == t) ≡ true = grind (arith, nat_tests) in rw (own, same, empty_map member d.standing.members) refl
 
   attached_trigger : (b : Bool) (site : Site ℕ) → (attached b site).trigger ≡ site.trigger

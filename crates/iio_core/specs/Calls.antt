@@ -1,5 +1,5 @@
 -- What the calls of an `Iio` answer over a told state, and what stands then.
-use Rattle.std.specs.Prelude.{ℕ, ℤ, suc, ◌+◌, ◌-◌, ◌*◌, ◌^◌, ◌==◌, ◌&&◌, ◌||◌, not, nat_lt, Bool, true, false, ⊤, List, [], ◌∷◌, ◌++◌, map, filter, length, Option, Some, None, is_none, unwrap_or, slice_get, slice_index_or, pos, Result, Ok, Err, if◌then◌else◌}
+use Rattle.std.specs.Prelude.{ℕ, ℤ, ◌+◌, ◌-◌, ◌*◌, ◌^◌, ◌==◌, ◌&&◌, ◌||◌, not, Bool, true, false, ⊤, List, [], ◌∷◌, ◌++◌, map, filter, length, Option, Some, None, is_none, unwrap_or, slice_get, slice_index_or, pos, Result, Ok, Err, if◌then◌else◌, option_map}
 use Rattle.std.specs.Option.{option_map_or}
 use Rattle.iio_base.specs.Refusals.{ensure, ◌>>=◌, first_refusal, unless_refused}
 use Rattle.iio_text.specs.declared.errors.Errno.{Errno}
@@ -10,7 +10,7 @@ use Rattle.iio_attr.specs.declared.attributes.Attr.TheVariants as attr
 use Rattle.iio_attr.specs.declared.values.Value.{Value}
 use Rattle.iio_attr.specs.declared.values.Value.TheVariants.{Int}
 use Rattle.iio_desc.specs.Kind.{Kind, Output, Average, is_input, is_output, is_over}
-use Rattle.iio_derive.specs.Window.{Window, full_mask, no_window}
+use Rattle.iio_derive.specs.Window.{Window, no_window, full_mask}
 use Rattle.std.specs.List.{list_any}
 use Rattle.iio_device.specs.declared.totals.Totals.{Totals}
 use Rattle.iio_core.specs.Lists.{map_from}
@@ -23,9 +23,10 @@ use Rattle.iio_device.specs.Active.{is_without_union}
 use Rattle.iio_device.specs.Site.{is_empty, attached, sampled, site_written, with_monitor}
 use Rattle.iio_device.specs.Stored.{attr_value}
 use Rattle.iio_device.specs.Totals.{with_left, with_lost}
-use Rattle.iio_core.specs.Front.{Front, kind_at, shape_at, size_at, device_name, place_count}
-use Rattle.iio_core.specs.Machine.{Member, MemberId, Station, Machine, queue_of, station_at, with_station, with_site, lost_by, masks_of, member_in, is_id_of, is_seat_of, without}
-use Rattle.iio_core.specs.Opening.{join_refusals}
+use Rattle.iio_core.specs.Attached.{has_no_place}
+use Rattle.iio_core.specs.Front.{Front, kind_at, shape_at, size_at, device_name}
+use Rattle.iio_core.specs.Machine.{Member, MemberId, Station, Machine, attachments_of, queue_of, station_at, with_station, with_site, lost_by, masks_of, member_in, is_id_of, is_seat_of, without}
+use Rattle.iio_core.specs.Opening.{Host, host_by, inner_host, join_refusals, own_host}
 
 -- an answer, and what stands then
 pub record Outcome (A : Type 0) : Type 0 where
@@ -45,57 +46,28 @@ unless_made change m (Err e) = record { answer = Err e; machine = m }
 
 -- ---- members
 
--- whether a device is attached to the trigger: while it has a member (kernel, driver-api/iio: while its buffer is enabled)
-abbrev pub is_attached : ℕ → Station → Bool
-is_attached trigger st = option_map_or (λ t. t == trigger) st.site.trigger false && not (is_empty st.members)
-
-abbrev pub attached_count : ℕ → List Station → ℕ
-attached_count trigger [] = 0
-attached_count trigger (st ∷ rest) = if is_attached trigger st then suc (attached_count trigger rest) else attached_count trigger rest
-
--- whether a device's trigger has no place for one device more
-abbrev pub has_no_place : Front → List Station → Option ℕ → Bool
-has_no_place front stations None = false
-has_no_place front stations (Some trigger) = not (nat_lt (attached_count trigger stations) (place_count front trigger))
-
--- where a new member wants a trigger, a listed mask and a place: at the device itself; at an averaging device its base, for the
--- inner member, where there is none yet
-pub record Host : Type 0 where
-  pub station : Station
-  pub shape : ShapeRecord
-  pub mask : ℕ
-  pub beside : List ℕ
-  pub joins : Bool
-
-abbrev pub own_host : Station → ShapeRecord → ℕ → Host
-own_host st shape mask = record { station = st; shape = shape; mask = mask; beside = masks_of st.members; joins = true }
-
-abbrev pub host_by : Front → List Station → Kind → Station → ShapeRecord → ℕ → Host
-host_by front stations (Average base window) st shape mask = elim (slice_get stations base) [
-  | None ↦ own_host st shape mask
-  | Some b ↦ record { station = b; shape = shape_at front base; mask = full_mask (shape_at front base); beside = []; joins = is_empty st.members }
-]
-host_by front stations kind st shape mask = own_host st shape mask
-
-abbrev pub host_of : Front → Machine → ℕ → ℕ → Host
-host_of front m dev mask = host_by front m.stations (kind_at front dev) (station_at m dev) (shape_at front dev) mask
+-- where a new member of a device of a kind wants its place
+abbrev pub host_of : Front → List Station → Kind → Station → ShapeRecord → ℕ → Host Station
+host_of front stations kind st shape mask =
+    host_by kind (own_host st shape mask (masks_of st.members))
+    (λ base. option_map (λ (b : Station). inner_host (is_empty st.members) b (shape_at front base)) (slice_get stations base))
 
 -- whether a device's numbers of members end
 abbrev pub has_no_number : Station → Bool
 has_no_number st = st.next == 2 ^ 64 - 1
 
 -- whether there is no place for one member more: the first one wants one at the trigger, and numbers end
-abbrev pub is_full : Front → List Station → Host → Station → Bool
+abbrev pub is_full : Front → List Station → Host Station → Station → Bool
 is_full front stations host st =
-    host.joins && is_empty host.station.members && has_no_place front stations host.station.site.trigger || has_no_number st || host.joins
-    && has_no_number host.station
+    host.joins && is_empty host.device.members && has_no_place front (attachments_of stations) host.device.site.trigger || has_no_number st
+    || host.joins && has_no_number host.device
 
 -- why a member of that mask can't join, in this order; an output device has one writer
-abbrev pub open_refusals : Front → List Station → Kind → Host → Station → List (Bool × Errno)
+abbrev pub open_refusals : Front → List Station → Kind → Host Station → Station → List (Bool × Errno)
 open_refusals front stations kind host st =
     (not st.site.plugged, ENODEV)
     ∷ (is_output kind && not (is_empty st.members), EBUSY)
-    ∷ join_refusals (is_none host.station.site.trigger) (host.joins && is_without_union host.shape host.beside host.mask) (is_full front stations host st)
+    ∷ join_refusals (is_none host.device.site.trigger) (host.joins && is_without_union host.shape host.beside host.mask) (is_full front stations host st)
 
 abbrev pub newcomer : ℕ → ℕ → Bool → Option ℕ → Station → Member
 newcomer mask capacity cyclic inner st = record { number = st.next; mask = mask; capacity = capacity; scans = []; lost = 0; cyclic = cyclic; inner = inner }
@@ -125,7 +97,8 @@ all_joined front dev change m = record m { stations = map_from (λ k st. if dev 
 unfoldable pub open_of : Front → Machine → ℕ → (mask capacity : ℕ) → (cyclic : Bool) → Outcome ℕ
 open_of front m dev mask capacity cyclic =
     unless_made (all_joined front dev (joined mask capacity cyclic None)) m
-    (unless_refused (station_at m dev).next (first_refusal (open_refusals front m.stations (kind_at front dev) (host_of front m dev mask) (station_at m dev))))
+    (unless_refused (station_at m dev).next (first_refusal (open_refusals front m.stations (kind_at front dev)
+    (host_of front m.stations (kind_at front dev) (station_at m dev) (shape_at front dev) mask) (station_at m dev))))
 
 -- the captures that count towards the next mean end with the last member's leaving
 abbrev pub window_left : (before after : List Member) → Window → Window

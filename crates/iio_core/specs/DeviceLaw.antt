@@ -20,11 +20,12 @@ use Rattle.iio_device.specs.Stored.{attr_value}
 use Rattle.iio_kfifo.specs.Ends.{Offers as WriterOffers, WriterEnd}
 use Rattle.iio_kfifo.specs.Offers.{accepted, lost_in}
 use Rattle.iio_kfifo.specs.Queue.{Offers as QueueOffers, Queue}
-use Rattle.iio_core.specs.Calls.{closed, ev_close_of, ev_open_of, ev_read_of, has_no_place, is_attached, is_raw, open_of, read_attr_of, remask_of, set_trigger_of, write_attr_of}
+use Rattle.iio_core.specs.Attached.{has_no_place, is_attached}
+use Rattle.iio_core.specs.Calls.{closed, ev_close_of, ev_open_of, ev_read_of, is_raw, open_of, read_attr_of, remask_of, set_trigger_of, write_attr_of}
 use Rattle.iio_desc.specs.Kind.{Input}
 use Rattle.iio_core.specs.Faults.{held_errno, holder_errno, map_err, raw_value}
 use Rattle.iio_core.specs.Front.{Front, device_name, kind_at, shape_at}
-use Rattle.iio_core.specs.Machine.{Machine, MemberId, lost_by, with_site, with_station}
+use Rattle.iio_core.specs.Machine.{attachment_of, attachments_of, Machine, MemberId, lost_by, with_site, with_station}
 use Rattle.iio_core.specs.Moves.{entry_made, look_made, handled_answer}
 use Rattle.iio_core.specs.Devices.{AreMet, Does, IsAt, IsJoined, IsMet, IsRemasked, queue_waited, queue_waits, station_met, station_of, writer_waited, writer_waits}
 
@@ -38,7 +39,8 @@ module _ {Q : Type 0} where
 
   -- a device without a member finds a place at its trigger exactly where the plain state has one
   abbrev pub SamePlaces : Front → Machine → DeviceView Q → State → Type 0
-  SamePlaces front m d trigger = is_empty d.standing.members ≡ true → lacks_place d.number trigger ≡ has_no_place front m.stations d.site.trigger
+  SamePlaces front m d trigger =
+      is_empty d.standing.members ≡ true → lacks_place d.number trigger ≡ has_no_place front (attachments_of m.stations) d.site.trigger
 
   -- a join is an OPEN's: the same number or the same errno, and the same device
   abbrev pub JoinsAgree : (lost capacity : Q → ℕ) → Type 0
@@ -72,7 +74,7 @@ module _ {Q : Type 0} where
 
   -- a device holds a place at its trigger exactly while the plain state has it attached there
   abbrev pub IsPlaced : (lost capacity : Q → ℕ) → (Q → List (List ℕ)) → (trigger : ℕ) → DeviceView Q → State → Type 0
-  IsPlaced lost capacity waits t d trigger = holds_place d.number trigger.attached ≡ is_attached t (station_of lost capacity waits d)
+  IsPlaced lost capacity waits t d trigger = holds_place d.number trigger.attached ≡ is_attached t (attachment_of (station_of lost capacity waits d))
 
   -- and so it stays
   abbrev pub PlacesAgree : (lost capacity : Q → ℕ) → Type 0

@@ -1,10 +1,11 @@
 pub mod Lists
 pub mod Front
+pub mod Attached
+pub mod Trigger
 pub mod Machine
 pub mod Faults
 pub mod Opening
 pub mod Calls
-pub mod Trigger
 pub mod Moves
 pub mod Devices
 pub mod DeviceLaw

@@ -1,10 +1,11 @@
--- What the handling of a trigger's entry, a look at the thresholds and an unplugging make of the devices, and how they are
+-- What a poll, the handling of a trigger's entry, a look at the thresholds and an unplugging make of the state, and how they are
 -- answered. (Kernel, driver-api/iio: a device is asked once for all of its buffers, and each gets the channels of its own mask; an
 -- output device is given what its buffer has next. What a full queue and an empty one do, and that an entry of an earlier
 -- attachment does nothing, is this project's own.)
 use Rattle.std.specs.Prelude.{ℕ, ◌+◌, ◌==◌, not, Bool, ℤ, nat_lt, List, [], ◌∷◌, ◌++◌, map, length, drop, Option, Some, None, option_map, if◌then◌else◌}
 use Rattle.iio_layout.specs.Scan.{scan_of}
 use Rattle.iio_layout.specs.Shape.{ShapeRecord}
+use Rattle.iio_trigger.specs.declared.Polled.{Polled}
 use Rattle.iio_trigger.specs.Trigger.{Handed}
 use Rattle.iio_sensor.specs.Driver.{ask_fails, values_of}
 use Rattle.iio_desc.specs.Kind.{Kind, Input, Output, Average, is_unplugged_by}
@@ -17,14 +18,16 @@ use Rattle.iio_device.specs.declared.handling.Sensed.{Sensed}
 use Rattle.iio_device.specs.declared.handling.Sensed.TheVariants as sense
 use Rattle.iio_device.specs.Active.{active_for}
 use Rattle.iio_device.specs.Sensing.{sensed, with_sensed}
-use Rattle.iio_device.specs.Site.{captured, is_current, is_empty, unplugged}
+use Rattle.iio_device.specs.Site.{at_place, captured, is_current, is_empty, unplugged}
 use Rattle.iio_core.specs.declared.became.Became.{Became}
 use Rattle.iio_core.specs.declared.became.Became.TheVariants.{Asked, Gave}
 use Rattle.iio_core.specs.declared.became.Gave.{Gave as Giving}
 use Rattle.iio_core.specs.declared.became.Gave.TheVariants as gave
+use Rattle.iio_core.specs.Attached.{entries_from}
 use Rattle.iio_core.specs.Front.{Front, kind_at, shape_at}
 use Rattle.iio_core.specs.Lists.{map_from}
-use Rattle.iio_core.specs.Machine.{Machine, Member, Station, masks_of, station_at, with_site, with_station}
+use Rattle.iio_core.specs.Trigger.{Trigger, entries_at, entry_of, handled, missed_at, poll_answer, polled_by}
+use Rattle.iio_core.specs.Machine.{Machine, Member, Station, attachments_of, masks_of, station_at, with_site, with_station}
 
 -- one accepted trigger event of a device: its moment, and the value of every element of every channel, in order
 pub record Capture : Type 0 where
@@ -145,9 +148,33 @@ entry_at o c dev kind shape j st = if dev == j then entry_made kind shape o st e
 abbrev pub capture_at : Front → Option Handed → (dev : ℕ) → Machine → Option Capture
 capture_at front o dev m = capture_in (kind_at front dev) (shape_at front dev) o (station_at m dev)
 
-abbrev pub machine_after_handling : Front → Option Handed → (dev : ℕ) → Machine → Machine
-machine_after_handling front o dev m =
+abbrev pub machine_after_entry : Front → Option Handed → (dev : ℕ) → Machine → Machine
+machine_after_entry front o dev m =
     record m { stations = map_from (λ j st. entry_at o (capture_at front o dev m) dev (kind_at front j) (shape_at front j) j st) 0 m.stations }
+
+-- ---- triggers
+
+abbrev pub with_trigger : (Trigger → Trigger) → (trigger : ℕ) → Machine → Machine
+with_trigger change trigger m = record m { triggers = at_place trigger change m.triggers }
+
+abbrev pub machine_after_poll : (trigger : ℕ) → ℤ → Machine → Machine
+machine_after_poll trigger moment m = with_trigger (polled_by (attachments_of m.stations) trigger moment) trigger m
+
+-- the answer to a poll
+abbrev pub polled_answer : (trigger : ℕ) → ℤ → Machine → Polled
+polled_answer trigger moment m =
+    poll_answer (entries_from 0 trigger moment (attachments_of m.stations)) (entries_at m.triggers trigger) (missed_at m.triggers trigger)
+
+-- the entry that a device has at a trigger, if any
+abbrev pub entry_in : (trigger dev : ℕ) → Machine → Option Handed
+entry_in trigger dev m = entry_of dev (entries_at m.triggers trigger)
+
+-- ... is taken off, once it is handled
+abbrev pub taken_off : (trigger dev : ℕ) → Machine → Machine
+taken_off trigger dev m = with_trigger (handled dev) trigger m
+
+abbrev pub machine_after_handling : Front → (trigger dev : ℕ) → Machine → Machine
+machine_after_handling front trigger dev m = taken_off trigger dev (machine_after_entry front (entry_in trigger dev m) dev m)
 
 -- ---- looks at thresholds
 

@@ -1,8 +1,11 @@
--- The refusals of an OPEN, in their order, over plain conditions. (Which errno is the kernel's or libiio's, and which this
+-- Where an OPEN wants a place, and its refusals in their order, over plain conditions. (Which errno is the kernel's or libiio's, and which this
 -- project's own, is said in docs/FORMATS.md.)
-use Rattle.std.specs.Prelude.{ℕ, ◌*◌, ◌==◌, ◌||◌, nat_lt, Bool, List, [], ◌∷◌, Option, Some, None}
+use Rattle.std.specs.Prelude.{ℕ, ◌*◌, ◌==◌, ◌||◌, nat_lt, Bool, true, List, [], ◌∷◌, Option, Some, None, unwrap_or}
 use Rattle.iio_text.specs.declared.errors.Errno.{Errno}
 use Rattle.iio_text.specs.declared.errors.Errno.TheVariants.{EBUSY, ENODEV, EINVAL, ENOSYS}
+use Rattle.iio_layout.specs.Shape.{ShapeRecord}
+use Rattle.iio_desc.specs.Kind.{Kind, Average}
+use Rattle.iio_derive.specs.Window.{full_mask}
 use Rattle.iio_device.specs.declared.roster.JoinFault.{JoinFault}
 use Rattle.iio_device.specs.Joining.{member_faults}
 use Rattle.iio_kfifo.specs.declared.limits.TheConstants.{MAX_BYTES}
@@ -45,3 +48,25 @@ errnos_of (r ∷ rs) = with_errno r.0 (errno_of r.1) (errnos_of rs)
 -- a member more at a device
 abbrev pub join_refusals : Bool → Bool → Bool → List (Bool × Errno)
 join_refusals is_without_trigger is_without_union is_full = errnos_of (member_faults is_without_trigger is_without_union is_full)
+
+-- where a new member wants a trigger, a listed mask and a place
+pub record Host (D : Type 0) : Type 0 where
+  pub device : D
+  pub shape : ShapeRecord
+  pub mask : ℕ
+  pub beside : List ℕ
+  pub joins : Bool
+
+module _ {D : Type 0} where
+  -- the device itself
+  abbrev pub own_host : D → ShapeRecord → (mask : ℕ) → (beside : List ℕ) → Host D
+  own_host d shape mask beside = record { device = d; shape = shape; mask = mask; beside = beside; joins = true }
+
+  -- a base, for the inner member, where there is none yet. Its mask is the union, whatever masks are there
+  abbrev pub inner_host : (joins : Bool) → D → ShapeRecord → Host D
+  inner_host joins d shape = record { device = d; shape = shape; mask = full_mask shape; beside = []; joins = joins }
+
+  -- of an averaging device it is its base
+  abbrev pub host_by : Kind → (own : Host D) → (at_base : ℕ → Option (Host D)) → Host D
+  host_by (Average base window) own at_base = unwrap_or (at_base base) own
+  host_by kind own at_base = own

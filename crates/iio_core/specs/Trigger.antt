@@ -1,11 +1,10 @@
--- The triggers beside the devices. (Kernel, driver-api/iio: a device is attached to its trigger while its buffer is enabled, and a
--- poll calls each attached device once. The count of missed polls is this project's own.)
-use Rattle.std.specs.Prelude.{ℕ, ℤ, suc, ◌==◌, not, List, [], ◌∷◌, find, filter, length, slice_get, unwrap_or, Option, Some, None, if◌then◌else◌}
+-- A trigger beside the devices. (Kernel, driver-api/iio: a poll calls each attached device once. The count of missed polls is this
+-- project's own.)
+use Rattle.std.specs.Prelude.{ℕ, ℤ, ◌==◌, not, List, [], ◌∷◌, find, filter, length, slice_get, unwrap_or, Option, Some, None}
 use Rattle.iio_trigger.specs.declared.Polled.{Polled}
 use Rattle.iio_trigger.specs.declared.Polled.TheVariants.{Accepted, Missed}
 use Rattle.iio_trigger.specs.Trigger.{Handed, poll_made, missed_after}
-use Rattle.iio_core.specs.Calls.{is_attached}
-use Rattle.iio_core.specs.Machine.{Station}
+use Rattle.iio_core.specs.Attached.{Attachment, entries_from}
 
 -- a trigger: the entries of its last accepted poll that were not handled since, and how many polls were missed
 pub record Trigger : Type 0 where
@@ -28,18 +27,10 @@ missed_at triggers trigger = (trigger_in triggers trigger).missed
 
 -- ---- polls
 
--- an entry for each device that is attached, in the order of devices; `device` is the first one's number
-abbrev pub bench_entries : ℕ → ℕ → ℤ → List Station → List Handed
-bench_entries device trigger moment [] = []
-bench_entries device trigger moment (st ∷ sts) =
-    if is_attached trigger st
-    then record { dev = device; attachment = st.site.attachment; t = moment } ∷ bench_entries (suc device) trigger moment sts
-    else bench_entries (suc device) trigger moment sts
-
--- the entries that a poll makes of a trigger's
-abbrev pub polled_by : List Station → ℕ → ℤ → Trigger → Trigger
-polled_by stations trigger moment t =
-    record { entries = poll_made (bench_entries 0 trigger moment stations) t.entries; missed = missed_after t.entries t.missed }
+-- a trigger that is polled: an entry for each attached device, where nothing is outstanding; else the poll is missed
+abbrev pub polled_by : List Attachment → ℕ → ℤ → Trigger → Trigger
+polled_by devices trigger moment t =
+    record { entries = poll_made (entries_from 0 trigger moment devices) t.entries; missed = missed_after t.entries t.missed }
 
 -- the answer to a poll: how many entries it made, or how many polls were missed with it
 abbrev pub poll_answer : (made outstanding : List Handed) → (missed : ℕ) → Polled

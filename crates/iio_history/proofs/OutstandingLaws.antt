@@ -2,10 +2,11 @@
 use Rattle.std.proofs.Common.{◌≡◌, ℕ, zero, suc, ℤ, List, [], ◌∷◌, Option, Some, slice_get, option_map, unwrap_or, cond, refl, sym, ap, ◌∙◌}
 use Rattle.iio_trigger.specs.Trigger.{Handed, poll_made}
 use Rattle.iio_history.specs.Event.{Event, Polled, Handled}
-use Rattle.iio_history.specs.Registry.{Setup, outlines_of, entries_from}
-use Rattle.iio_core.specs.Trigger.{Trigger, first_trigger, handled, without_entry}
+use Rattle.iio_history.specs.Registry.{Setup, attachments_of}
+use Rattle.iio_core.specs.Attached.{entries_from}
+use Rattle.iio_core.specs.Trigger.{Trigger, first_trigger, handled, polled_by, without_entry}
 use Rattle.iio_device.specs.Site.{at_place, is_empty}
-use Rattle.iio_history.specs.Fold.{polled, outstanding, registry_after}
+use Rattle.iio_history.specs.Fold.{outstanding, registry_after}
 
 got_at : {A : Type 0} (k : ℕ) (f : A → A) (xs : List A) → slice_get (at_place k f xs) k ≡ option_map f (slice_get xs k)
 got_at k f [] = refl
@@ -30,7 +31,7 @@ made_is made (e ∷ es) = refl
 
 pub outstanding_is : (s : Setup) (h : List Event) (trigger : ℕ) (t : Trigger) → slice_get (registry_after s h).triggers trigger ≡ Some t
     → ((moment : ℤ) → outstanding s trigger (Polled trigger moment ∷ h)
-    ≡ cond (is_empty (outstanding s trigger h)) (entries_from 0 trigger moment (outlines_of (registry_after s h))) (outstanding s trigger h))
+    ≡ cond (is_empty (outstanding s trigger h)) (entries_from 0 trigger moment (attachments_of (registry_after s h))) (outstanding s trigger h))
     × ((k : ℕ) → outstanding s trigger (Handled trigger k ∷ h) ≡ without_entry k (outstanding s trigger h))
     × ((other : ℕ) (moment : ℤ) → (other ≡ trigger → ⊥) → outstanding s trigger (Polled other moment ∷ h) ≡ outstanding s trigger h)
     × ((other k : ℕ) → (other ≡ trigger → ⊥) → outstanding s trigger (Handled other k ∷ h) ≡ outstanding s trigger h)
@@ -38,11 +39,11 @@ outstanding_is s h trigger t is =
     let r = registry_after s h in
     let here : outstanding s trigger h ≡ t.entries = ap entries_by is in (
       λ (moment : ℤ). ap entries_by
-          (got_at trigger (polled (outlines_of r) trigger moment) r.triggers ∙ ap (option_map (polled (outlines_of r) trigger moment)) is)
-          ∙ made_is (entries_from 0 trigger moment (outlines_of r)) t.entries
-          ∙ ap (λ (es : List Handed). cond (is_empty es) (entries_from 0 trigger moment (outlines_of r)) es) (sym here),
+          (got_at trigger (polled_by (attachments_of r) trigger moment) r.triggers ∙ ap (option_map (polled_by (attachments_of r) trigger moment)) is)
+          ∙ made_is (entries_from 0 trigger moment (attachments_of r)) t.entries
+          ∙ ap (λ (es : List Handed). cond (is_empty es) (entries_from 0 trigger moment (attachments_of r)) es) (sym here),
       λ (k : ℕ). ap entries_by (got_at trigger (handled k) r.triggers ∙ ap (option_map (handled k)) is) ∙ ap (without_entry k) (sym here),
       λ (other : ℕ) (moment : ℤ) (apart : other ≡ trigger → ⊥). ap entries_by
-          (got_elsewhere other trigger (polled (outlines_of r) other moment) r.triggers apart),
+          (got_elsewhere other trigger (polled_by (attachments_of r) other moment) r.triggers apart),
       λ (other k : ℕ) (apart : other ≡ trigger → ⊥). ap entries_by (got_elsewhere other trigger (handled k) r.triggers apart),
     )

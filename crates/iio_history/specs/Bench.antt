@@ -94,7 +94,7 @@ bench_by names st = record {
 }
 
 abbrev pub machine_of : Told → Machine
-machine_of m = record { clock = m.clock; stations = map (bench_by (names_of m)) m.stations }
+machine_of m = record { clock = m.clock; triggers = m.triggers; stations = map (bench_by (names_of m)) m.stations }
 
 -- ---- what a desk has to be
 

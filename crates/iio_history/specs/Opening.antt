@@ -1,6 +1,6 @@
 -- What decides an OPEN, a REMASK and a SETTRIG: the refusals in their order. (Which errno is the kernel's or libiio's, and
 -- which this project's own, is said in docs/FORMATS.md.)
-use Rattle.std.specs.Prelude.{ℕ, ◌*◌, ◌&&◌, not, nat_lt, Bool, true, false, List, [], ◌∷◌, ◌++◌, length, map, Option, Some, None, is_some, is_none, slice_get, unwrap_or, Result, Ok}
+use Rattle.std.specs.Prelude.{ℕ, ◌*◌, ◌&&◌, not, nat_lt, Bool, List, [], ◌∷◌, ◌++◌, length, map, Option, Some, None, is_some, is_none, slice_get, unwrap_or, Result, Ok, option_map}
 use Rattle.std.specs.Option.{ok_or}
 use Rattle.iio_base.specs.Refusals.{ensure, ◌>>=◌, first_refusal, unless_refused}
 use Rattle.iio_text.specs.declared.errors.Errno.{Errno}
@@ -9,61 +9,42 @@ use Rattle.iio_mask.specs.Text.{mask_of}
 use Rattle.iio_layout.specs.Shape.{ShapeRecord, count_of}
 use Rattle.iio_layout.specs.Active.{has_data}
 use Rattle.iio_layout.specs.Layout.{scan_size}
-use Rattle.iio_desc.specs.Description.{find_trigger, place_count}
-use Rattle.iio_desc.specs.Kind.{Kind, Output, Average, is_average, is_input, is_output}
-use Rattle.iio_derive.specs.Window.{full_mask}
+use Rattle.iio_desc.specs.Description.{find_trigger}
+use Rattle.iio_desc.specs.Kind.{Kind, Output, is_average, is_input, is_output}
 use Rattle.iio_output.specs.Written.{is_bad_size, scans_of}
 use Rattle.iio_device.specs.Active.{is_without_union}
 use Rattle.iio_device.specs.Site.{is_empty}
 use Rattle.iio_kfifo.specs.declared.limits.TheConstants.{MAX_BYTES}
-use Rattle.iio_core.specs.Opening.{is_excess, asked_refusals, mask_refusals, join_refusals}
+use Rattle.iio_core.specs.Attached.{Attachment, has_no_place}
+use Rattle.iio_core.specs.Front.{first_front}
+use Rattle.iio_core.specs.Opening.{is_excess, asked_refusals, mask_refusals, join_refusals, Host, host_by, inner_host, own_host}
 use Rattle.iio_history.specs.Who.{Who}
-use Rattle.iio_history.specs.Registry.{Setup, Member, Device, Outline, outline_of, outlines_of, Registry, is_member, member_of, without_members, mask_of_member, attached_count}
+use Rattle.iio_history.specs.Registry.{Setup, Member, Device, Outline, Registry, attachments_of, outline_of, is_member, member_of, without_members, mask_of_member}
 
 -- ---- OPEN
-
--- whether a trigger has no place for one device more
-abbrev pub has_no_place : Setup → List Outline → Option ℕ → Bool
-has_no_place s outlines None = false
-has_no_place s outlines (Some trigger) = not (nat_lt (attached_count trigger outlines) (place_count s.desc trigger))
 
 -- whether there is no further membership for somebody: the connection has the device open, or anybody has an output device
 abbrev pub is_taken : Kind → Who → List Member → Bool
 is_taken Output who ms = not (is_empty ms)
 is_taken kind who ms = is_member who ms
 
--- where a new membership wants a trigger, a listed mask and a place: at the device itself; of an averaging device at its base,
--- for the inner member, where there is none yet. The inner member's mask is the union, whatever masks are there
-pub record Host : Type 0 where
-  pub outline : Outline
-  pub mask : ℕ
-  pub beside : List ℕ
-  pub joins : Bool
-
-abbrev pub own_host : Device → ℕ → Host
-own_host d mask = record { outline = outline_of d; mask = mask; beside = (outline_of d).masks; joins = true }
-
-abbrev pub host_by : Kind → List Device → Device → ℕ → Host
-host_by (Average base window) ds d mask = elim (slice_get ds base) [
-  | None ↦ own_host d mask
-  | Some b ↦ record { outline = outline_of b; mask = full_mask b.shape; beside = []; joins = is_empty d.members }
-]
-host_by kind ds d mask = own_host d mask
-
-abbrev pub host_of : List Device → Device → ℕ → Host
-host_of ds d mask = host_by d.kind ds d mask
+-- where a new membership wants its place
+abbrev pub host_of : List Device → Device → ℕ → Host Outline
+host_of ds d mask =
+    host_by d.kind (own_host (outline_of d) d.shape mask (outline_of d).masks)
+    (λ base. option_map (λ (b : Device). inner_host (is_empty d.members) (outline_of b) b.shape) (slice_get ds base))
 
 -- the refusals of an OPEN at a device, in their order; `is_open` is whether it is taken
-abbrev pub open_refusals : Setup → List Outline → Host → Outline → Bool → Bool → Bool → ℕ → ℕ → List (Bool × Errno)
-open_refusals s outlines host o is_open is_mask cyclic mask capacity =
+abbrev pub open_refusals : Setup → List Attachment → Host Outline → Outline → Bool → Bool → Bool → ℕ → ℕ → List (Bool × Errno)
+open_refusals s devices host o is_open is_mask cyclic mask capacity =
     asked_refusals (not o.site.plugged) (cyclic && not (is_output o.kind)) (not is_mask) (not (has_data o.shape mask))
     (is_excess capacity (scan_size o.shape mask)) is_open
-    ++ join_refusals (is_none host.outline.site.trigger) (host.joins && is_without_union host.outline.shape host.beside host.mask)
-    (host.joins && is_empty host.outline.masks && has_no_place s outlines host.outline.site.trigger)
+    ++ join_refusals (is_none host.device.site.trigger) (host.joins && is_without_union host.shape host.beside host.mask)
+    (host.joins && is_empty host.device.masks && has_no_place (first_front s.desc) devices host.device.site.trigger)
 
-abbrev pub opened : Setup → List Outline → Host → Outline → Bool → Bool → Bool → Member → Result Member Errno
-opened s outlines host o is_open is_mask cyclic m =
-    unless_refused m (first_refusal (open_refusals s outlines host o is_open is_mask cyclic m.mask m.capacity))
+abbrev pub opened : Setup → List Attachment → Host Outline → Outline → Bool → Bool → Bool → Member → Result Member Errno
+opened s devices host o is_open is_mask cyclic m =
+    unless_refused m (first_refusal (open_refusals s devices host o is_open is_mask cyclic m.mask m.capacity))
 
 -- the membership that is asked for: the capacity is samples times the buffers count
 abbrev pub member_asked : Device → Who → ℕ → ℕ → List ℕ → Bool → Member
@@ -74,7 +55,7 @@ member_asked d who buffers samples text cyclic =
 abbrev pub open_answer : Setup → Registry → Device → Who → ℕ → ℕ → List ℕ → Bool → Result Member Errno
 open_answer s r d who buffers samples text cyclic =
     let m = member_asked d who buffers samples text cyclic in
-    opened s (outlines_of r) (host_of r.devices d m.mask) (outline_of d) (is_taken d.kind who d.members) (is_some (mask_of text (count_of d.shape))) cyclic m
+    opened s (attachments_of r) (host_of r.devices d m.mask) (outline_of d) (is_taken d.kind who d.members) (is_some (mask_of text (count_of d.shape))) cyclic m
 
 -- ---- REMASK
 

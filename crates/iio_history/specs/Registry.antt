@@ -1,14 +1,14 @@
 -- Who has which device open after a history, what is outstanding at the triggers, and what the drivers were asked: plain
 -- data. There is no queue, no scan and no copy table in it.
-use Rattle.std.specs.Prelude.{ℕ, suc, ◌==◌, ◌||◌, ◌&&◌, not, Bool, false, List, [], ◌∷◌, map, slice_index_or, Option, Some, None, if◌then◌else◌, ℤ}
+use Rattle.std.specs.Prelude.{ℕ, ◌==◌, ◌||◌, ◌&&◌, not, Bool, false, List, [], ◌∷◌, map, slice_index_or, Option, Some, None, if◌then◌else◌, ℤ}
 use Rattle.std.specs.Str.{bytes_eq}
 use Rattle.iio_layout.specs.Shape.{ShapeRecord}
 use Rattle.iio_sensor.specs.Driver.{Driver}
-use Rattle.iio_trigger.specs.Trigger.{Handed}
 use Rattle.iio_desc.specs.Description.{Description, find_device}
 use Rattle.iio_desc.specs.Kind.{Kind}
 use Rattle.iio_derive.specs.Window.{Window}
 use Rattle.iio_device.specs.Site.{Site, is_empty}
+use Rattle.iio_core.specs.Attached.{Attachment, attachment_by}
 use Rattle.iio_core.specs.Trigger.{Trigger}
 use Rattle.iiod_session.specs.declared.desk.TheConstants.{FIRST_BUFFERS}
 use Rattle.iio_history.specs.Who.{Who, same, is_among}
@@ -37,7 +37,7 @@ pub record Device : Type 0 where
   pub window : Window
   pub members : List Member
 
--- what a device is to its trigger, to its sensor and to a new member: there are no names in it
+-- what a device is to its sensor and to a new member: there are no names in it
 pub record Outline : Type 0 where
   pub kind : Kind
   pub shape : ShapeRecord
@@ -64,8 +64,12 @@ mask_of_member m = m.mask
 abbrev pub outline_of : Device → Outline
 outline_of d = record { kind = d.kind; shape = d.shape; site = d.site; masks = map mask_of_member d.members }
 
-abbrev pub outlines_of : Registry → List Outline
-outlines_of r = map outline_of r.devices
+-- what devices are to triggers
+abbrev pub attachment_of : Device → Attachment
+attachment_of d = attachment_by d.site d.members
+
+abbrev pub attachments_of : Registry → List Attachment
+attachments_of r = map attachment_of r.devices
 
 abbrev pub is_member : Who → List Member → Bool
 is_member who [] = false
@@ -93,16 +97,6 @@ is_at (Some j) k = j == k
 abbrev pub is_named : Setup → List ℕ → ℕ → Bool
 is_named s name k = is_at (find_device s.desc name) k
 
--- whether the device is attached to the trigger: while it has a member (kernel, driver-api/iio: while its buffer is
--- enabled)
-abbrev pub is_attached : ℕ → Outline → Bool
-is_attached trigger o = is_at o.site.trigger trigger && not (is_empty o.masks)
-
--- how many devices are attached to the trigger
-abbrev pub attached_count : ℕ → List Outline → ℕ
-attached_count trigger [] = 0
-attached_count trigger (o ∷ os) = if is_attached trigger o then suc (attached_count trigger os) else attached_count trigger os
-
 -- the connection of that name
 abbrev pub user_named : List ℕ → List User → Option User
 user_named name [] = None
@@ -122,13 +116,3 @@ first_buffers = FIRST_BUFFERS
 -- a connection's buffers count of device k
 abbrev pub buffers_of : List User → List ℕ → ℕ → ℕ
 buffers_of us name k = elim (user_named name us) [ None ↦ first_buffers | Some u ↦ slice_index_or u.buffers k first_buffers ]
-
--- ---- entries
-
--- an entry for each device that is attached, in the order of devices; `device` is the first one's number
-abbrev pub entries_from : ℕ → ℕ → ℤ → List Outline → List Handed
-entries_from device trigger moment [] = []
-entries_from device trigger moment (o ∷ os) =
-    if is_attached trigger o
-    then record { dev = device; attachment = o.site.attachment; t = moment } ∷ entries_from (suc device) trigger moment os
-    else entries_from (suc device) trigger moment os

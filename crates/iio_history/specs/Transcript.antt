@@ -13,7 +13,8 @@ use Rattle.iio_device.specs.Site.{is_empty}
 use Rattle.iio_history.specs.Who.{Who}
 use Rattle.iiod_grammar.specs.Stream.{Scanner, InLine, items_from}
 use Rattle.iio_history.specs.Event.{Event, Arrived, Heard, Dropped, Polled, Handled, Clock, Sensed, Unplugged}
-use Rattle.iio_history.specs.Registry.{Setup, entries_from, outline_of, outlines_of, has_ended, is_live}
+use Rattle.iio_history.specs.Registry.{Setup, attachments_of, outline_of, has_ended, is_live}
+use Rattle.iio_core.specs.Attached.{entries_from}
 use Rattle.iio_core.specs.Trigger.{entries_at, entry_of, missed_at}
 use Rattle.iio_history.specs.Act.{Act, Capturing, Failing, Giving, handled_act}
 use Rattle.iio_history.specs.Told.{Line, Seat, Station, Told, device_of, next_given, registry_of, told}
@@ -44,7 +45,7 @@ begun_by name ls = elim (line_named name ls) [ None ↦ InLine [] | Some l ↦ l
 
 -- the entries that a poll makes, where it is accepted
 abbrev pub poll_entries : Told → ℕ → ℤ → List Handed
-poll_entries m trigger moment = if is_empty (entries_at m.triggers trigger) then entries_from 0 trigger moment (outlines_of (registry_of m)) else []
+poll_entries m trigger moment = if is_empty (entries_at m.triggers trigger) then entries_from 0 trigger moment (attachments_of (registry_of m)) else []
 
 -- the events that a step stands for, the first of them first: a feed stands for the items that its bytes make whole, a fire
 -- for a poll and, where that is accepted, for the handling of each entry that it made

@@ -4,7 +4,7 @@
 ghost use Rattle.iio_history.specs.Law.{StepIsTold, MachineIsTold, QueuesArePrivate, MembersAreApart, OutputHasOne, GivenIsWritten, InnerIsThere, InnerIsEmpty, PluggedIsBases, MeansAre, MeansAlone, OthersAreAbsent, PlayedIsTranscript, OutstandingIs, ReadingIsOne};
 ghost use Rattle.iio_history.specs.Numbered.{NumberedAreSteps};
 ghost use Rattle.iio_history.specs.BenchLaw.{FirstIsBench, BenchIsKept, ToldIsBench, SizesAreSome, NamesStay, ArrivedIsThere, LiveIsThere, RoomLasts, ItemsAreActs, ActsTell, DesksAreKept, NewIsDesk, ArrivalIsNothing, EndsAreLeft, FeedsAreActs, ScriptFeedsTell, FeedsKeepDesks};
-ghost use Rattle.iio_history.specs.BenchMoves.{UnpluggingIs, ClockIs, PollIs, LookIs, HandlingIs, TriggersAre, MovesPrint};
+ghost use Rattle.iio_history.specs.BenchMoves.{UnpluggingIs, ClockIs, PollIs, LookIs, HandlingIs, MovesPrint};
 ghost use Rattle.iio_history.specs.ToldDevice.{EndsAgree, ToldHandlingsAgree, ToldLooksAgree};
 
 mod limits;
@@ -61,7 +61,6 @@ pub fn move_law()
     ensures poll { PollIs }
     ensures look { LookIs }
     ensures handling { HandlingIs }
-    ensures triggers { TriggersAre }
     ensures printed { MovesPrint }
 {}
 

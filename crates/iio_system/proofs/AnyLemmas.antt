@@ -9,10 +9,12 @@ use Rattle.iio_desc.specs.Kind.{Kind, Input, Output, Average, is_average, is_inp
 use Rattle.iio_sensor.specs.Driver.{Driver}
 use Rattle.iio_device.specs.declared.plug.Plug.{Plug}
 use Rattle.iio_device.specs.Site.{at_place, is_empty}
+use Rattle.iio_core.specs.Opening.{own_host}
+use Rattle.iio_core.specs.Attached.{is_attached}
 use Rattle.iio_core.specs.Lists.{map_from}
-use Rattle.iio_core.specs.Calls.{Outcome, all_joined, closed, host_by, inner_gone, inner_joined, inner_left, is_attached, joined, left, open_of, open_refusals, own_host, trigger_by, trigger_of, unless, unless_made, with_inner, without_inner}
+use Rattle.iio_core.specs.Calls.{Outcome, all_joined, closed, inner_gone, inner_joined, inner_left, joined, left, open_of, open_refusals, trigger_by, trigger_of, unless, unless_made, with_inner, without_inner, host_of}
 use Rattle.iio_core.specs.Front.{Front, kind_at, shape_at}
-use Rattle.iio_core.specs.Machine.{Machine, Station, station_at, with_station}
+use Rattle.iio_core.specs.Machine.{Machine, Station, station_at, with_station, attachment_of, masks_of}
 use Rattle.iio_core.proofs.PlaceLists.{placed_from}
 use Rattle.iio_system.specs.declared.any_device.AnyDevice.{AnyDevice}
 use Rattle.iio_system.specs.declared.any_device.AnyDevice.TheVariants as any
@@ -88,10 +90,10 @@ module _ (front : Front) (dev : ℕ) (plain : is_average (kind_at front dev) ≡
   module _ (m : Machine) (mask capacity : ℕ) (cyclic : Bool) (st : Station) (shape : ShapeRecord) (here : station_at m dev ≡ st)
       (shaped : shape_at front dev ≡ shape) where
     numbered_by : (kind : Kind) (r : Option Errno) → is_average kind ≡ false → kind_at front dev ≡ kind
-        → first_refusal (open_refusals front m.stations kind (own_host st shape mask) st) ≡ r
+        → first_refusal (open_refusals front m.stations kind (own_host st shape mask (masks_of st.members)) st) ≡ r
         → unless_refused (station_at m dev).next
         (first_refusal (open_refusals front m.stations (kind_at front dev)
-        (host_by front m.stations (kind_at front dev) (station_at m dev) (shape_at front dev) mask) (station_at m dev)))
+        (host_of front m.stations (kind_at front dev) (station_at m dev) (shape_at front dev) mask) (station_at m dev)))
         ≡ unless_refused st.next r
     numbered_by Input r own is e = rw (is, here, shaped, e) refl
     numbered_by Output r own is e = rw (is, here, shaped, e) refl
@@ -99,7 +101,7 @@ module _ (front : Front) (dev : ℕ) (plain : is_average (kind_at front dev) ≡
 
     -- an OPEN by the refusals of the device itself
     pub open_alone : (kind : Kind) (r : Option Errno) → kind_at front dev ≡ kind
-        → first_refusal (open_refusals front m.stations kind (own_host st shape mask) st) ≡ r
+        → first_refusal (open_refusals front m.stations kind (own_host st shape mask (masks_of st.members)) st) ≡ r
         → open_of front m dev mask capacity cyclic ≡ unless (joined mask capacity cyclic None) dev m (unless_refused st.next r)
     unfolding open_of
     open_alone kind r is e =
@@ -145,7 +147,7 @@ module _ {X : Type 0} {V : X → Type 0} where
 
   -- what holds of a device's place holds whatever it samples by
   module _ (p q : Plug X V → Driver) where
-    pub attached_as : (t : ℕ) (d : AnyDevice X V) → is_attached t (any_station p d) ≡ is_attached t (any_station q d)
+    pub attached_as : (t : ℕ) (d : AnyDevice X V) → is_attached t (attachment_of (any_station p d)) ≡ is_attached t (attachment_of (any_station q d))
     attached_as t (any.Input d) = refl
     attached_as t (any.Output x) = refl
     attached_as t (any.Average a) = refl

@@ -17,8 +17,9 @@ use Rattle.iiod_session.specs.declared.iio.No.{No}
 use Rattle.iiod_session.specs.declared.iio.No.TheVariants.{Errno as NoErrno, Mem as NoMem}
 use Rattle.iiod_session.specs.declared.iio.Took.{Took}
 use Rattle.iiod_session.specs.declared.iio.Took.TheVariants.{Scan, Empty, Gone}
-use Rattle.iio_core.specs.Machine.{Member, MemberId, Station, is_id_of, with_scans, with_site}
-use Rattle.iio_core.specs.Calls.{is_attached, is_inner_of, trigger_answer}
+use Rattle.iio_core.specs.Attached.{is_attached}
+use Rattle.iio_core.specs.Machine.{Member, MemberId, Station, is_id_of, with_scans, with_site, attachment_of}
+use Rattle.iio_core.specs.Calls.{is_inner_of, trigger_answer}
 use Rattle.iio_system.specs.Acting.{Acts, TakesAt, TakesScansAt}
 use Rattle.iio_system.specs.Averages.{has_inner}
 use Rattle.iio_system.specs.Places.{IsBench, IsTrigger, has_in_hand, has_trigger, is_hosted, places_from}
@@ -28,7 +29,7 @@ use Rattle.iio_system.proofs.PlaceLemmas.{places_attached, places_detached, plac
 
 -- a device that keeps its place at each trigger
 pub record KeepsPlace (st st' : Station) : Type 0 where
-  pub attached : (t : ℕ) → is_attached t st' ≡ is_attached t st
+  pub attached : (t : ℕ) → is_attached t (attachment_of st') ≡ is_attached t (attachment_of st)
   pub attachment : st'.site.attachment ≡ st.site.attachment
 
 -- ... and what averaging devices have to do with, but for captures
@@ -111,7 +112,7 @@ pub monitor_stands : (change : MonitorRecord ℕ → MonitorRecord ℕ) (st : St
 monitor_stands change st = standing st _ refl refl refl refl (λ j. refl) refl
 
 -- without a member a device isn't attached
-pub none_attached : (t : ℕ) (st : Station) → is_empty st.members ≡ true → is_attached t st ≡ false
+pub none_attached : (t : ℕ) (st : Station) → is_empty st.members ≡ true → is_attached t (attachment_of st) ≡ false
 none_attached t st e = rw e (grind arith)
 
 idle_answer : (plugged empty : Bool) (x : ⊤) → cond plugged empty false ≡ true → empty ≡ true
@@ -185,10 +186,10 @@ inner_mapped j f same (m ∷ ms) =
 -- ---- a device and its trigger
 
 -- a device isn't attached to another trigger than its own
-other_attached : (t u : ℕ) (st : Station) → st.site.trigger ≡ Some t → (u ≡ t → ⊥) → is_attached u st ≡ false
+other_attached : (t u : ℕ) (st : Station) → st.site.trigger ≡ Some t → (u ≡ t → ⊥) → is_attached u (attachment_of st) ≡ false
 other_attached t u st e ne = let other : (t == u) ≡ false = grind (arith, nat_tests) in rw (e, other) refl
 
-own_attached : (t : ℕ) (st : Station) → st.site.trigger ≡ Some t → is_empty st.members ≡ false → is_attached t st ≡ true
+own_attached : (t : ℕ) (st : Station) → st.site.trigger ≡ Some t → is_empty st.members ≡ false → is_attached t (attachment_of st) ≡ true
 own_attached t st e some = let own : (t == t) ≡ true = grind (arith, nat_tests) in rw (e, own, some) refl
 
 pub has_trigger_is : (t n : ℕ) (trigger : Option ℕ) → trigger ≡ Some t → t < n → has_trigger n trigger ≡ true

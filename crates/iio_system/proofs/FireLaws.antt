@@ -9,19 +9,19 @@ use Rattle.iio_trigger.specs.declared.Polled.TheVariants.{Accepted, Missed}
 use Rattle.iio_trigger.specs.Trigger.{Handed, poll_made}
 use Rattle.iio_device.specs.declared.plug.Plug.{Plug}
 use Rattle.iio_device.specs.Site.{at_place, is_empty}
-use Rattle.iio_core.specs.Calls.{is_attached}
+use Rattle.iio_core.specs.Attached.{Attachment, entries_from, is_attached}
 use Rattle.iio_core.specs.Front.{Front, device_name, kind_at, trigger_name}
-use Rattle.iio_core.specs.Machine.{Machine, Station, station_at}
-use Rattle.iio_core.specs.Moves.{entry_answer, machine_after_handling}
+use Rattle.iio_core.specs.Machine.{Machine, station_at, attachment_of}
+use Rattle.iio_core.specs.Moves.{entry_answer, machine_after_handling, entry_in, machine_after_entry, machine_after_poll, polled_answer, taken_off}
 use Rattle.iio_history.specs.Event.{Handled, Polled}
-use Rattle.iio_history.specs.Registry.{Setup, entries_from as told_entries, outlines_of}
-use Rattle.iio_core.specs.Trigger.{Trigger, entries_at, entry_of, without_entry, handled, bench_entries, polled_by, first_due, poll_answer, missed_at}
+use Rattle.iio_history.specs.Registry.{Setup, attachments_of}
+use Rattle.iio_core.specs.Trigger.{Trigger, entries_at, entry_of, without_entry, handled, polled_by, first_due, missed_at, poll_answer}
 use Rattle.iio_history.specs.Told.{Told, registry_of}
 use Rattle.iio_history.specs.Machine.{step}
 use Rattle.iio_history.specs.Played.{state_after, step_lines, steps, texts}
 use Rattle.iio_history.specs.Transcript.{Fire, event_text, poll_entries, printed}
 use Rattle.iio_history.specs.Bench.{machine_of}
-use Rattle.iio_history.proofs.BenchMoves.{poll_is, triggers_are}
+use Rattle.iio_history.proofs.BenchMoves.{poll_is}
 use Rattle.iio_system.specs.declared.bench.Bench.{Bench}
 use Rattle.iio_system.specs.declared.connection.Connection.{Connection}
 use Rattle.iio_system.specs.declared.seat.Seat.{Seat}
@@ -37,7 +37,7 @@ use Rattle.iio_system.specs.Station.{any_front, any_station}
 use Rattle.iio_system.specs.System.{AreLines}
 use Rattle.iio_system.proofs.ListLemmas.{length_map_is, filter_none}
 use Rattle.iio_system.proofs.GatherLemmas.{nothing_handled}
-use Rattle.iio_system.proofs.MoveLaws.{entry_here, handle_holds, handle_line, machine_told, poll_holds, poll_line}
+use Rattle.iio_system.proofs.MoveLaws.{handle_holds, handle_line, machine_told, poll_holds, poll_line}
 
 -- ---- one handling
 
@@ -53,31 +53,33 @@ handled_none dev (suc trigger) (t ∷ ts) none = ap (λ (xs : List Trigger). t �
 module _ {X : Type 0} {V : X → Type 0} (driver : Plug X V → Driver) where
   module _ (trigger dev : ℕ) (b b' : Bench X V) (cs : List (Connection Seat)) (less : dev < length (bench_front b).devices)
       (front : bench_front b' ≡ bench_front b)
-      (told : bench_machine driver b' ≡ machine_after_handling (bench_front b) (entry_of dev (entries_at (triggers_of b) trigger)) dev (bench_machine driver b))
-      (triggers : triggers_of b' ≡ at_place trigger (handled dev) (triggers_of b)) (s : Setup) (m : Told) (h : Holds driver s m b cs) where
-    own : entry_of dev (entries_at (triggers_of b) trigger) ≡ entry_of dev (entries_at m.triggers trigger)
-    own = entry_here driver trigger dev b b' cs less front told triggers s m h
+      (told : bench_machine driver b' ≡ machine_after_handling (bench_front b) trigger dev (bench_machine driver b)) (s : Setup) (m : Told)
+      (h : Holds driver s m b cs) where
+    own : entry_in trigger dev (bench_machine driver b) ≡ entry_of dev (entries_at m.triggers trigger)
+    own = ap (λ (x : Machine). entry_in trigger dev x) (machine_told driver s m b cs h)
 
     -- where it has none, nothing changes
     stays : entry_of dev (entries_at m.triggers trigger) ≡ None → Holds driver s m b' cs
     stays none = record {
-      stands = record {
-        front_is = front ∙ h.stands.front_is;
-        told_is =
-            ap (λ (x : Machine). Some x)
-            (told ∙ ap (λ (o : Option Handed). machine_after_handling (bench_front b) o dev (bench_machine driver b)) (own ∙ none)
-            ∙ nothing_handled (bench_front b) dev (bench_machine driver b))
-            ∙ h.stands.told_is;
-        bench = h.stands.bench;
-        lines = subst (λ (f : Front). AreLines seen_of f m m.lines cs) (sym front) h.stands.lines;
-      };
-      triggers =
-          triggers ∙ ap (λ (ts : List Trigger). at_place trigger (handled dev) ts) h.triggers
-          ∙ handled_none dev trigger m.triggers none;
+      front_is = front ∙ h.front_is;
+      told_is =
+          ap (λ (x : Machine). Some x)
+          (told ∙ ap (λ (o : Option Handed). taken_off trigger dev (machine_after_entry (bench_front b) o dev (bench_machine driver b))) (own ∙ none)
+          ∙ ap (λ (x : Machine). taken_off trigger dev x) (nothing_handled (bench_front b) dev (bench_machine driver b))
+          ∙ ap (λ (ts : List Trigger). record (bench_machine driver b) { triggers = ts }) (handled_none dev trigger (triggers_of b) (own ∙ none)))
+          ∙ h.told_is;
+      bench = h.bench;
+      lines = subst (λ (f : Front). AreLines seen_of f m m.lines cs) (sym front) h.lines;
     }
 
+    -- what is answered of an entry, by the told state
+    answer_own : (o : Option Handed) → entry_of dev (entries_at m.triggers trigger) ≡ o
+        → entry_answer (kind_at (bench_front b) dev) (entry_in trigger dev (bench_machine driver b)) (station_at (bench_machine driver b) dev)
+        ≡ entry_answer (kind_at (bench_front b) dev) o (station_at (bench_machine driver b) dev)
+    answer_own o is = ap (λ (e : Option Handed). entry_answer (kind_at (bench_front b) dev) e (station_at (bench_machine driver b) dev)) (own ∙ is)
+
     pub plays_none : (before : List ℕ)
-        → None ≡ entry_answer (kind_at (bench_front b) dev) (entry_of dev (entries_at (triggers_of b) trigger)) (station_at (bench_machine driver b) dev)
+        → None ≡ entry_answer (kind_at (bench_front b) dev) (entry_in trigger dev (bench_machine driver b)) (station_at (bench_machine driver b) dev)
         → Plays driver (handling_of trigger dev) s m trigger b' cs before before
     plays_none before answered = by (entry_of dev (entries_at m.triggers trigger)) refl
       where
@@ -85,14 +87,11 @@ module _ {X : Type 0} {V : X → Type 0} (driver : Plug X V → Driver) where
             → (before ≡ before ++ texts s m (elim o [ None ↦ [] | Some e ↦ Handled trigger dev ∷ [] ]))
             × Holds driver s (steps s m (elim o [ None ↦ [] | Some e ↦ Handled trigger dev ∷ [] ])) b' cs
         by None is = (sym (append-nil before), stays is)
-        by (Some e) is =
-            absurd (let h = answered
-            ∙ ap (λ (o : Option Handed). entry_answer (kind_at (bench_front b) dev) o (station_at (bench_machine driver b) dev))
-            (own ∙ is) in cc)
+        by (Some e) is = absurd (let h = answered ∙ answer_own (Some e) is in cc)
 
     pub plays_some : (before after name device room : List ℕ) (answer : Became) → name ≡ trigger_name (bench_front b') trigger
         → device ≡ device_name (bench_front b') dev
-        → Some answer ≡ entry_answer (kind_at (bench_front b) dev) (entry_of dev (entries_at (triggers_of b) trigger)) (station_at (bench_machine driver b) dev)
+        → Some answer ≡ entry_answer (kind_at (bench_front b) dev) (entry_in trigger dev (bench_machine driver b)) (station_at (bench_machine driver b) dev)
         → IsRoom (Some answer) (station_at (bench_machine driver b) dev).members room
         → after ≡ before ++ printed (codes "handle" ∷ name ∷ device ∷ became_word (Some answer) room ∷ [])
         → Plays driver (handling_of trigger dev) s m trigger b' cs before after
@@ -101,13 +100,10 @@ module _ {X : Type 0} {V : X → Type 0} (driver : Plug X V → Driver) where
         by : (o : Option Handed) → entry_of dev (entries_at m.triggers trigger) ≡ o
             → (after ≡ before ++ texts s m (elim o [ None ↦ [] | Some e ↦ Handled trigger dev ∷ [] ]))
             × Holds driver s (steps s m (elim o [ None ↦ [] | Some e ↦ Handled trigger dev ∷ [] ])) b' cs
-        by None is =
-            absurd (let h = answered
-            ∙ ap (λ (o : Option Handed). entry_answer (kind_at (bench_front b) dev) o (station_at (bench_machine driver b) dev))
-            (own ∙ is) in cc)
+        by None is = absurd (let h = answered ∙ answer_own None is in cc)
         by (Some e) is = (
-          handle_line driver trigger dev b b' cs less front told triggers s m h before after name device room (Some answer) named called answered roomy line,
-          handle_holds driver trigger dev b b' cs less front told triggers s m h,
+          handle_line driver trigger dev b b' cs less front told s m h before after name device room (Some answer) named called answered roomy line,
+          handle_holds driver trigger dev b b' cs less front told s m h,
         )
 
 -- ---- entries in order
@@ -182,8 +178,7 @@ module _ {X : Type 0} {V : X → Type 0} (driver : Plug X V → Driver) where
     -- the first entry at the bench's trigger is the first that is left
     first_left : first_due (entries_at (triggers_of b) trigger) ≡ first_due x.entries
     first_left =
-        ap (λ (hs : List Handed). first_due hs)
-        (ap (λ (ts : List Trigger). entries_at ts trigger) x.holds.triggers ∙ x.there)
+        ap (λ (y : Machine). first_due (entries_at y.triggers trigger)) (machine_told driver s x.state b cs x.holds) ∙ ap first_due x.there
 
     -- as many turns as there are devices leave none
     pub left_last : high ≤ low → Plays driver (handlings trigger) s m trigger b cs before now
@@ -219,8 +214,7 @@ module _ {X : Type 0} {V : X → Type 0} (driver : Plug X V → Driver) where
           state = step s n (Handled trigger dev);
           entries = es;
           there =
-              ap (λ (ts : List Trigger). entries_at ts trigger) (triggers_are s n (Handled trigger dev))
-              ∙ entries_placed (handled dev) (without_entry dev) (λ t. refl) trigger n.triggers (λ past. refl)
+              entries_placed (handled dev) (without_entry dev) (λ t. refl) trigger n.triggers (λ past. refl)
               ∙ ap (λ (xs : List Handed). without_entry dev xs) at ∙ ap (λ (c : Bool). cond (not c) (e ∷ without_entry dev es) (without_entry dev es)) own
               ∙ without_none dev es (entry_none dev (suc e.dev) high es (omega (arith, same)) order.1);
           holds = took'.1;
@@ -254,18 +248,17 @@ still_go k old new less can rise = λ i d within. let h = rise (2 ^ 63) (λ j e 
 -- ---- a poll, and the handlings that follow it
 
 -- the entries of a poll are of devices in their order
-bench_order : (dev trigger : ℕ) (t : ℤ) (sts : List Station) → InOrder dev (dev + length sts) (bench_entries dev trigger t sts)
-bench_order dev trigger t [] = omega arith
-bench_order dev trigger t (st ∷ sts) =
-    let on : suc dev + length sts ≡ dev + suc (length sts) = omega arith in
-    by (is_attached trigger st) (subst (λ (n : ℕ). InOrder (suc dev) n (bench_entries (suc dev) trigger t sts)) on (bench_order (suc dev) trigger t sts))
+poll_order : (dev trigger : ℕ) (t : ℤ) (ds : List Attachment) → InOrder dev (dev + length ds) (entries_from dev trigger t ds)
+poll_order dev trigger t [] = omega arith
+poll_order dev trigger t (d ∷ ds) =
+    let on : suc dev + length ds ≡ dev + suc (length ds) = omega arith in
+    by (is_attached trigger d) (subst (λ (n : ℕ). InOrder (suc dev) n (entries_from (suc dev) trigger t ds)) on (poll_order (suc dev) trigger t ds))
   where
-    by : (c : Bool) → InOrder (suc dev) (dev + suc (length sts)) (bench_entries (suc dev) trigger t sts)
-        → InOrder dev (dev + suc (length sts))
-        (cond c (record { dev = dev; attachment = st.site.attachment; t = t } ∷ bench_entries (suc dev) trigger t sts)
-        (bench_entries (suc dev) trigger t sts))
+    by : (c : Bool) → InOrder (suc dev) (dev + suc (length ds)) (entries_from (suc dev) trigger t ds)
+        → InOrder dev (dev + suc (length ds))
+        (cond c (record { dev = dev; attachment = d.number; t = t } ∷ entries_from (suc dev) trigger t ds) (entries_from (suc dev) trigger t ds))
     by true rest = (omega arith, rest)
-    by false rest = order_from dev (suc dev) (dev + suc (length sts)) (bench_entries (suc dev) trigger t sts) (omega arith) rest
+    by false rest = order_from dev (suc dev) (dev + suc (length ds)) (entries_from (suc dev) trigger t ds) (omega arith) rest
 
 accepts : (made : List Handed) (es : List Handed) (n missed : ℕ) → Accepted n ≡ poll_answer made es missed → es ≡ []
 accepts made [] n missed answered = refl
@@ -277,85 +270,71 @@ misses made (e ∷ es) n missed answered = refl
 
 module _ {X : Type 0} {V : X → Type 0} (driver : Plug X V → Driver) where
   module _ (trigger : ℕ) (t : ℤ) (b b' : Bench X V) (cs : List (Connection Seat)) (front : bench_front b' ≡ bench_front b)
-      (told : bench_machine driver b' ≡ bench_machine driver b)
-      (triggers : triggers_of b' ≡ at_place trigger (polled_by (bench_machine driver b).stations trigger t) (triggers_of b)) (s : Setup) (m : Told)
-      (h : Holds driver s m b cs) where
-    outstanding_told : (answer : Answer)
-        → answer ≡ poll_answer (bench_entries 0 trigger t (bench_machine driver b).stations) (entries_at (triggers_of b) trigger)
-        (missed_at (triggers_of b) trigger)
-        → answer ≡ poll_answer (bench_entries 0 trigger t (bench_machine driver b).stations) (entries_at m.triggers trigger)
-        (missed_at (triggers_of b) trigger)
-    outstanding_told answer answered =
-        answered
-        ∙ ap (λ (hs : List Handed). poll_answer (bench_entries 0 trigger t (bench_machine driver b).stations) hs (missed_at (triggers_of b) trigger))
-        (ap (λ (ts : List Trigger). entries_at ts trigger) h.triggers)
+      (told : bench_machine driver b' ≡ machine_after_poll trigger t (bench_machine driver b)) (s : Setup) (m : Told) (h : Holds driver s m b cs) where
+    -- what a poll makes, where nothing is outstanding
+    abbrev made : List Handed
+    made = entries_from 0 trigger t (attachments_of (registry_of m))
+
+    poll_told : (answer : Answer) → answer ≡ polled_answer trigger t (bench_machine driver b) → answer ≡ polled_answer trigger t (machine_of m)
+    poll_told answer answered = answered ∙ ap (λ (x : Machine). polled_answer trigger t x) (machine_told driver s m b cs h)
 
     -- a missed poll is all
     pub fire_missed : (before after name : List ℕ) (answer : Answer) (n : ℕ) → answer ≡ Missed n → name ≡ trigger_name (bench_front b') trigger
-        → answer ≡ poll_answer (bench_entries 0 trigger t (bench_machine driver b).stations) (entries_at (triggers_of b) trigger)
-        (missed_at (triggers_of b) trigger)
+        → answer ≡ polled_answer trigger t (bench_machine driver b)
         → after ≡ before ++ printed (codes "poll" ∷ name ∷ polled_words answer)
         → (after ≡ before ++ step_lines s m (Fire trigger t)) × Holds driver s (state_after s m (Fire trigger t)) b' cs
     fire_missed before after name answer n is named answered line =
-        let busy =
-        misses (bench_entries 0 trigger t (bench_machine driver b).stations) (entries_at m.triggers trigger) n (missed_at (triggers_of b) trigger)
-        (outstanding_told (Missed n) (sym is ∙ answered)) in
-        let none : poll_entries m trigger t ≡ [] = ap (λ (c : Bool). cond c (told_entries 0 trigger t (outlines_of (registry_of m))) []) busy in
+        let busy = misses _ (entries_at m.triggers trigger) n (missed_at m.triggers trigger) (sym is ∙ poll_told answer answered) in
+        let none : poll_entries m trigger t ≡ [] = ap (λ (c : Bool). cond c made []) busy in
         subst (λ (es : List Handed). (after ≡ before ++ texts s m (Polled trigger t ∷ handlings trigger es))
         × Holds driver s (steps s m (Polled trigger t ∷ handlings trigger es)) b' cs) (sym none) (
-          poll_line driver trigger t b b' cs front told triggers s m h before after name answer named answered line,
-          poll_holds driver trigger t b b' cs front told triggers s m h,
+          poll_line driver trigger t b b' cs front told s m h before after name answer named answered line,
+          poll_holds driver trigger t b b' cs front told s m h,
         )
 
     -- one that is accepted
     module _ (many : length b.triggers.items ≡ length b.described.items) (within : trigger < length (bench_front b).triggers) where
-      polled_entries : entries_at (step s m (Polled trigger t)).triggers trigger
-          ≡ poll_made (bench_entries 0 trigger t (machine_of m).stations) (entries_at m.triggers trigger)
+      polled_entries : entries_at (step s m (Polled trigger t)).triggers trigger ≡ poll_made made (entries_at m.triggers trigger)
       polled_entries =
           let long : length m.triggers ≡ length b.described.items
           =
-          ap (λ (ts : List Trigger). length ts) (sym h.triggers)
+          ap (λ (x : Machine). length x.triggers) (sym (machine_told driver s m b cs h))
           ∙ length_map_is trigger_of b.triggers.items ∙ many in
-          ap (λ (ts : List Trigger). entries_at ts trigger) (triggers_are s m (Polled trigger t))
-          ∙ entries_placed (polled_by (machine_of m).stations trigger t) (λ es. poll_made (bench_entries 0 trigger t (machine_of m).stations) es) (λ x. refl) trigger
+          entries_placed (polled_by (attachments_of (registry_of m)) trigger t) (λ es. poll_made made es) (λ x. refl) trigger
           m.triggers (λ past. absurd (omega (arith, past, long, within)))
 
-      in_order : InOrder 0 (length (bench_front b').devices) (bench_entries 0 trigger t (machine_of m).stations)
+      in_order : InOrder 0 (length (bench_front b').devices) made
       in_order =
-          let whole : 0 + length (machine_of m).stations ≡ length (machine_of m).stations = omega arith in
-          let long : 0 + length (machine_of m).stations ≡ length (bench_front b').devices
+          let whole : 0 + length (attachments_of (registry_of m)) ≡ length (attachments_of (registry_of m)) = omega arith in
+          let long : 0 + length (attachments_of (registry_of m)) ≡ length (bench_front b').devices
           =
-          whole ∙ ap (λ (x : Machine). length x.stations) (sym (machine_told driver s m b cs h)) ∙ length_map_is (any_station driver) b.devices.items
+          whole ∙ ap (λ (ds : List Attachment). length ds) (poll_is s m trigger t).1 ∙ length_map_is attachment_of (machine_of m).stations
+          ∙ ap (λ (x : Machine). length x.stations) (sym (machine_told driver s m b cs h)) ∙ length_map_is (any_station driver) b.devices.items
           ∙ sym (length_map_is any_front b.devices.items) ∙ ap (λ (f : Front). length f.devices) (sym front) in
-          subst (λ (n : ℕ). InOrder 0 n (bench_entries 0 trigger t (machine_of m).stations)) long (bench_order 0 trigger t (machine_of m).stations)
+          subst (λ (n : ℕ). InOrder 0 n made) long (poll_order 0 trigger t (attachments_of (registry_of m)))
 
       pub fire_accepted : (b'' : Bench X V) (before mid after name : List ℕ) (answer : Answer) (n : ℕ) → answer ≡ Accepted n
           → name ≡ trigger_name (bench_front b') trigger
-          → answer ≡ poll_answer (bench_entries 0 trigger t (bench_machine driver b).stations) (entries_at (triggers_of b) trigger)
-          (missed_at (triggers_of b) trigger)
+          → answer ≡ polled_answer trigger t (bench_machine driver b)
           → mid ≡ before ++ printed (codes "poll" ∷ name ∷ polled_words answer)
           → HandlesAll driver trigger (length (bench_front b').devices) b' b'' cs mid after
           → (after ≡ before ++ step_lines s m (Fire trigger t)) × Holds driver s (state_after s m (Fire trigger t)) b'' cs
       fire_accepted b'' before mid after name answer n is named answered line all =
-          let idle =
-          accepts (bench_entries 0 trigger t (bench_machine driver b).stations) (entries_at m.triggers trigger) n (missed_at (triggers_of b) trigger)
-          (outstanding_told (Accepted n) (sym is ∙ answered)) in
-          let made : entries_at (step s m (Polled trigger t)).triggers trigger ≡ bench_entries 0 trigger t (machine_of m).stations
-          = polled_entries ∙ ap (λ (es : List Handed). poll_made (bench_entries 0 trigger t (machine_of m).stations) es) idle in
-          let entries : entries_at (step s m (Polled trigger t)).triggers trigger ≡ poll_entries m trigger t
-          =
-          made ∙ sym (poll_is s m trigger t).1
-          ∙ ap (λ (es : List Handed). cond (is_empty es) (told_entries 0 trigger t (outlines_of (registry_of m))) []) (sym idle) in
+          let idle = accepts _ (entries_at m.triggers trigger) n (missed_at m.triggers trigger) (sym is ∙ poll_told answer answered) in
+          let entries : entries_at (step s m (Polled trigger t)).triggers trigger ≡ made
+          = polled_entries ∙ ap (λ (es : List Handed). poll_made made es) idle in
+          let polled : entries_at (step s m (Polled trigger t)).triggers trigger ≡ poll_entries m trigger t
+          = entries ∙ ap (λ (es : List Handed). cond (is_empty es) made []) (sym idle) in
           let ev = event_text s m (Polled trigger t) in
           let rest = texts s (step s m (Polled trigger t)) (handlings trigger (poll_entries m trigger t)) in
           let played =
           subst (λ (es : List Handed). (after ≡ mid ++ texts s (step s m (Polled trigger t)) (handlings trigger es))
-          × Holds driver s (steps s (step s m (Polled trigger t)) (handlings trigger es)) b'' cs) entries
-          (all s (step s m (Polled trigger t)) (poll_holds driver trigger t b b' cs front told triggers s m h)
-          (subst (λ (es : List Handed). InOrder 0 (length (bench_front b').devices) es) (sym made) in_order)) in (
+          × Holds driver s (steps s (step s m (Polled trigger t)) (handlings trigger es)) b'' cs) polled
+          (all s (step s m (Polled trigger t)) (poll_holds driver trigger t b b' cs front told s m h)
+          (subst (λ (es : List Handed). InOrder 0 (length (bench_front b').devices) es) (sym entries) in_order)) in (
             played.0
                 ∙ ap (λ (text : List ℕ). text ++ rest)
-                (poll_line driver trigger t b b' cs front told triggers s m h before mid name answer named answered line
+                (poll_line driver trigger t b b' cs front told s m h before mid name answer named answered line
                 ∙ ap (λ (text : List ℕ). before ++ text) (append-nil ev))
                 ∙ append_assoc before ev rest,
             played.1,

@@ -11,8 +11,9 @@ use Rattle.iio_trigger.specs.Trigger.{Handed, Polls, State}
 use Rattle.iio_device.specs.Device.{DeviceView, after_sense, at_site}
 use Rattle.iio_device.specs.Sensing.{sensed, with_sensed}
 use Rattle.iio_device.specs.Site.{at_place, unplugged}
-use Rattle.iio_core.specs.Machine.{Station, with_site}
-use Rattle.iio_core.specs.Trigger.{bench_entries, polled_by, handled, Trigger, entry_of, trigger_in, first_trigger, poll_answer, entries_at, missed_at}
+use Rattle.iio_core.specs.Attached.{entries_from}
+use Rattle.iio_core.specs.Machine.{Station, with_site, attachments_of}
+use Rattle.iio_core.specs.Trigger.{polled_by, handled, Trigger, entry_of, trigger_in, first_trigger, poll_answer, entries_at, missed_at}
 use Rattle.iio_core.specs.Moves.{look_made}
 use Rattle.iio_system.specs.Acting.{Keeps, KeepsCaptures}
 use Rattle.iio_core.specs.declared.became.Became.{Became}
@@ -45,16 +46,17 @@ module _ (triggers : List TriggerDesc) (states : List State) (sts : List Station
       bench_triggered triggers states sts t s s' bench there (poll_places t sts moment s (bench.each t s there) answer s' p)
       (poll_sound t sts moment s (bench.each t s there) answer s' p)
 
-  pub poll_triggers : map trigger_of (set states t s') ≡ at_place t (polled_by sts t moment) (map trigger_of states)
-  poll_triggers = map_changed trigger_of states t s s' (polled_by sts t moment) there (poll_told t sts moment s (bench.each t s there) answer s' p)
+  pub poll_triggers : map trigger_of (set states t s') ≡ at_place t (polled_by (attachments_of sts) t moment) (map trigger_of states)
+  poll_triggers =
+      map_changed trigger_of states t s s' (polled_by (attachments_of sts) t moment) there (poll_told t sts moment s (bench.each t s there) answer s' p)
 
   pub poll_answer_is : answer
-      ≡ poll_answer (bench_entries 0 t moment sts) (entries_at (map trigger_of states) t) (missed_at (map trigger_of states) t)
+      ≡ poll_answer (entries_from 0 t moment (attachments_of sts)) (entries_at (map trigger_of states) t) (missed_at (map trigger_of states) t)
   poll_answer_is =
       let at : trigger_in (map trigger_of states) t ≡ trigger_of s =
       ap (λ (o : Option Trigger). unwrap_or o first_trigger) (map_at trigger_of states t s there) in
       poll_answers t sts moment s (bench.each t s there) answer s' p
-      ∙ ap (λ (x : Trigger). poll_answer (bench_entries 0 t moment sts) x.entries x.missed) (sym at)
+      ∙ ap (λ (x : Trigger). poll_answer (entries_from 0 t moment (attachments_of sts)) x.entries x.missed) (sym at)
 
 -- ---- thresholds
 

@@ -9,11 +9,11 @@ use Rattle.iio_derive.specs.Window.{is_filled_by, means_of, sums_with, window_wi
 use Rattle.iio_trigger.specs.Trigger.{Handed, State}
 use Rattle.iio_trigger.specs.declared.rows.Place.{Place}
 use Rattle.iio_device.specs.Site.{is_empty, unplugged}
-use Rattle.iio_core.specs.Calls.{is_attached}
+use Rattle.iio_core.specs.Attached.{is_attached}
 use Rattle.iio_core.specs.Front.{Front, kind_at, shape_at}
-use Rattle.iio_core.specs.Machine.{Machine, Station, no_station, station_at, station_in, with_site}
+use Rattle.iio_core.specs.Machine.{Machine, Station, no_station, station_at, station_in, with_site, attachment_of}
 use Rattle.iio_core.specs.Lists.{map_from}
-use Rattle.iio_core.specs.Moves.{Capture, gathered_to, mean_made, offered_to, unplugs, machine_after_unplugging, entry_at, capture_at, capture_in, entry_made, is_due, machine_after_handling}
+use Rattle.iio_core.specs.Moves.{Capture, gathered_to, mean_made, offered_to, unplugs, machine_after_unplugging, entry_at, capture_at, capture_in, entry_made, is_due, machine_after_entry}
 use Rattle.iio_core.proofs.PlaceLists.{same_number}
 use Rattle.iio_system.specs.Averages.{HasInner, IsAveraged, kind_in}
 use Rattle.iio_system.specs.Handling.{is_last}
@@ -42,9 +42,9 @@ places_each t dev (x ∷ xs) (y ∷ ys) same kept =
     let rest = places_each t (suc dev) xs ys (omega (arith, same)) (λ i. kept (suc i)) in
     ap (λ (b : Bool). cond b (record { dev = dev; attachment = y.site.attachment } ∷ places_from (suc dev) t ys) (places_from (suc dev) t ys))
     ((kept zero).attached t)
-    ∙ ap (λ (n : ℕ). cond (is_attached t x) (record { dev = dev; attachment = n } ∷ places_from (suc dev) t ys) (places_from (suc dev) t ys))
+    ∙ ap (λ (n : ℕ). cond (is_attached t (attachment_of x)) (record { dev = dev; attachment = n } ∷ places_from (suc dev) t ys) (places_from (suc dev) t ys))
     (kept zero).attachment
-    ∙ ap (λ (ps : List Place). cond (is_attached t x) (record { dev = dev; attachment = x.site.attachment } ∷ ps) ps) rest
+    ∙ ap (λ (ps : List Place). cond (is_attached t (attachment_of x)) (record { dev = dev; attachment = x.site.attachment } ∷ ps) ps) rest
 
 pub bench_each : (triggers : List TriggerDesc) (states : List State) (sts sts' : List Station) → IsBench triggers states sts → length sts' ≡ length sts
     → ((i : ℕ) → KeepsPlace (station_in sts i) (station_in sts' i))
@@ -118,15 +118,15 @@ module _ (front : Front) (o : Option Handed) (dev : ℕ) (m : Machine) where
   abbrev handled_at : ℕ → Station → Station
   handled_at j st = entry_at o (capture_at front o dev m) dev (kind_at front j) (shape_at front j) j st
 
-  handled_kept : (i : ℕ) → KeepsInner (station_in m.stations i) (station_in (machine_after_handling front o dev m).stations i)
+  handled_kept : (i : ℕ) → KeepsInner (station_in m.stations i) (station_in (machine_after_entry front o dev m).stations i)
   handled_kept i =
       each_from KeepsInner handled_at (inner_kept no_station no_station refl refl refl refl (λ j. refl)) 0 m.stations
       (λ j st at. entry_at_kept o (capture_at front o dev m) dev (kind_at front (0 + j)) (shape_at front (0 + j)) (0 + j) st) i
 
   pub bench_handled : (triggers : List TriggerDesc) (states : List State) → IsBench triggers states m.stations
-      → IsBench triggers states (machine_after_handling front o dev m).stations
+      → IsBench triggers states (machine_after_entry front o dev m).stations
   bench_handled triggers states bench =
-      bench_each triggers states m.stations (machine_after_handling front o dev m).stations bench (length_from handled_at 0 m.stations)
+      bench_each triggers states m.stations (machine_after_entry front o dev m).stations bench (length_from handled_at 0 m.stations)
       (λ i. (handled_kept i).place)
 
   -- a station after it
@@ -137,7 +137,7 @@ module _ (front : Front) (o : Option Handed) (dev : ℕ) (m : Machine) where
       let same : x ≡ st = cc in ap (λ (y : Station). f n y) same ∙ ap (λ (k : ℕ). f k st) (let e : n ≡ n + 0 = omega arith in e)
   there_from f n (x ∷ xs) (suc i) st at = there_from f (suc n) xs i st at ∙ ap (λ (k : ℕ). f k st) (let e : suc n + i ≡ n + suc i = omega arith in e)
 
-  after_is : (i : ℕ) (st : Station) → slice_get m.stations i ≡ Some st → station_in (machine_after_handling front o dev m).stations i ≡ handled_at i st
+  after_is : (i : ℕ) (st : Station) → slice_get m.stations i ≡ Some st → station_in (machine_after_entry front o dev m).stations i ≡ handled_at i st
   after_is i st at = there_from handled_at 0 m.stations i st at ∙ ap (λ (k : ℕ). handled_at k st) (let e : 0 + i ≡ i = omega arith in e)
 
   -- an averaging device makes a mean only with a capture of its base
@@ -201,16 +201,16 @@ module _ (front : Front) (o : Option Handed) (dev : ℕ) (m : Machine) where
 
   pub averaged_handled : (triggers first : ℕ) → IsAveraged triggers first front.devices m.stations → length m.stations ≡ length front.devices
       → (kind_at front dev ≡ Input → is_last (station_in m.stations dev).captures ≡ false)
-      → IsAveraged triggers first front.devices (machine_after_handling front o dev m).stations
+      → IsAveraged triggers first front.devices (machine_after_entry front o dev m).stations
   unfolding kind_at
   averaged_handled triggers first a many goes_on =
-      averaged_each triggers first front.devices m.stations (machine_after_handling front o dev m).stations a handled_kept
+      averaged_each triggers first front.devices m.stations (machine_after_entry front o dev m).stations a handled_kept
       (λ j base window is. each j base window is)
     where
       each : (j base window : ℕ) → kind_in front.devices j ≡ Average base window
-          → ((station_in (machine_after_handling front o dev m).stations j).captures
-          ≤ (station_in (machine_after_handling front o dev m).stations base).captures)
-          × ((station_in (machine_after_handling front o dev m).stations base).captures ≤ 2 ^ 64 - 1)
+          → ((station_in (machine_after_entry front o dev m).stations j).captures
+          ≤ (station_in (machine_after_entry front o dev m).stations base).captures)
+          × ((station_in (machine_after_entry front o dev m).stations base).captures ≤ 2 ^ 64 - 1)
       each j base window is =
           let its = a.bases.bases j base window is in
           let own = a.inners j base window is in
@@ -298,7 +298,7 @@ module _ (front : Front) (dev : ℕ) (m : Machine) where
 -- ---- no entry
 
 -- without one nothing changes
-pub nothing_handled : (front : Front) (dev : ℕ) (m : Machine) → machine_after_handling front None dev m ≡ m
+pub nothing_handled : (front : Front) (dev : ℕ) (m : Machine) → machine_after_entry front None dev m ≡ m
 nothing_handled front dev m =
     ap (λ (sts : List Station). (let x : Machine = record m { stations = sts } in x))
     (kept_from _ 0 m.stations (λ j st. none (kind_at front j) (shape_at front j) j st))

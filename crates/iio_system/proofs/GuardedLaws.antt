@@ -50,7 +50,7 @@ module _ {X : Type 0} {V : X → Type 0} (driver : Plug X V → Driver) where
   meets_there decides b cs others i c a name bytes (Err e) at is own besides fed = tt
   meets_there decides b cs others i c a name bytes (Ok meets) at is own besides fed = λ s m room holds.
       let place = position-Some (is_named name) cs i c at in
-      let line = line_at name seen_of (front_of b) m m.lines cs i c holds.stands.lines place.0 place.1 place.2 in
+      let line = line_at name seen_of (front_of b) m m.lines cs i c holds.lines place.0 place.1 place.2 in
       by s m room holds line.0 line.1 (get_or cs i c).session line.2
       (subst (λ (e : Connection Seat). MeetsBeside seen_of a name bytes (front_of b) (Some (machine_of driver b)) e.session others meets) is fed)
     where
@@ -59,10 +59,10 @@ module _ {X : Type 0} {V : X → Type 0} (driver : Plug X V → Driver) where
           → MeetsBeside seen_of a name bytes (front_of b) (Some (machine_of driver b)) o others meets → meets ≡ step_meets s a m (Feed name bytes)
       by s m room holds l here None served fed = fed ∙ meets_ended seen_of s m a name bytes (live_user m name l true here served.ended)
       by s m room holds l here (Some x) served fed =
-          meets_those seen_of decides s m (front_of b) (Some (machine_of driver b)) cs others a name bytes l.begun meets holds.stands
+          meets_those seen_of decides s m (front_of b) (Some (machine_of driver b)) cs others a name bytes l.begun meets holds
           (live_user m name l false here served.live) (begun_line m name l here) own besides
           (fed s _ l.begun
-          (is_hearing seen_of s m (front_of b) (Some (machine_of driver b)) cs name bytes l x holds.stands here served (line_there name m.lines l here)
+          (is_hearing seen_of s m (front_of b) (Some (machine_of driver b)) cs name bytes l x holds here served (line_there name m.lines l here)
           (room_less _ _ m.stations (omega (arith, items_few l.begun bytes)) room)))
 
   -- the same, where the others are those before it and those after it: one of the watched name counts as nobody, and one of
@@ -88,15 +88,15 @@ module _ {X : Type 0} {V : X → Type 0} (driver : Plug X V → Driver) where
       → IfOk r (MeetsFeed driver a name bytes b cs)
   meets_new decides b cs c a name bytes (Err e) at is fed = tt
   meets_new decides b cs c a name bytes (Ok meets) at is fed = λ s m room holds.
-      let nobody = no_line name seen_of (front_of b) m m.lines cs holds.stands.lines (none_named name cs at) in
+      let nobody = no_line name seen_of (front_of b) m m.lines cs holds.lines (none_named name cs at) in
       let said : MeetsBeside seen_of a name bytes (front_of b) (Some (machine_of driver b)) (Some is.fresh) cs meets =
       subst (λ (n : List ℕ). MeetsBeside seen_of a n bytes (front_of b) (Some (machine_of driver b)) (Some is.fresh) cs meets) is.name_is
       (subst (λ (o : Option (SessionRecord Seat)). MeetsBeside seen_of a c.name bytes (front_of b) (Some (machine_of driver b)) o cs meets) is.session_is fed)
       in
-      meets_those seen_of decides s m (front_of b) (Some (machine_of driver b)) cs cs a name bytes (InLine []) meets holds.stands (new_live m name nobody)
+      meets_those seen_of decides s m (front_of b) (Some (machine_of driver b)) cs cs a name bytes (InLine []) meets holds (new_live m name nobody)
       (new_begun m name nobody) (λ e. refl) (λ e. refl)
       (said s _ (InLine [])
-      (new_hearing seen_of s m (front_of b) (Some (machine_of driver b)) cs name bytes is.fresh holds.stands nobody is.is_fresh
+      (new_hearing seen_of s m (front_of b) (Some (machine_of driver b)) cs name bytes is.fresh holds nobody is.is_fresh
       (room_less _ _ m.stations (omega (arith, items_few (InLine []) bytes)) room)))
 
   -- ---- a loss
@@ -104,7 +104,7 @@ module _ {X : Type 0} {V : X → Type 0} (driver : Plug X V → Driver) where
   pub meets_drop : DesksDecide → (b : Bench X V) (cs : List (Connection Seat)) (a name : List ℕ) (meets : Bool)
       → meets ≡ (not (bytes_eq name a) || none_seated (desks_besides seen_of a cs)) → Meets driver a (Drop name) b cs meets
   meets_drop decides b cs a name meets is =
-      λ s m holds. meets_lost seen_of decides s m (front_of b) (Some (machine_of driver b)) cs a name meets holds.stands is
+      λ s m holds. meets_lost seen_of decides s m (front_of b) (Some (machine_of driver b)) cs a name meets holds is
 
   -- ---- any step
 

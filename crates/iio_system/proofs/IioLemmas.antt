@@ -35,11 +35,10 @@ use Rattle.iio_core.specs.Front.{Front, kind_at, shape_at}
 use Rattle.iio_core.specs.Machine.{Member, MemberId, Station, is_id_of, member_in, scans_in, with_site}
 use Rattle.iio_core.specs.Calls.{ev_open_answer, ev_read_answer, holds_events, is_asking, is_inner_of, read_answer, trigger_answer, write_scans_at, writes}
 use Rattle.iiod_session.specs.Target.{MayRead, MayWrite}
-use Rattle.iio_core.specs.Trigger.{Trigger}
 use Rattle.iio_system.specs.Acting.{Acts, KeepsCaptures, MayReadOf, Reads, TakesAt, TakesScansAt, Turns, has_member, is_member, lost_in}
 use Rattle.iio_system.specs.Averages.{IsAveraged}
 use Rattle.iio_system.specs.Bench.{Kept}
-use Rattle.iio_system.specs.Places.{IsBench, trigger_of}
+use Rattle.iio_system.specs.Places.{IsBench}
 use Rattle.iio_system.specs.declared.any_device.AnyDevice.{AnyDevice}
 use Rattle.iio_system.specs.Station.{KeepsFront, KeepsHead, any_front, any_station, captures_by, member_of, stations_by}
 use Rattle.iio_system.proofs.ListLemmas.{is_empty-map, length_map_is, map_at, map_same}
@@ -372,28 +371,18 @@ fronts_keep context triggers ds k d d' at keeps =
     (map_same any_front ds k d d' at keeps.front)
 
 -- all that no connection's call changes
-pub kept_equal : (x y : Kept) → x.front ≡ y.front → x.triggers ≡ y.triggers → x.captures ≡ y.captures → x ≡ y
-kept_equal x y front triggers captures =
-    ap (λ (f : Front). (let k : Kept = record { front = f; triggers = x.triggers; captures = x.captures } in k)) front
-    ∙ ap (λ (ts : List Trigger). (let k : Kept = record { front = y.front; triggers = ts; captures = x.captures } in k)) triggers
-    ∙ ap (λ (cs : List ℕ). (let k : Kept = record { front = y.front; triggers = y.triggers; captures = cs } in k)) captures
+pub kept_equal : (x y : Kept) → x.front ≡ y.front → x.captures ≡ y.captures → x ≡ y
+kept_equal x y front captures =
+    ap (λ (f : Front). (let k : Kept = record { front = f; captures = x.captures } in k)) front
+    ∙ ap (λ (cs : List ℕ). (let k : Kept = record { front = y.front; captures = cs } in k)) captures
 
 module _ {X : Type 0} {V : X → Type 0} where
-  abbrev pub kept_by : List ℕ → List TriggerDesc → List State → List (AnyDevice X V) → Kept
-  kept_by context triggers states ds =
-      record { front = fronts_by any_front context triggers ds; triggers = map trigger_of states; captures = map captures_by ds }
+  abbrev pub kept_by : List ℕ → List TriggerDesc → List (AnyDevice X V) → Kept
+  kept_by context triggers ds = record { front = fronts_by any_front context triggers ds; captures = map captures_by ds }
 
-  module _ (context : List ℕ) (triggers : List TriggerDesc) (states : List State) (ds : List (AnyDevice X V)) (k : ℕ) (d d' : AnyDevice X V)
-      (at : slice_get ds k ≡ Some d) (keeps : KeepsFront d d') where
-    -- one device has changed
-    pub device_keeps : kept_by context triggers states (set ds k d') ≡ kept_by context triggers states ds
-    device_keeps =
-        kept_equal (kept_by context triggers states (set ds k d')) (kept_by context triggers states ds)
-        (fronts_keep context triggers ds k d d' at keeps.head) refl (map_same captures_by ds k d d' at keeps.captures)
-
-    -- and one trigger
-    pub device_and_trigger_keep : (t : ℕ) (s s' : State) → slice_get states t ≡ Some s → trigger_of s' ≡ trigger_of s
-        → kept_by context triggers (set states t s') (set ds k d') ≡ kept_by context triggers states ds
-    device_and_trigger_keep t s s' there same =
-        kept_equal (kept_by context triggers (set states t s') (set ds k d')) (kept_by context triggers states ds)
-        (fronts_keep context triggers ds k d d' at keeps.head) (map_same trigger_of states t s s' there same) (map_same captures_by ds k d d' at keeps.captures)
+  -- one device has changed
+  pub device_keeps : (context : List ℕ) (triggers : List TriggerDesc) (ds : List (AnyDevice X V)) (k : ℕ) (d d' : AnyDevice X V) → slice_get ds k ≡ Some d
+      → KeepsFront d d' → kept_by context triggers (set ds k d') ≡ kept_by context triggers ds
+  device_keeps context triggers ds k d d' at keeps =
+      kept_equal (kept_by context triggers (set ds k d')) (kept_by context triggers ds) (fronts_keep context triggers ds k d d' at keeps.head)
+      (map_same captures_by ds k d d' at keeps.captures)

@@ -1,5 +1,5 @@
 -- OPEN and CLOSE at an averaging device, over its base.
-use Rattle.std.proofs.Common.{◌≡◌, ◌⊎◌, ℕ, zero, suc, ◌+◌, Bool, true, false, List, [], ◌∷◌, ◌++◌, filter, length, set, slice_get, Option, Some, None, inl, inr, refl, sym, ap, ◌∙◌, arith, cond}
+use Rattle.std.proofs.Common.{◌≡◌, ◌⊎◌, ℕ, zero, suc, ◌+◌, Bool, true, false, List, [], ◌∷◌, ◌++◌, filter, length, set, slice_get, Option, Some, None, inl, inr, refl, sym, ap, ◌∙◌, arith, cond, option_map}
 use Rattle.std.specs.Prelude.{◌==◌, ◌&&◌, ◌||◌, is_none, not, unwrap_or}
 use Rattle.std.specs.List.{list_any}
 use Rattle.std.specs.Option.{option_map_or}
@@ -13,10 +13,11 @@ use Rattle.iio_derive.specs.Window.{full_mask}
 use Rattle.iio_trigger.specs.Trigger.{State}
 use Rattle.iio_device.specs.Active.{is_without_union}
 use Rattle.iio_device.specs.Site.{at_place, attached, is_empty}
-use Rattle.iio_core.specs.Calls.{Host, all_joined, closed, has_no_number, has_no_place, host_by, inner_gone, inner_joined, is_attached, is_inner_of, joined, left, newcomer, open_of, open_refusals, own_host, unless_made, with_inner, without_inner}
+use Rattle.iio_core.specs.Attached.{has_no_place, is_attached}
+use Rattle.iio_core.specs.Calls.{all_joined, closed, has_no_number, inner_gone, inner_joined, is_inner_of, joined, left, newcomer, open_of, open_refusals, unless_made, with_inner, without_inner, host_of}
 use Rattle.iio_core.specs.Front.{Front, kind_at, shape_at}
-use Rattle.iio_core.specs.Machine.{Machine, Member, Station, masks_of, no_station, station_at, is_seat_of, station_in, with_station}
-use Rattle.iio_core.specs.Opening.{join_refusals}
+use Rattle.iio_core.specs.Machine.{Machine, Member, Station, masks_of, no_station, station_at, is_seat_of, station_in, with_station, attachment_of, attachments_of}
+use Rattle.iio_core.specs.Opening.{join_refusals, Host, inner_host, own_host}
 use Rattle.iio_core.specs.Lists.{map_from}
 use Rattle.iio_core.proofs.PlaceLists.{itself, placed_from, same_number, twice_from}
 use Rattle.iio_system.specs.Averages.{HasInner, has_inner}
@@ -149,8 +150,8 @@ module _ (front : Front) (j base window : ℕ) (is : kind_at front j ≡ Average
   -- ---- refusals
 
   -- where the first member finds what it wants of the base
-  abbrev mean_host : Station → Station → Host
-  mean_host st b = record { station = b; shape = shape_at front base; mask = full_mask (shape_at front base); beside = []; joins = is_empty st.members }
+  abbrev mean_host : Station → Station → Host Station
+  mean_host st b = inner_host (is_empty st.members) b (shape_at front base)
 
   pub open_mean : (m : Machine) (mask capacity : ℕ) (cyclic : Bool) (st b : Station) (r : Option Errno) → slice_get m.stations j ≡ Some st
       → slice_get m.stations base ≡ Some b
@@ -161,20 +162,15 @@ module _ (front : Front) (j base window : ℕ) (is : kind_at front j ≡ Average
       ap (λ (kind : Kind). unless_made (all_joined front j (joined mask capacity cyclic None)) m
       (unless_refused (unwrap_or (slice_get m.stations j) no_station).next
       (first_refusal (open_refusals front m.stations kind
-      (host_by front m.stations kind (unwrap_or (slice_get m.stations j) no_station) (shape_at front j) mask)
+      (host_of front m.stations kind (unwrap_or (slice_get m.stations j) no_station) (shape_at front j) mask)
       (unwrap_or (slice_get m.stations j) no_station))))) is
       ∙ ap (λ (o : Option Station). unless_made (all_joined front j (joined mask capacity cyclic None)) m
       (unless_refused (unwrap_or o no_station).next
       (first_refusal (open_refusals front m.stations (Average base window)
-      (host_by front m.stations (Average base window) (unwrap_or o no_station) (shape_at front j) mask) (unwrap_or o no_station))))) at
+      (host_of front m.stations (Average base window) (unwrap_or o no_station) (shape_at front j) mask) (unwrap_or o no_station))))) at
       ∙ ap (λ (o : Option Station). unless_made (all_joined front j (joined mask capacity cyclic None)) m
       (unless_refused st.next (first_refusal (open_refusals front m.stations (Average base window)
-      (elim o [
-        | None ↦ own_host st (shape_at front j) mask
-        | Some x ↦
-            (let h : Host =
-            record { station = x; shape = shape_at front base; mask = full_mask (shape_at front base); beside = []; joins = is_empty st.members } in h)
-      ]) st))))
+      (unwrap_or (option_map (mean_host st) o) (own_host st (shape_at front j) mask (masks_of st.members))) st))))
       under
       ∙ ap (λ (x : Option Errno). unless_made (all_joined front j (joined mask capacity cyclic None)) m (unless_refused st.next x)) e
 
@@ -228,27 +224,28 @@ module _ (front : Front) (base window : ℕ) (sts : List Station) (st b : Statio
   -- of a further member: by the device's own plug and numbers, where the base is on a trigger
   pub further_is : is_empty st.members ≡ false → is_none b.site.trigger ≡ false
       → open_refusals front sts (Average base window)
-      (record { station = b; shape = shape_at front base; mask = full_mask (shape_at front base); beside = []; joins = is_empty st.members }) st
+      (inner_host (is_empty st.members) b (shape_at front base)) st
       ≡ (not st.site.plugged, ENODEV) ∷ (false, EBUSY) ∷ join_refusals false false (has_no_number st)
   further_is some on =
       ap (λ (j : Bool). (not st.site.plugged, ENODEV) ∷ (false, EBUSY)
       ∷ join_refusals (is_none b.site.trigger) (j && is_without_union (shape_at front base) [] (full_mask (shape_at front base)))
-      (j && is_empty b.members && has_no_place front sts b.site.trigger || has_no_number st || j && has_no_number b)) some
+      (j && is_empty b.members && has_no_place front (attachments_of sts) b.site.trigger || has_no_number st || j && has_no_number b)) some
       ∙ ap (λ (t : Bool). (not st.site.plugged, ENODEV) ∷ (false, EBUSY)
-      ∷ join_refusals t false (false && is_empty b.members && has_no_place front sts b.site.trigger || has_no_number st || false && has_no_number b)) on
+      ∷ join_refusals t false (false && is_empty b.members && has_no_place front (attachments_of sts) b.site.trigger || has_no_number st
+      || false && has_no_number b)) on
       ∙ ap (λ (f : Bool). (not st.site.plugged, ENODEV) ∷ (false, EBUSY) ∷ join_refusals false false f)
-      (further_full (is_empty b.members) (has_no_place front sts b.site.trigger) (has_no_number st) (has_no_number b))
+      (further_full (is_empty b.members) (has_no_place front (attachments_of sts) b.site.trigger) (has_no_number st) (has_no_number b))
 
   -- of the first one
   pub first_is : is_empty st.members ≡ true
       → open_refusals front sts (Average base window)
-      (record { station = b; shape = shape_at front base; mask = full_mask (shape_at front base); beside = []; joins = is_empty st.members }) st
+      (inner_host (is_empty st.members) b (shape_at front base)) st
       ≡ mean_list (not st.site.plugged) (is_none b.site.trigger) (is_without_union (shape_at front base) [] (full_mask (shape_at front base)))
-      (is_empty b.members) (has_no_place front sts b.site.trigger) (has_no_number st) (has_no_number b)
+      (is_empty b.members) (has_no_place front (attachments_of sts) b.site.trigger) (has_no_number st) (has_no_number b)
   first_is none =
       ap (λ (j : Bool). (not st.site.plugged, ENODEV) ∷ (false, EBUSY)
       ∷ join_refusals (is_none b.site.trigger) (j && is_without_union (shape_at front base) [] (full_mask (shape_at front base)))
-      (j && is_empty b.members && has_no_place front sts b.site.trigger || has_no_number st || j && has_no_number b)) none
+      (j && is_empty b.members && has_no_place front (attachments_of sts) b.site.trigger || has_no_number st || j && has_no_number b)) none
 
 place_as : (e p q : Bool) → (e ≡ true → q ≡ p) → (e && p) ≡ (e && q)
 place_as true p q same = sym (same refl)
@@ -260,14 +257,14 @@ pub base_is : (front : Front) (states : List State) (sts : List Station) (k : �
     → is_without_union shape (masks_of b.members) (full_mask shape) ≡ is_without_union shape [] (full_mask shape)
     → any_refusals (lacks_place k states b.site.trigger) Input shape b (full_mask shape)
     ≡ base_list (not plugged) (is_none b.site.trigger) (is_without_union shape [] (full_mask shape)) (is_empty b.members)
-    (has_no_place front sts b.site.trigger) (has_no_number b)
+    (has_no_place front (attachments_of sts) b.site.trigger) (has_no_number b)
 base_is front states sts k shape b plugged bench at same full =
     ap (λ (t : Bool). base_list (not t) (is_none b.site.trigger) (is_without_union shape (masks_of b.members) (full_mask shape)) (is_empty b.members)
     (lacks_place k states b.site.trigger) (has_no_number b)) same
     ∙ ap (λ (u : Bool). base_list (not plugged) (is_none b.site.trigger) u (is_empty b.members) (lacks_place k states b.site.trigger) (has_no_number b)) full
     ∙ ap (λ (e : Bool). (not plugged, ENODEV) ∷ (false, EBUSY)
     ∷ join_refusals (is_none b.site.trigger) (is_without_union shape [] (full_mask shape)) (e || has_no_number b))
-    (place_as (is_empty b.members) (lacks_place k states b.site.trigger) (has_no_place front sts b.site.trigger)
+    (place_as (is_empty b.members) (lacks_place k states b.site.trigger) (has_no_place front (attachments_of sts) b.site.trigger)
     (λ empty. lacks_is front states sts k b bench at empty b.site.trigger))
 
 -- ---- what holds then
@@ -286,7 +283,7 @@ bench_unattached triggers states sts k st st' bench at off off' = record {
   };
 }
   where
-    none : (t : ℕ) (x : Station) → x.site.trigger ≡ None → is_attached t x ≡ false
+    none : (t : ℕ) (x : Station) → x.site.trigger ≡ None → is_attached t (attachment_of x) ≡ false
     none t x e = ap (λ (o : Option ℕ). option_map_or (λ (i : ℕ). i == t) o false && not (is_empty x.members)) e
 
 inner_own : (j : ℕ) (ms : List Member) (m : Member) → is_inner_of j m ≡ true → list_any (is_inner_of j) (ms ++ m ∷ []) ≡ true

@@ -22,10 +22,11 @@ use Rattle.iio_device.specs.Active.{is_without_union}
 use Rattle.iio_device.specs.Site.{is_empty, no_driver}
 use Rattle.iiod_session.specs.declared.iio.No.{No}
 use Rattle.iiod_session.specs.declared.iio.No.TheVariants.{Errno as NoErrno, Mem as NoMem}
-use Rattle.iio_core.specs.Calls.{all_joined, closed, has_no_number, has_no_place, inner_gone, is_inner_of, joined, left, newcomer, open_of, open_refusals, Outcome, unless_made}
+use Rattle.iio_core.specs.Attached.{has_no_place}
+use Rattle.iio_core.specs.Calls.{all_joined, closed, has_no_number, inner_gone, is_inner_of, joined, left, newcomer, open_of, open_refusals, Outcome, unless_made}
 use Rattle.iio_core.specs.Front.{Front, kind_at, shape_at}
-use Rattle.iio_core.specs.Machine.{Machine, Member, Station, masks_of, station_at, station_in}
-use Rattle.iio_core.specs.Opening.{join_refusals}
+use Rattle.iio_core.specs.Machine.{Machine, Member, Station, masks_of, station_at, station_in, attachments_of}
+use Rattle.iio_core.specs.Opening.{join_refusals, inner_host}
 use Rattle.iiod_session.specs.Seat.{Answers, IsNew, number_by as number_of}
 use Rattle.iio_core.proofs.PlaceLists.{same_number}
 use Rattle.iio_system.specs.declared.any_device.AnyDevice.{AnyDevice}
@@ -33,7 +34,7 @@ use Rattle.iio_system.specs.declared.any_device.AnyDevice.TheVariants as any
 use Rattle.iio_system.specs.declared.bench.Bench.{Bench}
 use Rattle.iio_system.specs.declared.seat.Seat.{Seat}
 use Rattle.iio_system.specs.Averages.{HasInner, IsAveraged, has_inner, kind_in}
-use Rattle.iio_system.specs.Bench.{front_of}
+use Rattle.iio_system.specs.Bench.{front_of, triggers_of}
 use Rattle.iio_system.specs.Faults.{HasJoined, HostsAny, IsServedAlone, JoinsMean, MayHaveInner, any_refusals, lacks_place}
 use Rattle.iio_system.specs.Places.{IsBench, IsNumbered, has_trigger, is_hosted, place_left, place_taken}
 use Rattle.iio_system.specs.Seat.{seen_of}
@@ -242,13 +243,13 @@ module _ {X : Type 0} {V : X → Type 0} (drive : Plug X V → Driver) {bench : 
   front = front_of bench
 
   abbrev machine : Machine
-  machine = machine_by (any_station drive) bench.clock ds
+  machine = machine_by (any_station drive) bench.clock (triggers_of bench) ds
 
   abbrev at_stations : List Station → Machine
-  at_stations sts = record { clock = bench.clock; stations = sts }
+  at_stations sts = record machine { stations = sts }
 
   abbrev told_by : List (AnyDevice X V) → Machine
-  told_by xs = machine_by (any_station drive) bench.clock xs
+  told_by xs = machine_by (any_station drive) bench.clock (triggers_of bench) xs
 
   abbrev st : Station
   st = any_station drive d
@@ -305,7 +306,7 @@ module _ {X : Type 0} {V : X → Type 0} (drive : Plug X V → Driver) {bench : 
     further_by : (mask capacity : ℕ) (r : Option Errno)
         → first_refusal ((not st.site.plugged, ENODEV) ∷ (false, EBUSY) ∷ join_refusals false false (has_no_number st)) ≡ r
         → first_refusal (open_refusals front machine.stations (Average base mean.window)
-        (record { station = b; shape = shape_at front base; mask = full_mask (shape_at front base); beside = []; joins = is_empty st.members }) st) ≡ r
+        (inner_host (is_empty st.members) b (shape_at front base)) st) ≡ r
     further_by mask capacity r is = ap first_refusal (further_is front base mean.window machine.stations st b some on) ∙ is
 
     further_refused : (mask capacity : ℕ) (err : Errno)
@@ -353,7 +354,7 @@ module _ {X : Type 0} {V : X → Type 0} (drive : Plug X V → Driver) {bench : 
     told_further mask capacity d' (Err x) plugged goes j =
         subst (λ (y : No). Answers (open_of front machine k mask.bits capacity false) machine (Err y)
         (Some (told_by (set ds k d')))) (sym j.0)
-        (ap (λ (m : Machine). Some m) (told_same (any_station drive) bench.clock ds k d d' p.mean.at j.1))
+        (ap (λ (m : Machine). Some m) (told_same (any_station drive) bench.clock _ ds k d d' p.mean.at j.1))
 
   -- ---- the first member
 
@@ -377,10 +378,10 @@ module _ {X : Type 0} {V : X → Type 0} (drive : Plug X V → Driver) {bench : 
   shape_base = shape_is any_front context triggers ds base e p.under
 
   station_base : station_at machine base ≡ b
-  station_base = station_is (any_station drive) bench.clock ds base e p.under
+  station_base = station_is (any_station drive) bench.clock _ ds base e p.under
 
   pub none_told : (c : Bool) → is_empty (station_at machine k).members ≡ c → is_empty st.members ≡ c
-  none_told c told = ap (λ (x : Station). is_empty x.members) (sym (station_is (any_station drive) bench.clock ds k d p.mean.at)) ∙ told
+  none_told c told = ap (λ (x : Station). is_empty x.members) (sym (station_is (any_station drive) bench.clock _ ds k d p.mean.at)) ∙ told
 
   module _ (full : ℕ) where
     abbrev pub HostsTold : Result ℕ No → Type 0
@@ -442,7 +443,7 @@ module _ {X : Type 0} {V : X → Type 0} (drive : Plug X V → Driver) {bench : 
     -- by those of the inner one
     base_refusals : first_refusal (any_refusals (lacks_place base states b.site.trigger) Input (shape_at front base) b full)
         ≡ first_refusal (base_list (not st.site.plugged) (is_none b.site.trigger) (is_without_union (shape_at front base) [] whole_mask)
-        (is_empty b.members) (has_no_place front machine.stations b.site.trigger) (has_no_number b))
+        (is_empty b.members) (has_no_place front (attachments_of machine.stations) b.site.trigger) (has_no_number b))
     base_refusals =
         ap (λ (mask : ℕ). first_refusal (any_refusals (lacks_place base states b.site.trigger) Input (shape_at front base) b mask)) whole
         ∙ ap first_refusal (base_is front states machine.stations base (shape_at front base) b st.site.plugged
@@ -455,7 +456,7 @@ module _ {X : Type 0} {V : X → Type 0} (drive : Plug X V → Driver) {bench : 
 
     first_by : (r : Option Errno)
         → first_refusal (mean_list (not st.site.plugged) (is_none b.site.trigger) (is_without_union (shape_at front base) [] whole_mask)
-        (is_empty b.members) (has_no_place front machine.stations b.site.trigger) (has_no_number st) (has_no_number b)) ≡ r
+        (is_empty b.members) (has_no_place front (attachments_of machine.stations) b.site.trigger) (has_no_number st) (has_no_number b)) ≡ r
         → (mask capacity : ℕ)
         → open_of front machine k mask capacity false ≡ unless_made (all_joined front k (joined mask capacity false None)) machine (unless_refused st.next r)
     first_by r is mask capacity =
@@ -468,7 +469,8 @@ module _ {X : Type 0} {V : X → Type 0} (drive : Plug X V → Driver) {bench : 
     told_first_refused mask capacity (NoErrno err) hosts =
         rw (first_by (Some err)
         (mean_refused (not st.site.plugged) (is_none b.site.trigger) (is_without_union (shape_at front base) [] whole_mask) (is_empty b.members)
-        (has_no_place front machine.stations b.site.trigger) (has_no_number st) (has_no_number b) err (sym base_refusals ∙ hosts_by (Err (NoErrno err)) hosts))
+        (has_no_place front (attachments_of machine.stations) b.site.trigger) (has_no_number st) (has_no_number b) err
+        (sym base_refusals ∙ hosts_by (Err (NoErrno err)) hosts))
         mask capacity) (refl, refl)
     told_first_refused mask capacity NoMem hosts = refl
 
@@ -478,9 +480,10 @@ module _ {X : Type 0} {V : X → Type 0} (drive : Plug X V → Driver) {bench : 
       told_first_ends mask capacity ends =
           rw (first_by (Some ENOSPC)
           (ap (λ (ns : Bool). first_refusal (mean_list (not st.site.plugged) (is_none b.site.trigger) (is_without_union (shape_at front base) [] whole_mask)
-          (is_empty b.members) (has_no_place front machine.stations b.site.trigger) ns (has_no_number b))) ends
+          (is_empty b.members) (has_no_place front (attachments_of machine.stations) b.site.trigger) ns (has_no_number b))) ends
           ∙ mean_full (not st.site.plugged) (is_none b.site.trigger) (is_without_union (shape_at front base) [] whole_mask) (is_empty b.members)
-          (has_no_place front machine.stations b.site.trigger) (has_no_number b) (sym base_refusals ∙ (hosts_by (Ok t) hosts).2)) mask capacity) (refl, refl)
+          (has_no_place front (attachments_of machine.stations) b.site.trigger) (has_no_number b) (sym base_refusals ∙ (hosts_by (Ok t) hosts).2))
+          mask capacity) (refl, refl)
 
       pub told_first_goes : (mask : Mask) (capacity : ℕ) (d' e' : AnyDevice X V) (seat : Seat) (shape : ShapeRecord) → has_no_number st ≡ false
           → JoinsMean mask capacity shape (Ok seat) st (any_station drive d')
@@ -490,9 +493,10 @@ module _ {X : Type 0} {V : X → Type 0} (drive : Plug X V → Driver) {bench : 
       told_first_goes mask capacity d' e' seat shape goes j is =
           rw (first_by None
           (ap (λ (ns : Bool). first_refusal (mean_list (not st.site.plugged) (is_none b.site.trigger) (is_without_union (shape_at front base) [] whole_mask)
-          (is_empty b.members) (has_no_place front machine.stations b.site.trigger) ns (has_no_number b))) goes
+          (is_empty b.members) (has_no_place front (attachments_of machine.stations) b.site.trigger) ns (has_no_number b))) goes
           ∙ mean_may (not st.site.plugged) (is_none b.site.trigger) (is_without_union (shape_at front base) [] whole_mask) (is_empty b.members)
-          (has_no_place front machine.stations b.site.trigger) (has_no_number b) (sym base_refusals ∙ (hosts_by (Ok t) hosts).2)) mask.bits capacity)
+          (has_no_place front (attachments_of machine.stations) b.site.trigger) (has_no_number b) (sym base_refusals ∙ (hosts_by (Ok t) hosts).2))
+          mask.bits capacity)
           (ap (λ (x : Seat). Ok x.number) (sym j.0), ap (λ (m : Machine). Some m) (told_first none mask capacity d' e' j.1 whole_join))
         where
           whole_join : any_station drive e' ≡ joined whole_mask 1 false (Some k) b

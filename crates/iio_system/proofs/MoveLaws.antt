@@ -6,7 +6,6 @@ use Rattle.std.specs.Fmt.{signed_decimal}
 use Rattle.std.proofs.lemmas.Bool.Decides.{nat_tests}
 use Rattle.iio_sensor.specs.Driver.{Driver}
 use Rattle.iio_trigger.specs.declared.Polled.{Polled as Answer}
-use Rattle.iio_trigger.specs.Trigger.{Handed}
 use Rattle.hex.specs.Hex.{encode_lower}
 use Rattle.iio_desc.specs.Description.{device_name as desc_device_name, trigger_name as desc_trigger_name}
 use Rattle.iio_desc.specs.Kind.{is_average}
@@ -21,22 +20,21 @@ use Rattle.iio_core.specs.Machine.{Machine, Member, Station, is_plugged, no_stat
 use Rattle.iiod_session.specs.Seat.{SeatRecord}
 use Rattle.iio_history.specs.Event.{Event, Arrived, Clock, Dropped, Handled, Heard, Polled, Sensed, Unplugged}
 use Rattle.iio_history.specs.Registry.{Registry, Setup, User}
-use Rattle.iio_core.specs.Moves.{entry_answer, kind_sensed, machine_after_handling, machine_after_look, machine_after_unplugging}
-use Rattle.iio_core.specs.Trigger.{Trigger, entries_at, entry_of, handled, bench_entries, polled_by, poll_answer, missed_at}
+use Rattle.iio_core.specs.Moves.{entry_answer, kind_sensed, machine_after_handling, machine_after_look, machine_after_unplugging, entry_in, machine_after_poll, polled_answer}
 use Rattle.iio_history.specs.Fold.{newcomers}
 use Rattle.iio_history.specs.Told.{Line, Told, registry_of}
 use Rattle.iio_history.specs.Machine.{line_after, new_line, step}
 use Rattle.iio_history.specs.Transcript.{Sense, SetClock, Unplug, event_text, printed}
 use Rattle.iio_history.specs.Bench.{Every, IsBench, IsDeskOf, IsStep, front_of, is_in, machine_of, names_of}
 use Rattle.iio_history.specs.BenchLaw.{IsOthers}
-use Rattle.iio_history.specs.BenchMoves.{IsMove, entry_word, moved_text, next_bytes, triggers_made}
+use Rattle.iio_history.specs.BenchMoves.{IsMove, entry_word, moved_text, next_bytes}
 use Rattle.iio_history.proofs.BenchKept.{bench_kept}
-use Rattle.iio_history.proofs.BenchMoves.{clock_is, handling_is, look_is, moves_print, poll_is, triggers_are, unplugging_is}
+use Rattle.iio_history.proofs.BenchMoves.{clock_is, handling_is, look_is, moves_print, poll_is, unplugging_is}
 use Rattle.iio_history.proofs.BenchOthers.{desks_are_kept}
 use Rattle.iio_system.specs.declared.bench.Bench.{Bench}
 use Rattle.iio_system.specs.declared.connection.Connection.{Connection}
 use Rattle.iio_system.specs.declared.seat.Seat.{Seat}
-use Rattle.iio_system.specs.Bench.{front_of as bench_front, machine_of as bench_machine, triggers_of}
+use Rattle.iio_system.specs.Bench.{front_of as bench_front, machine_of as bench_machine}
 use Rattle.iio_core.specs.declared.became.Became.{Became}
 use Rattle.iio_core.specs.declared.became.Became.TheVariants.{Asked, Gave}
 use Rattle.iio_core.specs.declared.became.Gave.TheVariants as gave
@@ -180,7 +178,7 @@ rise_more j k old new less rise = λ n all i d within. let h = rise n all i d wi
 
 module _ (s : Setup) (m : Told) (e : Event) where
   -- its line
-  one_line : (text before after : List ℕ) → IsBench s m → IsOfBench e → text ≡ moved_text s m.triggers (machine_of m) e → after ≡ before ++ text
+  one_line : (text before after : List ℕ) → IsBench s m → IsOfBench e → text ≡ moved_text s (machine_of m) e → after ≡ before ++ text
       → after ≡ before ++ (event_text s m e ++ [])
   one_line text before after bench is words line =
       line ∙ ap (λ (t : List ℕ). before ++ t) (words ∙ sym (moves_print s m e bench (is_move e is)) ∙ sym (append-nil (event_text s m e)))
@@ -188,33 +186,28 @@ module _ (s : Setup) (m : Told) (e : Event) where
 module _ {X : Type 0} {V : X → Type 0} (driver : Plug X V → Driver) where
   -- the devices as the told state has them
   pub machine_told : (s : Setup) (m : Told) (b : Bench X V) (cs : List (Connection Seat)) → Holds driver s m b cs → bench_machine driver b ≡ machine_of m
-  machine_told s m b cs h = let same : Some (bench_machine driver b) ≡ Some (machine_of m) = h.stands.told_is in cc
+  machine_told s m b cs h = let same : Some (bench_machine driver b) ≡ Some (machine_of m) = h.told_is in cc
 
   pub holds_then : (s : Setup) (m : Told) (e : Event) (b b' : Bench X V) (cs : List (Connection Seat)) → IsOfBench e → Holds driver s m b cs
       → bench_front b' ≡ bench_front b
-      → bench_machine driver b' ≡ machine_of (step s m e) → triggers_of b' ≡ triggers_made (machine_of m) e m.triggers
-      → Holds driver s (step s m e) b' cs
-  holds_then s m e b b' cs is h front told triggers = record {
-    stands = record {
-      front_is = front ∙ h.stands.front_is;
-      told_is = ap (λ (x : Machine). Some x) told;
-      bench = bench_kept s m e (is_step (names_of m) e is) h.stands.bench;
-      lines =
-          subst (λ (f : Front). AreLines seen_of f (step s m e) (step s m e).lines cs) (sym front)
-          (lines_move seen_of s m (bench_front b) e cs is h.stands.lines);
-    };
-    triggers = triggers ∙ sym (triggers_are s m e);
+      → bench_machine driver b' ≡ machine_of (step s m e) → Holds driver s (step s m e) b' cs
+  holds_then s m e b b' cs is h front told = record {
+    front_is = front ∙ h.front_is;
+    told_is = ap (λ (x : Machine). Some x) told;
+    bench = bench_kept s m e (is_step (names_of m) e is) h.bench;
+    lines =
+        subst (λ (f : Front). AreLines seen_of f (step s m e) (step s m e).lines cs) (sym front)
+        (lines_move seen_of s m (bench_front b) e cs is h.lines);
   }
 
   -- ---- the clock
 
   pub clock_makes : (t : ℤ) (b b' : Bench X V) (cs : List (Connection Seat)) (before after : List ℕ) → bench_front b' ≡ bench_front b
-      → bench_machine driver b' ≡ record (bench_machine driver b) { clock = t } → triggers_of b' ≡ triggers_of b
+      → bench_machine driver b' ≡ record (bench_machine driver b) { clock = t }
       → after ≡ before ++ printed (codes "clock" ∷ signed_decimal t ∷ []) → Makes driver (SetClock t) b b' cs cs before after
-  clock_makes t b b' cs before after front told triggers line = λ s m h. (
-    one_line s m (Clock t) _ before after h.stands.bench tt refl line,
-    holds_then s m (Clock t) b b' cs tt h front (told ∙ ap (λ (x : Machine). record x { clock = t }) (machine_told s m b cs h) ∙ sym (clock_is s m t))
-        (triggers ∙ h.triggers),
+  clock_makes t b b' cs before after front told line = λ s m h. (
+    one_line s m (Clock t) _ before after h.bench tt refl line,
+    holds_then s m (Clock t) b b' cs tt h front (told ∙ ap (λ (x : Machine). record x { clock = t }) (machine_told s m b cs h) ∙ sym (clock_is s m t)),
   )
 
   -- ---- one device
@@ -227,18 +220,19 @@ module _ {X : Type 0} {V : X → Type 0} (driver : Plug X V → Driver) where
       (subst (λ (n : ℕ). dev < n) (length_map_is any_front b.devices.items ∙ sym (length_map_is (any_station driver) b.devices.items)) less)
 
   -- what is said of a device by its number is said of it as it stands in the told state
-  told_here : {A : Type 0} (word : Option Station → A) (s : Setup) (m : Told) (b : Bench X V) (cs : List (Connection Seat)) (dev : ℕ)
+  told_here : {A : Type 0} (word : Machine → Option Station → A) (s : Setup) (m : Told) (b : Bench X V) (cs : List (Connection Seat)) (dev : ℕ)
       → dev < length (bench_front b).devices → Holds driver s m b cs
-      → word (Some (station_at (bench_machine driver b) dev)) ≡ word (slice_get (machine_of m).stations dev)
-  told_here word s m b cs dev less h = ap word (sym (here b dev less)) ∙ ap (λ (x : Machine). word (slice_get x.stations dev)) (machine_told s m b cs h)
+      → word (bench_machine driver b) (Some (station_at (bench_machine driver b) dev)) ≡ word (machine_of m) (slice_get (machine_of m).stations dev)
+  told_here word s m b cs dev less h =
+      ap (word (bench_machine driver b)) (sym (here b dev less)) ∙ ap (λ (x : Machine). word x (slice_get x.stations dev)) (machine_told s m b cs h)
 
   named_here : (s : Setup) (m : Told) (b b' : Bench X V) (cs : List (Connection Seat)) (dev : ℕ) → bench_front b' ≡ bench_front b → Holds driver s m b cs
       → device_name (bench_front b') dev ≡ desc_device_name s.desc dev
-  named_here s m b b' cs dev front h = device_told s (bench_front b') dev (front ∙ h.stands.front_is)
+  named_here s m b b' cs dev front h = device_told s (bench_front b') dev (front ∙ h.front_is)
 
   trigger_named : (s : Setup) (m : Told) (b b' : Bench X V) (cs : List (Connection Seat)) (trigger : ℕ) → bench_front b' ≡ bench_front b → Holds driver s m b cs
       → trigger_name (bench_front b') trigger ≡ desc_trigger_name s.desc trigger
-  trigger_named s m b b' cs trigger front h = trigger_told s (bench_front b') trigger (front ∙ h.stands.front_is)
+  trigger_named s m b b' cs trigger front h = trigger_told s (bench_front b') trigger (front ∙ h.front_is)
 
   -- ---- unplugging
 
@@ -246,21 +240,20 @@ module _ {X : Type 0} {V : X → Type 0} (driver : Plug X V → Driver) where
       → unplugged_word (is_plugged (bench_machine driver b) dev && not (is_average (kind_at (bench_front b) dev)))
       ≡ unplugged_word (is_plugged (machine_of m) dev && not (is_average (kind_at (front_of s) dev)))
   plugged_word s m b cs dev h =
-      ap (λ (f : Front). unplugged_word (is_plugged (bench_machine driver b) dev && not (is_average (kind_at f dev)))) h.stands.front_is
+      ap (λ (f : Front). unplugged_word (is_plugged (bench_machine driver b) dev && not (is_average (kind_at f dev)))) h.front_is
       ∙ ap (λ (x : Machine). unplugged_word (is_plugged x dev && not (is_average (kind_at (front_of s) dev)))) (machine_told s m b cs h)
 
   pub unplug_makes : (dev : ℕ) (b b' : Bench X V) (cs : List (Connection Seat)) (before after name : List ℕ) (was : Bool) → dev < length (bench_front b).devices
       → bench_front b' ≡ bench_front b
-      → bench_machine driver b' ≡ machine_after_unplugging (bench_front b) dev (bench_machine driver b) → triggers_of b' ≡ triggers_of b
+      → bench_machine driver b' ≡ machine_after_unplugging (bench_front b) dev (bench_machine driver b)
       → name ≡ device_name (bench_front b') dev → was ≡ (is_plugged (bench_machine driver b) dev && not (is_average (kind_at (bench_front b) dev)))
       → after ≡ before ++ printed (name ∷ unplugged_word was ∷ []) → Makes driver (Unplug dev) b b' cs cs before after
-  unplug_makes dev b b' cs before after name was less front told triggers named answered line = λ s m h. (
-    one_line s m (Unplugged dev) _ before after h.stands.bench tt
+  unplug_makes dev b b' cs before after name was less front told named answered line = λ s m h. (
+    one_line s m (Unplugged dev) _ before after h.bench tt
         (ap (λ (n : List ℕ). printed (n ∷ unplugged_word was ∷ [])) (named ∙ named_here s m b b' cs dev front h)
         ∙ ap (λ (w : List ℕ). printed (desc_device_name s.desc dev ∷ w ∷ [])) (ap unplugged_word answered ∙ plugged_word s m b cs dev h)) line,
-    holds_then s m (Unplugged dev) b b' cs tt h front (told ∙ ap (λ (f : Front). machine_after_unplugging f dev (bench_machine driver b)) h.stands.front_is
-        ∙ ap (λ (x : Machine). machine_after_unplugging (front_of s) dev x) (machine_told s m b cs h) ∙ sym (unplugging_is s m dev h.stands.bench))
-        (triggers ∙ h.triggers),
+    holds_then s m (Unplugged dev) b b' cs tt h front (told ∙ ap (λ (f : Front). machine_after_unplugging f dev (bench_machine driver b)) h.front_is
+        ∙ ap (λ (x : Machine). machine_after_unplugging (front_of s) dev x) (machine_told s m b cs h) ∙ sym (unplugging_is s m dev h.bench)),
   )
 
   -- ---- looks at thresholds
@@ -270,101 +263,75 @@ module _ {X : Type 0} {V : X → Type 0} (driver : Plug X V → Driver) where
       → sensed_words (kind_sensed (kind_at (bench_front b) dev) (shape_at (bench_front b) dev) t (station_at (bench_machine driver b) dev))
       ≡ sensed_words (option_map_or (kind_sensed (kind_at (front_of s) dev) (shape_at (front_of s) dev) t) (slice_get (machine_of m).stations dev) sense.Gone)
   sensed_told dev t s m b cs less h =
-      ap (λ (f : Front). sensed_words (kind_sensed (kind_at f dev) (shape_at f dev) t (station_at (bench_machine driver b) dev))) h.stands.front_is
-      ∙ told_here (λ (o : Option Station). sensed_words (option_map_or (kind_sensed (kind_at (front_of s) dev) (shape_at (front_of s) dev) t) o sense.Gone))
-      s m b cs dev less h
+      ap (λ (f : Front). sensed_words (kind_sensed (kind_at f dev) (shape_at f dev) t (station_at (bench_machine driver b) dev))) h.front_is
+      ∙ told_here (λ (x : Machine) (o : Option Station). sensed_words
+      (option_map_or (kind_sensed (kind_at (front_of s) dev) (shape_at (front_of s) dev) t) o sense.Gone)) s m b cs dev less h
 
   pub sense_makes : (dev : ℕ) (t : ℤ) (b b' : Bench X V) (cs : List (Connection Seat)) (before after name : List ℕ) (answer : Look)
       → dev < length (bench_front b).devices → bench_front b' ≡ bench_front b
-      → bench_machine driver b' ≡ machine_after_look (bench_front b) dev t (bench_machine driver b) → triggers_of b' ≡ triggers_of b
+      → bench_machine driver b' ≡ machine_after_look (bench_front b) dev t (bench_machine driver b)
       → name ≡ device_name (bench_front b') dev
       → answer ≡ kind_sensed (kind_at (bench_front b) dev) (shape_at (bench_front b) dev) t (station_at (bench_machine driver b) dev)
       → after ≡ before ++ printed (name ∷ sensed_words answer) → Makes driver (Sense dev t) b b' cs cs before after
-  sense_makes dev t b b' cs before after name answer less front told triggers named answered line = λ s m h. (
-    one_line s m (Sensed dev t) _ before after h.stands.bench tt
+  sense_makes dev t b b' cs before after name answer less front told named answered line = λ s m h. (
+    one_line s m (Sensed dev t) _ before after h.bench tt
         (ap (λ (n : List ℕ). printed (n ∷ sensed_words answer)) (named ∙ named_here s m b b' cs dev front h)
         ∙ ap (λ (ws : List (List ℕ)). printed (desc_device_name s.desc dev ∷ ws)) (ap sensed_words answered ∙ sensed_told dev t s m b cs less h)) line,
     holds_then s m (Sensed dev t) b b' cs tt h front
-        (told ∙ ap (λ (f : Front). machine_after_look f dev t (bench_machine driver b)) h.stands.front_is
+        (told ∙ ap (λ (f : Front). machine_after_look f dev t (bench_machine driver b)) h.front_is
         ∙ ap (λ (x : Machine). machine_after_look (front_of s) dev t x) (machine_told s m b cs h)
-        ∙ sym (look_is s m dev t h.stands.bench)) (triggers ∙ h.triggers),
+        ∙ sym (look_is s m dev t h.bench)),
   )
 
   -- ---- polls
 
   module _ (trigger : ℕ) (t : ℤ) (b b' : Bench X V) (cs : List (Connection Seat)) (front : bench_front b' ≡ bench_front b)
-      (told : bench_machine driver b' ≡ bench_machine driver b)
-      (triggers : triggers_of b' ≡ at_place trigger (polled_by (bench_machine driver b).stations trigger t) (triggers_of b)) (s : Setup) (m : Told)
-      (h : Holds driver s m b cs) where
+      (told : bench_machine driver b' ≡ machine_after_poll trigger t (bench_machine driver b)) (s : Setup) (m : Told) (h : Holds driver s m b cs) where
     pub poll_holds : Holds driver s (step s m (Polled trigger t)) b' cs
     poll_holds =
-        holds_then s m (Polled trigger t) b b' cs tt h front (told ∙ machine_told s m b cs h ∙ sym (poll_is s m trigger t).0)
-        (triggers ∙ ap (λ (ts : List Trigger). at_place trigger (polled_by (bench_machine driver b).stations trigger t) ts) h.triggers
-        ∙ ap (λ (x : Machine). at_place trigger (polled_by x.stations trigger t) m.triggers) (machine_told s m b cs h))
-
-    answer_told : poll_answer (bench_entries 0 trigger t (bench_machine driver b).stations) (entries_at (triggers_of b) trigger)
-        (missed_at (triggers_of b) trigger)
-        ≡ poll_answer (bench_entries 0 trigger t (machine_of m).stations) (entries_at m.triggers trigger)
-        (missed_at m.triggers trigger)
-    answer_told =
-        ap (λ (ts : List Trigger). poll_answer (bench_entries 0 trigger t (bench_machine driver b).stations) (entries_at ts trigger)
-        (missed_at ts trigger)) h.triggers
-        ∙ ap (λ (x : Machine). poll_answer (bench_entries 0 trigger t x.stations) (entries_at m.triggers trigger)
-        (missed_at m.triggers trigger)) (machine_told s m b cs h)
+        holds_then s m (Polled trigger t) b b' cs tt h front
+        (told ∙ ap (λ (x : Machine). machine_after_poll trigger t x) (machine_told s m b cs h) ∙ sym (poll_is s m trigger t).0)
 
     pub poll_line : (before after name : List ℕ) (answer : Answer) → name ≡ trigger_name (bench_front b') trigger
-        → answer ≡ poll_answer (bench_entries 0 trigger t (bench_machine driver b).stations) (entries_at (triggers_of b) trigger)
-        (missed_at (triggers_of b) trigger)
+        → answer ≡ polled_answer trigger t (bench_machine driver b)
         → after ≡ before ++ printed (codes "poll" ∷ name ∷ polled_words answer) → after ≡ before ++ (event_text s m (Polled trigger t) ++ [])
     poll_line before after name answer named answered line =
-        one_line s m (Polled trigger t) _ before after h.stands.bench tt
+        one_line s m (Polled trigger t) _ before after h.bench tt
         (ap (λ (n : List ℕ). printed (codes "poll" ∷ n ∷ polled_words answer)) (named ∙ trigger_named s m b b' cs trigger front h)
         ∙ ap (λ (ws : List (List ℕ)). printed (codes "poll" ∷ desc_trigger_name s.desc trigger ∷ ws))
-        (ap polled_words (answered ∙ answer_told))) line
+        (ap polled_words answered ∙ ap (λ (x : Machine). polled_words (polled_answer trigger t x)) (machine_told s m b cs h))) line
 
   -- ---- handlings
 
   module _ (trigger dev : ℕ) (b b' : Bench X V) (cs : List (Connection Seat)) (less : dev < length (bench_front b).devices)
       (front : bench_front b' ≡ bench_front b)
-      (told : bench_machine driver b' ≡ machine_after_handling (bench_front b) (entry_of dev (entries_at (triggers_of b) trigger)) dev (bench_machine driver b))
-      (triggers : triggers_of b' ≡ at_place trigger (handled dev) (triggers_of b)) (s : Setup) (m : Told) (h : Holds driver s m b cs) where
-    pub entry_here : entry_of dev (entries_at (triggers_of b) trigger) ≡ entry_of dev (entries_at m.triggers trigger)
-    entry_here = ap (λ (ts : List Trigger). entry_of dev (entries_at ts trigger)) h.triggers
-
+      (told : bench_machine driver b' ≡ machine_after_handling (bench_front b) trigger dev (bench_machine driver b)) (s : Setup) (m : Told)
+      (h : Holds driver s m b cs) where
     pub handle_holds : Holds driver s (step s m (Handled trigger dev)) b' cs
     handle_holds =
         holds_then s m (Handled trigger dev) b b' cs tt h front
-        (told ∙ ap (λ (o : Option Handed). machine_after_handling (bench_front b) o dev (bench_machine driver b)) entry_here
-        ∙ ap (λ (f : Front). machine_after_handling f (entry_of dev (entries_at m.triggers trigger)) dev (bench_machine driver b)) h.stands.front_is
-        ∙ ap (λ (x : Machine). machine_after_handling (front_of s) (entry_of dev (entries_at m.triggers trigger)) dev x) (machine_told s m b cs h)
-        ∙ sym (handling_is s m trigger dev h.stands.bench))
-        (triggers ∙ ap (λ (ts : List Trigger). at_place trigger (handled dev) ts) h.triggers)
-
-    answer_here : entry_answer (kind_at (bench_front b) dev) (entry_of dev (entries_at (triggers_of b) trigger)) (station_at (bench_machine driver b) dev)
-        ≡ entry_answer (kind_at (front_of s) dev) (entry_of dev (entries_at m.triggers trigger)) (station_at (bench_machine driver b) dev)
-    answer_here =
-        ap (λ (f : Front). entry_answer (kind_at f dev) (entry_of dev (entries_at (triggers_of b) trigger)) (station_at (bench_machine driver b) dev))
-        h.stands.front_is
-        ∙ ap (λ (o : Option Handed). entry_answer (kind_at (front_of s) dev) o (station_at (bench_machine driver b) dev)) entry_here
+        (told ∙ ap (λ (f : Front). machine_after_handling f trigger dev (bench_machine driver b)) h.front_is
+        ∙ ap (λ (x : Machine). machine_after_handling (front_of s) trigger dev x) (machine_told s m b cs h) ∙ sym (handling_is s m trigger dev h.bench))
 
     word_told : (answer : Option Became) (room : List ℕ)
-        → answer ≡ entry_answer (kind_at (bench_front b) dev) (entry_of dev (entries_at (triggers_of b) trigger)) (station_at (bench_machine driver b) dev)
+        → answer ≡ entry_answer (kind_at (bench_front b) dev) (entry_in trigger dev (bench_machine driver b)) (station_at (bench_machine driver b) dev)
         → IsRoom answer (station_at (bench_machine driver b) dev).members room
-        → became_word answer room
-        ≡ entry_word (kind_at (front_of s) dev) (entry_of dev (entries_at m.triggers trigger)) (slice_get (machine_of m).stations dev)
+        → became_word answer room ≡ entry_word (kind_at (front_of s) dev) (entry_in trigger dev (machine_of m)) (slice_get (machine_of m).stations dev)
     word_told answer room answered roomy =
         room_word answer (station_at (bench_machine driver b) dev).members room roomy
-        ∙ ap (λ (o : Option Became). became_word o (next_bytes (station_at (bench_machine driver b) dev).members)) (answered ∙ answer_here)
-        ∙ told_here (entry_word (kind_at (front_of s) dev) (entry_of dev (entries_at m.triggers trigger))) s m b cs dev less h
+        ∙ ap (λ (o : Option Became). became_word o (next_bytes (station_at (bench_machine driver b) dev).members)) answered
+        ∙ ap (λ (f : Front). entry_word (kind_at f dev) (entry_in trigger dev (bench_machine driver b)) (Some (station_at (bench_machine driver b) dev)))
+        h.front_is
+        ∙ told_here (λ (x : Machine) (o : Option Station). entry_word (kind_at (front_of s) dev) (entry_in trigger dev x) o) s m b cs dev less h
 
     pub handle_line : (before after name device room : List ℕ) (answer : Option Became) → name ≡ trigger_name (bench_front b') trigger
         → device ≡ device_name (bench_front b') dev
-        → answer ≡ entry_answer (kind_at (bench_front b) dev) (entry_of dev (entries_at (triggers_of b) trigger)) (station_at (bench_machine driver b) dev)
+        → answer ≡ entry_answer (kind_at (bench_front b) dev) (entry_in trigger dev (bench_machine driver b)) (station_at (bench_machine driver b) dev)
         → IsRoom answer (station_at (bench_machine driver b) dev).members room
         → after ≡ before ++ printed (codes "handle" ∷ name ∷ device ∷ became_word answer room ∷ [])
         → after ≡ before ++ (event_text s m (Handled trigger dev) ++ [])
     handle_line before after name device room answer named called answered roomy line =
-        one_line s m (Handled trigger dev) _ before after h.stands.bench tt
+        one_line s m (Handled trigger dev) _ before after h.bench tt
         (ap (λ (n : List ℕ). printed (codes "handle" ∷ n ∷ device ∷ became_word answer room ∷ [])) (named ∙ trigger_named s m b b' cs trigger front h)
         ∙ ap (λ (n : List ℕ). printed (codes "handle" ∷ desc_trigger_name s.desc trigger ∷ n ∷ became_word answer room ∷ []))
         (called ∙ named_here s m b b' cs dev front h)

@@ -29,11 +29,14 @@ use Rattle.iio_device.specs.Members.{member_of as membership_of}
 use Rattle.iio_device.specs.Site.{Site, attached, is_empty, no_driver}
 use Rattle.iiod_session.specs.declared.iio.No.{No}
 use Rattle.iiod_session.specs.declared.iio.No.TheVariants.{Errno as NoErrno, Mem as NoMem}
+use Rattle.iio_core.specs.Opening.{own_host}
+use Rattle.iio_core.specs.Attached.{is_attached}
+use Rattle.iio_core.specs.Trigger.{Trigger}
 use Rattle.iio_core.specs.Front.{Front, kind_at, shape_at}
 use Rattle.iio_desc.specs.Description.{DeviceHead}
 use Rattle.iio_desc.specs.Kind.{Kind, Input, Output, Average, is_average}
-use Rattle.iio_core.specs.Machine.{Machine, Member, Station, is_seat_of, no_station, station_at, station_in, with_station}
-use Rattle.iio_core.specs.Calls.{closed, inner_gone, is_attached, is_inner_of, joined, left, newcomer, open_of, open_refusals, own_host, trigger_by, trigger_of as trigger_told_of, unless}
+use Rattle.iio_core.specs.Machine.{Machine, Member, Station, is_seat_of, no_station, station_at, station_in, with_station, attachment_of, masks_of}
+use Rattle.iio_core.specs.Calls.{closed, inner_gone, is_inner_of, joined, left, newcomer, open_of, open_refusals, trigger_by, trigger_of as trigger_told_of, unless}
 use Rattle.iiod_session.specs.Seat.{Answers, IsNew, MayOpen, number_by as number_of}
 use Rattle.iio_core.specs.Devices.{queue_waits}
 use Rattle.iio_core.proofs.DeviceLaws.{left_is as plain_left}
@@ -268,12 +271,14 @@ module _ {X : Type 0} {V : X → Type 0} (p q : Plug X V → Driver) where
   places_as : (t dev : ℕ) (ds : List (AnyDevice X V)) → places_from dev t (map (any_station p) ds) ≡ places_from dev t (map (any_station q) ds)
   places_as t dev [] = refl
   places_as t dev (any.Input d ∷ ds) =
-      ap (λ (rest : List Place). cond (is_attached t (in_station q d)) (record { dev = dev; attachment = d.device.core.attachment } ∷ rest) rest)
-      (places_as t (suc dev) ds)
+      ap (λ (rest : List Place). cond (is_attached t (attachment_of (in_station q d)))
+      (record { dev = dev; attachment = d.device.core.attachment } ∷ rest) rest) (places_as t (suc dev) ds)
   places_as t dev (any.Output x ∷ ds) =
-      ap (λ (rest : List Place). cond (is_attached t (out_station x)) (record { dev = dev; attachment = x.starts } ∷ rest) rest) (places_as t (suc dev) ds)
+      ap (λ (rest : List Place). cond (is_attached t (attachment_of (out_station x))) (record { dev = dev; attachment = x.starts } ∷ rest) rest)
+      (places_as t (suc dev) ds)
   places_as t dev (any.Average a ∷ ds) =
-      ap (λ (rest : List Place). cond (is_attached t (mean_station a)) (record { dev = dev; attachment = a.starts } ∷ rest) rest) (places_as t (suc dev) ds)
+      ap (λ (rest : List Place). cond (is_attached t (attachment_of (mean_station a))) (record { dev = dev; attachment = a.starts } ∷ rest) rest)
+      (places_as t (suc dev) ds)
 
   pub sound_as : (triggers : List TriggerDesc) (states : List State) (ds : List (AnyDevice X V)) → IsBench triggers states (stations_by p ds)
       → IsBench triggers states (stations_by q ds)
@@ -401,7 +406,7 @@ module _ {X : Type 0} {V : X → Type 0} (drive : Plug X V → Driver) where
         → first_refusal (any_refusals (lacks_place (number_by d) states (any_station drive d).site.trigger) (any_front d).kind (any_front d).shape
         (any_station drive d) mask) ≡ r
         → first_refusal (open_refusals (fronts_by any_front context triggers ds) (map (any_station drive) ds) (any_front d).kind
-        (own_host (any_station drive d) (any_front d).shape mask) (any_station drive d)) ≡ r
+        (own_host (any_station drive d) (any_front d).shape mask (masks_of (any_station drive d).members)) (any_station drive d)) ≡ r
     refusals mask r e =
         refusals_any (fronts_by any_front context triggers ds) states (map (any_station drive) ds) k (any_front d).kind (any_front d).shape
         (any_station drive d) mask (sound_any triggers states ds sound) (map_at (any_station drive) ds k d at)
@@ -409,37 +414,37 @@ module _ {X : Type 0} {V : X → Type 0} (drive : Plug X V → Driver) where
         (any_refusals (lacks_place n states (any_station drive d).site.trigger) (any_front d).kind (any_front d).shape (any_station drive d) mask))
         (sym (numbered k d at)) ∙ e
 
-    opens : (mask : ℕ) (r : Option Errno) → is_average (any_front d).kind ≡ false
+    opens : (ts : List Trigger) (mask : ℕ) (r : Option Errno) → is_average (any_front d).kind ≡ false
         → first_refusal (any_refusals (lacks_place (number_by d) states (any_station drive d).site.trigger) (any_front d).kind (any_front d).shape
         (any_station drive d) mask) ≡ r
-        → open_of (fronts_by any_front context triggers ds) (machine_by (any_station drive) clock ds) k mask capacity cyclic
-        ≡ unless (joined mask capacity cyclic None) k (machine_by (any_station drive) clock ds) (unless_refused (any_station drive d).next r)
-    opens mask r plain e =
+        → open_of (fronts_by any_front context triggers ds) (machine_by (any_station drive) clock ts ds) k mask capacity cyclic
+        ≡ unless (joined mask capacity cyclic None) k (machine_by (any_station drive) clock ts ds) (unless_refused (any_station drive d).next r)
+    opens ts mask r plain e =
         open_alone (fronts_by any_front context triggers ds) k (ap is_average (kind_is any_front context triggers ds k d at) ∙ plain)
-        (machine_by (any_station drive) clock ds) mask capacity cyclic (any_station drive d) (any_front d).shape
-        (station_is (any_station drive) clock ds k d at) shaped (any_front d).kind r (kind_is any_front context triggers ds k d at) (refusals mask r e)
+        (machine_by (any_station drive) clock ts ds) mask capacity cyclic (any_station drive d) (any_front d).shape
+        (station_is (any_station drive) clock ts ds k d at) shaped (any_front d).kind r (kind_is any_front context triggers ds k d at) (refusals mask r e)
 
-    pub open_refused : (mask : ℕ) (no : No) → is_average (any_front d).kind ≡ false
+    pub open_refused : (ts : List Trigger) (mask : ℕ) (no : No) → is_average (any_front d).kind ≡ false
         → HostsAny states (any_front d).kind (number_by d) (any_front d).shape (any_station drive d) mask (Err no)
-        → Answers (open_of (fronts_by any_front context triggers ds) (machine_by (any_station drive) clock ds) k mask capacity cyclic)
-        (machine_by (any_station drive) clock ds) (Err no) (Some (machine_by (any_station drive) clock ds))
-    open_refused mask (NoErrno e) plain hosts = rw (opens mask (Some e) plain hosts) (refl, refl)
-    open_refused mask NoMem plain hosts = refl
+        → Answers (open_of (fronts_by any_front context triggers ds) (machine_by (any_station drive) clock ts ds) k mask capacity cyclic)
+        (machine_by (any_station drive) clock ts ds) (Err no) (Some (machine_by (any_station drive) clock ts ds))
+    open_refused ts mask (NoErrno e) plain hosts = rw (opens ts mask (Some e) plain hosts) (refl, refl)
+    open_refused ts mask NoMem plain hosts = refl
 
-    pub open_joins : (mask : Mask) (t : ℕ) (d' : AnyDevice X V) (s s' : State) (r : Result Seat No) → is_average (any_front d).kind ≡ false
+    pub open_joins : (ts : List Trigger) (mask : Mask) (t : ℕ) (d' : AnyDevice X V) (s s' : State) (r : Result Seat No) → is_average (any_front d).kind ≡ false
         → HostsAny states (any_front d).kind (number_by d) (any_front d).shape (any_station drive d) mask.bits (Ok t)
         → JoinsAny mask capacity cyclic None (number_by d) (any_front d).shape r (any_station drive d) (any_station drive d') s s'
-        → Answers (open_of (fronts_by any_front context triggers ds) (machine_by (any_station drive) clock ds) k mask.bits capacity cyclic)
-        (machine_by (any_station drive) clock ds) (number_of seen_of r) (Some (machine_by (any_station drive) clock (set ds k d')))
-    open_joins mask t d' s s' (Ok seat) plain hosts j =
-        rw (opens mask.bits None plain hosts.2) (
+        → Answers (open_of (fronts_by any_front context triggers ds) (machine_by (any_station drive) clock ts ds) k mask.bits capacity cyclic)
+        (machine_by (any_station drive) clock ts ds) (number_of seen_of r) (Some (machine_by (any_station drive) clock ts (set ds k d')))
+    open_joins ts mask t d' s s' (Ok seat) plain hosts j =
+        rw (opens ts mask.bits None plain hosts.2) (
           ap (λ (x : Seat). Ok x.number) (sym j.0),
-          ap (λ (m : Machine). Some m) (told_changed (any_station drive) clock ds k d d' at (joined mask.bits capacity cyclic None) j.1),
+          ap (λ (m : Machine). Some m) (told_changed (any_station drive) clock ts ds k d d' at (joined mask.bits capacity cyclic None) j.1),
         )
-    open_joins mask t d' s s' (Err x) plain hosts j =
-        subst (λ (y : No). Answers (open_of (fronts_by any_front context triggers ds) (machine_by (any_station drive) clock ds) k mask.bits capacity cyclic)
-        (machine_by (any_station drive) clock ds) (Err y) (Some (machine_by (any_station drive) clock (set ds k d')))) (sym j.0)
-        (ap (λ (m : Machine). Some m) (told_same (any_station drive) clock ds k d d' at j.1))
+    open_joins ts mask t d' s s' (Err x) plain hosts j =
+        subst (λ (y : No). Answers (open_of (fronts_by any_front context triggers ds) (machine_by (any_station drive) clock ts ds) k mask.bits capacity cyclic)
+        (machine_by (any_station drive) clock ts ds) (Err y) (Some (machine_by (any_station drive) clock ts (set ds k d')))) (sym j.0)
+        (ap (λ (m : Machine). Some m) (told_same (any_station drive) clock ts ds k d d' at j.1))
 
     pub open_seat : (mask : Mask) (st st' : Station) (s s' : State) (r : Result Seat No)
         → JoinsAny mask capacity cyclic None (number_by d) (any_front d).shape r st st' s s'
@@ -535,25 +540,26 @@ module _ {X : Type 0} {V : X → Type 0} (drive : Plug X V → Driver) where
         })
 
   -- ---- CLOSE
-  module _ (context : List ℕ) (triggers : List TriggerDesc) (ds : List (AnyDevice X V)) (clock : ℤ) (k : ℕ) (d : AnyDevice X V) (at : slice_get ds k ≡ Some d)
-      (plain : is_average (any_front d).kind ≡ false) (n : ℕ) where
-    closed_is : closed (fronts_by any_front context triggers ds) (machine_by (any_station drive) clock ds) k n
-        ≡ with_station (left n) k (machine_by (any_station drive) clock ds)
+  module _ (context : List ℕ) (triggers : List TriggerDesc) (ds : List (AnyDevice X V)) (clock : ℤ) (ts : List Trigger) (k : ℕ) (d : AnyDevice X V)
+      (at : slice_get ds k ≡ Some d) (plain : is_average (any_front d).kind ≡ false) (n : ℕ) where
+    closed_is : closed (fronts_by any_front context triggers ds) (machine_by (any_station drive) clock ts ds) k n
+        ≡ with_station (left n) k (machine_by (any_station drive) clock ts ds)
     closed_is =
         closed_alone (fronts_by any_front context triggers ds) k (ap is_average (kind_is any_front context triggers ds k d at) ∙ plain)
-        (machine_by (any_station drive) clock ds) n
+        (machine_by (any_station drive) clock ts ds) n
 
     pub told_leaves : (d' : AnyDevice X V) → any_station drive d' ≡ left n (any_station drive d)
-        → Some (machine_by (any_station drive) clock (set ds k d'))
-        ≡ Some (closed (fronts_by any_front context triggers ds) (machine_by (any_station drive) clock ds) k n)
-    told_leaves d' is = ap (λ (m : Machine). Some m) (told_changed (any_station drive) clock ds k d d' at (left n) is ∙ sym closed_is)
+        → Some (machine_by (any_station drive) clock ts (set ds k d'))
+        ≡ Some (closed (fronts_by any_front context triggers ds) (machine_by (any_station drive) clock ts ds) k n)
+    told_leaves d' is = ap (λ (m : Machine). Some m) (told_changed (any_station drive) clock ts ds k d d' at (left n) is ∙ sym closed_is)
 
     told_stays : is_empty (any_station drive d).members ≡ true
-        → Some (machine_by (any_station drive) clock ds) ≡ Some (closed (fronts_by any_front context triggers ds) (machine_by (any_station drive) clock ds) k n)
+        → Some (machine_by (any_station drive) clock ts ds)
+        ≡ Some (closed (fronts_by any_front context triggers ds) (machine_by (any_station drive) clock ts ds) k n)
     unfolding with_station
     told_stays e =
         ap (λ (m : Machine). Some m)
-        (ap (λ (sts : List Station). (let m : Machine = record { clock = clock; stations = sts } in m))
+        (ap (λ (sts : List Station). (let m : Machine = record { clock = clock; triggers = ts; stations = sts } in m))
         (sym (at_place_same (map (any_station drive) ds) k (any_station drive d) (left n) (map_at (any_station drive) ds k d at)
         (left_none n (any_station drive d) (empty_list (any_station drive d).members e))))
         ∙ sym closed_is)
@@ -561,19 +567,19 @@ module _ {X : Type 0} {V : X → Type 0} (drive : Plug X V → Driver) where
     module _ (states : List State) (sound : IsBench triggers states (stations_by (λ p. no_driver) ds)) (first : ℕ)
         (averaged : IsAveraged (length triggers) first (map any_front ds) (stations_by (λ p. no_driver) ds)) where
       told_unhosted : (trigger : Option ℕ) → (any_station drive d).site.trigger ≡ trigger → has_trigger (length triggers) trigger ≡ false
-          → Some (machine_by (any_station drive) clock ds)
-          ≡ Some (closed (fronts_by any_front context triggers ds) (machine_by (any_station drive) clock ds) k n)
+          → Some (machine_by (any_station drive) clock ts ds)
+          ≡ Some (closed (fronts_by any_front context triggers ds) (machine_by (any_station drive) clock ts ds) k n)
       told_unhosted trigger own none =
           told_stays (hosted_none (length triggers) (any_station drive d) trigger own none (hosted_at (length triggers) first ds averaged k d at plain))
 
       pub told_none : None ≡ (any_station drive d).site.trigger
-          → Some (machine_by (any_station drive) clock ds)
-          ≡ Some (closed (fronts_by any_front context triggers ds) (machine_by (any_station drive) clock ds) k n)
+          → Some (machine_by (any_station drive) clock ts ds)
+          ≡ Some (closed (fronts_by any_front context triggers ds) (machine_by (any_station drive) clock ts ds) k n)
       told_none own = told_unhosted None (sym own) refl
 
       pub told_past : (t m : ℕ) → Some t ≡ (any_station drive d).site.trigger → m ≡ length states → m ≤ t
-          → Some (machine_by (any_station drive) clock ds)
-          ≡ Some (closed (fronts_by any_front context triggers ds) (machine_by (any_station drive) clock ds) k n)
+          → Some (machine_by (any_station drive) clock ts ds)
+          ≡ Some (closed (fronts_by any_front context triggers ds) (machine_by (any_station drive) clock ts ds) k n)
       told_past t m own e past =
           let many = as_many triggers states sound.places in
           let none : has_trigger (length triggers) (Some t) ≡ false = grind (arith, nat_tests) in

@@ -5,19 +5,16 @@ use Rattle.std.proofs.lemmas.Bool.Decides.{nat_tests}
 use Rattle.std.proofs.lemmas.List.Elements.{All-push}
 use Rattle.std.proofs.lemmas.List.Quantifiers.{position-Some}
 use Rattle.iio_base.specs.declared.Mem.{Mem}
-use Rattle.iiod_grammar.specs.Stream.{Item, items_from}
 use Rattle.iio_core.specs.Front.{Front}
 use Rattle.iiod_session.specs.Session.{SessionRecord}
 use Rattle.iio_sensor.specs.Driver.{Driver}
 use Rattle.iio_device.specs.declared.plug.Plug.{Plug}
-use Rattle.iio_history.specs.Event.{Arrived, Heard}
-use Rattle.iio_history.specs.Registry.{Setup, has_ended}
+use Rattle.iio_history.specs.Registry.{Setup}
 use Rattle.iio_history.specs.Script.{max_names}
-use Rattle.iio_history.specs.Told.{Told, registry_of}
+use Rattle.iio_history.specs.Told.{Told}
 use Rattle.iio_history.specs.Machine.{step}
-use Rattle.iio_history.specs.Played.{state_after, steps}
-use Rattle.iio_history.specs.Transcript.{Drop, Feed, begun_by, printed}
-use Rattle.iio_history.specs.BenchLaw.{heard}
+use Rattle.iio_history.specs.Played.{state_after}
+use Rattle.iio_history.specs.Transcript.{Drop, Feed, printed}
 use Rattle.iio_history.proofs.BenchLists.{name_same}
 use Rattle.iio_system.specs.declared.bench.Bench.{Bench}
 use Rattle.iio_system.specs.declared.connection.Connection.{Connection}
@@ -36,19 +33,6 @@ use Rattle.iio_system.proofs.FeedLaws.{fed_new, fed_there}
 use Rattle.iio_system.proofs.ItemLemmas.{room_less}
 use Rattle.iio_system.proofs.NameLaws.{is_named, known_at, none_named, room_left, unknown}
 use Rattle.iio_system.proofs.OwnLaws.{with_session}
-
--- ---- the triggers stay
-
-steps_triggers : (s : Setup) (name : List ℕ) (m : Told) (items : List Item) → (steps s m (heard name items)).triggers ≡ m.triggers
-steps_triggers s name m [] = refl
-steps_triggers s name m (item ∷ items) = steps_triggers s name (step s m (Heard name item)) items
-
-feed_triggers : (s : Setup) (m : Told) (name bytes : List ℕ) → (state_after s m (Feed name bytes)).triggers ≡ m.triggers
-feed_triggers s m name bytes = by (has_ended name (registry_of m).users)
-  where
-    by : (b : Bool) → (steps s m (cond b [] (Arrived name bytes ∷ heard name (items_from (begun_by name m.lines) bytes)))).triggers ≡ m.triggers
-    by true = refl
-    by false = steps_triggers s name (step s m (Arrived name bytes)) (items_from (begun_by name m.lines) bytes)
 
 pub on_ok : {A P : Type 0} (r : Result A Mem) → P → OnOk r P
 on_ok (Ok x) p = p
@@ -106,14 +90,9 @@ pub front_kept : {X : Type 0} {V : X → Type 0} (b b' : Bench X V) → kept_of 
 front_kept b b' kept = ap (λ (k : Kept). k.front) kept
 
 module _ {X : Type 0} {V : X → Type 0} (driver : Plug X V → Driver) where
-  -- what stands, with triggers as they were
-  holds_then : (s : Setup) (m n : Told) (b b' : Bench X V) (cs cs' : List (Connection Seat)) → kept_of b' ≡ kept_of b → n.triggers ≡ m.triggers
-      → Holds driver s m b cs
+  holds_then : (s : Setup) (n : Told) (b b' : Bench X V) (cs' : List (Connection Seat)) → kept_of b' ≡ kept_of b
       → Stands seen_of s n (front_of b) (Some (machine_of driver b')) cs' → Holds driver s n b' cs'
-  holds_then s m n b b' cs cs' kept same holds stands = record {
-    stands = subst (λ (f : Front). Stands seen_of s n f (Some (machine_of driver b')) cs') (sym (front_kept b b' kept)) stands;
-    triggers = ap (λ (k : Kept). k.triggers) kept ∙ holds.triggers ∙ sym same;
-  }
+  holds_then s n b b' cs' kept stands = subst (λ (f : Front). Stands seen_of s n f (Some (machine_of driver b')) cs') (sym (front_kept b b' kept)) stands
 
   pub feeds_there : {A : Type 0} (b b' : Bench X V) (cs : List (Connection Seat)) (i : ℕ) (c c' : Connection Seat) (name bytes before after : List ℕ)
       (r : Result A Mem)
@@ -125,7 +104,7 @@ module _ {X : Type 0} {V : X → Type 0} (driver : Plug X V → Driver) where
       let place = position-Some (is_named name) cs i c (sym at) in
       let own : c.name ≡ name = name_same c.name name (ap (λ (e : Connection Seat). is_named name e) is ∙ place.1) in
       let fed =
-      fed_there seen_of s m (front_of b) (Some (machine_of driver b)) (Some (machine_of driver b')) cs name bytes before after i c c'.session holds.stands room
+      fed_there seen_of s m (front_of b) (Some (machine_of driver b)) (Some (machine_of driver b')) cs name bytes before after i c c'.session holds room
       place.0 place.1 place.2
       (subst (λ (e : Connection Seat). Feeds seen_of name bytes (front_of b) (Some (machine_of driver b)) (Some (machine_of driver b')) before after e.session
       c'.session) is
@@ -135,7 +114,7 @@ module _ {X : Type 0} {V : X → Type 0} (driver : Plug X V → Driver) where
       let whole : with_session seen_of c'.session (get_or cs i c) ≡ c' =
       ap (λ (n : List ℕ). (let e : Connection Seat = record { name = n; session = c'.session } in e)) (ap name_by (sym is) ∙ sym same) in (
         fed.0,
-        holds_then s m (state_after s m (Feed name bytes)) b b' cs (set cs i c') kept (feed_triggers s m name bytes) holds
+        holds_then s (state_after s m (Feed name bytes)) b b' (set cs i c') kept
             (subst (λ (e : Connection Seat). Stands seen_of s (state_after s m (Feed name bytes)) (front_of b) (Some (machine_of driver b')) (set cs i e)) whole
             fed.1),
       )
@@ -147,7 +126,7 @@ module _ {X : Type 0} {V : X → Type 0} (driver : Plug X V → Driver) where
   feeds_new b b' cs c c' name bytes before after (Err e) at is same kept owns feeds = tt
   feeds_new b b' cs c c' name bytes before after (Ok x) at is same kept owns feeds = λ s m room holds.
       let fed =
-      fed_new seen_of s m (front_of b) (Some (machine_of driver b)) (Some (machine_of driver b')) cs name bytes before after is.fresh c'.session holds.stands
+      fed_new seen_of s m (front_of b) (Some (machine_of driver b)) (Some (machine_of driver b')) cs name bytes before after is.fresh c'.session holds
       room (none_named name cs (sym at)) is.is_fresh
       (subst (λ (o : Option (SessionRecord Seat)). Feeds seen_of name bytes (front_of b) (Some (machine_of driver b)) (Some (machine_of driver b')) before after
       o c'.session) is.session_is
@@ -157,7 +136,7 @@ module _ {X : Type 0} {V : X → Type 0} (driver : Plug X V → Driver) where
       let whole : record { name = name; session = c'.session } ≡ c' =
       ap (λ (n : List ℕ). (let e : Connection Seat = record { name = n; session = c'.session } in e)) (sym (same ∙ is.name_is)) in (
         fed.0,
-        holds_then s m (state_after s m (Feed name bytes)) b b' cs (cs ++ c' ∷ []) kept (feed_triggers s m name bytes) holds
+        holds_then s (state_after s m (Feed name bytes)) b b' (cs ++ c' ∷ []) kept
             (subst (λ (e : Connection Seat). Stands seen_of s (state_after s m (Feed name bytes)) (front_of b) (Some (machine_of driver b')) (cs ++ e ∷ []))
             whole fed.1),
       )
@@ -172,14 +151,14 @@ module _ {X : Type 0} {V : X → Type 0} (driver : Plug X V → Driver) where
   drops_there b b' cs i c c' name before after live (Ok x) at is same none was kept left lines = λ s m holds.
       let place = position-Some (is_named name) cs i c (sym at) in
       let dropped =
-      dropped_there seen_of s m (front_of b) (machine_of driver b) (machine_of driver b') cs name i c holds.stands place.0 place.1 place.2
+      dropped_there seen_of s m (front_of b) (machine_of driver b) (machine_of driver b') cs name i c holds place.0 place.1 place.2
       (left ∙ ap (λ (e : Connection Seat). left_by seen_of (front_of b) (machine_of driver b) e.session) is) in
       let whole : with_session seen_of None (get_or cs i c) ≡ c' =
       ap (λ (n : List ℕ). (let e : Connection Seat = record { name = n; session = None } in e)) (ap name_by (sym is) ∙ sym same)
       ∙ ap (λ (o : Option (SessionRecord Seat)). (let e : Connection Seat = record { name = c'.name; session = o } in e)) (sym none) in (
         lines ∙ ap (λ (b : Bool). before ++ printed (name ∷ dropped_word b ∷ [])) (was ∙ ap (λ (e : Connection Seat). is_some e.session) is)
             ∙ ap (λ (ls : List ℕ). before ++ ls) (sym dropped.0),
-        holds_then s m (state_after s m (Drop name)) b b' cs (set cs i c') kept refl holds
+        holds_then s (state_after s m (Drop name)) b b' (set cs i c') kept
             (subst (λ (e : Connection Seat). Stands seen_of s (state_after s m (Drop name)) (front_of b) (Some (machine_of driver b')) (set cs i e)) whole
             dropped.1),
       )
@@ -189,9 +168,9 @@ module _ {X : Type 0} {V : X → Type 0} (driver : Plug X V → Driver) where
       → OnOk r (Makes driver (Drop name) b b cs cs before after)
   drops_nowhere b cs name before after (Err e) at lines = tt
   drops_nowhere b cs name before after (Ok x) at lines = λ s m holds.
-      let dropped = dropped_nowhere seen_of s m (front_of b) (machine_of driver b) cs name holds.stands (none_named name cs (sym at)) in (
+      let dropped = dropped_nowhere seen_of s m (front_of b) (machine_of driver b) cs name holds (none_named name cs (sym at)) in (
         lines ∙ ap (λ (ls : List ℕ). before ++ ls) (sym dropped.0),
-        holds_then s m (state_after s m (Drop name)) b b cs cs refl refl holds dropped.1,
+        holds_then s (state_after s m (Drop name)) b b cs refl dropped.1,
       )
 
   -- ---- any step

@@ -20,6 +20,7 @@ use Rattle.iio_device.specs.Members.{member_of as membership_of}
 use Rattle.iio_device.specs.Site.{is_empty}
 use Rattle.iiod_session.specs.declared.iio.No.{No}
 use Rattle.iiod_session.specs.declared.iio.No.TheVariants.{Errno as NoErrno}
+use Rattle.iio_core.specs.Trigger.{Trigger}
 use Rattle.iio_core.specs.Calls.{is_inner_of, remask_of, remask_refusals, remasked, with_mask}
 use Rattle.iio_core.specs.Machine.{Member, MemberId, Station, is_seat_of, member_in, queue_of, scans_in}
 use Rattle.iio_core.specs.Faults.{remask_errno}
@@ -148,9 +149,10 @@ module _ {X : Type 0} {V : X → Type 0} (drive : Plug X V → Driver) (context 
       acts_stand (remasked id.number mask scans) (any_station drive d) (any_station drive d') (remask_answer (any_front d).shape (any_station drive d) id mask)
       r (λ x e. remasked_stands id.number mask scans (any_station drive d)) acts
 
-  pub told_remask : Answers (remask_of (fronts_by any_front context triggers ds) (machine_by (any_station drive) clock ds) k id mask scans)
-      (machine_by (any_station drive) clock ds) r (Some (machine_by (any_station drive) clock (set ds k d')))
+  pub told_remask : (ts : List Trigger)
+      → Answers (remask_of (fronts_by any_front context triggers ds) (machine_by (any_station drive) clock ts ds) k id mask scans)
+      (machine_by (any_station drive) clock ts ds) r (Some (machine_by (any_station drive) clock ts (set ds k d')))
   unfolding remask_of queue_of
-  told_remask =
+  told_remask ts =
       rw (shape_is any_front context triggers ds k d at)
-      (told_acts (any_station drive) clock ds k d d' at (remasked id.number mask scans) (λ st. remask_answer (any_front d).shape st id mask) r acts)
+      (told_acts (any_station drive) clock ts ds k d d' at (remasked id.number mask scans) (λ st. remask_answer (any_front d).shape st id mask) r acts)

@@ -1,5 +1,5 @@
 -- A new bench holds what stands before the first step.
-use Rattle.std.proofs.Common.{◌≡◌, ℕ, suc, zero, ◌+◌, ◌<◌, ◌≤◌, ◌*◌, ◌-◌, ◌^◌, List, [], ◌∷◌, ◌++◌, map, fold, length, slice_get, slice_index_or, Option, Some, None, option_map, All, refl, sym, ap, ◌∙◌, subst, arith, pos}
+use Rattle.std.proofs.Common.{◌≡◌, ℕ, suc, zero, ◌+◌, ◌<◌, ◌≤◌, ◌*◌, ◌-◌, ◌^◌, List, [], ◌∷◌, ◌++◌, map, fold, length, slice_get, slice_index_or, Option, Some, None, option_map, All, refl, sym, ap, ◌∙◌, subst, arith}
 use Rattle.std.specs.Prelude.{◌==◌, ◌||◌, ℤ}
 use Rattle.iio_sensor.specs.Driver.{Driver}
 use Rattle.iio_scan_type.specs.Format.{size_of}
@@ -26,8 +26,8 @@ use Rattle.iio_history.proofs.BenchKept.{first_bench, room_lasts}
 use Rattle.iio_history.proofs.BenchSites.{written_same}
 use Rattle.iio_history.proofs.BenchSizes.{sizes_from}
 use Rattle.iio_system.specs.declared.bench.Bench.{Bench}
-use Rattle.iio_system.specs.Bench.{front_of, machine_of, triggers_of}
-use Rattle.iio_system.specs.First.{first_machine, first_station, first_triggers}
+use Rattle.iio_system.specs.Bench.{front_of, machine_of}
+use Rattle.iio_system.specs.First.{first_machine, first_station}
 use Rattle.iio_system.specs.MeanStation.{first_mean_station}
 use Rattle.iio_system.specs.OutStation.{first_out_station}
 use Rattle.iio_system.specs.Standing.{Holds}
@@ -155,7 +155,7 @@ stations_first s n (d ∷ ds) (st ∷ sts) at are =
 
 machine_first : (s : Setup) → first_machine s.drivers s.desc ≡ machine_told (told s [])
 machine_first s =
-    sym (ap (λ (sts : List MachineStation). (let m : Machine = record { clock = pos 0; stations = sts } in m))
+    sym (ap (λ (sts : List MachineStation). record (first_machine s.drivers s.desc) { stations = sts })
     (stations_first s 0 (first_devices s) (first_machine s.drivers s.desc).stations
     (λ k. ap (λ (i : ℕ). slice_get (first_devices s) i) (let e : 0 + k ≡ k = omega arith in e)) (are_first s s.desc.devices s.desc.outputs s.desc.averages)))
 
@@ -164,16 +164,12 @@ room_first s used none = subst (λ (n : ℕ). Every (CanJoinMore (2 ^ 64 - 1 - 3
 
 module _ {X : Type 0} {V : X → Type 0} (driver : Plug X V → Driver) where
   pub holds_first : (s : Setup) (b : Bench X V) → front_of b ≡ first_front s.desc → machine_of driver b ≡ first_machine s.drivers s.desc
-      → triggers_of b ≡ first_triggers s.desc → Every HasDeviceSizes (heads_of s.desc)
-      → Holds driver s (told s []) b []
-  holds_first s b front machine triggers sizes = record {
-    stands = record {
-      front_is = front;
-      told_is = ap (λ (m : Machine). Some m) (machine ∙ machine_first s);
-      bench = first_bench s sizes;
-      lines = tt;
-    };
-    triggers = triggers;
+      → Every HasDeviceSizes (heads_of s.desc) → Holds driver s (told s []) b []
+  holds_first s b front machine sizes = record {
+    front_is = front;
+    told_is = ap (λ (m : Machine). Some m) (machine ∙ machine_first s);
+    bench = first_bench s sizes;
+    lines = tt;
   }
 
 pub none_within : {D : Type 0} (f : D → ℕ) (n : ℕ) (ds : List D) → All (λ (d : D). f d ≡ 0) ds → All (λ (c : ℕ). c ≤ n) (map f ds)

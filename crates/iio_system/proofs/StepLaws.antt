@@ -2,6 +2,7 @@
 use Rattle.std.proofs.Common.{◌≡◌, ℕ, suc, ◌+◌, ◌*◌, ◌-◌, ◌^◌, ◌<◌, ◌≤◌, ℤ, Bool, true, false, cond, List, [], ◌∷◌, ◌++◌, length, map, All, OnOk, Result, Ok, Err, sym, ap, ◌∙◌, subst, arith}
 use Rattle.std.proofs.lemmas.List.{length-map}
 use Rattle.iiod_grammar.specs.Stream.{Item, items_from}
+use Rattle.iio_core.specs.Attached.{Attachment, entries_from, is_attached}
 use Rattle.iio_core.specs.Machine.{Machine}
 use Rattle.iio_base.specs.declared.Mem.{Mem}
 use Rattle.iio_sensor.specs.Driver.{Driver}
@@ -10,7 +11,7 @@ use Rattle.iio_desc.specs.declared.limits.TheConstants.{MAX_DEVICES}
 use Rattle.iio_device.specs.declared.plug.Plug.{Plug}
 use Rattle.iio_device.specs.Site.{is_empty, no_driver}
 use Rattle.iio_history.specs.Event.{Event, Arrived, Handled, Heard, Polled}
-use Rattle.iio_history.specs.Registry.{Outline, Setup, entries_from, has_ended, is_attached, outline_of, outlines_of}
+use Rattle.iio_history.specs.Registry.{Setup, has_ended, attachments_of, attachment_of}
 use Rattle.iio_core.specs.Trigger.{entries_at}
 use Rattle.iio_history.specs.Told.{Told, device_of, registry_of, told}
 use Rattle.iio_history.specs.Machine.{step}
@@ -34,13 +35,13 @@ use Rattle.iio_system.proofs.MoveLaws.{machine_told as same_machine}
 
 -- ---- the events of a step are few
 
-entries_few : (k trigger : ℕ) (t : ℤ) (os : List Outline) → length (entries_from k trigger t os) ≤ length os
+entries_few : (k trigger : ℕ) (t : ℤ) (ds : List Attachment) → length (entries_from k trigger t ds) ≤ length ds
 entries_few k trigger t [] = omega arith
-entries_few k trigger t (o ∷ os) = by (is_attached trigger o) (entries_few (suc k) trigger t os)
+entries_few k trigger t (d ∷ ds) = by (is_attached trigger d) (entries_few (suc k) trigger t ds)
   where
-    by : (b : Bool) → length (entries_from (suc k) trigger t os) ≤ length os
-        → length (cond b (record { dev = k; attachment = o.site.attachment; t = t } ∷ entries_from (suc k) trigger t os)
-        (entries_from (suc k) trigger t os)) ≤ suc (length os)
+    by : (b : Bool) → length (entries_from (suc k) trigger t ds) ≤ length ds
+        → length (cond b (record { dev = k; attachment = d.number; t = t } ∷ entries_from (suc k) trigger t ds)
+        (entries_from (suc k) trigger t ds)) ≤ suc (length ds)
     by true rest = omega (arith, rest)
     by false rest = omega (arith, rest)
 
@@ -66,15 +67,15 @@ events_few m (code.Feed name bytes) devices = by (has_ended name (registry_of m)
     by false few = omega (arith, few)
 events_few m (code.Fire trigger t) devices = by (is_empty (entries_at m.triggers trigger))
   where
-    outlines : length (outlines_of (registry_of m)) ≡ length m.stations
-    outlines = length-map (registry_of m).devices outline_of ∙ length-map m.stations device_of
+    as_many : length (attachments_of (registry_of m)) ≡ length m.stations
+    as_many = length-map (registry_of m).devices attachment_of ∙ length-map m.stations device_of
 
     by : (b : Bool) → length
-        (Polled trigger t ∷ map (λ (e : Handed). Handled trigger e.dev) (cond b (entries_from 0 trigger t (outlines_of (registry_of m))) [])) ≤ 32 * 1
+        (Polled trigger t ∷ map (λ (e : Handed). Handled trigger e.dev) (cond b (entries_from 0 trigger t (attachments_of (registry_of m))) [])) ≤ 32 * 1
     by true =
-        let same = length-map (entries_from 0 trigger t (outlines_of (registry_of m))) (λ (e : Handed). Handled trigger e.dev) in
-        let few = entries_few 0 trigger t (outlines_of (registry_of m)) in
-        omega (arith, same, few, outlines, devices)
+        let same = length-map (entries_from 0 trigger t (attachments_of (registry_of m))) (λ (e : Handed). Handled trigger e.dev) in
+        let few = entries_few 0 trigger t (attachments_of (registry_of m)) in
+        omega (arith, same, few, as_many, devices)
     by false = omega arith
 events_few m t devices = omega arith
 

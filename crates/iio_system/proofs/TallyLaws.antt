@@ -147,7 +147,7 @@ module _ {X : Type 0} {V : X → Type 0} where
 pub tally_told : {X : Type 0} {V : X → Type 0} (driver : Plug X V → Driver) (s : Setup) (h : List Event) (x : System X V) → StandsFor driver s h x
     → devices_tally x.bench.devices.items ≡ tally_of (summary_of s h)
 tally_told driver s h x stands =
-    let heads : map any_front x.bench.devices.items ≡ heads_of s.desc = ap (λ (f : Front). f.devices) stands.holds.stands.front_is in
+    let heads : map any_front x.bench.devices.items ≡ heads_of s.desc = ap (λ (f : Front). f.devices) stands.holds.front_is in
     seen_tally driver (names_of (told s h)) x.bench.devices.items (told s h).stations
     (ap (λ (m : Machine). m.stations) (machine_told driver s (told s h) x.bench x.connections.items stands.holds))
-    (ap (λ (hs : List DeviceHead). map kind_of_head hs) heads ∙ sym stands.holds.stands.bench.kinds)
+    (ap (λ (hs : List DeviceHead). map kind_of_head hs) heads ∙ sym stands.holds.bench.kinds)

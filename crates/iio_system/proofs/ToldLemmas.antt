@@ -23,6 +23,7 @@ use Rattle.iiod_session.specs.declared.iio.Took.{Took}
 use Rattle.iiod_session.specs.declared.iio.Took.TheVariants.{Scan, Empty, Gone}
 use Rattle.iio_desc.specs.Description.{DeviceHead, no_shape}
 use Rattle.iio_desc.specs.Kind.{Input}
+use Rattle.iio_core.specs.Trigger.{Trigger}
 use Rattle.iio_core.specs.Front.{Front, device_name, kind_at, shape_at, size_at, trigger_name}
 use Rattle.iio_core.specs.Machine.{Machine, MemberId, Station, is_plugged, lost_of, no_station, queue_of, scans_in, station_at, with_queue, with_scans, with_site, with_station}
 use Rattle.iio_core.specs.Calls.{ev_close_of, ev_open_answer, ev_open_of, ev_read_answer, ev_read_of, holds_events, is_asking, read_attr_of, set_trigger_of, trigger_answer, unless, write_attr_of, write_scans_at, write_scans_of, writes}
@@ -32,50 +33,51 @@ use Rattle.iio_system.specs.Acting.{Acts, Reads, TakesAt, TakesScansAt, Turns, l
 use Rattle.iio_system.proofs.ListLemmas.{map_at, map_changed, map_same}
 
 -- a machine of devices
-abbrev pub machine_by : {D : Type 0} → (D → Station) → ℤ → List D → Machine
-machine_by f clock ds = record { clock = clock; stations = map f ds }
+abbrev pub machine_by : {D : Type 0} → (D → Station) → ℤ → List Trigger → List D → Machine
+machine_by f clock ts ds = record { clock = clock; triggers = ts; stations = map f ds }
 
-module _ {D : Type 0} (f : D → Station) (clock : ℤ) (ds : List D) (k : ℕ) (d : D) (at : slice_get ds k ≡ Some d) where
-  pub station_is : station_at (machine_by f clock ds) k ≡ f d
+module _ {D : Type 0} (f : D → Station) (clock : ℤ) (ts : List Trigger) (ds : List D) (k : ℕ) (d : D) (at : slice_get ds k ≡ Some d) where
+  pub station_is : station_at (machine_by f clock ts ds) k ≡ f d
   unfolding station_at
   station_is = ap (λ (o : Option Station). unwrap_or o no_station) (map_at f ds k d at)
 
-  pub plugged_is : is_plugged (machine_by f clock ds) k ≡ (f d).site.plugged
+  pub plugged_is : is_plugged (machine_by f clock ts ds) k ≡ (f d).site.plugged
   unfolding is_plugged
   plugged_is = ap (λ (st : Station). st.site.plugged) station_is
 
-  pub trigger_is : (station_at (machine_by f clock ds) k).site.trigger ≡ (f d).site.trigger
+  pub trigger_is : (station_at (machine_by f clock ts ds) k).site.trigger ≡ (f d).site.trigger
   trigger_is = ap (λ (st : Station). st.site.trigger) station_is
 
-  pub queue_is : (id : MemberId) → queue_of (machine_by f clock ds) k id ≡ scans_in id (f d).members
+  pub queue_is : (id : MemberId) → queue_of (machine_by f clock ts ds) k id ≡ scans_in id (f d).members
   unfolding queue_of
   queue_is id = ap (λ (st : Station). scans_in id st.members) station_is
 
-  pub lost_at : (id : MemberId) → lost_of (machine_by f clock ds) k id ≡ lost_in id (f d).members
+  pub lost_at : (id : MemberId) → lost_of (machine_by f clock ts ds) k id ≡ lost_in id (f d).members
   unfolding lost_of
   lost_at id = ap (λ (st : Station). lost_in id st.members) station_is
 
-module _ {D : Type 0} (f : D → Station) (clock : ℤ) (ds : List D) (k : ℕ) (d d' : D) (at : slice_get ds k ≡ Some d) where
-  here : station_at (machine_by f clock ds) k ≡ f d
-  here = station_is f clock ds k d at
+module _ {D : Type 0} (f : D → Station) (clock : ℤ) (ts : List Trigger) (ds : List D) (k : ℕ) (d d' : D) (at : slice_get ds k ≡ Some d) where
+  here : station_at (machine_by f clock ts ds) k ≡ f d
+  here = station_is f clock ts ds k d at
 
-  pub told_same : f d' ≡ f d → machine_by f clock (set ds k d') ≡ machine_by f clock ds
-  told_same e = ap (λ (sts : List Station). (let m : Machine = record { clock = clock; stations = sts } in m)) (map_same f ds k d d' at e)
+  pub told_same : f d' ≡ f d → machine_by f clock ts (set ds k d') ≡ machine_by f clock ts ds
+  told_same e = ap (λ (sts : List Station). (let m : Machine = record { clock = clock; triggers = ts; stations = sts } in m)) (map_same f ds k d d' at e)
 
-  pub told_changed : (change : Station → Station) → f d' ≡ change (f d) → machine_by f clock (set ds k d') ≡ with_station change k (machine_by f clock ds)
+  pub told_changed : (change : Station → Station) → f d' ≡ change (f d) → machine_by f clock ts (set ds k d') ≡ with_station change k (machine_by f clock ts ds)
   unfolding with_station
-  told_changed change e = ap (λ (sts : List Station). (let m : Machine = record { clock = clock; stations = sts } in m)) (map_changed f ds k d d' change at e)
+  told_changed change e =
+      ap (λ (sts : List Station). (let m : Machine = record { clock = clock; triggers = ts; stations = sts } in m)) (map_changed f ds k d d' change at e)
 
-  some_same : f d' ≡ f d → Some (machine_by f clock (set ds k d')) ≡ Some (machine_by f clock ds)
+  some_same : f d' ≡ f d → Some (machine_by f clock ts (set ds k d')) ≡ Some (machine_by f clock ts ds)
   some_same e = ap (λ (m : Machine). Some m) (told_same e)
 
   some_changed : (change : Station → Station) → f d' ≡ change (f d)
-      → Some (machine_by f clock (set ds k d')) ≡ Some (with_station change k (machine_by f clock ds))
+      → Some (machine_by f clock ts (set ds k d')) ≡ Some (with_station change k (machine_by f clock ts ds))
   some_changed change e = ap (λ (m : Machine). Some m) (told_changed change e)
 
   module _ {A : Type 0} (change : Station → Station) where
     by_answer : (x : Result A Errno) (r : Result A No) → Acts change x r (f d) (f d')
-        → Answers (unless change k (machine_by f clock ds) x) (machine_by f clock ds) r (Some (machine_by f clock (set ds k d')))
+        → Answers (unless change k (machine_by f clock ts ds) x) (machine_by f clock ts ds) r (Some (machine_by f clock ts (set ds k d')))
     by_answer (Ok x) (Ok y) t = (t.0, some_changed change t.1)
     by_answer (Ok x) (Err (NoErrno e)) t = (t.0, some_changed change t.1)
     by_answer (Ok x) (Err NoMem) t = some_same t
@@ -85,66 +87,66 @@ module _ {D : Type 0} (f : D → Station) (clock : ℤ) (ds : List D) (k : ℕ) 
 
     -- a call that can be refused
     pub told_acts : (answer : Station → Result A Errno) (r : Result A No) → Acts change (answer (f d)) r (f d) (f d')
-        → Answers (unless change k (machine_by f clock ds) (answer (station_at (machine_by f clock ds) k))) (machine_by f clock ds) r
-        (Some (machine_by f clock (set ds k d')))
+        → Answers (unless change k (machine_by f clock ts ds) (answer (station_at (machine_by f clock ts ds) k))) (machine_by f clock ts ds) r
+        (Some (machine_by f clock ts (set ds k d')))
     told_acts answer r t =
-        subst (λ (x : Result A Errno). Answers (unless change k (machine_by f clock ds) x) (machine_by f clock ds) r (Some (machine_by f clock (set ds k d'))))
-        (ap answer (sym here)) (by_answer (answer (f d)) r t)
+        subst (λ (x : Result A Errno). Answers (unless change k (machine_by f clock ts ds) x) (machine_by f clock ts ds) r
+        (Some (machine_by f clock ts (set ds k d')))) (ap answer (sym here)) (by_answer (answer (f d)) r t)
 
   pub told_write : (channel : Option ℕ) (a : Attr) (v : Fixed) (r : Result ⊤ No)
       → Acts (with_site (site_written channel a v)) (ensure (f d).site.plugged ENODEV) r (f d) (f d')
-      → Answers (write_attr_of (machine_by f clock ds) k channel a v) (machine_by f clock ds) r (Some (machine_by f clock (set ds k d')))
+      → Answers (write_attr_of (machine_by f clock ts ds) k channel a v) (machine_by f clock ts ds) r (Some (machine_by f clock ts (set ds k d')))
   unfolding write_attr_of
   told_write channel a v r t = told_acts (with_site (site_written channel a v)) (λ st. ensure st.site.plugged ENODEV) r t
 
   pub told_trigger : (trigger : Option ℕ) (r : Result ⊤ No) → Acts (with_site (λ site. record site { trigger = trigger })) (trigger_answer (f d)) r (f d) (f d')
-      → Answers (set_trigger_of (machine_by f clock ds) k trigger) (machine_by f clock ds) r (Some (machine_by f clock (set ds k d')))
+      → Answers (set_trigger_of (machine_by f clock ts ds) k trigger) (machine_by f clock ts ds) r (Some (machine_by f clock ts (set ds k d')))
   unfolding set_trigger_of
   told_trigger trigger r t = told_acts (with_site (λ site. record site { trigger = trigger })) trigger_answer r t
 
   pub told_ev_open : (who : ℕ) (r : Result ⊤ No) → Acts (with_site (with_monitor (after_open who))) (ev_open_answer (f d)) r (f d) (f d')
-      → Answers (ev_open_of (machine_by f clock ds) k who) (machine_by f clock ds) r (Some (machine_by f clock (set ds k d')))
+      → Answers (ev_open_of (machine_by f clock ts ds) k who) (machine_by f clock ts ds) r (Some (machine_by f clock ts (set ds k d')))
   unfolding ev_open_of
   told_ev_open who r t = told_acts (with_site (with_monitor (after_open who))) ev_open_answer r t
 
   pub told_ev_read : (who : ℕ) (r : Result (Option EventData) No)
       → Acts (with_site (with_monitor (after_read (λ a b. a == b) who))) (ev_read_answer who (f d)) r (f d) (f d')
-      → Answers (ev_read_of (machine_by f clock ds) k who) (machine_by f clock ds) r (Some (machine_by f clock (set ds k d')))
+      → Answers (ev_read_of (machine_by f clock ts ds) k who) (machine_by f clock ts ds) r (Some (machine_by f clock ts (set ds k d')))
   unfolding ev_read_of
   told_ev_read who r t = told_acts (with_site (with_monitor (after_read (λ a b. a == b) who))) (ev_read_answer who) r t
 
   pub told_ev_close : (who : ℕ) (r : Result ⊤ No)
       → Acts (with_site (with_monitor (after_close (λ a b. a == b) who))) (ensure (holds_events who (f d)) EBADF) r (f d) (f d')
-      → Answers (ev_close_of (machine_by f clock ds) k who) (machine_by f clock ds) r (Some (machine_by f clock (set ds k d')))
+      → Answers (ev_close_of (machine_by f clock ts ds) k who) (machine_by f clock ts ds) r (Some (machine_by f clock ts (set ds k d')))
   unfolding ev_close_of
   told_ev_close who r t = told_acts (with_site (with_monitor (after_close (λ a b. a == b) who))) (λ st. ensure (holds_events who st) EBADF) r t
 
   pub told_writes : (size : ℕ) (id : MemberId) (bytes : List ℕ) (r : Result ℕ No)
       → Acts (λ st. record st { members = map (writes id (scans_of size bytes)) st.members }) (write_scans_at (f d) id size bytes) r (f d) (f d')
-      → Answers (unless (λ st. record st { members = map (writes id (scans_of size bytes)) st.members }) k (machine_by f clock ds)
-      (write_scans_at (station_at (machine_by f clock ds) k) id size bytes)) (machine_by f clock ds) r (Some (machine_by f clock (set ds k d')))
+      → Answers (unless (λ st. record st { members = map (writes id (scans_of size bytes)) st.members }) k (machine_by f clock ts ds)
+      (write_scans_at (station_at (machine_by f clock ts ds) k) id size bytes)) (machine_by f clock ts ds) r (Some (machine_by f clock ts (set ds k d')))
   told_writes size id bytes r t =
       told_acts (λ st. record st { members = map (writes id (scans_of size bytes)) st.members }) (λ st. write_scans_at st id size bytes) r t
 
   -- takes
   told_gives : (id : MemberId) (given : List (List ℕ)) (left : List (List ℕ) → List (List ℕ))
       → f d' ≡ record (f d) { totals = with_given given (f d).totals; members = with_scans id (left (scans_in id (f d).members)) (f d).members }
-      → Some (machine_by f clock (set ds k d')) ≡ Some (with_queue (machine_by f clock ds) k id given (left (queue_of (machine_by f clock ds) k id)))
+      → Some (machine_by f clock ts (set ds k d')) ≡ Some (with_queue (machine_by f clock ts ds) k id given (left (queue_of (machine_by f clock ts ds) k id)))
   unfolding with_queue
   told_gives id given left e =
-      rw (queue_is f clock ds k d at id)
+      rw (queue_is f clock ts ds k d at id)
       (some_changed (λ st. record st { totals = with_given given st.totals; members = with_scans id (left (scans_in id (f d).members)) st.members }) e)
 
   pub told_take : (id : MemberId) (took : Took) (scan : List ℕ) → TakesAt id took scan (f d) (f d')
-      → Takes (machine_by f clock ds) k id took scan (Some (machine_by f clock (set ds k d')))
-  told_take id Scan scan t = (rw (queue_is f clock ds k d at id) t.0, told_gives id (scan ∷ []) (drop 1) t.1)
-  told_take id Empty scan t = (queue_is f clock ds k d at id ∙ t.0, plugged_is f clock ds k d at ∙ t.1, some_same t.2)
-  told_take id Gone scan t = (queue_is f clock ds k d at id ∙ t.0, plugged_is f clock ds k d at ∙ t.1, some_same t.2)
+      → Takes (machine_by f clock ts ds) k id took scan (Some (machine_by f clock ts (set ds k d')))
+  told_take id Scan scan t = (rw (queue_is f clock ts ds k d at id) t.0, told_gives id (scan ∷ []) (drop 1) t.1)
+  told_take id Empty scan t = (queue_is f clock ts ds k d at id ∙ t.0, plugged_is f clock ts ds k d at ∙ t.1, some_same t.2)
+  told_take id Gone scan t = (queue_is f clock ts ds k d at id ∙ t.0, plugged_is f clock ts ds k d at ∙ t.1, some_same t.2)
 
   -- takes of many scans, by a seat that tells nothing
   pub told_take_scans : (s : SeatRecord) (most : ℕ) (took : Took) (before after : List ℕ) → s.tale ≡ None
       → TakesScansAt (seat_id s) most took before after (f d) (f d')
-      → TakesScans k most (Some (machine_by f clock ds)) (Some (machine_by f clock (set ds k d'))) s s before after took
+      → TakesScans k most (Some (machine_by f clock ts ds)) (Some (machine_by f clock ts (set ds k d'))) s s before after took
   told_take_scans s most Scan before after untold t =
       let scans : List (List ℕ) = take most (scans_in (seat_id s) (f d).members) in (
         scans,
@@ -152,13 +154,13 @@ module _ {D : Type 0} (f : D → Station) (clock : ℤ) (ds : List D) (k : ℕ) 
         record {
           reads = record { some = t.0; most = omega (arith, length-take most (scans_in (seat_id s) (f d).members)); grown = inr (false, rw untold refl) };
           same = refl;
-          from = (ap (λ (queue : List (List ℕ)). take most queue) (queue_is f clock ds k d at (seat_id s)), told_gives (seat_id s) scans (drop most) t.2);
+          from = (ap (λ (queue : List (List ℕ)). take most queue) (queue_is f clock ts ds k d at (seat_id s)), told_gives (seat_id s) scans (drop most) t.2);
         },
       )
   told_take_scans s most Empty before after untold t =
-      (t.0, record { same = rw untold refl; from = (queue_is f clock ds k d at (seat_id s) ∙ t.1, plugged_is f clock ds k d at ∙ t.2, some_same t.3) })
+      (t.0, record { same = rw untold refl; from = (queue_is f clock ts ds k d at (seat_id s) ∙ t.1, plugged_is f clock ts ds k d at ∙ t.2, some_same t.3) })
   told_take_scans s most Gone before after untold t =
-      (t.0, record { same = rw untold refl; from = (queue_is f clock ds k d at (seat_id s) ∙ t.1, plugged_is f clock ds k d at ∙ t.2, some_same t.3) })
+      (t.0, record { same = rw untold refl; from = (queue_is f clock ts ds k d at (seat_id s) ∙ t.1, plugged_is f clock ts ds k d at ∙ t.2, some_same t.3) })
 
 -- ---- reads
 
@@ -183,36 +185,36 @@ module _ {D : Type 0} (face : D → DeviceHead) (context : List ℕ) (triggers :
   pub size_is : (mask : ℕ) → size_at (fronts_by face context triggers ds) k mask ≡ scan_size (face d).shape mask
   size_is mask = ap (λ (shape : ShapeRecord). scan_size shape mask) shape_is
 
-  module _ (f : D → Station) (clock : ℤ) (d' : D) (channel : Option ℕ) (a : Attr) where
+  module _ (f : D → Station) (clock : ℤ) (ts : List Trigger) (d' : D) (channel : Option ℕ) (a : Attr) where
     asked_at : (b : Bool) (r : Result Value No) (answer : Result Value Errno) → Turns answer (cond b (with_site sampled (f d)) (f d)) r (f d) (f d')
-        → Answers (record { answer = answer; machine = cond b (with_station (with_site sampled) k (machine_by f clock ds)) (machine_by f clock ds) })
-        (machine_by f clock ds) r (Some (machine_by f clock (set ds k d')))
-    asked_at true (Ok x) answer t = (t.0, ap (λ (m : Machine). Some m) (told_changed f clock ds k d d' at (with_site sampled) t.1))
-    asked_at true (Err (NoErrno e)) answer t = (t.0, ap (λ (m : Machine). Some m) (told_changed f clock ds k d d' at (with_site sampled) t.1))
-    asked_at true (Err NoMem) answer t = ap (λ (m : Machine). Some m) (told_same f clock ds k d d' at t)
-    asked_at false (Ok x) answer t = (t.0, ap (λ (m : Machine). Some m) (told_same f clock ds k d d' at t.1))
-    asked_at false (Err (NoErrno e)) answer t = (t.0, ap (λ (m : Machine). Some m) (told_same f clock ds k d d' at t.1))
-    asked_at false (Err NoMem) answer t = ap (λ (m : Machine). Some m) (told_same f clock ds k d d' at t)
+        → Answers (record { answer = answer; machine = cond b (with_station (with_site sampled) k (machine_by f clock ts ds)) (machine_by f clock ts ds) })
+        (machine_by f clock ts ds) r (Some (machine_by f clock ts (set ds k d')))
+    asked_at true (Ok x) answer t = (t.0, ap (λ (m : Machine). Some m) (told_changed f clock ts ds k d d' at (with_site sampled) t.1))
+    asked_at true (Err (NoErrno e)) answer t = (t.0, ap (λ (m : Machine). Some m) (told_changed f clock ts ds k d d' at (with_site sampled) t.1))
+    asked_at true (Err NoMem) answer t = ap (λ (m : Machine). Some m) (told_same f clock ts ds k d d' at t)
+    asked_at false (Ok x) answer t = (t.0, ap (λ (m : Machine). Some m) (told_same f clock ts ds k d d' at t.1))
+    asked_at false (Err (NoErrno e)) answer t = (t.0, ap (λ (m : Machine). Some m) (told_same f clock ts ds k d d' at t.1))
+    asked_at false (Err NoMem) answer t = ap (λ (m : Machine). Some m) (told_same f clock ts ds k d d' at t)
 
     told_read_at : (r : Result Value No) → Reads (face d) clock channel a (f d) r (f d')
-        → Answers (read_attr_of (fronts_by face context triggers ds) (machine_by f clock ds) k channel a) (machine_by f clock ds) r
-        (Some (machine_by f clock (set ds k d')))
+        → Answers (read_attr_of (fronts_by face context triggers ds) (machine_by f clock ts ds) k channel a) (machine_by f clock ts ds) r
+        (Some (machine_by f clock ts (set ds k d')))
     unfolding read_attr_of
-    told_read_at r t = rw (name_is, kind_is, shape_is, station_is f clock ds k d at) (asked_at (is_asking (face d).kind channel a (f d)) r _ t)
+    told_read_at r t = rw (name_is, kind_is, shape_is, station_is f clock ts ds k d at) (asked_at (is_asking (face d).kind channel a (f d)) r _ t)
 
     pub told_read : (t : ℤ) (r : Result Value No) → t ≡ clock → Reads (face d) t channel a (f d) r (f d')
-        → Answers (read_attr_of (fronts_by face context triggers ds) (machine_by f clock ds) k channel a) (machine_by f clock ds) r
-        (Some (machine_by f clock (set ds k d')))
+        → Answers (read_attr_of (fronts_by face context triggers ds) (machine_by f clock ts ds) k channel a) (machine_by f clock ts ds) r
+        (Some (machine_by f clock ts (set ds k d')))
     told_read t r e reads = told_read_at r (subst (λ (x : ℤ). Reads (face d) x channel a (f d) r (f d')) e reads)
 
-  module _ (f : D → Station) (clock : ℤ) (d' : D) where
+  module _ (f : D → Station) (clock : ℤ) (ts : List Trigger) (d' : D) where
     pub told_written : (id : MemberId) (bytes : List ℕ) (r : Result ℕ No)
         → Acts (λ st. record st { members = map (writes id (scans_of (scan_size (face d).shape id.mask) bytes)) st.members })
         (write_scans_at (f d) id (scan_size (face d).shape id.mask) bytes) r (f d) (f d')
-        → Answers (write_scans_of (fronts_by face context triggers ds) (machine_by f clock ds) k id bytes) (machine_by f clock ds) r
-        (Some (machine_by f clock (set ds k d')))
+        → Answers (write_scans_of (fronts_by face context triggers ds) (machine_by f clock ts ds) k id bytes) (machine_by f clock ts ds) r
+        (Some (machine_by f clock ts (set ds k d')))
     unfolding write_scans_of
-    told_written id bytes r t = rw (size_is id.mask) (told_writes f clock ds k d d' at (scan_size (face d).shape id.mask) id bytes r t)
+    told_written id bytes r t = rw (size_is id.mask) (told_writes f clock ts ds k d d' at (scan_size (face d).shape id.mask) id bytes r t)
 
 pub name_there : (front : Front) (t : ℕ) (x : TriggerDesc) → slice_get front.triggers t ≡ Some x → x.name ≡ trigger_name front t
 unfolding trigger_name

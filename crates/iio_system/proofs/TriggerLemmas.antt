@@ -8,8 +8,9 @@ use Rattle.iio_trigger.specs.declared.rows.Entry.{Entry}
 use Rattle.iio_trigger.specs.declared.Polled.{Polled}
 use Rattle.iio_trigger.specs.declared.Polled.TheVariants.{Accepted, Missed}
 use Rattle.iio_trigger.specs.Trigger.{Handed, Polls, State, after_poll, due_of, entries_at, is_waiting, missed_after, poll_made, with_in_hand, without_entry as without_entry_of}
-use Rattle.iio_core.specs.Machine.{Station}
-use Rattle.iio_core.specs.Trigger.{bench_entries, polled_by, handled, Trigger, entry_of, poll_answer}
+use Rattle.iio_core.specs.Attached.{entries_from}
+use Rattle.iio_core.specs.Machine.{Station, attachments_of}
+use Rattle.iio_core.specs.Trigger.{polled_by, handled, Trigger, entry_of, poll_answer}
 use Rattle.iio_system.specs.Places.{IsTrigger, handed_of, has_in_hand, trigger_of}
 use Rattle.iio_system.proofs.ListLemmas.{filter_map_is}
 use Rattle.iio_system.proofs.PlaceLemmas.{entries_of_places}
@@ -33,13 +34,13 @@ poll_in_hand t places [] h = none_in_hand t places
 poll_in_hand t places (e ∷ es) h = h
 
 module _ (trigger : ℕ) (stations : List Station) (moment : ℤ) (s : State) (sound : IsTrigger trigger stations s) where
-  made_by : map handed_of (entries_at moment s.attached) ≡ bench_entries 0 trigger moment stations
+  made_by : map handed_of (entries_at moment s.attached) ≡ entries_from 0 trigger moment (attachments_of stations)
   made_by = ap (λ (ps : List Place). map handed_of (entries_at moment ps)) sound.attached ∙ entries_of_places trigger 0 moment stations
 
-  polled_state : trigger_of (after_poll moment s) ≡ polled_by stations trigger moment (trigger_of s)
+  polled_state : trigger_of (after_poll moment s) ≡ polled_by (attachments_of stations) trigger moment (trigger_of s)
   polled_state =
       let entries : map handed_of (poll_made (entries_at moment s.attached) s.outstanding)
-      ≡ poll_made (bench_entries 0 trigger moment stations) (map handed_of s.outstanding)
+      ≡ poll_made (entries_from 0 trigger moment (attachments_of stations)) (map handed_of s.outstanding)
       = made_is (entries_at moment s.attached) s.outstanding ∙ ap (λ (made : List Handed). poll_made made (map handed_of s.outstanding)) made_by in
       rw (entries, missed_is) refl
 
@@ -48,9 +49,10 @@ module _ (trigger : ℕ) (stations : List Station) (moment : ℤ) (s : State) (s
   polls_is (Missed missed) s' p = p.2
 
   answer_at : (answer : Polled) (s' : State) (out : List Entry) → s.outstanding ≡ out → Polls s moment answer s'
-      → answer ≡ poll_answer (bench_entries 0 trigger moment stations) (map handed_of out) s.missed
+      → answer ≡ poll_answer (entries_from 0 trigger moment (attachments_of stations)) (map handed_of out) s.missed
   answer_at (Accepted made) s' [] e p =
-      let n : length (bench_entries 0 trigger moment stations) ≡ length s.attached = ap (λ (es : List Handed). length es) (sym made_by) ∙ long s.attached in
+      let n : length (entries_from 0 trigger moment (attachments_of stations)) ≡ length s.attached =
+      ap (λ (es : List Handed). length es) (sym made_by) ∙ long s.attached in
       ap (λ (k : ℕ). Accepted k) (p.1 ∙ sym n)
     where
       long : (ps : List Place) → length (map handed_of (entries_at moment ps)) ≡ length ps
@@ -62,10 +64,10 @@ module _ (trigger : ℕ) (stations : List Station) (moment : ℤ) (s : State) (s
   answer_at (Missed missed) s' (o ∷ os) e p = ap (λ (k : ℕ). Missed k) (p.1 ∙ ap (λ (xs : List Entry). missed_after xs s.missed) e)
 
   pub poll_answers : (answer : Polled) (s' : State) → Polls s moment answer s'
-      → answer ≡ poll_answer (bench_entries 0 trigger moment stations) (trigger_of s).entries s.missed
+      → answer ≡ poll_answer (entries_from 0 trigger moment (attachments_of stations)) (trigger_of s).entries s.missed
   poll_answers answer s' p = answer_at answer s' s.outstanding refl p
 
-  pub poll_told : (answer : Polled) (s' : State) → Polls s moment answer s' → trigger_of s' ≡ polled_by stations trigger moment (trigger_of s)
+  pub poll_told : (answer : Polled) (s' : State) → Polls s moment answer s' → trigger_of s' ≡ polled_by (attachments_of stations) trigger moment (trigger_of s)
   poll_told answer s' p = ap trigger_of (polls_is answer s' p) ∙ polled_state
 
   pub poll_sound : (answer : Polled) (s' : State) → Polls s moment answer s' → IsTrigger trigger stations s'

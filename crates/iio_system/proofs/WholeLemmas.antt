@@ -12,10 +12,11 @@ use Rattle.iio_trigger.specs.Trigger.{Handed, State}
 use Rattle.iio_device.specs.declared.plug.Plug.{Plug}
 use Rattle.iio_device.specs.declared.handling.Handled.TheVariants.{Captured, Fault, Idle}
 use Rattle.iio_device.specs.Site.{is_empty, no_driver, unplugged}
+use Rattle.iio_core.specs.Trigger.{Trigger}
 use Rattle.iio_core.specs.Calls.{is_inner_of}
 use Rattle.iio_core.specs.Front.{Front, kind_at, shape_at}
 use Rattle.iio_core.specs.Machine.{Machine, Member, Station, station_in, with_site}
-use Rattle.iio_core.specs.Moves.{Capture, gathered_to, unplugs, machine_after_unplugging, entry_at, capture_at, capture_in, entry_answer, entry_made, is_due, machine_after_handling}
+use Rattle.iio_core.specs.Moves.{Capture, gathered_to, unplugs, machine_after_unplugging, entry_at, capture_at, capture_in, entry_answer, entry_made, is_due, machine_after_entry}
 use Rattle.iio_core.proofs.PlaceLists.{itself, same_number}
 use Rattle.iio_system.specs.declared.any_device.AnyDevice.{AnyDevice}
 use Rattle.iio_core.specs.declared.became.Became.{Became}
@@ -135,21 +136,21 @@ none_captured kind (Some e) shape st r is other = by kind (no_capture kind e sha
 
 -- ---- all devices
 
-module _ {X : Type 0} {V : X → Type 0} (drive : Plug X V → Driver) (context : List ℕ) (triggers : List TriggerDesc) (ds : List (AnyDevice X V)) (clock : ℤ)
-    (k : ℕ) (d d' : AnyDevice X V) (at : slice_get ds k ≡ Some d)
+module _ {X : Type 0} {V : X → Type 0} (drive : Plug X V → Driver) (context : List ℕ) (triggers : List TriggerDesc)
+    (ds : List (AnyDevice X V)) (clock : ℤ) (ts : List Trigger) (k : ℕ) (d d' : AnyDevice X V) (at : slice_get ds k ≡ Some d)
     (o : Option Handed) (station : any_station drive d' ≡ entry_made (any_front d).kind (any_front d).shape o (any_station drive d)) where
   abbrev front : Front
   front = fronts_by any_front context triggers ds
 
   abbrev machine : Machine
-  machine = machine_by (any_station drive) clock ds
+  machine = machine_by (any_station drive) clock ts ds
 
   abbrev own_capture : Option Capture
   own_capture = capture_in (any_front d).kind (any_front d).shape o (any_station drive d)
 
   capture_own : capture_at front o k machine ≡ own_capture
   capture_own =
-      rw (kind_is any_front context triggers ds k d at, shape_is any_front context triggers ds k d at, station_is (any_station drive) clock ds k d at) refl
+      rw (kind_is any_front context triggers ds k d at, shape_is any_front context triggers ds k d at, station_is (any_station drive) clock ts ds k d at) refl
 
   -- device j, as the machine has it after a handling with that capture
   abbrev made : Option Capture → ℕ → AnyDevice X V → Station
@@ -167,9 +168,9 @@ module _ {X : Type 0} {V : X → Type 0} (drive : Plug X V → Driver) (context 
   -- all of them
   told_by : (c : Option Capture) (ds' : List (AnyDevice X V)) → own_capture ≡ c → length ds' ≡ length ds
       → ((j : ℕ) (x x' : AnyDevice X V) → slice_get ds j ≡ Some x → slice_get ds' j ≡ Some x' → any_station drive x' ≡ made c j x)
-      → machine_by (any_station drive) clock ds' ≡ machine_after_handling front o k machine
+      → machine_by (any_station drive) clock ts ds' ≡ machine_after_entry front o k machine
   told_by c ds' is same each =
-      ap (λ (sts : List Station). (let m : Machine = record { clock = clock; stations = sts } in m))
+      ap (λ (sts : List Station). (let m : Machine = record { clock = clock; triggers = ts; stations = sts } in m))
       (map_together (any_station drive) (λ j st. entry_at o (capture_at front o k machine) k (kind_at front j) (shape_at front j) j st) 0 ds ds'
       same
       (λ j x x' there there'. (
@@ -189,7 +190,7 @@ module _ {X : Type 0} {V : X → Type 0} (drive : Plug X V → Driver) (context 
       by false e = refl
 
   -- without a capture the device alone has changed
-  pub told_alone : own_capture ≡ None → machine_by (any_station drive) clock (set ds k d') ≡ machine_after_handling front o k machine
+  pub told_alone : own_capture ≡ None → machine_by (any_station drive) clock ts (set ds k d') ≡ machine_after_entry front o k machine
   told_alone none = told_by None (set ds k d') none (length_after ds k d') (λ j x x' there there'. each j x x' there (after_set ds k j d' x' there'))
     where
       each : (j : ℕ) (x x' : AnyDevice X V) → slice_get ds j ≡ Some x → ((j ≡ k) × (x' ≡ d')) ⊎ ((j ≡ k → ⊥) × (slice_get ds j ≡ Some x'))
@@ -206,7 +207,7 @@ module _ {X : Type 0} {V : X → Type 0} (drive : Plug X V → Driver) (context 
       → AreGathered drive k scan (set ds k d') ds'
       → ((j : ℕ) (x : AnyDevice X V) → slice_get ds j ≡ Some x → (j ≡ k → ⊥) → gathers k (any_front x).kind (any_station drive x) ≡ true
       → IsScanOf (any_front x).shape c scan)
-      → machine_by (any_station drive) clock ds' ≡ machine_after_handling front o k machine
+      → machine_by (any_station drive) clock ts ds' ≡ machine_after_entry front o k machine
   told_gathered c scan ds' is input keeps gathered taken =
       told_by (Some c) ds' is (gathered.same ∙ length_after ds k d') (λ j x x' there there'. by j x x' there there' (same_or j k))
     where
@@ -438,41 +439,42 @@ module _ {X : Type 0} {V : X → Type 0} (drive : Plug X V → Driver) (context 
   can_gather (Some (Gave answer)) is = tt
   can_gather None is = tt
 
-  abbrev machine_was : Machine
-  machine_was = machine_by (any_station drive) clock ds
-
   -- where captures go on
   made_at : (b : Bool) → ended ≡ b → any_station drive d' ≡ entry_station (any_front d).kind o b (any_front d).shape (any_station drive d)
   made_at b e = station ∙ ap (λ (x : Bool). entry_station (any_front d).kind o x (any_front d).shape (any_station drive d)) e
 
-  alone : (r : Option Became) → r ≡ entry_became (any_front d).kind o ended (any_station drive d) → is_capture r ≡ false → ds' ≡ set ds k d'
-      → machine_by (any_station drive) clock ds'
-      ≡ unless_ended ended machine_was (machine_after_handling (fronts_by any_front context triggers ds) o k machine_was)
-  alone r is other same = ap (λ (xs : List (AnyDevice X V)). machine_by (any_station drive) clock xs) same ∙ by ended refl
-    where
-      by : (b : Bool) → ended ≡ b → machine_by (any_station drive) clock (set ds k d')
-          ≡ unless_ended b machine_was (machine_after_handling (fronts_by any_front context triggers ds) o k machine_was)
-      by true e =
-          ap (λ (sts : List Station). (let m : Machine = record { clock = clock; stations = sts } in m))
-          (map_same (any_station drive) ds k d d' at (made_at true e))
-      by false e =
-          told_alone drive context triggers ds clock k d d' at o (made_at false e)
-          (none_captured (any_front d).kind o (any_front d).shape (any_station drive d) r
-          (is ∙ ap (λ (x : Bool). entry_became (any_front d).kind o x (any_station drive d)) e) other)
+  module _ (ts : List Trigger) where
+    abbrev machine_was : Machine
+    machine_was = machine_by (any_station drive) clock ts ds
 
-  pub told_after : (r : Option Became) → r ≡ entry_became (any_front d).kind o ended (any_station drive d) → AfterEntry drive r k (set ds k d') ds'
-      → machine_by (any_station drive) clock ds'
-      ≡ unless_ended ended machine_was (machine_after_handling (fronts_by any_front context triggers ds) o k machine_was)
-  told_after (Some (Asked (Captured n))) is after =
-      let x = captured_is (any_front d).kind o ended (any_front d).shape (any_station drive d) n is in
-      told_gathered drive context triggers ds clock k d d' at o (made_at false x.goes_on) x.capture (full_scan_by d') ds' x.is x.input keeps
-      (subst (λ (scan : List ℕ). AreGathered drive k scan (set ds k d') ds') (scan_there ds k d d' at) after)
-      (taken_all drive (length triggers) first ds averaged_now k d d' at x.capture (full_scan_by d') (taken_whole x) x.input)
-      ∙ ap (λ (b : Bool). unless_ended b machine_was (machine_after_handling (fronts_by any_front context triggers ds) o k machine_was)) (sym x.goes_on)
-  told_after (Some (Asked Fault)) is after = alone (Some (Asked Fault)) is refl after
-  told_after (Some (Asked Idle)) is after = alone (Some (Asked Idle)) is refl after
-  told_after (Some (Gave answer)) is after = alone (Some (Gave answer)) is refl after
-  told_after None is after = alone None is refl after
+    alone : (r : Option Became) → r ≡ entry_became (any_front d).kind o ended (any_station drive d) → is_capture r ≡ false → ds' ≡ set ds k d'
+        → machine_by (any_station drive) clock ts ds'
+        ≡ unless_ended ended machine_was (machine_after_entry (fronts_by any_front context triggers ds) o k machine_was)
+    alone r is other same = ap (λ (xs : List (AnyDevice X V)). machine_by (any_station drive) clock ts xs) same ∙ by ended refl
+      where
+        by : (b : Bool) → ended ≡ b → machine_by (any_station drive) clock ts (set ds k d')
+            ≡ unless_ended b machine_was (machine_after_entry (fronts_by any_front context triggers ds) o k machine_was)
+        by true e =
+            ap (λ (sts : List Station). (let m : Machine = record { clock = clock; triggers = ts; stations = sts } in m))
+            (map_same (any_station drive) ds k d d' at (made_at true e))
+        by false e =
+            told_alone drive context triggers ds clock ts k d d' at o (made_at false e)
+            (none_captured (any_front d).kind o (any_front d).shape (any_station drive d) r
+            (is ∙ ap (λ (x : Bool). entry_became (any_front d).kind o x (any_station drive d)) e) other)
+
+    pub told_after : (r : Option Became) → r ≡ entry_became (any_front d).kind o ended (any_station drive d) → AfterEntry drive r k (set ds k d') ds'
+        → machine_by (any_station drive) clock ts ds'
+        ≡ unless_ended ended machine_was (machine_after_entry (fronts_by any_front context triggers ds) o k machine_was)
+    told_after (Some (Asked (Captured n))) is after =
+        let x = captured_is (any_front d).kind o ended (any_front d).shape (any_station drive d) n is in
+        told_gathered drive context triggers ds clock ts k d d' at o (made_at false x.goes_on) x.capture (full_scan_by d') ds' x.is x.input keeps
+        (subst (λ (scan : List ℕ). AreGathered drive k scan (set ds k d') ds') (scan_there ds k d d' at) after)
+        (taken_all drive (length triggers) first ds averaged_now k d d' at x.capture (full_scan_by d') (taken_whole x) x.input)
+        ∙ ap (λ (b : Bool). unless_ended b machine_was (machine_after_entry (fronts_by any_front context triggers ds) o k machine_was)) (sym x.goes_on)
+    told_after (Some (Asked Fault)) is after = alone (Some (Asked Fault)) is refl after
+    told_after (Some (Asked Idle)) is after = alone (Some (Asked Idle)) is refl after
+    told_after (Some (Gave answer)) is after = alone (Some (Gave answer)) is refl after
+    told_after None is after = alone None is refl after
 
   -- what no such step changes
   each_same : {B : Type 0} (f : AnyDevice X V → B) → ((x y : AnyDevice X V) → KeepsFront x y → f y ≡ f x) → (r : Option Became)
@@ -515,15 +517,15 @@ module _ {X : Type 0} {V : X → Type 0} (drive : Plug X V → Driver) (context 
 
 -- ---- what holds then
 
-module _ {X : Type 0} {V : X → Type 0} (drive : Plug X V → Driver) (context : List ℕ) (triggers : List TriggerDesc) (ds ds' : List (AnyDevice X V)) (clock : ℤ)
-    (fronts : map any_front ds' ≡ map any_front ds) where
+module _ {X : Type 0} {V : X → Type 0} (drive : Plug X V → Driver) (context : List ℕ) (triggers : List TriggerDesc)
+    (ds ds' : List (AnyDevice X V)) (clock : ℤ) (ts : List Trigger) (fronts : map any_front ds' ≡ map any_front ds) where
   abbrev told_front : Front
   told_front = fronts_by any_front context triggers ds
 
   abbrev told_before : Machine
-  told_before = machine_by (any_station drive) clock ds
+  told_before = machine_by (any_station drive) clock ts ds
 
-  whole_by : (states : List State) (first : ℕ) (m : Machine) → machine_by (any_station drive) clock ds' ≡ m → IsBench triggers states m.stations
+  whole_by : (states : List State) (first : ℕ) (m : Machine) → machine_by (any_station drive) clock ts ds' ≡ m → IsBench triggers states m.stations
       → IsAveraged (length triggers) first (map any_front ds) m.stations
       → IsBench triggers states (stations_by (λ p. no_driver) ds') × IsAveraged (length triggers) first (map any_front ds') (stations_by (λ p. no_driver) ds')
   whole_by states first m told sound averaged = (
@@ -535,14 +537,14 @@ module _ {X : Type 0} {V : X → Type 0} (drive : Plug X V → Driver) (context 
 
   pub whole_handled : (states : List State) (first : ℕ) (o : Option Handed) (ended : Bool) (k : ℕ) (d : AnyDevice X V) → slice_get ds k ≡ Some d
       → IsBench triggers states (stations_by (λ p. no_driver) ds) → IsAveraged (length triggers) first (map any_front ds) (stations_by (λ p. no_driver) ds)
-      → machine_by (any_station drive) clock ds' ≡ unless_ended ended told_before (machine_after_handling told_front o k told_before)
+      → machine_by (any_station drive) clock ts ds' ≡ unless_ended ended told_before (machine_after_entry told_front o k told_before)
       → ((any_front d).kind ≡ Input → is_last (any_station drive d).captures ≡ ended)
       → IsBench triggers states (stations_by (λ p. no_driver) ds') × IsAveraged (length triggers) first (map any_front ds') (stations_by (λ p. no_driver) ds')
   whole_handled states first o true k d at sound averaged told is_ended =
       whole_by states first told_before told (sound_any drive triggers states ds sound)
       (averaged_as (λ p. no_driver) drive (length triggers) first (map any_front ds) ds averaged)
   whole_handled states first o false k d at sound averaged told is_ended =
-      whole_by states first (machine_after_handling told_front o k told_before) told
+      whole_by states first (machine_after_entry told_front o k told_before) told
       (bench_handled told_front o k told_before triggers states (sound_any drive triggers states ds sound))
       (averaged_handled told_front o k told_before (length triggers) first
       (averaged_as (λ p. no_driver) drive (length triggers) first (map any_front ds) ds averaged)
@@ -554,7 +556,7 @@ module _ {X : Type 0} {V : X → Type 0} (drive : Plug X V → Driver) (context 
 
   pub whole_unplugged : (states : List State) (first dev : ℕ) → IsBench triggers states (stations_by (λ p. no_driver) ds)
       → IsAveraged (length triggers) first (map any_front ds) (stations_by (λ p. no_driver) ds)
-      → machine_by (any_station drive) clock ds' ≡ machine_after_unplugging told_front dev told_before
+      → machine_by (any_station drive) clock ts ds' ≡ machine_after_unplugging told_front dev told_before
       → IsBench triggers states (stations_by (λ p. no_driver) ds') × IsAveraged (length triggers) first (map any_front ds') (stations_by (λ p. no_driver) ds')
   whole_unplugged states first dev sound averaged told =
       whole_by states first (machine_after_unplugging told_front dev told_before) told
@@ -564,13 +566,13 @@ module _ {X : Type 0} {V : X → Type 0} (drive : Plug X V → Driver) (context 
 
 -- ---- unpluggings
 
-module _ {X : Type 0} {V : X → Type 0} (drive : Plug X V → Driver) (context : List ℕ) (triggers : List TriggerDesc) (ds ds' : List (AnyDevice X V)) (clock : ℤ)
-    (dev : ℕ) where
+module _ {X : Type 0} {V : X → Type 0} (drive : Plug X V → Driver) (context : List ℕ) (triggers : List TriggerDesc)
+    (ds ds' : List (AnyDevice X V)) (clock : ℤ) (ts : List Trigger) (dev : ℕ) where
   pub told_unplugged : AreUnplugged drive dev ds ds'
-      → machine_by (any_station drive) clock ds'
-      ≡ machine_after_unplugging (fronts_by any_front context triggers ds) dev (machine_by (any_station drive) clock ds)
+      → machine_by (any_station drive) clock ts ds'
+      ≡ machine_after_unplugging (fronts_by any_front context triggers ds) dev (machine_by (any_station drive) clock ts ds)
   told_unplugged all =
-      ap (λ (sts : List Station). (let m : Machine = record { clock = clock; stations = sts } in m))
+      ap (λ (sts : List Station). (let m : Machine = record { clock = clock; triggers = ts; stations = sts } in m))
       (map_together (any_station drive) (unplugs (fronts_by any_front context triggers ds) dev) 0 ds ds' all.same
       (λ j x x' there there'. (
       let place : j ≡ 0 + j = omega arith in

@@ -11,10 +11,9 @@ use Rattle.iio_system.specs.Handling.{is_last}
 use Rattle.iio_system.specs.Places.{trigger_of}
 use Rattle.iio_system.specs.Station.{any_front, captures_by, room_by, stations_by}
 
--- the front, the outstanding entries and missed polls, and how many captures each device has made
+-- the front, and how many captures each device has made
 pub record Kept : Type 0 where
   pub front : Front
-  pub triggers : List Trigger
   pub captures : List ℕ
 
 module _ {X : Type 0} {V : X → Type 0} where
@@ -22,9 +21,13 @@ module _ {X : Type 0} {V : X → Type 0} where
   abbrev pub front_of : Bench X V → Front
   front_of b = record { context = b.context.items; triggers = b.described.items; devices = map any_front b.devices.items }
 
-  -- the clock and the devices, by what they sample
+  -- the triggers
+  abbrev pub triggers_of : Bench X V → List Trigger
+  triggers_of b = map trigger_of b.triggers.items
+
+  -- the clock, the triggers, and the devices by what they sample
   abbrev pub machine_of : (Plug X V → Driver) → Bench X V → Machine
-  machine_of driver b = record { clock = b.clock; stations = stations_by driver b.devices.items }
+  machine_of driver b = record { clock = b.clock; triggers = triggers_of b; stations = stations_by driver b.devices.items }
 
   -- how many captures each device has made
   abbrev pub captures_of : Bench X V → List ℕ
@@ -38,10 +41,6 @@ module _ {X : Type 0} {V : X → Type 0} where
   abbrev pub room_at : Bench X V → ℕ → List ℕ
   room_at b dev = option_map_or room_by (slice_get b.devices.items dev) []
 
-  -- the triggers
-  abbrev pub triggers_of : Bench X V → List Trigger
-  triggers_of b = map trigger_of b.triggers.items
-
   -- what no connection's call changes
   abbrev pub kept_of : Bench X V → Kept
-  kept_of b = record { front = front_of b; triggers = triggers_of b; captures = captures_of b }
+  kept_of b = record { front = front_of b; captures = captures_of b }

@@ -10,7 +10,7 @@ use Rattle.iio_output.specs.Last.{first_last}
 use Rattle.iio_probe.specs.Devices.{first_driver}
 use Rattle.iio_core.specs.Machine.{Machine, Station, new_station}
 use Rattle.iio_layout.specs.Shape.{ShapeRecord}
-use Rattle.iio_core.specs.Trigger.{Trigger, first_trigger}
+use Rattle.iio_core.specs.Trigger.{first_trigger}
 use Rattle.iio_system.specs.Averages.{shape_in}
 use Rattle.iio_system.specs.MeanStation.{first_mean_station, new_mean_station}
 use Rattle.iio_system.specs.OutStation.{first_out_station}
@@ -22,11 +22,9 @@ first_station drivers d = new_station (first_site d.shape d.trigger (first_drive
 abbrev pub first_machine : List Driver → Description → Machine
 first_machine drivers desc = record {
   clock = pos 0;
+  triggers = map (λ (t : TriggerDesc). first_trigger) desc.triggers;
   stations = map (first_station drivers) desc.devices ++ (map first_out_station desc.outputs ++ map (first_mean_station desc.devices) desc.averages);
 }
-
-abbrev pub first_triggers : Description → List Trigger
-first_triggers desc = map (λ (t : TriggerDesc). first_trigger) desc.triggers
 
 -- ---- for this crate's private functions alone
 

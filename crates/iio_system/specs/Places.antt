@@ -8,9 +8,9 @@ use Rattle.iio_trigger.specs.Trigger.{Handed, State, with_place, without_place}
 use Rattle.iio_desc.specs.declared.description.TriggerDesc.{TriggerDesc}
 use Rattle.iio_desc.specs.declared.limits.TheConstants.{MAX_TRIGGERS, MAX_DEVICES}
 use Rattle.iio_device.specs.Site.{is_empty}
-use Rattle.iio_core.specs.Machine.{Station}
+use Rattle.iio_core.specs.Attached.{is_attached}
+use Rattle.iio_core.specs.Machine.{Station, attachment_of}
 use Rattle.iio_core.specs.Trigger.{Trigger}
-use Rattle.iio_core.specs.Calls.{is_attached}
 
 -- an entry of the code, and its trigger, as they are told
 abbrev pub handed_of : Entry → Handed
@@ -23,13 +23,9 @@ trigger_of s = record { entries = map handed_of s.outstanding; missed = s.missed
 abbrev pub places_from : ℕ → ℕ → List Station → List Place
 places_from dev trigger [] = []
 places_from dev trigger (st ∷ sts) =
-    if is_attached trigger st
+    if is_attached trigger (attachment_of st)
     then record { dev = dev; attachment = st.site.attachment } ∷ places_from (suc dev) trigger sts
     else places_from (suc dev) trigger sts
-
--- ---- polls
-
--- ---- entries
 
 -- ---- places of members
 

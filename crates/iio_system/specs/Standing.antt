@@ -19,7 +19,7 @@ use Rattle.iio_system.specs.declared.seat.Seat.{Seat}
 use Rattle.iio_system.specs.declared.step.Step.{Step as CodeStep}
 use Rattle.iio_system.specs.declared.step.Step.TheVariants as code
 use Rattle.iio_system.specs.declared.system.System.{System}
-use Rattle.iio_system.specs.Bench.{front_of, machine_of, triggers_of}
+use Rattle.iio_system.specs.Bench.{front_of, machine_of}
 use Rattle.iio_system.specs.Seat.{seen_of}
 use Rattle.iio_system.specs.Step.{cost_of, step_view}
 use Rattle.iio_system.specs.System.{Stands}
@@ -67,9 +67,8 @@ RiseBy k old new = (n : ℕ) → All (λ c. c ≤ n) old → All (λ c. c ≤ n 
 
 module _ {X : Type 0} {V : X → Type 0} (driver : Plug X V → Driver) where
   -- what a bench and its connections hold is the told state
-  pub record Holds (s : Setup) (m : Told) (b : Bench X V) (connections : List (Connection Seat)) : Type 0 where
-    pub stands : Stands seen_of s m (front_of b) (Some (machine_of driver b)) connections
-    pub triggers : triggers_of b ≡ m.triggers
+  abbrev pub Holds : Setup → Told → Bench X V → List (Connection Seat) → Type 0
+  Holds s m b connections = Stands seen_of s m (front_of b) (Some (machine_of driver b)) connections
 
   -- a step of a bench and its connections: its lines, and what they hold then
   abbrev pub Makes : Step → (b b' : Bench X V) (cs cs' : List (Connection Seat)) (before after : List ℕ) → Type 0

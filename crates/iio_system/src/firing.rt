@@ -5,8 +5,8 @@ ghost use Rattle.iio_desc.specs.Kind.{is_average};
 ghost use Rattle.iio_device.specs.Site.{at_place};
 ghost use Rattle.iio_core.specs.Front.{kind_at, shape_at};
 ghost use Rattle.iio_core.specs.Machine.{is_plugged, station_at};
-ghost use Rattle.iio_core.specs.Moves.{kind_sensed, machine_after_handling, machine_after_look, machine_after_unplugging};
-ghost use Rattle.iio_core.specs.Trigger.{bench_entries, entries_at, entry_of, first_due, handled, poll_answer, polled_by, missed_at};
+ghost use Rattle.iio_core.specs.Moves.{entry_in, kind_sensed, machine_after_entry, machine_after_look, machine_after_poll, machine_after_unplugging, polled_answer, taken_off};
+ghost use Rattle.iio_core.specs.Trigger.{entries_at, first_due};
 ghost use Rattle.iio_system.specs.Bench.{captures_of, front_of, has_ended, machine_of, room_at, triggers_of};
 ghost use Rattle.iio_system.specs.Handling.{IsRoom, counted, entry_became, unless_ended};
 
@@ -23,7 +23,6 @@ impl Bench {
         requires { ⊤ }
         ensures front { front_of self.new ≡ front_of self.old }
         ensures told { machine_of ⟦<Plug as Sensor>⟧.driver self.new ≡ record (machine_of ⟦<Plug as Sensor>⟧.driver self.old) { clock = t } }
-        ensures triggers { triggers_of self.new ≡ triggers_of self.old }
         ensures captures { captures_of self.new ≡ captures_of self.old }
     {
         self.clock = t;
@@ -33,12 +32,9 @@ impl Bench {
     pub fn poll(&mut self, trigger: u32, t: i64) -> Polled
         requires { trigger < length (front_of self.old).triggers }
         ensures front { front_of self.new ≡ front_of self.old }
-        ensures told { machine_of ⟦<Plug as Sensor>⟧.driver self.new ≡ machine_of ⟦<Plug as Sensor>⟧.driver self.old }
-        ensures triggers { triggers_of self.new
-            ≡ at_place trigger (polled_by (machine_of ⟦<Plug as Sensor>⟧.driver self.old).stations trigger t) (triggers_of self.old) }
+        ensures told { machine_of ⟦<Plug as Sensor>⟧.driver self.new ≡ machine_after_poll trigger t (machine_of ⟦<Plug as Sensor>⟧.driver self.old) }
         ensures captures { captures_of self.new ≡ captures_of self.old }
-        ensures answer { result ≡ poll_answer (bench_entries 0 trigger t (machine_of ⟦<Plug as Sensor>⟧.driver self.old).stations)
-            (entries_at (triggers_of self.old) trigger) (missed_at (triggers_of self.old) trigger) }
+        ensures answer { result ≡ polled_answer trigger t (machine_of ⟦<Plug as Sensor>⟧.driver self.old) }
     {
         self.triggers[trigger as usize].poll(t)
     }
@@ -60,12 +56,11 @@ impl Bench {
         requires dev { dev < length (front_of self.old).devices }
         ensures front { front_of self.new ≡ front_of self.old }
         ensures told { machine_of ⟦<Plug as Sensor>⟧.driver self.new
-            ≡ unless_ended (has_ended self.old dev) (machine_of ⟦<Plug as Sensor>⟧.driver self.old)
-            (machine_after_handling (front_of self.old) (entry_of dev (entries_at (triggers_of self.old) trigger)) dev
-            (machine_of ⟦<Plug as Sensor>⟧.driver self.old)) }
-        ensures triggers { triggers_of self.new ≡ at_place trigger (handled dev) (triggers_of self.old) }
+            ≡ taken_off trigger dev (unless_ended (has_ended self.old dev) (machine_of ⟦<Plug as Sensor>⟧.driver self.old)
+            (machine_after_entry (front_of self.old) (entry_in trigger dev (machine_of ⟦<Plug as Sensor>⟧.driver self.old)) dev
+            (machine_of ⟦<Plug as Sensor>⟧.driver self.old))) }
         ensures captures { captures_of self.new ≡ at_place dev (counted result) (captures_of self.old) }
-        ensures answer { result ≡ entry_became (kind_at (front_of self.old) dev) (entry_of dev (entries_at (triggers_of self.old) trigger))
+        ensures answer { result ≡ entry_became (kind_at (front_of self.old) dev) (entry_in trigger dev (machine_of ⟦<Plug as Sensor>⟧.driver self.old))
             (has_ended self.old dev) (station_at (machine_of ⟦<Plug as Sensor>⟧.driver self.old) dev) }
         ensures room { IsRoom result (station_at (machine_of ⟦<Plug as Sensor>⟧.driver self.old) dev).members (room_at self.new dev) }
     {
@@ -80,7 +75,6 @@ impl Bench {
         ensures front { front_of self.new ≡ front_of self.old }
         ensures told { machine_of ⟦<Plug as Sensor>⟧.driver self.new
             ≡ machine_after_look (front_of self.old) dev t (machine_of ⟦<Plug as Sensor>⟧.driver self.old) }
-        ensures triggers { triggers_of self.new ≡ triggers_of self.old }
         ensures captures { captures_of self.new ≡ captures_of self.old }
         ensures answer { result ≡ kind_sensed (kind_at (front_of self.old) dev) (shape_at (front_of self.old) dev) t
             (station_at (machine_of ⟦<Plug as Sensor>⟧.driver self.old) dev) }
@@ -95,7 +89,6 @@ impl Bench {
         ensures front { front_of self.new ≡ front_of self.old }
         ensures told { machine_of ⟦<Plug as Sensor>⟧.driver self.new
             ≡ machine_after_unplugging (front_of self.old) dev (machine_of ⟦<Plug as Sensor>⟧.driver self.old) }
-        ensures triggers { triggers_of self.new ≡ triggers_of self.old }
         ensures captures { captures_of self.new ≡ captures_of self.old }
         ensures answer { result ≡ (is_plugged (machine_of ⟦<Plug as Sensor>⟧.driver self.old) dev && not (is_average (kind_at (front_of self.old) dev))) }
     {

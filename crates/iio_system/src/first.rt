@@ -7,9 +7,9 @@ ghost use Rattle.iio_desc.specs.declared.limits.TheConstants.{MAX_DEVICES};
 ghost use Rattle.iio_device.specs.declared.plug.Plug.TheVariants.{Given};
 ghost use Rattle.iio_probe.specs.Devices.{IsFit};
 ghost use Rattle.iio_core.specs.Front.{first_front};
-ghost use Rattle.iio_system.specs.First.{first_machine, first_state, first_station, first_triggers, mean_head_over, mean_station_over};
+ghost use Rattle.iio_system.specs.First.{first_machine, first_state, first_station, mean_head_over, mean_station_over};
 ghost use Rattle.iio_system.specs.OutStation.{first_out_station};
-ghost use Rattle.iio_system.specs.Bench.{front_of, machine_of, triggers_of};
+ghost use Rattle.iio_system.specs.Bench.{front_of, machine_of};
 ghost use Rattle.iio_system.specs.Places.{IsNumbered};
 ghost use Rattle.iio_system.specs.Station.{any_front, captures_by, head_by, number_by, station_by, stations_by};
 
@@ -153,7 +153,6 @@ impl Bench {
         ensures front { IfOk result (λ b. front_of b ≡ first_front desc) }
         ensures told { IfOk result
             (λ b. machine_of ⟦<Plug as Sensor>⟧.driver b ≡ first_machine (map (λ d. ⟦<Plug as Sensor>⟧.driver (Given d)) drivers.items) desc) }
-        ensures triggers { IfOk result (λ b. triggers_of b ≡ first_triggers desc) }
         ensures captures { IfOk result (λ b. All (λ d. captures_by d ≡ 0) b.devices.items) }
     {
         let Desc {

@@ -1,4 +1,4 @@
-use Rattle.iio_history.proofs.BenchMoves.{clock_is, handling_is, look_is, moves_print, poll_is, triggers_are, unplugging_is}
+use Rattle.iio_history.proofs.BenchMoves.{clock_is, handling_is, look_is, moves_print, poll_is, unplugging_is}
 use Rattle.iio_history.proofs.move_law.Goals as goal
 
 pub returns-clause-unplugging : goal.returns-clause-unplugging
@@ -15,9 +15,6 @@ returns-clause-look c = look_is
 
 pub returns-clause-handling : goal.returns-clause-handling
 returns-clause-handling c = handling_is
-
-pub returns-clause-triggers : goal.returns-clause-triggers
-returns-clause-triggers c = triggers_are
 
 pub returns-clause-printed : goal.returns-clause-printed
 returns-clause-printed c = moves_print

@@ -12,11 +12,11 @@ returns-clause-makes g c =
     on_ok_weaker c.push_became.result
     (λ line cs s m h. (
       handle_line (driver_of (λ b. (g.dyn-1.0.entry b.vtable).1.driver b.value)) c.args.trigger c.args.dev c.args.bench.now c.handle-became.new.self cs
-          c.requires.dev c.handle-became.ensures.front told c.handle-became.ensures.triggers s m h
+          c.requires.dev c.handle-became.ensures.front told s m h
           c.args.out.now.items c.push_became.new.out.items _ _ (room_at c.handle-became.new.self c.args.dev) c.handle-became.result refl refl
           (rw last at c.handle-became.ensures.answer) c.handle-became.ensures.room line,
       handle_holds (driver_of (λ b. (g.dyn-1.0.entry b.vtable).1.driver b.value)) c.args.trigger c.args.dev c.args.bench.now c.handle-became.new.self cs
-          c.requires.dev c.handle-became.ensures.front told c.handle-became.ensures.triggers s m h,
+          c.requires.dev c.handle-became.ensures.front told s m h,
     )) c.push_became.ensures
 
 pub returns-clause-captures : goal.returns-clause-captures

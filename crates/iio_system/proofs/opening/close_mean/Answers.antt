@@ -2,9 +2,10 @@ use Rattle.std.proofs.Common.{◌∙◌, ◌<◌, ℕ, true, false, None, Some, 
 use Rattle.std.proofs.lemmas.Option.{slice_get_read}
 use Rattle.iio_desc.specs.Kind.{is_input}
 use Rattle.iio_device.specs.Plug.{driver_of}
+use Rattle.iio_system.specs.Places.{trigger_of}
 use Rattle.iio_system.specs.Station.{any_front, any_station, number_by}
-use Rattle.iio_system.proofs.ListLemmas.{within_map}
-use Rattle.iio_system.proofs.IioLemmas.{device_and_trigger_keep, device_keeps}
+use Rattle.iio_system.proofs.ListLemmas.{map_same, within_map}
+use Rattle.iio_system.proofs.IioLemmas.{device_keeps}
 use Rattle.iio_system.proofs.MeanOpenLemmas.{asked_left, base_inside, base_there, holds_gone, holds_left, holds_off, input_base, mean_read, pair_after, pair_there, told_gone, told_left, told_off, trigger_past}
 use Rattle.iio_system.proofs.OpenLemmas.{average_of, leaves_tell, own_along}
 use Rattle.iio_system.proofs.opening.close_mean.Goals as goal
@@ -90,7 +91,7 @@ invariant_of-bench-else-not-has_member g c =
 pub returns-in-None-clause-kept : goal.returns-in-None-clause-kept
 returns-in-None-clause-kept g c =
     let m = mean_read c.args.bench.now c.args.dev c.requires.dev c.args.base c.index_mut.result.now c.index_mut.ensures.value c.requires.over in
-    device_keeps _ _ _ _ _ _ _ m.at c.leave_mean.ensures.keeps
+    device_keeps _ _ _ _ _ _ m.at c.leave_mean.ensures.keeps
 
 pub returns-in-None-clause-told : goal.returns-in-None-clause-told
 returns-in-None-clause-told g c =
@@ -106,12 +107,8 @@ returns-then-trigger-len-clause-kept g c =
     let p =
     pair_after c.args.bench.now c.args.dev c.requires.dev c.args.base c.index_mut.result.now c.leave_mean.new.self c.index_mut-then-trigger-len.result.now
     c.requires.over c.index_mut.ensures.value c.index_mut-then-trigger-len.ensures.value in
-    device_and_trigger_keep _ _ _ _ _ _ _ (base_there drive p c.leave_mean.new.self) c.leave_inner.ensures.keeps c.in-Some.trigger
-    c.index_mut-then-trigger-len-2.result.now c.leave_inner.new.trigger (slice_get_read _ c.len.result _ _ (c.len.ensures ∙
-    c.args.bench.now.triggers.ok.0) c.if-trigger-len.true c.index_mut-then-trigger-len-2.ensures.value)
-    (leaves_tell (number_by c.index_mut-then-trigger-len.result.now) (any_station drive c.index_mut-then-trigger-len.result.now) (any_station drive
-    c.leave_inner.new.self) c.index_mut-then-trigger-len-2.result.now c.leave_inner.new.trigger c.leave_inner.ensures.trigger)
-    ∙ device_keeps _ _ _ _ _ _ _ p.mean.at c.leave_mean.ensures.keeps
+    device_keeps _ _ _ _ _ _ (base_there drive p c.leave_mean.new.self) c.leave_inner.ensures.keeps
+    ∙ device_keeps _ _ _ _ _ _ p.mean.at c.leave_mean.ensures.keeps
 
 pub returns-then-trigger-len-clause-told : goal.returns-then-trigger-len-clause-told
 returns-then-trigger-len-clause-told g c =
@@ -119,14 +116,18 @@ returns-then-trigger-len-clause-told g c =
     let p =
     pair_after c.args.bench.now c.args.dev c.requires.dev c.args.base c.index_mut.result.now c.leave_mean.new.self c.index_mut-then-trigger-len.result.now
     c.requires.over c.index_mut.ensures.value c.index_mut-then-trigger-len.ensures.value in
-    told_gone drive p c.args.number c.leave_mean.new.self c.leave_mean.ensures.station c.leave_inner.new.self (asked_left drive p c.args.number
+    rw (map_same trigger_of c.args.bench.now.triggers.items c.in-Some.trigger c.index_mut-then-trigger-len-2.result.now c.leave_inner.new.trigger
+    (slice_get_read _ c.len.result _ _ (c.len.ensures ∙ c.args.bench.now.triggers.ok.0) c.if-trigger-len.true c.index_mut-then-trigger-len-2.ensures.value)
+    (leaves_tell (number_by c.index_mut-then-trigger-len.result.now) (any_station drive c.index_mut-then-trigger-len.result.now) (any_station drive
+    c.leave_inner.new.self) c.index_mut-then-trigger-len-2.result.now c.leave_inner.new.trigger c.leave_inner.ensures.trigger))
+    (told_gone drive p c.args.number c.leave_mean.new.self c.leave_mean.ensures.station c.leave_inner.new.self (asked_left drive p c.args.number
     c.leave_mean.new.self c.index.result.now c.has_member.result false c.requires.dev c.index.ensures c.has_member.ensures c.leave_mean.ensures.station
-    c.if-not-has_member.true) c.leave_inner.ensures.station
+    c.if-not-has_member.true) c.leave_inner.ensures.station)
 
 pub returns-else-trigger-len-clause-kept : goal.returns-else-trigger-len-clause-kept
 returns-else-trigger-len-clause-kept g c =
     let m = mean_read c.args.bench.now c.args.dev c.requires.dev c.args.base c.index_mut.result.now c.index_mut.ensures.value c.requires.over in
-    device_keeps _ _ _ _ _ _ _ m.at c.leave_mean.ensures.keeps
+    device_keeps _ _ _ _ _ _ m.at c.leave_mean.ensures.keeps
 
 pub returns-else-trigger-len-clause-told : goal.returns-else-trigger-len-clause-told
 returns-else-trigger-len-clause-told g c =
@@ -140,7 +141,7 @@ returns-else-trigger-len-clause-told g c =
 pub returns-else-not-has_member-clause-kept : goal.returns-else-not-has_member-clause-kept
 returns-else-not-has_member-clause-kept g c =
     let m = mean_read c.args.bench.now c.args.dev c.requires.dev c.args.base c.index_mut.result.now c.index_mut.ensures.value c.requires.over in
-    device_keeps _ _ _ _ _ _ _ m.at c.leave_mean.ensures.keeps
+    device_keeps _ _ _ _ _ _ m.at c.leave_mean.ensures.keeps
 
 pub returns-else-not-has_member-clause-told : goal.returns-else-not-has_member-clause-told
 returns-else-not-has_member-clause-told g c =

@@ -1,16 +1,17 @@
 use Rattle.std.proofs.Common.{◌∙◌, ◌<◌, length, subst}
 use Rattle.std.proofs.lemmas.Option.{slice_get_read}
 use Rattle.iio_device.specs.Plug.{driver_of}
+use Rattle.iio_system.specs.Places.{trigger_of}
 use Rattle.iio_system.specs.Station.{any_front, any_station, number_by}
-use Rattle.iio_system.proofs.ListLemmas.{element_at, numbered_after}
-use Rattle.iio_system.proofs.IioLemmas.{device_and_trigger_keep}
+use Rattle.iio_system.proofs.ListLemmas.{element_at, map_same, numbered_after}
+use Rattle.iio_system.proofs.IioLemmas.{device_keeps}
 use Rattle.iio_system.proofs.OpenLemmas.{as_many, averaged_leaves, leaves_tell, own_along, plain_at, sound_leaves, told_leaves, told_none, told_past}
 use Rattle.iio_system.proofs.opening.close_plain.Goals as goal
 
 pub returns-in-None-clause-told : goal.returns-in-None-clause-told
 returns-in-None-clause-told g c =
     told_none (driver_of (λ b. (g.dyn-1.0.entry b.vtable).1.driver b.value)) c.args.bench.now.context.items c.args.bench.now.described.items
-    c.args.bench.now.devices.items c.args.bench.now.clock c.args.dev c.index.result.now (element_at any_front _ _ _ c.requires.dev c.index.ensures)
+    c.args.bench.now.devices.items c.args.bench.now.clock _ c.args.dev c.index.result.now (element_at any_front _ _ _ c.requires.dev c.index.ensures)
     (plain_at c.args.bench.now.context.items c.args.bench.now.described.items c.args.bench.now.devices.items c.args.dev c.index.result.now
     (element_at any_front _ _ _ c.requires.dev c.index.ensures) c.requires.own) c.args.number _ c.args.bench.now.sound _ c.args.bench.now.averaged
     c.in-None.ensures
@@ -18,7 +19,7 @@ returns-in-None-clause-told g c =
 pub returns-else-trigger-len-clause-told : goal.returns-else-trigger-len-clause-told
 returns-else-trigger-len-clause-told g c =
     told_past (driver_of (λ b. (g.dyn-1.0.entry b.vtable).1.driver b.value)) c.args.bench.now.context.items c.args.bench.now.described.items
-    c.args.bench.now.devices.items c.args.bench.now.clock c.args.dev c.index.result.now (element_at any_front _ _ _ c.requires.dev c.index.ensures)
+    c.args.bench.now.devices.items c.args.bench.now.clock _ c.args.dev c.index.result.now (element_at any_front _ _ _ c.requires.dev c.index.ensures)
     (plain_at c.args.bench.now.context.items c.args.bench.now.described.items c.args.bench.now.devices.items c.args.dev c.index.result.now
     (element_at any_front _ _ _ c.requires.dev c.index.ensures) c.requires.own) c.args.number _ c.args.bench.now.sound _ c.args.bench.now.averaged
     c.in-Some.trigger c.len.result c.in-Some.ensures (c.len.ensures ∙ c.args.bench.now.triggers.ok.0) c.if-trigger-len.false
@@ -57,17 +58,17 @@ leave-requires g c = record {
 
 pub returns-then-trigger-len-clause-kept : goal.returns-then-trigger-len-clause-kept
 returns-then-trigger-len-clause-kept g c =
-    let drive = (driver_of (λ b. (g.dyn-1.0.entry b.vtable).1.driver b.value)) in
-    device_and_trigger_keep _ _ _ _ _ _ _ (element_at any_front _ _ _ c.requires.dev c.index_mut.ensures.value) c.leave.ensures.keeps
-    c.in-Some.trigger c.index_mut-then-trigger-len.result.now c.leave.new.trigger
-    (slice_get_read _ c.len.result _ _ (c.len.ensures ∙ c.args.bench.now.triggers.ok.0) c.if-trigger-len.true c.index_mut-then-trigger-len.ensures.value)
-    (leaves_tell (number_by c.index_mut.result.now) (any_station drive c.index_mut.result.now) (any_station drive c.leave.new.self)
-    c.index_mut-then-trigger-len.result.now c.leave.new.trigger c.leave.ensures.trigger)
+    device_keeps _ _ _ _ _ _ (element_at any_front _ _ _ c.requires.dev c.index_mut.ensures.value) c.leave.ensures.keeps
 
 pub returns-then-trigger-len-clause-told : goal.returns-then-trigger-len-clause-told
 returns-then-trigger-len-clause-told g c =
-    told_leaves (driver_of (λ b. (g.dyn-1.0.entry b.vtable).1.driver b.value)) c.args.bench.now.context.items c.args.bench.now.described.items
-    c.args.bench.now.devices.items c.args.bench.now.clock c.args.dev c.index_mut.result.now
+    let drive = driver_of (λ b. (g.dyn-1.0.entry b.vtable).1.driver b.value) in
+    rw (map_same trigger_of c.args.bench.now.triggers.items c.in-Some.trigger c.index_mut-then-trigger-len.result.now c.leave.new.trigger
+    (slice_get_read _ c.len.result _ _ (c.len.ensures ∙ c.args.bench.now.triggers.ok.0) c.if-trigger-len.true c.index_mut-then-trigger-len.ensures.value)
+    (leaves_tell (number_by c.index_mut.result.now) (any_station drive c.index_mut.result.now) (any_station drive c.leave.new.self)
+    c.index_mut-then-trigger-len.result.now c.leave.new.trigger c.leave.ensures.trigger))
+    (told_leaves drive c.args.bench.now.context.items c.args.bench.now.described.items
+    c.args.bench.now.devices.items c.args.bench.now.clock _ c.args.dev c.index_mut.result.now
     (element_at any_front _ _ _ c.requires.dev c.index_mut.ensures.value)
     (plain_at c.args.bench.now.context.items c.args.bench.now.described.items c.args.bench.now.devices.items c.args.dev c.index_mut.result.now
-    (element_at any_front _ _ _ c.requires.dev c.index_mut.ensures.value) c.requires.own) c.args.number c.leave.new.self c.leave.ensures.station
+    (element_at any_front _ _ _ c.requires.dev c.index_mut.ensures.value) c.requires.own) c.args.number c.leave.new.self c.leave.ensures.station)

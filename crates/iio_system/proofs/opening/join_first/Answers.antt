@@ -9,9 +9,10 @@ use Rattle.iio_layout.specs.Layout.{scan_size}
 use Rattle.iio_layout.specs.Shape.{ShapeRecord}
 use Rattle.iio_core.specs.Calls.{has_no_number}
 use Rattle.iio_system.specs.Faults.{HasJoined}
+use Rattle.iio_system.specs.Places.{trigger_of}
 use Rattle.iio_system.specs.Station.{any_front, any_station, base_of, number_by}
-use Rattle.iio_system.proofs.ListLemmas.{within_map}
-use Rattle.iio_system.proofs.IioLemmas.{device_and_trigger_keep, device_keeps}
+use Rattle.iio_system.proofs.ListLemmas.{map_same, within_map}
+use Rattle.iio_system.proofs.IioLemmas.{device_keeps}
 use Rattle.iio_system.proofs.MeanOpenLemmas.{base_inside, base_there, full_fits, has_joined, holds_first, holds_same, holds_undone, hosts_here, input_base, may_have_inner, mean_again, mean_read, mean_seat, none_told, once_bytes, pair_after, pair_there, read_again, same_mean, shape_base, told_first_ends, told_first_goes, told_mem, told_undone}
 use Rattle.iio_system.proofs.OpenLemmas.{average_of, joins_tell, open_bytes, open_fits, open_may}
 use Rattle.iio_system.proofs.ToldLemmas.{told_same}
@@ -207,7 +208,7 @@ pub returns-in-Err-clause-kept : goal.returns-in-Err-clause-kept
 returns-in-Err-clause-kept g c =
     let m =
     mean_read c.args.bench.now c.args.dev c.requires.may_open.known c.args.base c.index_mut.result.now c.index_mut.ensures.value c.requires.over in
-    device_keeps _ _ _ _ _ _ _ m.at c.join_mean.ensures.keeps
+    device_keeps _ _ _ _ _ _ m.at c.join_mean.ensures.keeps
 
 pub returns-in-Err-clause-told : goal.returns-in-Err-clause-told
 returns-in-Err-clause-told g c =
@@ -215,7 +216,7 @@ returns-in-Err-clause-told g c =
     let m =
     mean_read c.args.bench.now c.args.dev c.requires.may_open.known c.args.base c.index_mut.result.now c.index_mut.ensures.value c.requires.over in
     told_mem _ _ _ c.in-Err.no c.in-Err.ensures.joins.0
-    (told_same (any_station drive) c.args.bench.now.clock c.args.bench.now.devices.items c.args.dev c.index_mut.result.now c.join_mean.new.self m.at
+    (told_same (any_station drive) c.args.bench.now.clock _ c.args.bench.now.devices.items c.args.dev c.index_mut.result.now c.join_mean.new.self m.at
     c.in-Err.ensures.joins.1)
 
 pub returns-in-Ok-join-clause-kept : goal.returns-in-Ok-join-clause-kept
@@ -224,12 +225,8 @@ returns-in-Ok-join-clause-kept g c =
     let p =
     pair_after c.args.bench.now c.args.dev c.requires.may_open.known c.args.base c.index_mut.result.now c.join_mean.new.self c.index_mut-in-Ok.result.now
     c.requires.over c.index_mut.ensures.value c.index_mut-in-Ok.ensures.value in
-    device_and_trigger_keep _ _ _ _ _ _ _ (base_there drive p c.join_mean.new.self) c.join.ensures.keeps c.args.trigger c.index_mut-in-Ok-2.result.now
-    c.join.new.trigger (slice_get_read _ _ _ _ refl c.requires.hosts.1 c.index_mut-in-Ok-2.ensures.value)
-    (joins_tell c.args.full 1 false (Some c.args.dev) (number_by c.index_mut-in-Ok.result.now) (any_front c.index_mut-in-Ok.result.now).shape
-    c.join.result (any_station drive c.index_mut-in-Ok.result.now) (any_station drive c.join.new.self) c.index_mut-in-Ok-2.result.now c.join.new.trigger
-    c.join.ensures.joins)
-    ∙ device_keeps _ _ _ _ _ _ _ p.mean.at c.join_mean.ensures.keeps
+    device_keeps _ _ _ _ _ _ (base_there drive p c.join_mean.new.self) c.join.ensures.keeps
+    ∙ device_keeps _ _ _ _ _ _ p.mean.at c.join_mean.ensures.keeps
 
 pub returns-in-Ok-join-clause-seat : goal.returns-in-Ok-join-clause-seat
 returns-in-Ok-join-clause-seat g c =
@@ -246,10 +243,15 @@ returns-in-Ok-join-clause-told g c =
     let p =
     pair_after c.args.bench.now c.args.dev c.requires.may_open.known c.args.base c.index_mut.result.now c.join_mean.new.self c.index_mut-in-Ok.result.now
     c.requires.over c.index_mut.ensures.value c.index_mut-in-Ok.ensures.value in
-    told_first_goes drive p c.requires.none c.args.full.bits c.requires.full c.requires.alone c.args.trigger c.requires.hosts c.args.mask c.args.capacity
+    rw (map_same trigger_of c.args.bench.now.triggers.items c.args.trigger c.index_mut-in-Ok-2.result.now c.join.new.trigger
+    (slice_get_read _ _ _ _ refl c.requires.hosts.1 c.index_mut-in-Ok-2.ensures.value)
+    (joins_tell c.args.full 1 false (Some c.args.dev) (number_by c.index_mut-in-Ok.result.now) (any_front c.index_mut-in-Ok.result.now).shape
+    c.join.result (any_station drive c.index_mut-in-Ok.result.now) (any_station drive c.join.new.self) c.index_mut-in-Ok-2.result.now c.join.new.trigger
+    c.join.ensures.joins))
+    (told_first_goes drive p c.requires.none c.args.full.bits c.requires.full c.requires.alone c.args.trigger c.requires.hosts c.args.mask c.args.capacity
     c.join_mean.new.self c.join.new.self c.in-Ok.seat (any_front c.index_mut.result.now).shape
     (subst (λ x. has_no_number (any_station drive x) ≡ false) (same_mean m0 p.mean) (sym c.has_no_number.ensures ∙ c.if-has_no_number.false))
-    c.in-Ok.ensures.joins c.in-Ok-join.ensures.joins.1
+    c.in-Ok.ensures.joins c.in-Ok-join.ensures.joins.1)
 
 pub returns-in-Err-join-clause-kept : goal.returns-in-Err-join-clause-kept
 returns-in-Err-join-clause-kept g c =
@@ -257,16 +259,12 @@ returns-in-Err-join-clause-kept g c =
     let p =
     pair_after c.args.bench.now c.args.dev c.requires.may_open.known c.args.base c.index_mut.result.now c.join_mean.new.self c.index_mut-in-Ok.result.now
     c.requires.over c.index_mut.ensures.value c.index_mut-in-Ok.ensures.value in
-    device_keeps _ _ _ _ _ _ _
+    device_keeps _ _ _ _ _ _
     (read_again drive p c.join_mean.new.self c.join.new.self c.index_mut-in-Err-join.result.now c.requires.may_open.known
     c.index_mut-in-Err-join.ensures.value)
     c.undo_join.ensures.keeps
-    ∙ device_and_trigger_keep _ _ _ _ _ _ _ (base_there drive p c.join_mean.new.self) c.join.ensures.keeps c.args.trigger c.index_mut-in-Ok-2.result.now
-    c.join.new.trigger (slice_get_read _ _ _ _ refl c.requires.hosts.1 c.index_mut-in-Ok-2.ensures.value)
-    (joins_tell c.args.full 1 false (Some c.args.dev) (number_by c.index_mut-in-Ok.result.now) (any_front c.index_mut-in-Ok.result.now).shape
-    c.join.result (any_station drive c.index_mut-in-Ok.result.now) (any_station drive c.join.new.self) c.index_mut-in-Ok-2.result.now c.join.new.trigger
-    c.join.ensures.joins)
-    ∙ device_keeps _ _ _ _ _ _ _ p.mean.at c.join_mean.ensures.keeps
+    ∙ device_keeps _ _ _ _ _ _ (base_there drive p c.join_mean.new.self) c.join.ensures.keeps
+    ∙ device_keeps _ _ _ _ _ _ p.mean.at c.join_mean.ensures.keeps
 
 pub returns-in-Err-join-clause-told : goal.returns-in-Err-join-clause-told
 returns-in-Err-join-clause-told g c =
@@ -274,8 +272,13 @@ returns-in-Err-join-clause-told g c =
     let p =
     pair_after c.args.bench.now c.args.dev c.requires.may_open.known c.args.base c.index_mut.result.now c.join_mean.new.self c.index_mut-in-Ok.result.now
     c.requires.over c.index_mut.ensures.value c.index_mut-in-Ok.ensures.value in
-    told_mem _ _ _ c.in-Err-join.no c.in-Err-join.ensures.joins.0
+    rw (map_same trigger_of c.args.bench.now.triggers.items c.args.trigger c.index_mut-in-Ok-2.result.now c.join.new.trigger
+    (slice_get_read _ _ _ _ refl c.requires.hosts.1 c.index_mut-in-Ok-2.ensures.value)
+    (joins_tell c.args.full 1 false (Some c.args.dev) (number_by c.index_mut-in-Ok.result.now) (any_front c.index_mut-in-Ok.result.now).shape
+    c.join.result (any_station drive c.index_mut-in-Ok.result.now) (any_station drive c.join.new.self) c.index_mut-in-Ok-2.result.now c.join.new.trigger
+    c.join.ensures.joins))
+    (told_mem _ _ _ c.in-Err-join.no c.in-Err-join.ensures.joins.0
     (told_undone drive p c.args.full c.args.trigger c.requires.hosts c.index_mut-in-Ok-2.result.now c.index_mut-in-Ok-2.ensures.value c.args.mask
     c.args.capacity c.in-Ok.seat c.join_mean.new.self c.join.new.self c.index_mut-in-Err-join.result.now c.undo_join.new.self c.join.new.trigger
     c.requires.may_open.known c.index_mut-in-Err-join.ensures.value c.join_mean.ensures.keeps.head c.join.ensures.keeps.head
-    c.undo_join.ensures.keeps.head c.in-Ok.ensures.joins c.in-Err-join.ensures.joins.1 c.undo_join.ensures.station c.in-Err-join.ensures.joins.2)
+    c.undo_join.ensures.keeps.head c.in-Ok.ensures.joins c.in-Err-join.ensures.joins.1 c.undo_join.ensures.station c.in-Err-join.ensures.joins.2))

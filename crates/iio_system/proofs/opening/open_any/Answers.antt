@@ -6,12 +6,13 @@ use Rattle.iio_device.specs.Site.{is_empty}
 use Rattle.iio_core.specs.Calls.{open_of}
 use Rattle.iio_core.specs.Machine.{Station}
 use Rattle.iiod_session.specs.Seat.{Answers, number_by}
+use Rattle.iio_system.specs.Bench.{front_of, machine_of}
 use Rattle.iio_system.specs.Seat.{seen_of}
 use Rattle.iio_system.specs.Station.{any_front, any_station, base_of}
 use Rattle.iio_system.proofs.ListLemmas.{element_at}
 use Rattle.iio_system.proofs.MeanOpenLemmas.{empty_then, never_cyclic, no_longer_empty}
 use Rattle.iio_system.proofs.OpenLemmas.{average_of, plain_of}
-use Rattle.iio_system.proofs.ToldLemmas.{fronts_by, kind_is, machine_by, station_is}
+use Rattle.iio_system.proofs.ToldLemmas.{kind_is, station_is}
 use Rattle.iio_system.proofs.opening.open_any.Goals as goal
 
 pub open_plain-requires-clause-own : goal.open_plain-requires-clause-own
@@ -28,7 +29,7 @@ open_further-requires-clause-average g c =
 pub open_further-requires-clause-member : goal.open_further-requires-clause-member
 open_further-requires-clause-member g c =
     (no_longer_empty _ (sym (c.has_member.ensures ∙ ap (λ (st : Station). not (is_empty st.members)) (sym (station_is (any_station (driver_of (λ b.
-    (g.dyn-1.0.entry b.vtable).1.driver b.value))) c.args.bench.now.clock c.args.bench.now.devices.items c.args.dev c.index-in-Some.result.now (element_at
+    (g.dyn-1.0.entry b.vtable).1.driver b.value))) c.args.bench.now.clock _ c.args.bench.now.devices.items c.args.dev c.index-in-Some.result.now (element_at
     any_front _ _ _ c.requires.may_open.known c.index-in-Some.ensures)))) ∙ c.if-has_member.true))
 
 pub open_first-requires-clause-over : goal.open_first-requires-clause-over
@@ -39,27 +40,23 @@ open_first-requires-clause-over g c =
 pub open_first-requires-clause-none : goal.open_first-requires-clause-none
 open_first-requires-clause-none g c =
     (empty_then _ (sym (c.has_member.ensures ∙ ap (λ (st : Station). not (is_empty st.members)) (sym (station_is (any_station (driver_of (λ b.
-    (g.dyn-1.0.entry b.vtable).1.driver b.value))) c.args.bench.now.clock c.args.bench.now.devices.items c.args.dev c.index-in-Some.result.now (element_at
+    (g.dyn-1.0.entry b.vtable).1.driver b.value))) c.args.bench.now.clock _ c.args.bench.now.devices.items c.args.dev c.index-in-Some.result.now (element_at
     any_front _ _ _ c.requires.may_open.known c.index-in-Some.ensures)))) ∙ c.if-has_member.false))
 
 pub returns-then-has_member-clause-told : goal.returns-then-has_member-clause-told
 returns-then-has_member-clause-told g c =
-    subst (λ (cyclic : Bool). Answers (open_of (fronts_by any_front c.args.bench.now.context.items c.args.bench.now.described.items
-    c.args.bench.now.devices.items) (machine_by (any_station (driver_of (λ b. (g.dyn-1.0.entry b.vtable).1.driver b.value))) c.args.bench.now.clock
-    c.args.bench.now.devices.items) c.args.dev c.args.mask.bits c.args.capacity cyclic) (machine_by (any_station (driver_of (λ b. (g.dyn-1.0.entry
-    b.vtable).1.driver b.value))) c.args.bench.now.clock c.args.bench.now.devices.items) (number_by seen_of c.open_further.result) (Some (machine_by
-    (any_station (driver_of (λ b. (g.dyn-1.0.entry b.vtable).1.driver b.value))) c.open_further.new.bench.clock c.open_further.new.bench.devices.items)))
+    let drive = driver_of (λ b. (g.dyn-1.0.entry b.vtable).1.driver b.value) in
+    subst (λ (cyclic : Bool). Answers (open_of (front_of c.args.bench.now) (machine_of drive c.args.bench.now) c.args.dev c.args.mask.bits c.args.capacity
+    cyclic) (machine_of drive c.args.bench.now) (number_by seen_of c.open_further.result) (Some (machine_of drive c.open_further.new.bench)))
     (sym (never_cyclic _ c.args.cyclic (average_of _ c.in-Some.base (ap base_of (kind_is any_front c.args.bench.now.context.items
     c.args.bench.now.described.items c.args.bench.now.devices.items c.args.dev c.index.result.now (element_at any_front _ _ _ c.requires.may_open.known
     c.index.ensures)) ∙ sym c.in-Some.ensures)) c.requires.cycles)) c.open_further.ensures.told
 
 pub returns-else-has_member-clause-told : goal.returns-else-has_member-clause-told
 returns-else-has_member-clause-told g c =
-    subst (λ (cyclic : Bool). Answers (open_of (fronts_by any_front c.args.bench.now.context.items c.args.bench.now.described.items
-    c.args.bench.now.devices.items) (machine_by (any_station (driver_of (λ b. (g.dyn-1.0.entry b.vtable).1.driver b.value))) c.args.bench.now.clock
-    c.args.bench.now.devices.items) c.args.dev c.args.mask.bits c.args.capacity cyclic) (machine_by (any_station (driver_of (λ b. (g.dyn-1.0.entry
-    b.vtable).1.driver b.value))) c.args.bench.now.clock c.args.bench.now.devices.items) (number_by seen_of c.open_first.result) (Some (machine_by
-    (any_station (driver_of (λ b. (g.dyn-1.0.entry b.vtable).1.driver b.value))) c.open_first.new.bench.clock c.open_first.new.bench.devices.items))) (sym
+    let drive = driver_of (λ b. (g.dyn-1.0.entry b.vtable).1.driver b.value) in
+    subst (λ (cyclic : Bool). Answers (open_of (front_of c.args.bench.now) (machine_of drive c.args.bench.now) c.args.dev c.args.mask.bits c.args.capacity
+    cyclic) (machine_of drive c.args.bench.now) (number_by seen_of c.open_first.result) (Some (machine_of drive c.open_first.new.bench))) (sym
     (never_cyclic _ c.args.cyclic (average_of _ c.in-Some.base (ap base_of (kind_is any_front c.args.bench.now.context.items c.args.bench.now.described.items
     c.args.bench.now.devices.items c.args.dev c.index.result.now (element_at any_front _ _ _ c.requires.may_open.known c.index.ensures)) ∙ sym
     c.in-Some.ensures)) c.requires.cycles)) c.open_first.ensures.told

@@ -74,7 +74,7 @@ invariant_of-bench g c =
 pub returns-clause-kept : goal.returns-clause-kept
 returns-clause-kept g c =
     let o = over_read c.args.bench.now c.args.dev c.requires.may_open.known c.index_mut.result.now c.index_mut.ensures.value c.requires.average in
-    device_keeps _ _ _ _ _ _ _ o.pair.mean.at c.join_mean.ensures.keeps
+    device_keeps _ _ _ _ _ _ o.pair.mean.at c.join_mean.ensures.keeps
 
 pub returns-clause-seat : goal.returns-clause-seat
 returns-clause-seat g c =

@@ -3,10 +3,10 @@ use Rattle.std.specs.Prelude.{◌&&◌, not}
 use Rattle.std.proofs.lemmas.Option.{slice_get_read}
 use Rattle.iio_desc.specs.Kind.{Kind, is_output}
 use Rattle.iio_device.specs.Plug.{driver_of}
-use Rattle.iio_system.specs.Places.{is_hosted}
+use Rattle.iio_system.specs.Places.{is_hosted, trigger_of}
 use Rattle.iio_system.specs.Station.{any_front, any_station, number_by}
-use Rattle.iio_system.proofs.ListLemmas.{element_at, numbered_after}
-use Rattle.iio_system.proofs.IioLemmas.{device_and_trigger_keep}
+use Rattle.iio_system.proofs.ListLemmas.{element_at, map_same, numbered_after}
+use Rattle.iio_system.proofs.IioLemmas.{device_keeps}
 use Rattle.iio_system.proofs.OpenLemmas.{as_many, averaged_joins, hosted_by_states, hosts_along, joins_tell, open_bytes, open_fits, open_joins, open_may, open_refused, open_seat, plain_at, sized_along, sound_joins}
 use Rattle.iio_system.proofs.ToldLemmas.{kind_is}
 use Rattle.iio_system.proofs.opening.open_plain.Goals as goal
@@ -115,23 +115,13 @@ returns-in-Err-clause-told g c =
     c.args.dev c.index.result.now c.index.result.now c.args.mask.bits (Err c.in-Err.no) c.deref.ensures.value at at c.in-Err.ensures.hosts in
     open_refused (driver_of (λ b. (g.dyn-1.0.entry b.vtable).1.driver b.value)) c.args.bench.now.context.items c.args.bench.now.described.items
     c.args.bench.now.triggers.items c.args.bench.now.devices.items c.args.bench.now.clock c.args.dev c.args.capacity c.args.cyclic c.index.result.now
-    c.args.bench.now.sound c.args.bench.now.numbered at c.args.mask.bits c.in-Err.no
+    c.args.bench.now.sound c.args.bench.now.numbered at _ c.args.mask.bits c.in-Err.no
     (plain_at c.args.bench.now.context.items c.args.bench.now.described.items c.args.bench.now.devices.items c.args.dev c.index.result.now at c.requires.own)
     hosts
 
 pub returns-in-Ok-clause-kept : goal.returns-in-Ok-clause-kept
 returns-in-Ok-clause-kept g c =
-    let drive = driver_of (λ b. (g.dyn-1.0.entry b.vtable).1.driver b.value) in
-    let at = element_at any_front _ _ _ c.requires.may_open.known c.index_mut.ensures.value in
-    let hosts =
-    hosts_along (driver_of (λ b. (g.dyn-1.0.entry b.vtable).1.driver b.value)) c.deref.result.now c.args.bench.now.triggers.items c.args.bench.now.devices.items
-    c.args.dev c.index.result.now c.index_mut.result.now c.args.mask.bits (Ok c.in-Ok.trigger) c.deref.ensures.value
-    (element_at any_front _ _ _ c.requires.may_open.known c.index.ensures) at c.in-Ok.ensures.hosts in
-    device_and_trigger_keep _ _ _ _ _ _ _ at c.join.ensures.keeps c.in-Ok.trigger c.index_mut-in-Ok.result.now c.join.new.trigger
-    (slice_get_read _ _ _ _ refl hosts.1 c.index_mut-in-Ok.ensures.value)
-    (joins_tell c.args.mask c.args.capacity c.args.cyclic None (number_by c.index_mut.result.now) (any_front c.index_mut.result.now).shape c.join.result
-    (any_station drive c.index_mut.result.now) (any_station drive c.join.new.self)
-    c.index_mut-in-Ok.result.now c.join.new.trigger c.join.ensures.joins)
+    device_keeps _ _ _ _ _ _ (element_at any_front _ _ _ c.requires.may_open.known c.index_mut.ensures.value) c.join.ensures.keeps
 
 pub returns-in-Ok-clause-seat : goal.returns-in-Ok-clause-seat
 returns-in-Ok-clause-seat g c =
@@ -143,14 +133,20 @@ returns-in-Ok-clause-seat g c =
 
 pub returns-in-Ok-clause-told : goal.returns-in-Ok-clause-told
 returns-in-Ok-clause-told g c =
+    let drive = driver_of (λ b. (g.dyn-1.0.entry b.vtable).1.driver b.value) in
     let at = element_at any_front _ _ _ c.requires.may_open.known c.index_mut.ensures.value in
     let hosts =
     hosts_along (driver_of (λ b. (g.dyn-1.0.entry b.vtable).1.driver b.value)) c.deref.result.now c.args.bench.now.triggers.items c.args.bench.now.devices.items
     c.args.dev c.index.result.now c.index_mut.result.now c.args.mask.bits (Ok c.in-Ok.trigger) c.deref.ensures.value
     (element_at any_front _ _ _ c.requires.may_open.known c.index.ensures) at c.in-Ok.ensures.hosts in
-    open_joins (driver_of (λ b. (g.dyn-1.0.entry b.vtable).1.driver b.value)) c.args.bench.now.context.items c.args.bench.now.described.items
+    rw (map_same trigger_of c.args.bench.now.triggers.items c.in-Ok.trigger c.index_mut-in-Ok.result.now c.join.new.trigger
+    (slice_get_read _ _ _ _ refl hosts.1 c.index_mut-in-Ok.ensures.value)
+    (joins_tell c.args.mask c.args.capacity c.args.cyclic None (number_by c.index_mut.result.now) (any_front c.index_mut.result.now).shape c.join.result
+    (any_station drive c.index_mut.result.now) (any_station drive c.join.new.self)
+    c.index_mut-in-Ok.result.now c.join.new.trigger c.join.ensures.joins))
+    (open_joins drive c.args.bench.now.context.items c.args.bench.now.described.items
     c.args.bench.now.triggers.items c.args.bench.now.devices.items c.args.bench.now.clock c.args.dev c.args.capacity c.args.cyclic c.index_mut.result.now
-    c.args.bench.now.sound c.args.bench.now.numbered at c.args.mask c.in-Ok.trigger c.join.new.self
+    c.args.bench.now.sound c.args.bench.now.numbered at _ c.args.mask c.in-Ok.trigger c.join.new.self
     c.index_mut-in-Ok.result.now c.join.new.trigger c.join.result
     (plain_at c.args.bench.now.context.items c.args.bench.now.described.items c.args.bench.now.devices.items c.args.dev c.index_mut.result.now at
-    c.requires.own) hosts c.join.ensures.joins
+    c.requires.own) hosts c.join.ensures.joins)

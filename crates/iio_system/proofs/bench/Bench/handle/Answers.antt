@@ -1,14 +1,14 @@
-use Rattle.std.proofs.Common.{◌≡◌, ◌∙◌, Bool, Option, length, map, sym, ap, subst, List}
+use Rattle.std.proofs.Common.{◌≡◌, ◌∙◌, Bool, Option, length, map, sym, ap, subst, List, []}
 use Rattle.std.proofs.lemmas.Option.{slice_get_read}
 use Rattle.iio_desc.specs.Description.{DeviceHead}
 use Rattle.iio_device.specs.Plug.{driver_of}
 use Rattle.iio_device.specs.Site.{no_driver}
 use Rattle.iio_trigger.specs.Trigger.{Handed}
 use Rattle.iio_core.specs.Front.{Front, kind_at}
-use Rattle.iio_core.specs.Machine.{Station, station_at}
-use Rattle.iio_core.specs.Trigger.{entry_of, entries_at}
-use Rattle.iio_core.specs.Moves.{machine_after_handling}
-use Rattle.iio_system.specs.Bench.{has_ended}
+use Rattle.iio_core.specs.Machine.{Station, station_at, Machine}
+use Rattle.iio_core.specs.Trigger.{entry_of, entries_at, Trigger}
+use Rattle.iio_core.specs.Moves.{entry_in, machine_after_entry, taken_off}
+use Rattle.iio_system.specs.Bench.{has_ended, triggers_of, machine_of}
 use Rattle.iio_system.specs.Handling.{IsRoom, counted, is_last, unless_ended}
 use Rattle.iio_system.specs.Places.{trigger_of}
 use Rattle.iio_system.specs.Station.{any_front, any_station, captures_by, room_by, stations_by}
@@ -49,7 +49,7 @@ invariant_of-self g c =
     let told =
     told_after (driver_of (λ b. (g.dyn-1.0.entry b.vtable).1.driver b.value)) c.args.self.now.context.items c.args.self.now.described.items
     c.args.self.now.devices.items c.gather.new.devices.items c.args.self.now.clock c.args.self.now.first_average c.args.dev d c.handle-became.new.self at
-    c.args.self.now.averaged o c.handle-became.ensures.station c.handle-became.ensures.keeps c.handle-became.ensures.scan c.handle-became.result
+    c.args.self.now.averaged o c.handle-became.ensures.station c.handle-became.ensures.keeps c.handle-became.ensures.scan [] c.handle-became.result
     c.handle-became.ensures.answer c.gather.ensures in
     let fronts =
     fronts_after (driver_of (λ b. (g.dyn-1.0.entry b.vtable).1.driver b.value)) c.args.self.now.context.items c.args.self.now.described.items
@@ -58,7 +58,7 @@ invariant_of-self g c =
     c.gather.ensures in
     let whole =
     whole_handled (driver_of (λ b. (g.dyn-1.0.entry b.vtable).1.driver b.value)) c.args.self.now.context.items c.args.self.now.described.items
-    c.args.self.now.devices.items c.gather.new.devices.items c.args.self.now.clock fronts c.args.self.now.triggers.items c.args.self.now.first_average o
+    c.args.self.now.devices.items c.gather.new.devices.items c.args.self.now.clock [] fronts c.args.self.now.triggers.items c.args.self.now.first_average o
     (is_last (captures_by d)) c.args.dev d at
     c.args.self.now.sound c.args.self.now.averaged told
     (λ input. ap is_last (sym (made_by (driver_of (λ b. (g.dyn-1.0.entry b.vtable).1.driver b.value)) d input))) in
@@ -88,28 +88,26 @@ returns-clause-front g c =
 
 pub returns-clause-told : goal.returns-clause-told
 returns-clause-told g c =
+    let drive = driver_of (λ b. (g.dyn-1.0.entry b.vtable).1.driver b.value) in
     let d = c.index_mut.result.now in
     let at = element_at any_front _ _ _ c.requires.dev c.index_mut.ensures.value in
     let there =
     slice_get_read _ (length c.args.self.now.described.items) _ _ (sym (as_many _ _ c.args.self.now.sound.places)) c.requires.trigger
     c.index_mut-2.ensures.value in
     let front = fronts_by any_front c.args.self.now.context.items c.args.self.now.described.items c.args.self.now.devices.items in
-    let m = machine_by (any_station (driver_of (λ b. (g.dyn-1.0.entry b.vtable).1.driver b.value))) c.args.self.now.clock c.args.self.now.devices.items in
-    told_after (driver_of (λ b. (g.dyn-1.0.entry b.vtable).1.driver b.value)) c.args.self.now.context.items c.args.self.now.described.items
+    let m = machine_by (any_station drive) c.args.self.now.clock (triggers_of c.args.self.now) c.args.self.now.devices.items in
+    ap (λ (ts : List Trigger). machine_by (any_station drive) c.args.self.now.clock ts c.gather.new.devices.items)
+    (entry_triggers c.args.self.now.triggers.items c.args.trigger c.args.dev c.index_mut-2.result.now c.handle-became.new.trigger there
+    c.handle-became.ensures.trigger)
+    ∙ ap (λ (x : Machine). taken_off c.args.trigger c.args.dev x)
+    (told_after drive c.args.self.now.context.items c.args.self.now.described.items
     c.args.self.now.devices.items c.gather.new.devices.items c.args.self.now.clock c.args.self.now.first_average c.args.dev d c.handle-became.new.self at
     c.args.self.now.averaged (entry_of c.args.dev (trigger_of c.index_mut-2.result.now).entries) c.handle-became.ensures.station c.handle-became.ensures.keeps
-    c.handle-became.ensures.scan c.handle-became.result c.handle-became.ensures.answer c.gather.ensures
-    ∙ ap (λ (o : Option Handed). unless_ended (is_last (captures_by d)) m (machine_after_handling front o c.args.dev m))
+    c.handle-became.ensures.scan _ c.handle-became.result c.handle-became.ensures.answer c.gather.ensures
+    ∙ ap (λ (o : Option Handed). unless_ended (is_last (captures_by d)) m (machine_after_entry front o c.args.dev m))
     (sym (entry_here c.args.self.now.triggers.items c.args.trigger c.args.dev c.index_mut-2.result.now there))
-    ∙ ap (λ (b : Bool). unless_ended b m (machine_after_handling front
-    (entry_of c.args.dev (entries_at (map trigger_of c.args.self.now.triggers.items) c.args.trigger)) c.args.dev m))
-    (sym (ended_here captures_by c.args.self.now.devices.items c.args.dev d at))
-
-pub returns-clause-triggers : goal.returns-clause-triggers
-returns-clause-triggers g c =
-    entry_triggers c.args.self.now.triggers.items c.args.trigger c.args.dev c.index_mut-2.result.now c.handle-became.new.trigger
-    (slice_get_read _ (length c.args.self.now.described.items) _ _ (sym (as_many _ _ c.args.self.now.sound.places)) c.requires.trigger
-    c.index_mut-2.ensures.value) c.handle-became.ensures.trigger
+    ∙ ap (λ (b : Bool). unless_ended b m (machine_after_entry front (entry_in c.args.trigger c.args.dev m) c.args.dev m))
+    (sym (ended_here captures_by c.args.self.now.devices.items c.args.dev d at)))
 
 pub returns-clause-captures : goal.returns-clause-captures
 returns-clause-captures g c =
@@ -135,12 +133,11 @@ returns-clause-answer g c =
     (entry_of c.args.dev (entries_at (map trigger_of c.args.self.now.triggers.items) c.args.trigger))
     (is_last (captures_by d)) (has_ended c.args.self.now c.args.dev)
     (any_station (driver_of (λ b. (g.dyn-1.0.entry b.vtable).1.driver b.value)) d)
-    (station_at (machine_by (any_station (driver_of (λ b. (g.dyn-1.0.entry b.vtable).1.driver b.value))) c.args.self.now.clock c.args.self.now.devices.items)
-    c.args.dev) c.handle-became.result
+    (station_at (machine_of (driver_of (λ b. (g.dyn-1.0.entry b.vtable).1.driver b.value)) c.args.self.now) c.args.dev) c.handle-became.result
     (kind_is any_front c.args.self.now.context.items c.args.self.now.described.items c.args.self.now.devices.items c.args.dev d at)
     (entry_here c.args.self.now.triggers.items c.args.trigger c.args.dev c.index_mut-2.result.now there)
     (ended_here captures_by c.args.self.now.devices.items c.args.dev d at)
-    (station_is (any_station (driver_of (λ b. (g.dyn-1.0.entry b.vtable).1.driver b.value))) c.args.self.now.clock c.args.self.now.devices.items c.args.dev d
+    (station_is (any_station (driver_of (λ b. (g.dyn-1.0.entry b.vtable).1.driver b.value))) c.args.self.now.clock _ c.args.self.now.devices.items c.args.dev d
     at) c.handle-became.ensures.answer
 
 pub returns-clause-room : goal.returns-clause-room
@@ -148,13 +145,12 @@ returns-clause-room g c =
     let d = c.index_mut.result.now in
     let at = element_at any_front _ _ _ c.requires.dev c.index_mut.ensures.value in
     let here =
-    station_is (any_station (driver_of (λ b. (g.dyn-1.0.entry b.vtable).1.driver b.value))) c.args.self.now.clock c.args.self.now.devices.items c.args.dev d at
-    in
+    station_is (any_station (driver_of (λ b. (g.dyn-1.0.entry b.vtable).1.driver b.value))) c.args.self.now.clock (triggers_of c.args.self.now)
+    c.args.self.now.devices.items c.args.dev d at in
     room_after (driver_of (λ b. (g.dyn-1.0.entry b.vtable).1.driver b.value)) c.args.self.now.context.items c.args.self.now.described.items
     c.args.self.now.devices.items c.gather.new.devices.items c.args.self.now.clock c.args.self.now.first_average c.args.dev d c.handle-became.new.self at
     c.args.self.now.averaged (entry_of c.args.dev (trigger_of c.index_mut-2.result.now).entries) c.handle-became.ensures.station c.handle-became.ensures.keeps
     c.handle-became.ensures.scan c.handle-became.result
-    (station_at (machine_by (any_station (driver_of (λ b. (g.dyn-1.0.entry b.vtable).1.driver b.value))) c.args.self.now.clock c.args.self.now.devices.items)
-    c.args.dev).members
+    (station_at (machine_of (driver_of (λ b. (g.dyn-1.0.entry b.vtable).1.driver b.value)) c.args.self.now) c.args.dev).members
     (subst (λ (st : Station). IsRoom c.handle-became.result st.members (room_by c.handle-became.new.self)) (sym here) c.handle-became.ensures.room)
     c.gather.ensures

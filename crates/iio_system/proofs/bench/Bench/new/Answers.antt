@@ -13,12 +13,13 @@ use Rattle.iio_system.specs.Averages.{HasBases}
 use Rattle.iio_system.specs.First.{first_machine, first_state, first_station}
 use Rattle.iio_system.specs.OutStation.{first_out_station}
 use Rattle.iio_system.specs.Places.{trigger_of}
-use Rattle.iio_core.specs.Trigger.{first_trigger}
+use Rattle.iio_core.specs.Trigger.{first_trigger, Trigger}
 use Rattle.iio_system.specs.Station.{any_front, any_station, stations_by}
 use Rattle.iio_system.proofs.AnyLemmas.{members_as}
 use Rattle.iio_system.proofs.FirstLemmas.{AreBare, AreFresh, added_heads, added_stations, first_averaged, first_bare, first_bases, first_bench, first_fresh, first_told, firsts_few, formed_more}
 use Rattle.iio_system.proofs.ListLemmas.{length_map_is}
 use Rattle.iio_system.proofs.OpenLemmas.{averaged_as}
+use Rattle.iio_system.proofs.ToldLemmas.{machine_by}
 use Rattle.iio_system.proofs.bench.Bench.new.Goals as goal
 
 pub add_outputs-requires-clause-few : goal.add_outputs-requires-clause-few
@@ -107,12 +108,6 @@ invariant_of-result g c =
           (subst AreFresh (sym stations) (first_fresh drivers c.desc.inside.devices.items c.desc.inside.outputs.items c.desc.inside.averages.items)));
     }
 
-pub returns-clause-triggers : goal.returns-clause-triggers
-returns-clause-triggers g c =
-    ap (λ (states : List State). map trigger_of states) (c.in_ok-triggers.ensures ∙ ap (λ (ts : List TriggerDesc). map first_state ts) c.deref.ensures.value)
-    ∙ first_told c.desc.inside.triggers.items
-    ∙ ap (λ (d : Description). map (λ (t : TriggerDesc). first_trigger) d.triggers) c.desc.view_is
-
 pub returns-clause-front : goal.returns-clause-front
 returns-clause-front g c =
     let formed : All (IsWellFormedAverage (length c.desc.inside.devices.items)) c.desc.inside.averages.items =
@@ -132,12 +127,14 @@ returns-clause-told g c =
     subst (λ (d : Description). All (IsWellFormedAverage (length d.devices)) d.averages) (sym c.desc.view_is) c.requires.averages in
     let heads : map any_front c.add_outputs.new.devices.items ≡ map input_head c.desc.inside.devices.items ++ map output_head c.desc.inside.outputs.items =
     c.in_ok-add_outputs.ensures.fronts ∙ ap (λ (hs : List DeviceHead). hs ++ map output_head c.desc.inside.outputs.items) c.in_ok-devices.ensures.fronts in
-    subst
-    (λ (d : Description). (let m : Machine =
-    record { clock = pos 0; stations = stations_by (driver_of (λ b. (g.dyn-1.0.entry b.vtable).1.driver b.value)) c.add_averages.new.devices.items } in m)
-    ≡ first_machine (map (λ d. driver_of (λ b. (g.dyn-1.0.entry b.vtable).1.driver b.value) (Given d)) c.args.drivers.items) d)
+    let drive = driver_of (λ b. (g.dyn-1.0.entry b.vtable).1.driver b.value) in
+    subst (λ (d : Description). machine_by (any_station drive) (pos 0) (map trigger_of c.in_ok-triggers.triggers.items) c.add_averages.new.devices.items
+    ≡ first_machine (map (λ d. drive (Given d)) c.args.drivers.items) d)
     c.desc.view_is
-    (ap (λ (sts : List Station). (let m : Machine = record { clock = pos 0; stations = sts } in m))
-    (added_stations c.desc.inside.devices.items c.desc.inside.outputs.items
-    (map (λ d. driver_of (λ b. (g.dyn-1.0.entry b.vtable).1.driver b.value) (Given d)) c.args.drivers.items) c.desc.inside.averages.items _ _ _ _ formed
-    c.in_ok-devices.ensures.stations c.in_ok-add_outputs.ensures.stations heads c.in_ok-add_averages.ensures.stations))
+    (ap (λ (ts : List Trigger). machine_by (any_station drive) (pos 0) ts c.add_averages.new.devices.items)
+    (ap (λ (states : List State). map trigger_of states) (c.in_ok-triggers.ensures ∙ ap (λ (ts : List TriggerDesc). map first_state ts) c.deref.ensures.value)
+    ∙ first_told c.desc.inside.triggers.items)
+    ∙ ap (λ (sts : List Station). (let m : Machine =
+    record { clock = pos 0; triggers = map (λ (t : TriggerDesc). first_trigger) c.desc.inside.triggers.items; stations = sts } in m))
+    (added_stations c.desc.inside.devices.items c.desc.inside.outputs.items (map (λ d. drive (Given d)) c.args.drivers.items) c.desc.inside.averages.items
+    _ _ _ _ formed c.in_ok-devices.ensures.stations c.in_ok-add_outputs.ensures.stations heads c.in_ok-add_averages.ensures.stations))

@@ -6,11 +6,12 @@ use Rattle.iio_core.specs.Front.{kind_at, shape_at}
 use Rattle.iio_core.specs.Machine.{Station, with_station}
 use Rattle.iio_device.specs.Plug.{driver_of}
 use Rattle.iio_core.specs.Moves.{kind_sensed, look_made}
+use Rattle.iio_system.specs.Bench.{machine_of, triggers_of}
 use Rattle.iio_system.specs.Station.{any_front, any_station, captures_by}
 use Rattle.iio_system.proofs.ListLemmas.{element_at, map_same, numbered_after}
 use Rattle.iio_system.proofs.IioLemmas.{averaged_kept, fronts_keep, sound_kept}
 use Rattle.iio_system.proofs.FiringLemmas.{sense_stands}
-use Rattle.iio_system.proofs.ToldLemmas.{fronts_by, kind_is, machine_by, shape_is, station_is, told_changed}
+use Rattle.iio_system.proofs.ToldLemmas.{fronts_by, kind_is, shape_is, station_is, told_changed}
 use Rattle.iio_system.proofs.bench.Bench.sense.Goals as goal
 
 pub invariant_of-self : goal.invariant_of-self
@@ -35,11 +36,11 @@ returns-clause-told g c =
     let at = element_at any_front _ _ _ c.requires c.index_mut.ensures.value in
     let shape =
     shape_is any_front c.args.self.now.context.items c.args.self.now.described.items c.args.self.now.devices.items c.args.dev c.index_mut.result.now at in
-    told_changed (any_station drive) c.args.self.now.clock c.args.self.now.devices.items c.args.dev c.index_mut.result.now c.sense.new.self at
+    told_changed (any_station drive) c.args.self.now.clock _ c.args.self.now.devices.items c.args.dev c.index_mut.result.now c.sense.new.self at
     (look_made (any_front c.index_mut.result.now).shape c.args.t)
     (rw (to_z-of_z w64 c.args.t c.ranges.t) at c.sense.ensures.station)
     ∙ ap (λ (s : ShapeRecord). with_station (look_made s c.args.t) c.args.dev
-    (machine_by (any_station drive) c.args.self.now.clock c.args.self.now.devices.items)) (sym shape)
+    (machine_of drive c.args.self.now)) (sym shape)
 
 pub returns-clause-answer : goal.returns-clause-answer
 returns-clause-answer g c =
@@ -49,7 +50,9 @@ returns-clause-answer g c =
     shape_is any_front c.args.self.now.context.items c.args.self.now.described.items c.args.self.now.devices.items c.args.dev c.index_mut.result.now at in
     let kind =
     kind_is any_front c.args.self.now.context.items c.args.self.now.described.items c.args.self.now.devices.items c.args.dev c.index_mut.result.now at in
-    let here = station_is (any_station drive) c.args.self.now.clock c.args.self.now.devices.items c.args.dev c.index_mut.result.now at in
+    let here =
+    station_is (any_station drive) c.args.self.now.clock (triggers_of c.args.self.now) c.args.self.now.devices.items c.args.dev
+    c.index_mut.result.now at in
     (rw (to_z-of_z w64 c.args.t c.ranges.t) at c.sense.ensures.answer)
     ∙ ap (λ (k : Kind). kind_sensed k (any_front c.index_mut.result.now).shape c.args.t (any_station drive c.index_mut.result.now)) (sym kind)
     ∙ ap (λ (s : ShapeRecord). kind_sensed

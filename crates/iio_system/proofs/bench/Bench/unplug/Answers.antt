@@ -1,4 +1,4 @@
-use Rattle.std.proofs.Common.{◌≡◌, ◌∙◌, ap, sym, List}
+use Rattle.std.proofs.Common.{◌≡◌, ◌∙◌, ap, sym, List, []}
 use Rattle.std.specs.Prelude.{◌&&◌}
 use Rattle.iio_desc.specs.Description.{DeviceHead}
 use Rattle.iio_desc.specs.Kind.{is_average}
@@ -6,10 +6,11 @@ use Rattle.iio_device.specs.Plug.{driver_of}
 use Rattle.iio_device.specs.Site.{no_driver}
 use Rattle.iio_core.specs.Front.{Front}
 use Rattle.iio_core.specs.Machine.{is_plugged}
+use Rattle.iio_system.specs.Bench.{machine_of}
 use Rattle.iio_system.specs.Station.{any_front, any_station, captures_by, number_by}
 use Rattle.iio_system.proofs.ListLemmas.{element_at, length_map_is}
 use Rattle.iio_system.proofs.TogetherLemmas.{map_unmoved, numbered_together}
-use Rattle.iio_system.proofs.ToldLemmas.{fronts_by, kind_is, machine_by, plugged_is}
+use Rattle.iio_system.proofs.ToldLemmas.{fronts_by, kind_is, plugged_is}
 use Rattle.iio_system.proofs.WholeLemmas.{and_false, none_unplugged, plain_and, told_unplugged, whole_unplugged}
 use Rattle.iio_system.proofs.bench.Bench.unplug.Goals as goal
 
@@ -22,7 +23,7 @@ returns-then-is_average-clause-told g c =
     ap is_average (kind_is any_front c.args.self.now.context.items c.args.self.now.described.items c.args.self.now.devices.items c.args.dev c.index.result.now
     at) ∙ sym c.is_average.ensures ∙ c.if-is_average.true in
     sym (none_unplugged (fronts_by any_front c.args.self.now.context.items c.args.self.now.described.items c.args.self.now.devices.items) c.args.dev
-    (machine_by (any_station (driver_of (λ b. (g.dyn-1.0.entry b.vtable).1.driver b.value))) c.args.self.now.clock c.args.self.now.devices.items)
+    (machine_of (driver_of (λ b. (g.dyn-1.0.entry b.vtable).1.driver b.value)) c.args.self.now)
     c.args.self.now.first_average c.args.self.now.averaged.bases average)
 
 pub returns-then-is_average-clause-answer : goal.returns-then-is_average-clause-answer
@@ -32,7 +33,7 @@ returns-then-is_average-clause-answer g c =
     ap is_average (kind_is any_front c.args.self.now.context.items c.args.self.now.described.items c.args.self.now.devices.items c.args.dev c.index.result.now
     at) ∙ sym c.is_average.ensures ∙ c.if-is_average.true in
     sym (and_false (is_plugged
-    (machine_by (any_station (driver_of (λ b. (g.dyn-1.0.entry b.vtable).1.driver b.value))) c.args.self.now.clock c.args.self.now.devices.items) c.args.dev) _
+    (machine_of (driver_of (λ b. (g.dyn-1.0.entry b.vtable).1.driver b.value)) c.args.self.now) c.args.dev) _
     average)
 
 -- ---- another one
@@ -44,13 +45,13 @@ pub invariant_of-self : goal.invariant_of-self
 invariant_of-self g c =
     let told =
     told_unplugged (driver_of (λ b. (g.dyn-1.0.entry b.vtable).1.driver b.value)) c.args.self.now.context.items c.args.self.now.described.items
-    c.args.self.now.devices.items c.unplug_all.new.devices.items c.args.self.now.clock c.args.dev c.unplug_all.ensures in
+    c.args.self.now.devices.items c.unplug_all.new.devices.items c.args.self.now.clock [] c.args.dev c.unplug_all.ensures in
     let fronts =
     map_unmoved any_front c.args.self.now.devices.items c.unplug_all.new.devices.items c.unplug_all.ensures.same
     (λ i d d' at at'. (c.unplug_all.ensures.each i d d' at at').keeps.head.front) in
     let whole =
     whole_unplugged (driver_of (λ b. (g.dyn-1.0.entry b.vtable).1.driver b.value)) c.args.self.now.context.items c.args.self.now.described.items
-    c.args.self.now.devices.items c.unplug_all.new.devices.items c.args.self.now.clock fronts c.args.self.now.triggers.items c.args.self.now.first_average
+    c.args.self.now.devices.items c.unplug_all.new.devices.items c.args.self.now.clock [] fronts c.args.self.now.triggers.items c.args.self.now.first_average
     c.args.dev c.args.self.now.sound c.args.self.now.averaged told in
     record {
       sound = whole.0;
@@ -70,7 +71,7 @@ returns-clause-front g c =
 pub returns-clause-told : goal.returns-clause-told
 returns-clause-told g c =
     told_unplugged (driver_of (λ b. (g.dyn-1.0.entry b.vtable).1.driver b.value)) c.args.self.now.context.items c.args.self.now.described.items
-    c.args.self.now.devices.items c.unplug_all.new.devices.items c.args.self.now.clock c.args.dev c.unplug_all.ensures
+    c.args.self.now.devices.items c.unplug_all.new.devices.items c.args.self.now.clock _ c.args.dev c.unplug_all.ensures
 
 pub returns-clause-captures : goal.returns-clause-captures
 returns-clause-captures g c =
@@ -84,8 +85,8 @@ returns-clause-answer g c =
     ap is_average (kind_is any_front c.args.self.now.context.items c.args.self.now.described.items c.args.self.now.devices.items c.args.dev c.index.result.now
     at) ∙ sym c.is_average.ensures ∙ c.if-is_average.false in
     c.plugged-was_plugged.ensures
-    ∙ sym (plugged_is (any_station (driver_of (λ b. (g.dyn-1.0.entry b.vtable).1.driver b.value))) c.args.self.now.clock c.args.self.now.devices.items
+    ∙ sym (plugged_is (any_station (driver_of (λ b. (g.dyn-1.0.entry b.vtable).1.driver b.value))) c.args.self.now.clock _ c.args.self.now.devices.items
     c.args.dev c.index-2.result.now (element_at any_front _ _ _ c.requires c.index-2.ensures))
     ∙ sym (plain_and (is_plugged
-    (machine_by (any_station (driver_of (λ b. (g.dyn-1.0.entry b.vtable).1.driver b.value))) c.args.self.now.clock c.args.self.now.devices.items) c.args.dev) _
+    (machine_of (driver_of (λ b. (g.dyn-1.0.entry b.vtable).1.driver b.value)) c.args.self.now) c.args.dev) _
     plain)

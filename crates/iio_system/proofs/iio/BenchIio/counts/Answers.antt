@@ -6,7 +6,7 @@ use Rattle.iio_system.proofs.iio.BenchIio.counts.Goals as goal
 
 pub returns-clause-waiting : goal.returns-clause-waiting
 returns-clause-waiting g c =
-    c.counts.ensures.waiting ∙ ap (λ q. length q) (sym (queue_is (any_station _) _ _ _ _ (element_at any_front _ _ _ c.requires.dev c.index.ensures) _))
+    c.counts.ensures.waiting ∙ ap (λ q. length q) (sym (queue_is (any_station _) _ _ _ _ _ (element_at any_front _ _ _ c.requires.dev c.index.ensures) _))
 
 pub returns-clause-lost : goal.returns-clause-lost
-returns-clause-lost g c = c.counts.ensures.lost ∙ sym (lost_at (any_station _) _ _ _ _ (element_at any_front _ _ _ c.requires.dev c.index.ensures) _)
+returns-clause-lost g c = c.counts.ensures.lost ∙ sym (lost_at (any_station _) _ _ _ _ _ (element_at any_front _ _ _ c.requires.dev c.index.ensures) _)

@@ -21,12 +21,12 @@ invariant_of-self g c =
 pub returns-clause-kept : goal.returns-clause-kept
 returns-clause-kept g c =
     let at = element_at any_front _ _ _ c.requires.dev c.index_mut.ensures.value in
-    device_keeps _ _ _ _ _ _ _ at c.ev_close.ensures.keeps
+    device_keeps _ _ _ _ _ _ at c.ev_close.ensures.keeps
 
 pub returns-clause-told : goal.returns-clause-told
 returns-clause-told g c =
     let at = element_at any_front _ _ _ c.requires.dev c.index_mut.ensures.value in
-    told_ev_close _ _ _ _ _ _ at _ _ c.ev_close.ensures.acts
+    told_ev_close _ _ _ _ _ _ _ at _ _ c.ev_close.ensures.acts
 
 pub ev_close-requires : goal.ev_close-requires
 ev_close-requires g c =

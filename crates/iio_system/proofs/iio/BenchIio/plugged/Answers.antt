@@ -5,4 +5,4 @@ use Rattle.iio_system.proofs.ToldLemmas.{plugged_is}
 use Rattle.iio_system.proofs.iio.BenchIio.plugged.Goals as goal
 
 pub returns : goal.returns
-returns g c = c.plugged.ensures ∙ sym (plugged_is (any_station _) _ _ _ _ (element_at any_front _ _ _ c.requires c.index.ensures))
+returns g c = c.plugged.ensures ∙ sym (plugged_is (any_station _) _ _ _ _ _ (element_at any_front _ _ _ c.requires c.index.ensures))

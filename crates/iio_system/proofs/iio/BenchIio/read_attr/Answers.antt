@@ -20,13 +20,13 @@ invariant_of-self g c =
 pub returns-clause-kept : goal.returns-clause-kept
 returns-clause-kept g c =
     let at = element_at any_front _ _ _ c.requires.dev c.index_mut.ensures.value in
-    device_keeps _ _ _ _ _ _ _ at c.read_attr.ensures.keeps
+    device_keeps _ _ _ _ _ _ at c.read_attr.ensures.keeps
 
 pub returns-clause-told : goal.returns-clause-told
 returns-clause-told g c =
     let whole : to_z w64 (of_z w64 c.clock-t.result) ≡ c.clock-t.result = search rules in
     let at = element_at any_front _ _ _ c.requires.dev c.index_mut.ensures.value in
-    told_read any_front _ _ _ _ _ at (any_station (driver_of (λ b. (g.dyn-1.0.entry b.vtable).1.driver b.value))) c.args.self.now.clock c.read_attr.new.self
+    told_read any_front _ _ _ _ _ at (any_station (driver_of (λ b. (g.dyn-1.0.entry b.vtable).1.driver b.value))) c.args.self.now.clock _ c.read_attr.new.self
     c.args.channel c.args.attr (to_z w64 (of_z w64 c.clock-t.result)) _ (whole ∙ c.clock-t.ensures) c.read_attr.ensures.reads
 
 pub read_attr-requires : goal.read_attr-requires

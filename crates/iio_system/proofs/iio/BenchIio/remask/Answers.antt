@@ -66,18 +66,18 @@ invariant_of-self g c =
 
 pub returns-in-Err-clause-kept : goal.returns-in-Err-clause-kept
 returns-in-Err-clause-kept g c =
-    device_keeps _ _ _ _ _ _ _ (element_at any_front _ _ _ c.requires.may_open.known c.index_mut-device.ensures.value) c.remask.ensures.keeps
+    device_keeps _ _ _ _ _ _ (element_at any_front _ _ _ c.requires.may_open.known c.index_mut-device.ensures.value) c.remask.ensures.keeps
 
 pub returns-in-Err-clause-told : goal.returns-in-Err-clause-told
 returns-in-Err-clause-told g c =
     told_remask (driver_of (λ b. (g.dyn-1.0.entry b.vtable).1.driver b.value)) c.args.self.now.context.items c.args.self.now.described.items
     c.args.self.now.devices.items c.args.self.now.clock c.args.dev c.index_mut-device.result.now c.remask.new.self
     (element_at any_front _ _ _ c.requires.may_open.known c.index_mut-device.ensures.value) (id_of c.args.seat.now.number c.args.seat.now.mask) c.args.mask.bits
-    c.args.seat.now.capacity (Err c.in-Err.no) c.in-Err.ensures.acts
+    c.args.seat.now.capacity (Err c.in-Err.no) c.in-Err.ensures.acts _
 
 pub returns-in-Ok-clause-kept : goal.returns-in-Ok-clause-kept
 returns-in-Ok-clause-kept g c =
-    device_keeps _ _ _ _ _ _ _ (element_at any_front _ _ _ c.requires.may_open.known c.index_mut-device.ensures.value) c.remask.ensures.keeps
+    device_keeps _ _ _ _ _ _ (element_at any_front _ _ _ c.requires.may_open.known c.index_mut-device.ensures.value) c.remask.ensures.keeps
 
 pub returns-in-Ok-clause-seat : goal.returns-in-Ok-clause-seat
 returns-in-Ok-clause-seat g c =
@@ -100,7 +100,7 @@ returns-in-Ok-clause-told g c =
     told_remask (driver_of (λ b. (g.dyn-1.0.entry b.vtable).1.driver b.value)) c.args.self.now.context.items c.args.self.now.described.items
     c.args.self.now.devices.items c.args.self.now.clock c.args.dev c.index_mut-device.result.now c.remask.new.self
     (element_at any_front _ _ _ c.requires.may_open.known c.index_mut-device.ensures.value) (id_of c.args.seat.now.number c.args.seat.now.mask) c.args.mask.bits
-    c.args.seat.now.capacity (Ok c.in-Ok.waited) c.in-Ok.ensures.acts
+    c.args.seat.now.capacity (Ok c.in-Ok.waited) c.in-Ok.ensures.acts _
 
 pub remask-requires-clause-input : goal.remask-requires-clause-input
 remask-requires-clause-input g c =

@@ -21,12 +21,12 @@ invariant_of-self g c =
 pub returns-clause-kept : goal.returns-clause-kept
 returns-clause-kept g c =
     let at = element_at any_front _ _ _ c.requires.dev c.index_mut.ensures.value in
-    device_keeps _ _ _ _ _ _ _ at c.set_trigger.ensures.keeps
+    device_keeps _ _ _ _ _ _ at c.set_trigger.ensures.keeps
 
 pub returns-clause-told : goal.returns-clause-told
 returns-clause-told g c =
     let at = element_at any_front _ _ _ c.requires.dev c.index_mut.ensures.value in
-    told_trigger _ _ _ _ _ _ at _ _ c.set_trigger.ensures.acts
+    told_trigger _ _ _ _ _ _ _ at _ _ c.set_trigger.ensures.acts
 
 pub set_trigger-requires-clause-own : goal.set_trigger-requires-clause-own
 set_trigger-requires-clause-own g c =

@@ -28,11 +28,11 @@ invariant_of-self g c =
     }
 
 pub returns-clause-kept : goal.returns-clause-kept
-returns-clause-kept g c = device_keeps _ _ _ _ _ _ _ (element_at any_front _ _ _ c.requires.dev c.index_mut.ensures.value) c.take.ensures.keeps
+returns-clause-kept g c = device_keeps _ _ _ _ _ _ (element_at any_front _ _ _ c.requires.dev c.index_mut.ensures.value) c.take.ensures.keeps
 
 pub returns-clause-told : goal.returns-clause-told
 returns-clause-told g c =
-    told_take (any_station (driver_of (λ b. (g.dyn-1.0.entry b.vtable).1.driver b.value))) c.args.self.now.clock c.args.self.now.devices.items c.args.dev
+    told_take (any_station (driver_of (λ b. (g.dyn-1.0.entry b.vtable).1.driver b.value))) c.args.self.now.clock _ c.args.self.now.devices.items c.args.dev
     c.index_mut.result.now c.take.new.self (element_at any_front _ _ _ c.requires.dev c.index_mut.ensures.value)
     (id_of c.args.seat.now.number c.args.seat.now.mask) c.take.result c.take.new.out c.take.ensures.takes
 

@@ -30,13 +30,13 @@ invariant_of-self g c =
     }
 
 pub returns-clause-kept : goal.returns-clause-kept
-returns-clause-kept g c = device_keeps _ _ _ _ _ _ _ (element_at any_front _ _ _ c.requires.dev c.index_mut.ensures.value) c.take_scans.ensures.keeps
+returns-clause-kept g c = device_keeps _ _ _ _ _ _ (element_at any_front _ _ _ c.requires.dev c.index_mut.ensures.value) c.take_scans.ensures.keeps
 
 pub returns-clause-takes : goal.returns-clause-takes
 returns-clause-takes g c =
-    told_take_scans (any_station (driver_of (λ b. (g.dyn-1.0.entry b.vtable).1.driver b.value))) c.args.self.now.clock c.args.self.now.devices.items c.args.dev
-    c.index_mut.result.now c.take_scans.new.self (element_at any_front _ _ _ c.requires.dev c.index_mut.ensures.value) (seen_of c.args.seat.now) c.args.most
-    c.take_scans.result c.args.out.now.items c.take_scans.new.out.items refl c.take_scans.ensures.takes
+    told_take_scans (any_station (driver_of (λ b. (g.dyn-1.0.entry b.vtable).1.driver b.value))) c.args.self.now.clock _ c.args.self.now.devices.items
+    c.args.dev c.index_mut.result.now c.take_scans.new.self (element_at any_front _ _ _ c.requires.dev c.index_mut.ensures.value) (seen_of c.args.seat.now)
+    c.args.most c.take_scans.result c.args.out.now.items c.take_scans.new.out.items refl c.take_scans.ensures.takes
 
 pub returns-clause-most : goal.returns-clause-most
 returns-clause-most g c =

@@ -19,12 +19,12 @@ invariant_of-self g c =
 pub returns-clause-kept : goal.returns-clause-kept
 returns-clause-kept g c =
     let at = element_at any_front _ _ _ c.requires.dev c.index_mut.ensures.value in
-    device_keeps _ _ _ _ _ _ _ at c.write_attr.ensures.keeps
+    device_keeps _ _ _ _ _ _ at c.write_attr.ensures.keeps
 
 pub returns-clause-told : goal.returns-clause-told
 returns-clause-told g c =
     let at = element_at any_front _ _ _ c.requires.dev c.index_mut.ensures.value in
-    told_write _ _ _ _ _ _ at _ _ _ _ c.write_attr.ensures.acts
+    told_write _ _ _ _ _ _ _ at _ _ _ _ c.write_attr.ensures.acts
 
 pub write_attr-requires : goal.write_attr-requires
 write_attr-requires g c =

@@ -28,11 +28,11 @@ invariant_of-self g c =
     }
 
 pub returns-clause-kept : goal.returns-clause-kept
-returns-clause-kept g c = device_keeps _ _ _ _ _ _ _ (element_at any_front _ _ _ c.requires.dev c.index_mut.ensures.value) c.write.ensures.keeps
+returns-clause-kept g c = device_keeps _ _ _ _ _ _ (element_at any_front _ _ _ c.requires.dev c.index_mut.ensures.value) c.write.ensures.keeps
 
 pub returns-clause-told : goal.returns-clause-told
 returns-clause-told g c =
     let at = element_at any_front _ _ _ c.requires.dev c.index_mut.ensures.value in
     told_written any_front c.args.self.now.context.items c.args.self.now.described.items c.args.self.now.devices.items c.args.dev c.index_mut.result.now at
-    (any_station (driver_of (λ b. (g.dyn-1.0.entry b.vtable).1.driver b.value))) c.args.self.now.clock c.write.new.self
+    (any_station (driver_of (λ b. (g.dyn-1.0.entry b.vtable).1.driver b.value))) c.args.self.now.clock _ c.write.new.self
     (id_of c.args.seat.now.number c.args.seat.now.mask) c.args.bytes.now c.write.result c.write.ensures.acts

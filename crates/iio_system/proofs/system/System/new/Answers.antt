@@ -27,7 +27,7 @@ returns-clause-stands g c = record {
       rw c.new-2.ensures.items
       (holds_first (driver_of (λ b. (g.dyn-1.0.entry b.vtable).1.driver b.value))
       (record { desc = c.args.desc; drivers = map (λ d. driver_of (λ b. (g.dyn-1.0.entry b.vtable).1.driver b.value) (Given d)) c.args.drivers.items })
-      c.in_ok-bench.bench c.in_ok-bench.ensures.front c.in_ok-bench.ensures.told c.in_ok-bench.ensures.triggers
+      c.in_ok-bench.bench c.in_ok-bench.ensures.front c.in_ok-bench.ensures.told
       (subst (λ (f : Front). Every HasDeviceSizes f.devices) c.in_ok-bench.ensures.front
       (subst (λ ds. Every HasDeviceSizes (map any_front ds)) c.deref.ensures.value c.look_at_sizes.ensures)));
   room =
