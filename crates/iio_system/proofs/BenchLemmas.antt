@@ -1,5 +1,5 @@
 -- What holds of a bench, where one device has changed.
-use Rattle.std.proofs.Common.{◌≡◌, ◌⊎◌, ℕ, ◌<◌, Bool, true, false, List, [], ◌∷◌, map, length, set, slice_get, Option, Some, None, Result, Ok, Err, inl, inr, refl, sym, ap, subst, ◌∙◌, arith, cond}
+use Rattle.std.proofs.Common.{◌≡◌, ◌⊎◌, ℕ, ◌<◌, Bool, true, false, List, [], ◌∷◌, map, length, set, slice_get, Option, Some, None, IfSome, Result, Ok, Err, inl, inr, refl, sym, ap, subst, ◌∙◌, arith, cond}
 use Rattle.std.specs.Prelude.{◌==◌, ◌||◌, ⊤}
 use Rattle.std.specs.List.{list_any}
 use Rattle.std.proofs.lemmas.Bool.Decides.{nat_tests}
@@ -22,7 +22,7 @@ use Rattle.iio_core.specs.Machine.{Member, MemberId, Station, is_id_of, with_sca
 use Rattle.iio_core.specs.Calls.{is_inner_of, trigger_answer}
 use Rattle.iio_system.specs.Acting.{Acts, TakesAt, TakesScansAt}
 use Rattle.iio_system.specs.Averages.{has_inner}
-use Rattle.iio_system.specs.Places.{IsBench, IsTrigger, has_in_hand, has_trigger, is_hosted, places_from}
+use Rattle.iio_system.specs.Places.{IsBench, IsTrigger, has_in_hand, hosts, is_hosted, places_from}
 use Rattle.iio_trigger.specs.Trigger.{with_place, without_place}
 use Rattle.iio_system.proofs.ListLemmas.{after_set, length_after, map_same, set_same}
 use Rattle.iio_system.proofs.PlaceLemmas.{places_attached, places_detached, places_kept, places_none}
@@ -88,19 +88,22 @@ bench_by f triggers states ds k d' b = rw (map-set f ds k d') b
 
 -- ---- which calls keep a device's standing
 
-module _ {A : Type 0} (change : Station → Station) (st st' : Station) where
-  acts_stand_by : (answer : Result A Errno) (r : Result A No) → ((x : A) → answer ≡ Ok x → KeepsStanding st (change st)) → Acts change answer r st st'
-      → KeepsStanding st st'
-  acts_stand_by (Ok x) (Ok y) kept t = stands_along st (change st) st' (kept x refl) t.1
-  acts_stand_by (Ok x) (Err (NoErrno e)) kept t = stands_along st (change st) st' (kept x refl) t.1
-  acts_stand_by (Ok x) (Err NoMem) kept t = stands_same st st' t
-  acts_stand_by (Err e) (Ok y) kept t = stands_same st st' t.1
-  acts_stand_by (Err e) (Err (NoErrno o)) kept t = stands_same st st' t.1
-  acts_stand_by (Err e) (Err NoMem) kept t = stands_same st st' t
+holds_at : (P : Station → Type 0) (st' x : Station) → P x → st' ≡ x → P st'
+holds_at P st' x p e = subst P (sym e) p
 
-  pub acts_stand : (answer : Result A Errno) (r : Result A No) → ((x : A) → answer ≡ Ok x → KeepsStanding st (change st)) → Acts change answer r st st'
-      → KeepsStanding st st'
-  acts_stand answer r kept t = acts_stand_by answer r kept t
+module _ {A : Type 0} (P : Station → Type 0) (change : Station → Station) (st st' : Station) where
+  -- what holds after a call that is made, and where nothing has changed
+  pub acts_hold : (answer : Result A Errno) (r : Result A No) → ((x : A) → answer ≡ Ok x → P (change st)) → P st → Acts change answer r st st' → P st'
+  acts_hold (Ok x) (Ok y) made was t = holds_at P st' (change st) (made x refl) t.1
+  acts_hold (Ok x) (Err (NoErrno e)) made was t = holds_at P st' (change st) (made x refl) t.1
+  acts_hold (Ok x) (Err NoMem) made was t = holds_at P st' st was t
+  acts_hold (Err e) (Ok y) made was t = holds_at P st' st was t.1
+  acts_hold (Err e) (Err (NoErrno o)) made was t = holds_at P st' st was t.1
+  acts_hold (Err e) (Err NoMem) made was t = holds_at P st' st was t
+
+pub acts_stand : {A : Type 0} (change : Station → Station) (st st' : Station) (answer : Result A Errno) (r : Result A No)
+    → ((x : A) → answer ≡ Ok x → KeepsStanding st (change st)) → Acts change answer r st st' → KeepsStanding st st'
+acts_stand change st st' answer r kept t = acts_hold (KeepsStanding st) change st st' answer r kept (stands_same st st refl) t
 
 pub write_stands : (channel : Option ℕ) (a : Attr) (v : Fixed) (st : Station) → KeepsStanding st (with_site (site_written channel a v) st)
 write_stands None attr.SamplingFrequency v st = standing st _ refl refl refl refl (λ j. refl) refl
@@ -127,21 +130,39 @@ answered_empty st x e = by st.site.plugged (is_empty st.members) refl refl e
     by true false i j e = absurd (let h = rw (i, j) at e in cc)
     by false false i j e = absurd (let h = rw i at e in cc)
 
-pub trigger_stands : (trigger : Option ℕ) (st : Station) (x : ⊤) → trigger_answer st ≡ Ok x
-    → KeepsStanding st (with_site (λ site. record site { trigger = trigger }) st)
-trigger_stands trigger st x e =
+-- a device without a member whose trigger is exchanged for one of the first n, or for none
+pub record KeepsRest (n : ℕ) (st st' : Station) : Type 0 where
+  pub place : KeepsPlace st st'
+  pub hosted : is_hosted n st ≡ true → is_hosted n st' ≡ true
+  pub plugged : st'.site.plugged ≡ st.site.plugged
+  pub inner : (j : ℕ) → has_inner j st' ≡ has_inner j st
+  pub captures : st'.captures ≡ st.captures
+
+rest_same : (n : ℕ) (st : Station) → KeepsRest n st st
+rest_same n st = record { place = record { attached = λ t. refl; attachment = refl }; hosted = λ h. h; plugged = refl; inner = λ j. refl; captures = refl }
+
+pub on_one : (n : ℕ) (trigger : Option ℕ) (empty : Bool) → IfSome trigger (λ t. t < n) → empty ≡ true → hosts n empty trigger ≡ true
+on_one n None empty within e = e
+on_one n (Some t) empty within e = grind (arith, nat_tests)
+
+trigger_rest : (n : ℕ) (trigger : Option ℕ) (st : Station) (x : ⊤) → IfSome trigger (λ t. t < n) → trigger_answer st ≡ Ok x
+    → KeepsRest n st (with_site (λ site. record site { trigger = trigger }) st)
+trigger_rest n trigger st x within e =
     let empty = answered_empty st x e in
     let st' : Station = with_site (λ site. record site { trigger = trigger }) st in
     record {
-      inner = record {
-        place = record { attached = λ t. none_attached t st' empty ∙ sym (none_attached t st empty); attachment = refl };
-        hosted = λ n h. ap (λ (b : Bool). b || has_trigger n trigger) empty;
-        plugged = refl;
-        empty = refl;
-        inner = λ j. refl;
-      };
+      place = record { attached = λ t. none_attached t st' empty ∙ sym (none_attached t st empty); attachment = refl };
+      hosted = λ h. on_one n trigger (is_empty st.members) within empty;
+      plugged = refl;
+      inner = λ j. refl;
       captures = refl;
     }
+
+pub trigger_rests : (n : ℕ) (trigger : Option ℕ) (st st' : Station) (r : Result ⊤ No) → IfSome trigger (λ t. t < n)
+    → Acts (with_site (λ site. record site { trigger = trigger })) (trigger_answer st) r st st' → KeepsRest n st st'
+trigger_rests n trigger st st' r within t =
+    acts_hold (KeepsRest n st) (with_site (λ site. record site { trigger = trigger })) st st' (trigger_answer st) r
+    (λ x e. trigger_rest n trigger st x within e) (rest_same n st) t
 
 empty_with_scans : (id : MemberId) (scans : List (List ℕ)) (ms : List Member) → is_empty (with_scans id scans ms) ≡ is_empty ms
 empty_with_scans id scans [] = refl
@@ -192,15 +213,8 @@ other_attached t u st e ne = let other : (t == u) ≡ false = grind (arith, nat_
 own_attached : (t : ℕ) (st : Station) → st.site.trigger ≡ Some t → is_empty st.members ≡ false → is_attached t (attachment_of st) ≡ true
 own_attached t st e some = let own : (t == t) ≡ true = grind (arith, nat_tests) in rw (e, own, some) refl
 
-pub has_trigger_is : (t n : ℕ) (trigger : Option ℕ) → trigger ≡ Some t → t < n → has_trigger n trigger ≡ true
-has_trigger_is t n trigger e h = rw e (grind (arith, nat_tests))
-
-or_true : (b c : Bool) → c ≡ true → (b || c) ≡ true
-or_true true c e = refl
-or_true false c e = e
-
 pub hosted_is : (t n : ℕ) (st : Station) → st.site.trigger ≡ Some t → t < n → is_hosted n st ≡ true
-hosted_is t n st e h = or_true (is_empty st.members) (has_trigger n st.site.trigger) (has_trigger_is t n st.site.trigger e h)
+hosted_is t n st e h = rw e (grind (arith, nat_tests))
 
 module _ (triggers : List TriggerDesc) (states : List State) (sts : List Station) (k t : ℕ) (st st' : Station) (s s' : State)
     (bench : IsBench triggers states sts) (at : slice_get sts k ≡ Some st) (there : slice_get states t ≡ Some s) where

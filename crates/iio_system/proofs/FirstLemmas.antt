@@ -1,5 +1,5 @@
 -- A bench as it is made: one device after another.
-use Rattle.std.proofs.Common.{◌≡◌, ℕ, zero, suc, ◌+◌, ◌-◌, ◌^◌, ◌<◌, ◌≤◌, Bool, true, false, not, List, [], ◌∷◌, ◌++◌, map, fold, length, slice_get, slice_index_or, take, Option, Some, None, option_map, refl, sym, ap, subst, ◌∙◌, arith}
+use Rattle.std.proofs.Common.{◌≡◌, ℕ, zero, suc, ◌+◌, ◌-◌, ◌^◌, ◌<◌, ◌≤◌, true, false, not, List, [], ◌∷◌, ◌++◌, map, fold, length, slice_get, slice_index_or, take, Option, Some, None, IfSome, option_map, refl, sym, ap, subst, ◌∙◌, arith}
 use Rattle.std.specs.Prelude.{◌||◌, All}
 use Rattle.std.specs.List.{list_any}
 use Rattle.std.proofs.lemmas.List.{length-append}
@@ -28,14 +28,14 @@ use Rattle.iio_system.specs.First.{first_state, first_station, mean_head_over, m
 use Rattle.iio_system.specs.Averages.{HasBases, IsAveraged, IsBase, kind_in, shape_in}
 use Rattle.iio_system.specs.MeanStation.{first_mean_station, new_mean_station}
 use Rattle.iio_system.specs.OutStation.{first_out_station}
-use Rattle.iio_system.specs.Places.{IsBench, IsNumbered, has_in_hand, has_trigger, places_from, trigger_of}
+use Rattle.iio_system.specs.Places.{IsBench, IsNumbered, has_in_hand, places_from, trigger_of}
 use Rattle.iio_system.specs.declared.in_device.InDevice.{InDevice}
 use Rattle.iio_system.specs.declared.in_device.Inner.{Inner}
 use Rattle.iio_system.specs.Inner.{with_inner_name}
 use Rattle.iio_system.specs.Station.{in_station, member_of, station_by, station_of, view_by}
 use Rattle.iio_system.proofs.ListLemmas.{length_map_is, map_append}
 use Rattle.iio_system.proofs.AverageLemmas.{average_there}
-use Rattle.iio_system.proofs.BenchLemmas.{none_attached}
+use Rattle.iio_system.proofs.BenchLemmas.{none_attached, on_one}
 
 -- ---- the devices
 
@@ -503,10 +503,10 @@ pub formed_more : (n m : ℕ) (means : List AverageRecord) → n ≤ m → All (
 formed_more n m means less all i d within =
     let is = all i d within in record { over = (let o = is.over in omega (arith, o, less)); some = is.some; bounded = is.bounded }
 
--- each device is plugged, and has made no capture
-abbrev pub AreFresh : List Station → Type 0
-AreFresh [] = Unit {0}
-AreFresh (st ∷ sts) = (st.captures ≡ 0) × (st.site.plugged ≡ true) × AreFresh sts
+-- each device is plugged, is on one of the first n triggers or on none, and has made no capture
+abbrev pub AreFresh : ℕ → List Station → Type 0
+AreFresh n [] = Unit {0}
+AreFresh n (st ∷ sts) = (st.captures ≡ 0) × (st.site.plugged ≡ true) × IfSome st.site.trigger (λ t. t < n) × AreFresh n sts
 
 attr_plugged : (site : Site ℕ) (channel : Option ℕ) (a : Attr) (v : Fixed) → (site_written channel a v site).plugged ≡ site.plugged
 attr_plugged site None attr.SamplingFrequency v = refl
@@ -518,44 +518,67 @@ attrs_plugged : (site : Site ℕ) (attrs : List AttrDesc) → (fold with_attr si
 attrs_plugged site [] = refl
 attrs_plugged site (a ∷ attrs) = attrs_plugged (with_attr site a) attrs ∙ attr_plugged site a.channel a.attr (number_in a.value)
 
-fresh_both : (xs ys : List Station) → AreFresh xs → AreFresh ys → AreFresh (xs ++ ys)
-fresh_both [] ys a b = b
-fresh_both (x ∷ xs) ys a b = (a.0, a.1, fresh_both xs ys a.2 b)
+attr_trigger : (site : Site ℕ) (channel : Option ℕ) (a : Attr) (v : Fixed) → (site_written channel a v site).trigger ≡ site.trigger
+attr_trigger site None attr.SamplingFrequency v = refl
+attr_trigger site None a v = refl
+attr_trigger site (Some c) attr.Calibbias v = refl
+attr_trigger site (Some c) a v = refl
 
-fresh_inputs : (drivers : List Driver) (xs : List DeviceRecord) → AreFresh (map (first_station drivers) xs)
-fresh_inputs drivers [] = tt
-fresh_inputs drivers (x ∷ xs) = (refl, attrs_plugged (new_site x.shape x.trigger (first_driver drivers x)) x.attrs, fresh_inputs drivers xs)
+attrs_trigger : (site : Site ℕ) (attrs : List AttrDesc) → (fold with_attr site attrs).trigger ≡ site.trigger
+attrs_trigger site [] = refl
+attrs_trigger site (a ∷ attrs) = attrs_trigger (with_attr site a) attrs ∙ attr_trigger site a.channel a.attr (number_in a.value)
 
-fresh_outputs : (xs : List OutputRecord) → AreFresh (map first_out_station xs)
-fresh_outputs [] = tt
-fresh_outputs (x ∷ xs) = (refl, refl, fresh_outputs xs)
+module _ (n : ℕ) where
+  fresh_both : (xs ys : List Station) → AreFresh n xs → AreFresh n ys → AreFresh n (xs ++ ys)
+  fresh_both [] ys a b = b
+  fresh_both (x ∷ xs) ys a b = (a.0, a.1, a.2, fresh_both xs ys a.3 b)
 
-fresh_means : (inputs : List DeviceRecord) (xs : List AverageRecord) → AreFresh (map (first_mean_station inputs) xs)
-fresh_means inputs [] = tt
-fresh_means inputs (x ∷ xs) = (refl, refl, fresh_means inputs xs)
+  fresh_inputs : (drivers : List Driver) (xs : List DeviceRecord) → All (λ x. IfSome x.trigger (λ t. t < n)) xs → AreFresh n (map (first_station drivers) xs)
+  fresh_inputs drivers [] on = tt
+  fresh_inputs drivers (x ∷ xs) on =
+      let site = new_site x.shape x.trigger (first_driver drivers x) in (
+        refl,
+        attrs_plugged site x.attrs,
+        subst (λ (o : Option ℕ). IfSome o (λ t. t < n)) (sym (attrs_trigger site x.attrs)) (on zero x (omega arith)),
+        fresh_inputs drivers xs (λ i y within. on (suc i) y (omega (arith, within))),
+      )
 
-pub first_fresh : (drivers : List Driver) (inputs : List DeviceRecord) (outputs : List OutputRecord) (means : List AverageRecord)
-    → AreFresh (map (first_station drivers) inputs ++ (map first_out_station outputs ++ map (first_mean_station inputs) means))
-first_fresh drivers inputs outputs means =
-    fresh_both (map (first_station drivers) inputs) _ (fresh_inputs drivers inputs)
-    (fresh_both (map first_out_station outputs) _ (fresh_outputs outputs) (fresh_means inputs means))
+  fresh_outputs : (xs : List OutputRecord) → All (λ x. IfSome x.trigger (λ t. t < n)) xs → AreFresh n (map first_out_station xs)
+  fresh_outputs [] on = tt
+  fresh_outputs (x ∷ xs) on = (refl, refl, on zero x (omega arith), fresh_outputs xs (λ i y within. on (suc i) y (omega (arith, within))))
 
-fresh_captures : (sts : List Station) (i : ℕ) → AreFresh sts → (station_in sts i).captures ≡ 0
-fresh_captures [] i fresh = refl
-fresh_captures (x ∷ xs) zero fresh = fresh.0
-fresh_captures (x ∷ xs) (suc i) fresh = fresh_captures xs i fresh.2
+  fresh_means : (inputs : List DeviceRecord) (xs : List AverageRecord) → AreFresh n (map (first_mean_station inputs) xs)
+  fresh_means inputs [] = tt
+  fresh_means inputs (x ∷ xs) = (refl, refl, tt, fresh_means inputs xs)
 
-fresh_plugged : (sts : List Station) (i : ℕ) → i < length sts → AreFresh sts → (station_in sts i).site.plugged ≡ true
-fresh_plugged [] i less fresh = absurd (omega (arith, less))
-fresh_plugged (x ∷ xs) zero less fresh = fresh.1
-fresh_plugged (x ∷ xs) (suc i) less fresh = fresh_plugged xs i (omega (arith, less)) fresh.2
+  pub first_fresh : (drivers : List Driver) (inputs : List DeviceRecord) (outputs : List OutputRecord) (means : List AverageRecord)
+      → All (λ x. IfSome x.trigger (λ t. t < n)) inputs → All (λ x. IfSome x.trigger (λ t. t < n)) outputs
+      → AreFresh n (map (first_station drivers) inputs ++ (map first_out_station outputs ++ map (first_mean_station inputs) means))
+  first_fresh drivers inputs outputs means inputs-on outputs-on =
+      fresh_both (map (first_station drivers) inputs) _ (fresh_inputs drivers inputs inputs-on)
+      (fresh_both (map first_out_station outputs) _ (fresh_outputs outputs outputs-on) (fresh_means inputs means))
+
+  fresh_captures : (sts : List Station) (i : ℕ) → AreFresh n sts → (station_in sts i).captures ≡ 0
+  fresh_captures [] i fresh = refl
+  fresh_captures (x ∷ xs) zero fresh = fresh.0
+  fresh_captures (x ∷ xs) (suc i) fresh = fresh_captures xs i fresh.3
+
+  fresh_plugged : (sts : List Station) (i : ℕ) → i < length sts → AreFresh n sts → (station_in sts i).site.plugged ≡ true
+  fresh_plugged [] i less fresh = absurd (omega (arith, less))
+  fresh_plugged (x ∷ xs) zero less fresh = fresh.1
+  fresh_plugged (x ∷ xs) (suc i) less fresh = fresh_plugged xs i (omega (arith, less)) fresh.3
+
+  fresh_on : (sts : List Station) (i : ℕ) → AreFresh n sts → IfSome (station_in sts i).site.trigger (λ t. t < n)
+  fresh_on [] i fresh = tt
+  fresh_on (x ∷ xs) zero fresh = fresh.2
+  fresh_on (x ∷ xs) (suc i) fresh = fresh_on xs i fresh.3
 
 -- before the first step no averaging device has a member
 pub first_averaged : (triggers first : ℕ) (heads : List DeviceHead) (sts : List Station) → HasBases first heads → length sts ≡ length heads → AreBare sts
-    → AreFresh sts → IsAveraged triggers first heads sts
+    → AreFresh triggers sts → IsAveraged triggers first heads sts
 first_averaged triggers first heads sts bases many bare fresh = record {
   bases = bases;
-  hosted = λ dev plain. ap (λ (b : Bool). b || has_trigger triggers (station_in sts dev).site.trigger) (bare_at sts dev bare);
+  hosted = λ dev plain. on_one triggers (station_in sts dev).site.trigger (is_empty (station_in sts dev).members) (fresh_on triggers sts dev fresh) (bare_at sts dev bare);
   inners = λ j base window is. record {
     plugged =
         plugged j (let less = average_there heads j base window is in omega (arith, less, many))
@@ -567,10 +590,10 @@ first_averaged triggers first heads sts bases many bare fresh = record {
 }
   where
     plugged : (i : ℕ) → i < length sts → (station_in sts i).site.plugged ≡ true
-    plugged i less = fresh_plugged sts i less fresh
+    plugged i less = fresh_plugged triggers sts i less fresh
 
     none : (i : ℕ) → (station_in sts i).captures ≡ 0
-    none i = fresh_captures sts i fresh
+    none i = fresh_captures triggers sts i fresh
 
     bare_at : (xs : List Station) (i : ℕ) → AreBare xs → is_empty (station_in xs i).members ≡ true
     bare_at [] i bare = refl

@@ -44,7 +44,7 @@ use Rattle.iio_system.specs.Station.{KeepsFront, KeepsHead, any_front, any_stati
 use Rattle.iio_system.proofs.ListLemmas.{is_empty-map, length_map_is, map_at, map_same}
 use Rattle.iio_system.proofs.ToldLemmas.{fronts_by}
 use Rattle.iio_system.proofs.AnyLemmas.{attached_as, attachment_as, hosted_as, inner_as, made_as, members_as, plugged_as}
-use Rattle.iio_system.proofs.BenchLemmas.{KeepsInner, KeepsPlace, KeepsStanding, acts_stand, bench_by, bench_kept, inner_mapped, monitor_stands, standing, stands_along, stands_same, take_scans_stand, take_stands, trigger_stands, write_stands}
+use Rattle.iio_system.proofs.BenchLemmas.{KeepsInner, KeepsPlace, KeepsRest, KeepsStanding, acts_stand, bench_by, bench_kept, inner_mapped, monitor_stands, standing, stands_along, stands_same, take_scans_stand, take_stands, trigger_rests, write_stands}
 use Rattle.iio_system.proofs.AverageLemmas.{averaged_by, averaged_stands}
 
 -- ---- what a call keeps of a device
@@ -296,12 +296,10 @@ module _ {X : Type 0} {V : X → Type 0} (drive : Plug X V → Driver) where
         acts_stand (with_site (site_written channel a v)) (any_station drive d) (any_station drive d') (ensure (any_station drive d).site.plugged ENODEV) r
         (λ x e. write_stands channel a v (any_station drive d)) t
 
-    pub trigger_kept : (trigger : Option ℕ) (r : Result ⊤ No)
+    pub trigger_kept : (n : ℕ) (trigger : Option ℕ) (r : Result ⊤ No) → IfSome trigger (λ t. t < n)
         → Acts (with_site (λ site. record site { trigger = trigger })) (trigger_answer (any_station drive d)) r (any_station drive d) (any_station drive d')
-        → KeepsStanding (any_station drive d) (any_station drive d')
-    trigger_kept trigger r t =
-        acts_stand (with_site (λ site. record site { trigger = trigger })) (any_station drive d) (any_station drive d') (trigger_answer (any_station drive d)) r
-        (λ x e. trigger_stands trigger (any_station drive d) x e) t
+        → KeepsRest n (any_station drive d) (any_station drive d')
+    trigger_kept n trigger r within t = trigger_rests n trigger (any_station drive d) (any_station drive d') r within t
 
     pub ev_open_kept : (who : ℕ) (r : Result ⊤ No)
         → Acts (with_site (with_monitor (after_open who))) (ev_open_answer (any_station drive d)) r (any_station drive d) (any_station drive d')

@@ -2,7 +2,6 @@
 use Rattle.std.proofs.Common.{◌≡◌, ℕ, zero, suc, ◌<◌, ◌^◌, Bool, true, false, List, [], ◌∷◌, map, length, set, get_or, slice_get, Option, Some, None, Result, Ok, Err, refl, sym, ap, subst, ◌∙◌, arith, cond}
 use Rattle.std.specs.Prelude.{◌==◌, ◌&&◌, ◌||◌, ◌-◌, ◌≤◌, ◌*◌, IfOk, is_none, not}
 use Rattle.std.specs.List.{list_any}
-use Rattle.std.proofs.lemmas.Bool.Decides.{nat_tests}
 use Rattle.std.proofs.lemmas.List.{map-set}
 use Rattle.std.proofs.lemmas.Option.{slice_get_read}
 use Rattle.iio_base.specs.Refusals.{first_refusal, unless_refused}
@@ -36,14 +35,14 @@ use Rattle.iio_system.specs.declared.seat.Seat.{Seat}
 use Rattle.iio_system.specs.Averages.{HasInner, IsAveraged, has_inner, kind_in}
 use Rattle.iio_system.specs.Bench.{front_of, triggers_of}
 use Rattle.iio_system.specs.Faults.{HasJoined, HostsAny, IsServedAlone, JoinsMean, MayHaveInner, any_refusals, lacks_place}
-use Rattle.iio_system.specs.Places.{IsBench, IsNumbered, has_trigger, is_hosted, place_left, place_taken}
+use Rattle.iio_system.specs.Places.{IsBench, IsNumbered, hosts, is_hosted, place_left, place_taken}
 use Rattle.iio_system.specs.Seat.{seen_of}
 use Rattle.iio_system.specs.Station.{KeepsHead, any_front, any_station, base_of, number_by, stations_by}
 use Rattle.iio_system.proofs.ListLemmas.{element_at, length_after, length_map_is, map_at, map_same, numbered_after, same_element, set_same, within_map}
 use Rattle.iio_system.proofs.BenchLemmas.{bench_by, hosted_is}
 use Rattle.iio_system.proofs.AverageLemmas.{average_other, averaged_pair, get_here, get_there, got_there, here_is, input_plain, set_twice}
 use Rattle.iio_system.proofs.MeanLemmas.{base_is, base_list, bench_unattached, first_is, further_is, has_first, has_further, has_left, inner_stays, mean_closed, mean_full, mean_joined, mean_list, mean_may, mean_refused, open_mean}
-use Rattle.iio_system.proofs.OpenLemmas.{IsMean, as_many, attached_plugged, attached_trigger, averaged_as, base_within, bench_gone, bench_joined, full_below, gone_none, hosted_at, hosted_none, inner_more, kind_there, mean_of, sound_any, sound_as}
+use Rattle.iio_system.proofs.OpenLemmas.{IsMean, as_many, attached_plugged, attached_trigger, averaged_as, base_within, bench_gone, bench_joined, full_below, gone_none, hosted_at, hosted_none, hosted_within, inner_more, kind_there, mean_of, sound_any, sound_as}
 use Rattle.iio_system.proofs.ToldLemmas.{kind_is, machine_by, shape_is, station_is, told_same}
 
 -- refusals of a further member, by its plug and its numbers
@@ -60,9 +59,12 @@ inner_some : (j : ℕ) (ms : List Member) → list_any (is_inner_of j) ms ≡ tr
 inner_some j [] e = absurd (cc)
 inner_some j (m ∷ ms) e = refl
 
-on_trigger : (n : ℕ) (trigger : Option ℕ) → has_trigger n trigger ≡ true → is_none trigger ≡ false
-on_trigger n None e = absurd (cc)
-on_trigger n (Some t) e = refl
+on_trigger : (n : ℕ) (st : Station) → is_empty st.members ≡ false → is_hosted n st ≡ true → is_none st.site.trigger ≡ false
+on_trigger n st some h = by st.site.trigger h
+  where
+    by : (o : Option ℕ) → hosts n (is_empty st.members) o ≡ true → is_none o ≡ false
+    by None e = absurd (let never = sym some ∙ e in cc)
+    by (Some t) e = refl
 
 -- want of memory changes nothing
 pub told_mem : {A : Type 0} (o : Outcome A) (m m' : Machine) (refusal : No) → refusal ≡ NoMem → m' ≡ m → Answers o m (Err refusal) (Some m')
@@ -96,9 +98,6 @@ empty_then false e = absurd (cc)
 pub no_longer_empty : (b : Bool) → not b ≡ true → b ≡ false
 no_longer_empty true e = absurd (cc)
 no_longer_empty false e = refl
-
-pub trigger_past : (t m n : ℕ) → m ≡ n → m ≤ t → has_trigger n (Some t) ≡ false
-trigger_past t m n same past = grind (arith, nat_tests)
 
 -- an averaging device is on no trigger
 mean_off : {X : Type 0} {V : X → Type 0} (drive : Plug X V → Driver) (base : ℕ) (d : AnyDevice X V) → base_of (any_front d).kind ≡ Some base
@@ -299,9 +298,8 @@ module _ {X : Type 0} {V : X → Type 0} (drive : Plug X V → Driver) {bench : 
 
     on : is_none b.site.trigger ≡ false
     on =
-        on_trigger (length triggers) b.site.trigger
-        (subst (λ (t : Bool). (t || has_trigger (length triggers) b.site.trigger) ≡ true) (inner_some k b.members inner_here)
-        (hosted_at drive (length triggers) bench.first_average ds bench.averaged base e p.under (ap is_average input_base)))
+        on_trigger (length triggers) b (inner_some k b.members inner_here)
+        (hosted_at drive (length triggers) bench.first_average ds bench.averaged base e p.under (ap is_average input_base))
 
     further_by : (mask capacity : ℕ) (r : Option Errno)
         → first_refusal ((not st.site.plugged, ENODEV) ∷ (false, EBUSY) ∷ join_refusals false false (has_no_number st)) ≡ r
@@ -749,19 +747,21 @@ module _ {X : Type 0} {V : X → Type 0} (drive : Plug X V → Driver) {bench : 
       by true c q = ap not (sym q)
       by false c q = ap not (sym q)
 
+  -- the trigger that the base is on is there
+  pub base_on : (t : ℕ) → Some t ≡ b.site.trigger → t < length states
+  base_on t on =
+      subst (λ (n : ℕ). t < n) (sym (as_many triggers states bench.sound.places)) (hosted_within (length triggers) t b (sym on) base_hosted)
+
   -- the base keeps its inner member where there is a member still
   inner_needed : (n : ℕ) → is_empty (left n st).members ≡ false → b ≡ cond (is_empty (left n st).members) (inner_gone k b) b
   inner_needed n some = sym (ap (λ (c : Bool). cond c (inner_gone k b) b) some)
 
-  -- and has none where it is on no trigger that is there
-  inner_none : (n : ℕ) (trigger : Option ℕ) → b.site.trigger ≡ trigger → has_trigger (length states) trigger ≡ false
-      → b ≡ cond (is_empty (left n st).members) (inner_gone k b) b
-  inner_none n trigger on none = by (is_empty (left n st).members)
+  -- and has none where it is on no trigger
+  inner_none : (n : ℕ) → b.site.trigger ≡ None → b ≡ cond (is_empty (left n st).members) (inner_gone k b) b
+  inner_none n none = by (is_empty (left n st).members)
     where
       by : (c : Bool) → b ≡ cond c (inner_gone k b) b
-      by true =
-          sym (gone_none k b (hosted_none (length triggers) b trigger on
-          (subst (λ (m : ℕ). has_trigger m trigger ≡ false) (as_many triggers states bench.sound.places) none) base_hosted))
+      by true = sym (gone_none k b (hosted_none (length triggers) b none base_hosted))
       by false = refl
 
   -- what is told then
@@ -788,13 +788,11 @@ module _ {X : Type 0} {V : X → Type 0} (drive : Plug X V → Driver) {bench : 
     pub told_left : is_empty (left n st).members ≡ false → Some (told_by (set ds k d')) ≡ Some (closed front machine k n)
     told_left some = told_beside (inner_needed n some)
 
-    pub holds_off : KeepsHead d d' → (trigger : Option ℕ) → b.site.trigger ≡ trigger → has_trigger (length states) trigger ≡ false
-        → Holds bench states (set ds k d')
-    holds_off keeps trigger on none = holds_beside keeps (inner_none n trigger on none)
+    pub holds_off : KeepsHead d d' → b.site.trigger ≡ None → Holds bench states (set ds k d')
+    holds_off keeps none = holds_beside keeps (inner_none n none)
 
-    pub told_off : (trigger : Option ℕ) → b.site.trigger ≡ trigger → has_trigger (length states) trigger ≡ false
-        → Some (told_by (set ds k d')) ≡ Some (closed front machine k n)
-    told_off trigger on none = told_beside (inner_none n trigger on none)
+    pub told_off : b.site.trigger ≡ None → Some (told_by (set ds k d')) ≡ Some (closed front machine k n)
+    told_off none = told_beside (inner_none n none)
 
     -- the last one takes the inner member with it, by trigger t
     module _ (e' : AnyDevice X V) (none : is_empty (left n st).members ≡ true) (gone : any_station drive e' ≡ inner_gone k b) where

@@ -1,6 +1,6 @@
 -- OPEN and CLOSE at a bench.
 use Rattle.std.proofs.Common.{◌≡◌, ℕ, zero, suc, ◌+◌, ◌*◌, ◌<◌, ◌≤◌, ◌^◌, Bool, true, false, List, [], ◌∷◌, ◌++◌, map, filter, length, set, slice_get, Option, Some, None, IfOk, Result, Ok, Err, refl, sym, ap, subst, ◌∙◌, arith, cond, option_map}
-use Rattle.std.specs.Prelude.{◌==◌, ◌&&◌, ◌||◌, ◌-◌, is_none, not, ℤ}
+use Rattle.std.specs.Prelude.{◌==◌, ◌&&◌, ◌||◌, ◌-◌, is_none, not, ℤ, nat_lt}
 use Rattle.std.specs.List.{list_any}
 use Rattle.std.specs.Option.{option_map_or}
 use Rattle.std.proofs.lemmas.Bool.Decides.{nat_tests}
@@ -48,11 +48,11 @@ use Rattle.iio_system.specs.Faults.{HostsAny, JoinsAny, any_refusals, lacks_plac
 use Rattle.iio_system.specs.Averages.{IsAveraged, has_inner, kind_in}
 use Rattle.iio_system.specs.MeanStation.{mean_station}
 use Rattle.iio_system.specs.OutStation.{out_station}
-use Rattle.iio_system.specs.Places.{IsBench, IsNumbered, has_trigger, is_hosted, place_left, places_from, trigger_of}
+use Rattle.iio_system.specs.Places.{IsBench, IsNumbered, hosts, is_hosted, place_left, places_from, trigger_of}
 use Rattle.iio_system.specs.Seat.{seen_of}
 use Rattle.iio_system.specs.Station.{KeepsHead, any_front, any_station, base_of, in_station, member_of, number_by, station_of, stations_by}
 use Rattle.iio_system.proofs.ListLemmas.{at_place_same, empty_list, is_empty-map, length_map_is, map_at, same_element}
-use Rattle.iio_system.proofs.BenchLemmas.{KeepsPlace, KeepsStanding, bench_attached, bench_by, bench_detached, bench_stays, hosted_is, none_attached, stands_same}
+use Rattle.iio_system.proofs.BenchLemmas.{KeepsPlace, KeepsRest, KeepsStanding, bench_attached, bench_by, bench_detached, bench_stays, hosted_is, none_attached, stands_same}
 use Rattle.iio_system.proofs.AverageLemmas.{KeepsBase, averaged_by, averaged_each, averaged_plain, averaged_stands, here_is}
 use Rattle.iio_system.proofs.IioLemmas.{keeps_along}
 use Rattle.iio_system.proofs.JoinLemmas.{refusals_any}
@@ -183,14 +183,15 @@ none_kept st st' none none' attachment = record {
   attachment = attachment;
 }
 
--- a device on no trigger that is there has no member
-pub hosted_none : (n : ℕ) (st : Station) (trigger : Option ℕ) → st.site.trigger ≡ trigger → has_trigger n trigger ≡ false → is_hosted n st ≡ true
-    → is_empty st.members ≡ true
-hosted_none n st trigger e none h = by (is_empty st.members) h
-  where
-    by : (b : Bool) → (b || has_trigger n st.site.trigger) ≡ true → b ≡ true
-    by true i = refl
-    by false i = sym (ap (λ (o : Option ℕ). has_trigger n o) e ∙ none) ∙ i
+-- a device on no trigger has no member
+pub hosted_none : (n : ℕ) (st : Station) → st.site.trigger ≡ None → is_hosted n st ≡ true → is_empty st.members ≡ true
+hosted_none n st none h = sym (ap (λ (o : Option ℕ). hosts n (is_empty st.members) o) none) ∙ h
+
+-- and one that is on a trigger is on one of those that are there
+pub hosted_within : (n t : ℕ) (st : Station) → st.site.trigger ≡ Some t → is_hosted n st ≡ true → t < n
+hosted_within n t st on h =
+    let there : nat_lt t n ≡ true = sym (ap (λ (o : Option ℕ). hosts n (is_empty st.members) o) on) ∙ h in
+    grind (arith, nat_tests)
 
 none_filtered : (p : Member → Bool) (ms : List Member) → is_empty ms ≡ true → is_empty (filter p ms) ≡ true
 none_filtered p [] e = refl
@@ -388,6 +389,14 @@ module _ {X : Type 0} {V : X → Type 0} (drive : Plug X V → Driver) where
   hosted_by_states triggers states ds first sound averaged k d at plain =
       rw (as_many triggers states sound.places) (hosted_at (length triggers) first ds averaged k d at plain)
 
+  -- a trigger that it is on is there
+  pub within_states : (triggers : List TriggerDesc) (states : List State) (ds : List (AnyDevice X V)) (first : ℕ)
+      → IsBench triggers states (stations_by (λ p. no_driver) ds)
+      → IsAveraged (length triggers) first (map any_front ds) (stations_by (λ p. no_driver) ds) → (k t : ℕ) (d : AnyDevice X V) → slice_get ds k ≡ Some d
+      → is_average (any_front d).kind ≡ false → Some t ≡ (any_station drive d).site.trigger → t < length states
+  within_states triggers states ds first sound averaged k t d at plain own =
+      hosted_within (length states) t (any_station drive d) (sym own) (hosted_by_states triggers states ds first sound averaged k d at plain)
+
   -- ---- OPEN
   module _ (context : List ℕ) (triggers : List TriggerDesc) (states : List State) (ds : List (AnyDevice X V)) (clock : ℤ) (k capacity : ℕ) (cyclic : Bool)
       (d : AnyDevice X V)
@@ -492,10 +501,10 @@ module _ {X : Type 0} {V : X → Type 0} (drive : Plug X V → Driver) where
         (map_at (any_station drive) ds k d at) there own within n is
         (subst (λ (i : ℕ). s' ≡ place_left i (any_station drive d) (any_station drive d') s) (numbered k d at) after))
 
-  -- ---- what averaging devices have to do with, after a join and a leave of a connection
-  module _ (triggers first : ℕ) (ds : List (AnyDevice X V)) (k t : ℕ) (d d' : AnyDevice X V)
+  -- ---- what averaging devices have to do with, after a call at a device that is no averaging one
+  module _ (triggers first : ℕ) (ds : List (AnyDevice X V)) (k : ℕ) (d d' : AnyDevice X V)
       (averaged : IsAveraged triggers first (map any_front ds) (stations_by (λ p. no_driver) ds)) (at : slice_get ds k ≡ Some d)
-      (plain : is_average (any_front d).kind ≡ false) (keeps : KeepsHead d d') (own : (any_station drive d).site.trigger ≡ Some t) (within : t < triggers) where
+      (plain : is_average (any_front d).kind ≡ false) (keeps : KeepsHead d d') where
     averaged_back : IsAveraged triggers first (map any_front ds) (set (stations_by drive ds) k (any_station drive d'))
         → IsAveraged triggers first (map any_front (set ds k d')) (stations_by (λ p. no_driver) (set ds k d'))
     averaged_back a =
@@ -510,11 +519,22 @@ module _ {X : Type 0} {V : X → Type 0} (drive : Plug X V → Driver) where
         (averaged_as (λ p. no_driver) drive triggers first (map any_front ds) ds averaged)
         (map_at (any_station drive) ds k d at) (ap is_average (kind_there ds k d at) ∙ plain) hosted kept)
 
+    -- another trigger
+    pub averaged_set : KeepsRest triggers (any_station drive d) (any_station drive d')
+        → IsAveraged triggers first (map any_front (set ds k d')) (stations_by (λ p. no_driver) (set ds k d'))
+    averaged_set kept =
+        by_base (kept.hosted (hosted_at triggers first ds averaged k d at plain))
+        (record { plugged = kept.plugged; inner = kept.inner; captures = kept.captures })
+
+  -- a join and a leave of a connection
+  module _ (triggers first : ℕ) (ds : List (AnyDevice X V)) (k t : ℕ) (d d' : AnyDevice X V)
+      (averaged : IsAveraged triggers first (map any_front ds) (stations_by (λ p. no_driver) ds)) (at : slice_get ds k ≡ Some d)
+      (plain : is_average (any_front d).kind ≡ false) (keeps : KeepsHead d d') (own : (any_station drive d).site.trigger ≡ Some t) (within : t < triggers) where
     pub averaged_joins : (mask : Mask) (capacity : ℕ) (cyclic : Bool) (r : Result Seat No) (s s' : State)
         → JoinsAny mask capacity cyclic None (number_by d) (any_front d).shape r (any_station drive d) (any_station drive d') s s'
         → IsAveraged triggers first (map any_front (set ds k d')) (stations_by (λ p. no_driver) (set ds k d'))
     averaged_joins mask capacity cyclic (Ok seat) s s' j =
-        by_base (hosted_is t triggers (any_station drive d')
+        by_base triggers first ds k d d' averaged at plain keeps (hosted_is t triggers (any_station drive d')
         (ap (λ (x : Station). x.site.trigger) j.1 ∙ attached_trigger (is_empty (any_station drive d).members) (any_station drive d).site ∙ own) within)
         (record {
           plugged = ap (λ (x : Station). x.site.plugged) j.1 ∙ attached_plugged (is_empty (any_station drive d).members) (any_station drive d).site;
@@ -524,7 +544,7 @@ module _ {X : Type 0} {V : X → Type 0} (drive : Plug X V → Driver) where
           captures = ap (λ (x : Station). x.captures) j.1;
         })
     averaged_joins mask capacity cyclic (Err x) s s' j =
-        averaged_back
+        averaged_back triggers first ds k d d' averaged at plain keeps
         (averaged_stands triggers first (map any_front ds) (stations_by drive ds) k (any_station drive d) (any_station drive d')
         (averaged_as (λ p. no_driver) drive triggers first (map any_front ds) ds averaged)
         (map_at (any_station drive) ds k d at) (stands_same (any_station drive d) (any_station drive d') j.1))
@@ -532,7 +552,7 @@ module _ {X : Type 0} {V : X → Type 0} (drive : Plug X V → Driver) where
     pub averaged_leaves : (n : ℕ) → any_station drive d' ≡ left n (any_station drive d)
         → IsAveraged triggers first (map any_front (set ds k d')) (stations_by (λ p. no_driver) (set ds k d'))
     averaged_leaves n is =
-        by_base (hosted_is t triggers (any_station drive d') (ap (λ (x : Station). x.site.trigger) is ∙ own) within)
+        by_base triggers first ds k d d' averaged at plain keeps (hosted_is t triggers (any_station drive d') (ap (λ (x : Station). x.site.trigger) is ∙ own) within)
         (record {
           plugged = ap (λ (x : Station). x.site.plugged) is;
           inner = λ i. ap (λ (x : Station). has_inner i x) is ∙ inner_left n i (any_station drive d).members;
@@ -564,26 +584,12 @@ module _ {X : Type 0} {V : X → Type 0} (drive : Plug X V → Driver) where
         (left_none n (any_station drive d) (empty_list (any_station drive d).members e))))
         ∙ sym closed_is)
 
-    module _ (states : List State) (sound : IsBench triggers states (stations_by (λ p. no_driver) ds)) (first : ℕ)
-        (averaged : IsAveraged (length triggers) first (map any_front ds) (stations_by (λ p. no_driver) ds)) where
-      told_unhosted : (trigger : Option ℕ) → (any_station drive d).site.trigger ≡ trigger → has_trigger (length triggers) trigger ≡ false
-          → Some (machine_by (any_station drive) clock ts ds)
-          ≡ Some (closed (fronts_by any_front context triggers ds) (machine_by (any_station drive) clock ts ds) k n)
-      told_unhosted trigger own none =
-          told_stays (hosted_none (length triggers) (any_station drive d) trigger own none (hosted_at (length triggers) first ds averaged k d at plain))
-
-      pub told_none : None ≡ (any_station drive d).site.trigger
-          → Some (machine_by (any_station drive) clock ts ds)
-          ≡ Some (closed (fronts_by any_front context triggers ds) (machine_by (any_station drive) clock ts ds) k n)
-      told_none own = told_unhosted None (sym own) refl
-
-      pub told_past : (t m : ℕ) → Some t ≡ (any_station drive d).site.trigger → m ≡ length states → m ≤ t
-          → Some (machine_by (any_station drive) clock ts ds)
-          ≡ Some (closed (fronts_by any_front context triggers ds) (machine_by (any_station drive) clock ts ds) k n)
-      told_past t m own e past =
-          let many = as_many triggers states sound.places in
-          let none : has_trigger (length triggers) (Some t) ≡ false = grind (arith, nat_tests) in
-          told_unhosted (Some t) (sym own) none
+    pub told_none : (first : ℕ) → IsAveraged (length triggers) first (map any_front ds) (stations_by (λ p. no_driver) ds)
+        → None ≡ (any_station drive d).site.trigger
+        → Some (machine_by (any_station drive) clock ts ds)
+        ≡ Some (closed (fronts_by any_front context triggers ds) (machine_by (any_station drive) clock ts ds) k n)
+    told_none first averaged own =
+        told_stays (hosted_none (length triggers) (any_station drive d) (sym own) (hosted_at (length triggers) first ds averaged k d at plain))
 
   pub hosts_along : (xs states : List State) (ds : List (AnyDevice X V)) (k : ℕ) (e d : AnyDevice X V) (mask : ℕ) (r : Result ℕ No)
       → xs ≡ states → slice_get ds k ≡ Some e → slice_get ds k ≡ Some d

@@ -42,7 +42,7 @@ pub record HasInner (j : ℕ) (base st : Station) : Type 0 where
   pub fewer : st.captures ≤ base.captures
   pub most : base.captures ≤ 2 ^ 64 - 1
 
--- each device with a member is on one of the triggers, an averaging device by its base
+-- each device is on one of the triggers or, without a member, on none; an averaging device is by its base
 pub record IsAveraged (triggers first : ℕ) (heads : List DeviceHead) (stations : List Station) : Type 0 where
   pub bases : HasBases first heads
   pub hosted : (dev : ℕ) → is_average (kind_in heads dev) ≡ false → is_hosted triggers (station_in stations dev) ≡ true

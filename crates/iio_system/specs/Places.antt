@@ -42,14 +42,13 @@ place_left number before after s =
 
 -- ---- what holds after every call
 
--- whether a device has a trigger, and it is one of the first `count`
-abbrev pub has_trigger : ℕ → Option ℕ → Bool
-has_trigger count None = false
-has_trigger count (Some trigger) = nat_lt trigger count
+-- whether a device is hosted, where there are `count` triggers: it is on one of them, or on none, and then it has no member
+abbrev pub hosts : (count : ℕ) → (empty : Bool) → Option ℕ → Bool
+hosts count empty None = empty
+hosts count empty (Some trigger) = nat_lt trigger count
 
--- whether the device is hosted: it is on a trigger that is there, or has no member
-abbrev pub is_hosted : ℕ → Station → Bool
-is_hosted count st = is_empty st.members || has_trigger count st.site.trigger
+abbrev pub is_hosted : (count : ℕ) → Station → Bool
+is_hosted count st = hosts count (is_empty st.members) st.site.trigger
 
 -- whether an entry is in somebody's hand
 abbrev pub has_in_hand : List Entry → Bool

@@ -23,7 +23,7 @@ use iio_trigger::Trigger;
 use iiod_session::{No, no_of};
 use std::alloc::Global;
 
-// As `host`, where the trigger is there.
+// As `host`, by a trigger.
 fn host_at(
     device: &Device<Kfifo>,
     triggers: &[Trigger],
@@ -40,24 +40,6 @@ fn host_at(
     }
 }
 
-// As `host`, where the trigger isn't there: it is as one without a free place.
-fn host_nowhere(
-    device: &Device<Kfifo>,
-    _triggers: &[Trigger],
-    _trigger: usize,
-    mask: Mask,
-) -> Result<usize, JoinFault>
-    requires own { device.now.core.trigger ≡ Some _trigger }
-    requires past { length _triggers.now ≤ _trigger }
-    requires hosted { is_hosted (length _triggers.now) (station_by ⟦<Plug as Sensor>⟧.driver device.now) ≡ true }
-    ensures { Hosts _triggers.now (view_by ⟦<Plug as Sensor>⟧.driver device.now) mask.bits result }
-{
-    match device.may_join(mask, Some(&Trigger::new(1))) {
-        Err(fault) => Err(fault),
-        Ok(()) => Err(JoinFault::NoPlace),
-    }
-}
-
 // The number of the device's trigger, where a member of that mask may join by it.
 fn host(device: &Device<Kfifo>, triggers: &[Trigger], mask: Mask) -> Result<usize, JoinFault>
     requires { is_hosted (length triggers.now) (station_by ⟦<Plug as Sensor>⟧.driver device.now) ≡ true }
@@ -67,12 +49,7 @@ fn host(device: &Device<Kfifo>, triggers: &[Trigger], mask: Mask) -> Result<usiz
         device.may_join(mask, None)?;
         return Err(JoinFault::NoTrigger);
     };
-    let trigger = number as usize;
-    if trigger < triggers.len() {
-        host_at(device, triggers, trigger, mask)
-    } else {
-        host_nowhere(device, triggers, trigger, mask)
-    }
+    host_at(device, triggers, number as usize, mask)
 }
 
 // A member more at a device, which may join.

@@ -96,10 +96,7 @@ fn close_plain(bench: &mut Bench, dev: u32, number: u64)
     match bench.devices[at].trigger() {
         None => {}
         Some(trigger) => {
-            let trigger = trigger as usize;
-            if trigger < bench.triggers.len() {
-                bench.devices[at].leave(number, &mut bench.triggers[trigger]);
-            }
+            bench.devices[at].leave(number, &mut bench.triggers[trigger as usize]);
         }
     }
 }
@@ -211,10 +208,10 @@ fn close_mean(bench: &mut Bench, dev: u32, base: u32, number: u64)
         match bench.devices[base as usize].trigger() {
             None => {}
             Some(trigger) => {
-                let trigger = trigger as usize;
-                if trigger < bench.triggers.len() {
-                    bench.devices[base as usize].leave_inner(dev, &mut bench.triggers[trigger]);
-                }
+                bench.devices[base as usize].leave_inner(
+                    dev,
+                    &mut bench.triggers[trigger as usize],
+                );
             }
         }
     }

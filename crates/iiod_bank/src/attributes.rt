@@ -8,6 +8,7 @@ ghost use Rattle.iiod_bank.specs.Jobs.{HasChannel, LostMakes, ReadMakes, SetTrig
 ghost use Rattle.iiod_bank.specs.Lent.{Kept, lent_by};
 
 use crate::bank::Work;
+use crate::front::HubFront;
 use iio_attr::{Attr, Fixed, Value};
 use iio_device::{Device, Member, Plug};
 use iio_kfifo::{Tail, Writer};
@@ -132,9 +133,11 @@ pub struct TriggerWork {
 }
 
 impl TriggerWork {
-    /// The device is to have that trigger, or none.
-    pub fn new(trigger: Option<u32>) -> TriggerWork
-        requires { IfSome trigger (λ t. t < MAX_TRIGGERS) }
+    ghost use Rattle.iiod_bank.specs.FrontOf.{front_of};
+
+    /// The device is to have that trigger of the front, or none.
+    pub fn new(_front: &HubFront, trigger: Option<u32>) -> TriggerWork
+        requires { IfSome trigger (λ t. t < length (front_of _front.now).triggers) }
         ensures { result.trigger ≡ trigger }
     {
         TriggerWork { trigger }

@@ -62,7 +62,7 @@ impl HubFront {
     #[tactic(auto, unfolding(iio_core::specs::Front::find_trigger))]
     pub fn find_trigger(&self, name: &[u8]) -> Option<u32>
         ensures value { result ≡ find_trigger (front_of self.now) name.now }
-        ensures within { IfSome result (λ trigger. trigger < MAX_TRIGGERS) }
+        ensures within { IfSome result (λ trigger. trigger < length (front_of self.now).triggers) }
     {
         let number = trigger_number(&self.triggers, name)?;
         Some(number as u32)

@@ -277,11 +277,11 @@ impl<B: Bank> Iio for HubLink<B> {
 
     fn set_trigger(&mut self, dev: u32, trigger: Option<u32>) -> Result<(), No>
         requires dev { dev < length (B.front self.old.bank).devices }
-        requires trigger { IfSome trigger (λ t. t < MAX_TRIGGERS) }
+        requires trigger { IfSome trigger (λ t. t < length (B.front self.old.bank).triggers) }
         ensures kept { B.front self.new.bank ≡ B.front self.old.bank }
         ensures bank { Moves (B.told self.old.bank) (B.told self.new.bank) (λ b c. Ran (Only (SetTriggerMakes trigger)) dev b result c) }
     {
-        let work = TriggerWork::new(trigger);
+        let work = TriggerWork::new(self.bank.front(), trigger);
         self.bank.device(dev, Alone { work })
     }
 

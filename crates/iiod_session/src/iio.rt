@@ -96,7 +96,6 @@ pub struct Counts {
 pub trait Iio {
     ghost use Rattle.iio_attr.specs.Attributes.{is_writable, row_of};
     ghost use Rattle.iio_text.specs.Fixed.{IsFixed};
-    ghost use Rattle.iio_desc.specs.declared.limits.TheConstants.{MAX_TRIGGERS};
     ghost use Rattle.iio_desc.specs.Kind.{is_average, is_input, is_output};
     ghost use Rattle.iio_core.specs.Front.{Front, find_device, find_trigger, kind_at, shape_at, trigger_name};
     ghost use Rattle.iio_core.specs.Machine.{Machine, is_plugged, lost_of, queue_of};
@@ -271,14 +270,14 @@ pub trait Iio {
     /// The number of the trigger of that name.
     fn find_trigger(&self, name: &[u8]) -> Option<u32>
         ensures value { result ≡ find_trigger (front (kept self.now)) name.now }
-        ensures within { IfSome result (λ trigger. trigger < MAX_TRIGGERS) };
+        ensures within { IfSome result (λ trigger. trigger < length (front (kept self.now)).triggers) };
 
     /// Gives a device that is no averaging device another trigger, or none. `ENODEV` comes where it is unplugged, then `EBUSY`
     /// where it has a member.
     fn set_trigger(&mut self, dev: u32, trigger: Option<u32>) -> Result<(), No>
         requires dev { dev < length (front (kept self.old)).devices }
         requires own { is_average (kind_at (front (kept self.old)) dev) ≡ false }
-        requires trigger { IfSome trigger (λ t. t < MAX_TRIGGERS) }
+        requires trigger { IfSome trigger (λ t. t < length (front (kept self.old)).triggers) }
         ensures kept { kept self.new ≡ kept self.old }
         ensures told { IfSome (told self.old) (λ m. Answers (set_trigger_of m dev trigger) m result (told self.new)) };
 

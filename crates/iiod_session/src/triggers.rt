@@ -2,7 +2,6 @@
 
 ghost use Rattle.std.specs.Prelude.{◌≡◌, ◌<◌, false, length, IfOk, IfSome};
 ghost use Rattle.std.specs.Option.{option_copied};
-ghost use Rattle.iio_desc.specs.declared.limits.TheConstants.{MAX_TRIGGERS};
 ghost use Rattle.iio_desc.specs.Kind.{is_average};
 ghost use Rattle.iiod_session.specs.Acts.{get_trigger_at, set_trigger_at, set_trigger_known, trigger_named};
 ghost use Rattle.iiod_session.specs.Answers.{IsTrigger, reply_of};
@@ -18,7 +17,7 @@ use iio_text::Errno;
 // The number of the trigger that a SETTRIG names, or none where it names none.
 fn named_trigger<I: Iio>(iio: &I, name: Option<&[u8]>) -> Result<Option<u32>, Errno>
     ensures value { result ≡ trigger_named (I.front (I.kept iio.now)) (option_copied name.entry) }
-    ensures within { IfOk result (λ trigger. IfSome trigger (λ t. t < MAX_TRIGGERS)) }
+    ensures within { IfOk result (λ trigger. IfSome trigger (λ t. t < length (I.front (I.kept iio.now)).triggers)) }
 {
     let Some(name) = name else {
         return Ok(None);

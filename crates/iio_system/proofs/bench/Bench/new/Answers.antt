@@ -1,6 +1,6 @@
-use Rattle.std.proofs.Common.{◌≡◌, ◌+◌, ◌≤◌, ℕ, List, [], ◌++◌, All, ap, arith, length, map, pos, subst, sym, ◌∙◌}
+use Rattle.std.proofs.Common.{◌≡◌, ◌+◌, ◌<◌, ◌≤◌, ℕ, IfSome, List, [], ◌++◌, All, ap, arith, length, map, pos, subst, sym, ◌∙◌}
 use Rattle.std.proofs.lemmas.List.{length-append}
-use Rattle.iio_desc.specs.Description.{Description, DeviceHead, OutputRecord, input_head, output_head}
+use Rattle.iio_desc.specs.Description.{Description, DeviceHead, DeviceRecord, OutputRecord, input_head, output_head}
 use Rattle.iio_desc.specs.WellFormed.{IsWellFormedAverage}
 use Rattle.iio_desc.specs.declared.description.TriggerDesc.{TriggerDesc}
 use Rattle.iio_trigger.specs.Trigger.{State}
@@ -105,7 +105,12 @@ invariant_of-result g c =
           (first_bases c.desc.inside.devices.items c.desc.inside.outputs.items c.desc.inside.averages.items _
           (c.len-first_average.ensures ∙ c.add_outputs.new.devices.ok.0 ∙ many) formed))
           count (subst AreBare (sym stations) bare)
-          (subst AreFresh (sym stations) (first_fresh drivers c.desc.inside.devices.items c.desc.inside.outputs.items c.desc.inside.averages.items)));
+          (subst (AreFresh _) (sym stations)
+          (first_fresh (length c.desc.inside.triggers.items) drivers c.desc.inside.devices.items c.desc.inside.outputs.items c.desc.inside.averages.items
+          (subst (λ (d : Description). All (λ (x : DeviceRecord). IfSome x.trigger (λ t. t < length d.triggers)) d.devices) (sym c.desc.view_is)
+          (λ i x within. (c.requires.sound i x within).attached))
+          (subst (λ (d : Description). All (λ (x : OutputRecord). IfSome x.trigger (λ t. t < length d.triggers)) d.outputs) (sym c.desc.view_is)
+          (λ i x within. (c.requires.outputs i x within).attached)))));
     }
 
 pub returns-clause-front : goal.returns-clause-front
