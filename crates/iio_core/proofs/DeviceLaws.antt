@@ -33,7 +33,7 @@ use Rattle.iio_device.specs.Site.{Site, at_place, attached, is_empty, sampled, s
 use Rattle.iio_device.specs.Stored.{attr_value}
 use Rattle.iio_device.specs.Totals.{with_left, with_lost}
 use Rattle.iio_core.specs.Attached.{has_no_place, is_attached}
-use Rattle.iio_core.specs.Calls.{Outcome, all_joined, attr_answer, closed, ev_close_of, ev_open_of, ev_read_of, inner_gone, inner_left, is_full, is_raw, joined, left, open_of, open_refusals, read_attr_of, set_trigger_of, unless, unless_made, window_left, with_inner, without_inner, write_attr_of}
+use Rattle.iio_core.specs.Calls.{Outcome, all_joined, attr_answer, machine_after_close, ev_close_of, ev_open_of, ev_read_of, inner_gone, inner_left, is_full, is_raw, station_after_join, station_after_leave, open_of, open_refusals, read_attr_of, set_trigger_of, unless, unless_made, window_left, with_inner, without_inner, write_attr_of}
 use Rattle.iio_desc.specs.Kind.{Kind, Input, is_input, is_over}
 use Rattle.iio_derive.specs.Window.{Window, no_window}
 use Rattle.iio_core.proofs.PlaceLists.{get_first}
@@ -290,7 +290,7 @@ module _ {Q : Type 0} (lost capacity : Q → ℕ) (waits : Q → List (List ℕ)
   lost_here n r ms e = ap (λ (o : Option Q). option_map lost o) (sym e) ∙ sym (lost_told n ms)
 
   window_first : (n : ℕ) (d : DeviceView Q)
-      → left n (station d) ≡ (let st : Station =
+      → station_after_leave n (station d) ≡ (let st : Station =
       record (station d) { totals = with_left (lost_by n (map member d.standing.members)) d.totals; members = without n (map member d.standing.members) } in st)
   window_first n d =
       ap (λ (w : Window). (let st : Station =
@@ -302,7 +302,7 @@ module _ {Q : Type 0} (lost capacity : Q → ℕ) (waits : Q → List (List ℕ)
       (no_window_left (map member d.standing.members) (without n (map member d.standing.members)))
 
   pub left_is : (n : ℕ) (r : Option Q) (d d' : DeviceView Q) (s s' : State) → LeavesDevice lost n r d d' s s'
-      → (option_map lost r ≡ lost_by n (station d).members) × (left n (station d) ≡ station d')
+      → (option_map lost r ≡ lost_by n (station d).members) × (station_after_leave n (station d) ≡ station d')
   left_is n None d d' s s' j =
       let told : option_map lost None ≡ lost_by n (map member d.standing.members)
       = lost_here n None d.standing.members (ap (λ (o : Option (Membership Q)). option_map (λ (m : Membership Q). m.tail) o) j.0) in
@@ -330,11 +330,14 @@ module _ {Q : Type 0} (lost capacity : Q → ℕ) (waits : Q → List (List ℕ)
 
   pub leaves_agree : (front : Front) (m : Machine) (dev n : ℕ) (r : Option Q) (d d' : DeviceView Q) (s s' : State) → LeavesDevice lost n r d d' s s'
       → IsAt lost capacity waits m dev d → kind_at front dev ≡ Input
-      → (option_map lost r ≡ lost_by n (station d).members) × IsAt lost capacity waits (closed front m dev n) dev d'
-  unfolding closed
+      → (option_map lost r ≡ lost_by n (station d).members) × IsAt lost capacity waits (machine_after_close front m dev n) dev d'
+  unfolding machine_after_close
   leaves_agree front m dev n r d d' s s' j here input =
-      let is = left_is n r d d' s s' j in
-      (is.0, at_left front (with_station (left n) dev m) dev input ∙ at_changed m dev (station d) (left n) here ∙ ap (λ (st : Station). Some st) is.1)
+      let is = left_is n r d d' s s' j in (
+        is.0,
+        at_left front (with_station (station_after_leave n) dev m) dev input ∙ at_changed m dev (station d) (station_after_leave n) here
+            ∙ ap (λ (st : Station). Some st) is.1,
+      )
 
   -- ---- joins
 
@@ -372,14 +375,14 @@ module _ {Q : Type 0} (lost capacity : Q → ℕ) (waits : Q → List (List ℕ)
 
   -- the device with a member more
   pub joined_is : (mask : Mask) (tail : Q) (d : DeviceView Q) → IsNewEnd lost waits tail
-      → joined mask.bits (capacity tail) false None (station d) ≡ station (device_joined mask tail d)
+      → station_after_join mask.bits (capacity tail) false None (station d) ≡ station (device_joined mask tail d)
   joined_is mask tail d fresh = rw (map-append member d.standing.members, fresh.none, fresh.unlost, empty_map member d.standing.members) refl
 
   open_is : (front : Front) (m : Machine) (dev mask cap : ℕ) (d : DeviceView Q) (r : Option Errno) → IsAt lost capacity waits m dev d
       → kind_at front dev ≡ Input → shape_at front dev ≡ d.standing.shape
       → first_refusal (open_refusals front m.stations Input (own_host (station d) d.standing.shape mask (plain_masks (station d).members)) (station d))
       ≡ r
-      → open_of front m dev mask cap false ≡ unless_made (all_joined front dev (joined mask cap false None)) m (unless_refused d.standing.next r)
+      → open_of front m dev mask cap false ≡ unless_made (all_joined front dev (station_after_join mask cap false None)) m (unless_refused d.standing.next r)
   unfolding open_of
   open_is front m dev mask cap d r here input shaped e = rw (station_here m dev (station d) here, input, shaped, e) refl
 
@@ -403,7 +406,8 @@ module _ {Q : Type 0} (lost capacity : Q → ℕ) (waits : Q → List (List ℕ)
       record {
         answered = ap (λ (y : Outcome ℕ). y.answer) o ∙ ap (λ (n : ℕ). (let r : Result ℕ Errno = Ok n in r)) (sym j.1);
         device =
-            ap (λ (y : Outcome ℕ). slice_get y.machine.stations dev) o ∙ at_joined front m dev (station d) (joined mask.bits (capacity tail) false None) here
+            ap (λ (y : Outcome ℕ). slice_get y.machine.stations dev) o
+            ∙ at_joined front m dev (station d) (station_after_join mask.bits (capacity tail) false None) here
             ∙ ap (λ (st : Station). Some st) (joined_is mask tail d fresh ∙ ap station (sym j.2));
       }
   joins_agree front m dev mask tail (Err x) d d' s s' j here input shaped good places fresh =
@@ -412,7 +416,7 @@ module _ {Q : Type 0} (lost capacity : Q → ℕ) (waits : Q → List (List ℕ)
       open_is front m dev mask.bits (capacity tail) d (errno_of x.fault) here input shaped
       (refusals_are front m d mask.bits s refusal good places refl ∙ stated x.fault refusal j.0) in
       refused_is (open_of front m dev mask.bits (capacity tail) false) m dev d.standing.next
-      (all_joined front dev (joined mask.bits (capacity tail) false None)) d d' (errno_of x.fault) here j.2 o
+      (all_joined front dev (station_after_join mask.bits (capacity tail) false None)) d d' (errno_of x.fault) here j.2 o
 
   -- ---- places
 

@@ -18,7 +18,7 @@ use Rattle.iio_device.specs.Members.{is_live, masks_of, member_of as membership_
 use Rattle.iio_device.specs.Remasking.{IsRemaskRefusal, begun_anew, remasked as remasked_members}
 use Rattle.iio_device.specs.Site.{is_empty}
 use Rattle.iio_device.specs.Totals.{with_left, with_lost}
-use Rattle.iio_core.specs.Calls.{Outcome, remask_of, remask_refusals, remasked, unless, with_mask}
+use Rattle.iio_core.specs.Calls.{Outcome, remask_of, remask_refusals, station_after_remask, unless, with_mask}
 use Rattle.iio_core.specs.Front.{Front, shape_at}
 use Rattle.iio_core.specs.Machine.{Machine, Member, MemberId, Station, is_id_of, lost_by, masks_of as plain_masks, member_in, queue_of, scans_in, without}
 use Rattle.iio_core.specs.Faults.{remask_errno}
@@ -90,7 +90,7 @@ module _ {Q : Type 0} (lost capacity : Q → ℕ) (waits : Q → List (List ℕ)
   -- the device after it
   pub remasked_is : (id : MemberId) (mask : Mask) (tail before : Q) (d d' : DeviceView Q) → RemasksDevice lost id.number mask tail (Ok before) d d'
       → IsNewEnd lost waits tail
-      → remasked id.number mask.bits (capacity tail) (seen d) ≡ seen d'
+      → station_after_remask id.number mask.bits (capacity tail) (seen d) ≡ seen d'
   remasked_is id mask tail before d d' j fresh =
       let gone : lost_by id.number (map told d.standing.members) ≡ Some (lost before)
       = lost_told lost capacity waits id.number d.standing.members ∙ ap (λ (o : Option Q). option_map lost o) j.1 in
@@ -141,7 +141,7 @@ module _ {Q : Type 0} (lost capacity : Q → ℕ) (waits : Q → List (List ℕ)
       → shape_at front dev ≡ d.standing.shape
       → first_refusal (remask_refusals d.standing.shape (seen d) id mask) ≡ r
       → remask_of front m dev id mask scans
-      ≡ unless (remasked id.number mask scans) dev m (unless_refused (length (scans_in id (map told d.standing.members))) r)
+      ≡ unless (station_after_remask id.number mask scans) dev m (unless_refused (length (scans_in id (map told d.standing.members))) r)
   unfolding remask_of queue_of
   remask_is front m dev id mask scans d r here shaped e = rw (station_here m dev (seen d) here, shaped, e) refl
 
@@ -165,7 +165,9 @@ module _ {Q : Type 0} (lost capacity : Q → ℕ) (waits : Q → List (List ℕ)
         answered =
             ap (λ (y : Outcome ℕ). y.answer) o
             ∙ ap (λ (q : List (List ℕ)). (let r : Result ℕ Errno = Ok (length q) in r)) (waited_is id before d.standing.members knows j.1);
-        device = ap (λ (y : Outcome ℕ). slice_get y.machine.stations dev) o ∙ at_changed m dev (seen d) (remasked id.number mask.bits (capacity tail)) here
+        device =
+            ap (λ (y : Outcome ℕ). slice_get y.machine.stations dev) o
+            ∙ at_changed m dev (seen d) (station_after_remask id.number mask.bits (capacity tail)) here
             ∙ ap (λ (st : Station). Some st) (remasked_is id mask tail before d d' j fresh);
       }
   remasks_agree front m dev id mask tail (Err x) d d' j here shaped good knows fresh =
@@ -174,7 +176,7 @@ module _ {Q : Type 0} (lost capacity : Q → ℕ) (waits : Q → List (List ℕ)
       remask_is front m dev id mask.bits (capacity tail) d (remask_errno x.fault) here shaped
       (refusals_are id mask.bits d refusal good knows refl ∙ stated x.fault refusal j.0) in
       refused_is (remask_of front m dev id mask.bits (capacity tail)) m dev (length (scans_in id (map told d.standing.members)))
-      (remasked id.number mask.bits (capacity tail)) d d' (remask_errno x.fault) here j.2 o
+      (station_after_remask id.number mask.bits (capacity tail)) d d' (remask_errno x.fault) here j.2 o
 
   -- ---- places
 

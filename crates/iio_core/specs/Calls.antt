@@ -73,8 +73,8 @@ abbrev pub newcomer : ℕ → ℕ → Bool → Option ℕ → Station → Member
 newcomer mask capacity cyclic inner st = record { number = st.next; mask = mask; capacity = capacity; scans = []; lost = 0; cyclic = cyclic; inner = inner }
 
 -- a device with a member more: the first one's joining is a new attachment
-abbrev pub joined : ℕ → ℕ → Bool → Option ℕ → Station → Station
-joined mask capacity cyclic inner st =
+abbrev pub station_after_join : ℕ → ℕ → Bool → Option ℕ → Station → Station
+station_after_join mask capacity cyclic inner st =
     record st { next = st.next + 1; members = st.members ++ newcomer mask capacity cyclic inner st ∷ []; site = attached (is_empty st.members) st.site }
 
 -- whether a member is the inner one of averaging device j
@@ -83,7 +83,7 @@ is_inner_of j x = option_map_or (λ i. i == j) x.inner false
 
 -- the base with the inner member of averaging device j, where it has none yet
 abbrev pub inner_joined : ℕ → ShapeRecord → Station → Station
-inner_joined j shape b = if list_any (is_inner_of j) b.members then b else joined (full_mask shape) 1 false (Some j) b
+inner_joined j shape b = if list_any (is_inner_of j) b.members then b else station_after_join (full_mask shape) 1 false (Some j) b
 
 -- device k, where a member joined averaging device j over it
 abbrev pub with_inner : Front → ℕ → ℕ → Station → Station
@@ -96,7 +96,7 @@ all_joined front dev change m = record m { stations = map_from (λ k st. if dev 
 -- `open`, and `open_out` of an output device: the new member's number
 unfoldable pub open_of : Front → Machine → ℕ → (mask capacity : ℕ) → (cyclic : Bool) → Outcome ℕ
 open_of front m dev mask capacity cyclic =
-    unless_made (all_joined front dev (joined mask capacity cyclic None)) m
+    unless_made (all_joined front dev (station_after_join mask capacity cyclic None)) m
     (unless_refused (station_at m dev).next (first_refusal (open_refusals front m.stations (kind_at front dev)
     (host_of front m.stations (kind_at front dev) (station_at m dev) (shape_at front dev) mask) (station_at m dev))))
 
@@ -105,8 +105,8 @@ abbrev pub window_left : (before after : List Member) → Window → Window
 window_left before after w = if not (is_empty before) && is_empty after then no_window else w
 
 -- a device with the member of that number less; what it lost is counted
-abbrev pub left : ℕ → Station → Station
-left number st =
+abbrev pub station_after_leave : ℕ → Station → Station
+station_after_leave number st =
     record st {
       totals = with_left (lost_by number st.members) st.totals;
       members = without number st.members;
@@ -131,8 +131,8 @@ abbrev pub inner_left : Front → ℕ → Machine → Machine
 inner_left front dev m = record m { stations = map_from (without_inner front m dev) 0 m.stations }
 
 -- `close`
-unfoldable pub closed : Front → Machine → ℕ → ℕ → Machine
-closed front m dev number = inner_left front dev (with_station (left number) dev m)
+unfoldable pub machine_after_close : Front → Machine → ℕ → ℕ → Machine
+machine_after_close front m dev number = inner_left front dev (with_station (station_after_leave number) dev m)
 
 -- why a member can't have another mask, in this order; the others' masks stay
 abbrev pub remask_refusals : ShapeRecord → Station → MemberId → ℕ → List (Bool × Errno)
@@ -147,14 +147,14 @@ abbrev pub with_mask : (number mask capacity : ℕ) → Member → Member
 with_mask number mask capacity x = if is_seat_of number x then record x { mask = mask; capacity = capacity; scans = []; lost = 0 } else x
 
 -- a device with it; what its old queue lost is counted
-abbrev pub remasked : (number mask capacity : ℕ) → Station → Station
-remasked number mask capacity st =
+abbrev pub station_after_remask : (number mask capacity : ℕ) → Station → Station
+station_after_remask number mask capacity st =
     record st { totals = with_left (lost_by number st.members) st.totals; members = map (with_mask number mask capacity) st.members }
 
 -- `remask`: how many scans waited
 unfoldable pub remask_of : Front → Machine → ℕ → MemberId → (mask capacity : ℕ) → Outcome ℕ
 remask_of front m dev id mask capacity =
-    unless (remasked id.number mask capacity) dev m
+    unless (station_after_remask id.number mask capacity) dev m
     (unless_refused (length (queue_of m dev id)) (first_refusal (remask_refusals (shape_at front dev) (station_at m dev) id mask)))
 
 -- ---- scans that are written

@@ -21,7 +21,7 @@ use Rattle.iio_kfifo.specs.Ends.{Offers as WriterOffers, WriterEnd}
 use Rattle.iio_kfifo.specs.Offers.{accepted, lost_in}
 use Rattle.iio_kfifo.specs.Queue.{Offers as QueueOffers, Queue}
 use Rattle.iio_core.specs.Attached.{has_no_place, is_attached}
-use Rattle.iio_core.specs.Calls.{closed, ev_close_of, ev_open_of, ev_read_of, is_raw, open_of, read_attr_of, remask_of, set_trigger_of, write_attr_of}
+use Rattle.iio_core.specs.Calls.{machine_after_close, ev_close_of, ev_open_of, ev_read_of, is_raw, open_of, read_attr_of, remask_of, set_trigger_of, write_attr_of}
 use Rattle.iio_desc.specs.Kind.{Input}
 use Rattle.iio_core.specs.Faults.{held_errno, holder_errno, map_err, raw_value}
 use Rattle.iio_core.specs.Front.{Front, device_name, kind_at, shape_at}
@@ -57,7 +57,8 @@ module _ {Q : Type 0} where
   LeavesAgree lost capacity =
       (waits : Q → List (List ℕ)) (front : Front) (m : Machine) (dev number : ℕ) (r : Option Q) (old new : DeviceView Q) (trigger trigger' : State)
       → LeavesDevice lost number r old new trigger trigger' → IsAt lost capacity waits m dev old → kind_at front dev ≡ Input
-      → (option_map lost r ≡ lost_by number (station_of lost capacity waits old).members) × IsAt lost capacity waits (closed front m dev number) dev new
+      → (option_map lost r ≡ lost_by number (station_of lost capacity waits old).members)
+      × IsAt lost capacity waits (machine_after_close front m dev number) dev new
 
   -- a seat's mask is that of the member of its number, where there is one
   abbrev pub IsSeatAt : MemberId → DeviceView Q → Type 0

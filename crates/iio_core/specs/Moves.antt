@@ -26,7 +26,7 @@ use Rattle.iio_core.specs.declared.became.Gave.TheVariants as gave
 use Rattle.iio_core.specs.Attached.{entries_from}
 use Rattle.iio_core.specs.Front.{Front, kind_at, shape_at}
 use Rattle.iio_core.specs.Lists.{map_from}
-use Rattle.iio_core.specs.Trigger.{Trigger, entries_at, entry_of, handled, missed_at, poll_answer, polled_by}
+use Rattle.iio_core.specs.Trigger.{Trigger, entries_at, entry_of, trigger_after_handling, missed_at, poll_answer, polled_by}
 use Rattle.iio_core.specs.Machine.{Machine, Member, Station, attachments_of, masks_of, station_at, with_site, with_station}
 
 -- one accepted trigger event of a device: its moment, and the value of every element of every channel, in order
@@ -171,7 +171,7 @@ entry_in trigger dev m = entry_of dev (entries_at m.triggers trigger)
 
 -- ... is taken off, once it is handled
 abbrev pub taken_off : (trigger dev : ℕ) → Machine → Machine
-taken_off trigger dev m = with_trigger (handled dev) trigger m
+taken_off trigger dev m = with_trigger (trigger_after_handling dev) trigger m
 
 abbrev pub machine_after_handling : Front → (trigger dev : ℕ) → Machine → Machine
 machine_after_handling front trigger dev m = taken_off trigger dev (machine_after_entry front (entry_in trigger dev m) dev m)

@@ -47,8 +47,8 @@ abbrev pub without_entry : ℕ → List Handed → List Handed
 without_entry device entries = filter (λ (e : Handed). not (e.dev == device)) entries
 
 -- a trigger of which a device's entry is handled
-abbrev pub handled : ℕ → Trigger → Trigger
-handled device t = record t { entries = without_entry device t.entries }
+abbrev pub trigger_after_handling : ℕ → Trigger → Trigger
+trigger_after_handling device t = record t { entries = without_entry device t.entries }
 
 -- the device of the first of some entries
 abbrev pub first_due : List Handed → Option ℕ

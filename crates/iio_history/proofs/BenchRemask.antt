@@ -18,8 +18,8 @@ use Rattle.iiod_reply.specs.Reply.{Reply, Refusal}
 use Rattle.iio_kfifo.specs.declared.limits.TheConstants.{MAX_BYTES}
 use Rattle.iiod_session.specs.Acts.{Acted, act, refused, remask_at, remask_place, remask_seat, remask_wanted, remasked_seat as session_remasked, where_known, zero_reply}
 use Rattle.iio_desc.specs.Kind.{is_input}
-use Rattle.iio_core.specs.Calls.{remask_of, remask_refusals as bench_refusals, remasked as bench_remasked, unless, with_mask}
-use Rattle.iiod_session.specs.Desk.{Bare, DeskRecord, bare_remasked, mask_wanted, more_discarded, place_of, with_seats}
+use Rattle.iio_core.specs.Calls.{remask_of, remask_refusals as bench_refusals, station_after_remask as bench_remasked, unless, with_mask}
+use Rattle.iiod_session.specs.Client.{Bare, ClientRecord, bare_remasked, mask_wanted, more_discarded, place_of, with_seats}
 use Rattle.iio_core.specs.Front.{kind_at, shape_at}
 use Rattle.iio_core.specs.Machine.{Member as MachineMember, Station as MachineStation, masks_of, member_in, queue_of, scans_in, station_at, with_station, without}
 use Rattle.iio_core.specs.Opening.{mask_refusals}
@@ -32,13 +32,13 @@ use Rattle.iio_history.specs.Queue.{new_queue}
 use Rattle.iio_history.specs.Told.{Seat, Station, Told, device_of, member_of_seat, registry_of}
 use Rattle.iio_history.specs.Machine.{remasked_seat, station_after, station_by, step, without_seats}
 use Rattle.iio_history.specs.Reply.{Known, replied, reply, seat_of}
-use Rattle.iio_history.specs.Bench.{IsAct, IsBench, IsDeskOf, bare_by, bench_by, front_of, machine_of, names_of, numbered, place_in, seat_at, seat_in}
+use Rattle.iio_history.specs.Bench.{IsAct, IsBench, IsClientOf, bare_by, bench_by, front_of, machine_of, names_of, numbered, place_in, seat_at, seat_in}
 use Rattle.iio_history.proofs.WhoLaws.{same_is}
 use Rattle.iio_core.proofs.PlaceLists.{get_first, itself, same_number}
 use Rattle.iio_history.proofs.BenchLists.{first_appended, first_of_two}
 use Rattle.iio_history.proofs.BenchSeats.{TellSame, id_of_seat, left_same, lost_same, masks_same, member_same, scans_same}
 use Rattle.iio_history.proofs.BenchSteps.{bench_at, named_by, names_kept, shape_same}
-use Rattle.iio_history.proofs.BenchDesks.{counts_kept, HolderStays, holds_kept, keeps_spared, seat_kept, users_after}
+use Rattle.iio_history.proofs.BenchClients.{counts_kept, HolderStays, holds_kept, keeps_spared, seat_kept, users_after}
 use Rattle.iio_history.proofs.BenchPlaces.{is_at, place_none, put_apart, put_at}
 use Rattle.iio_history.proofs.BenchPlain.{Acts, Names, at_named, keeps_else, known_is, state_changed, unchanged, unknown_is, where_kind, where_plugged}
 use Rattle.iio_history.proofs.BenchBuffers.{own_seat, station_is, tells}
@@ -118,7 +118,7 @@ answered name text x = do
 abbrev answer_by : Device → List ℕ → Option Member → Result Remasked Errno
 answer_by x text o = ok_or o EBADF >>= remasked x text
 
-module _ (s : Setup) (m : Told) (name : List ℕ) (desk : DeskRecord) (device text : List ℕ) where
+module _ (s : Setup) (m : Told) (name : List ℕ) (client : ClientRecord) (device text : List ℕ) where
   abbrev item : Item
   item = Said (Ok (Remask device text))
 
@@ -129,7 +129,7 @@ module _ (s : Setup) (m : Told) (name : List ℕ) (desk : DeskRecord) (device te
     uncounted = λ none u. refl;
   }
 
-  module _ (k : ℕ) (st : Station) (bench : IsBench s m) (d : IsDeskOf m name desk) (found : find_device s.desc device ≡ Some k)
+  module _ (k : ℕ) (st : Station) (bench : IsBench s m) (d : IsClientOf m name client) (found : find_device s.desc device ≡ Some k)
       (at : slice_get m.stations k ≡ Some st) where
     acts : (r : Result Remasked Errno) → remask_answer (device_of st) (Conn name) text ≡ r
         → Acts s m name (Said (Ok (Remask device text))) device k st (remasking r)
@@ -148,9 +148,9 @@ module _ (s : Setup) (m : Told) (name : List ℕ) (desk : DeskRecord) (device te
 
     -- one that is refused
     is_refused : (e : Errno) → remask_answer (device_of st) (Conn name) text ≡ Err e
-        → IsAct s m name (Said (Ok (Remask device text))) (refused e (machine_of m) desk)
+        → IsAct s m name (Said (Ok (Remask device text))) (refused e (machine_of m) client)
     is_refused e is =
-        unchanged s m name (Said (Ok (Remask device text))) device k st Nothing (acts (Err e) is) desk (Refusal e) d (reply_is (Err e) is) refl
+        unchanged s m name (Said (Ok (Remask device text))) device k st Nothing (acts (Err e) is) client (Refusal e) d (reply_is (Err e) is) refl
         (keeps_spared (Conn name) k Nothing st tt) (λ u. refl)
 
     plugged_answer : is_input st.kind ≡ true → st.site.plugged ≡ true → (o : Option Seat) → seat_of (Conn name) st.seats ≡ o
@@ -269,13 +269,13 @@ module _ (s : Setup) (m : Told) (name : List ℕ) (desk : DeskRecord) (device te
         holder j x true (Err e) h = h
         holder j x true (Ok n) h = h
 
-        desk_is : (i : ℕ) → slice_get desk.seats i ≡ Some (bare_by k y)
-            → IsDeskOf (step s m (Heard name (Said (Ok (Remask device text))))) name
-            (with_seats (slice_set desk.seats i (new_bare (length y.queue.scans))) desk)
-        desk_is i here = record {
+        client_is : (i : ℕ) → slice_get client.seats i ≡ Some (bare_by k y)
+            → IsClientOf (step s m (Heard name (Said (Ok (Remask device text))))) name
+            (with_seats (slice_set client.seats i (new_bare (length y.queue.scans))) client)
+        client_is i here = record {
           who = d.who ∙ sym (ap (λ (ns : List (List ℕ)). place_in ns name) (names_kept s m (Heard name item) refl));
-          seats = λ j. put_at desk.seats i (bare_by k y) (new_bare (length y.queue.scans)) d.apart here refl j ∙ by j (k == j) refl;
-          apart = put_apart desk.seats i (bare_by k y) (new_bare (length y.queue.scans)) d.apart here refl;
+          seats = λ j. put_at client.seats i (bare_by k y) (new_bare (length y.queue.scans)) d.apart here refl j ∙ by j (k == j) refl;
+          apart = put_apart client.seats i (bare_by k y) (new_bare (length y.queue.scans)) d.apart here refl;
           buffers =
               λ j. d.buffers j ∙ sym (counts_kept s m (Heard name item) name (users_after s (registry_of m) (Heard name item) name m.lines [] refl)
               (λ u is. refl) j);
@@ -285,7 +285,7 @@ module _ (s : Setup) (m : Told) (name : List ℕ) (desk : DeskRecord) (device te
         }
           where
             by : (j : ℕ) (b : Bool) → (k == j) ≡ b
-                → cond b (Some (new_bare (length y.queue.scans))) (seat_at j desk.seats)
+                → cond b (Some (new_bare (length y.queue.scans))) (seat_at j client.seats)
                 ≡ seat_in j (Conn name) (slice_get (step s m (Heard name item)).stations j)
             by j true here =
                 sym (ap (λ (i : ℕ). seat_in i (Conn name) (slice_get (step s m (Heard name item)).stations i)) (sym (same_number k j here)) ∙ remasked_here)
@@ -297,10 +297,10 @@ module _ (s : Setup) (m : Told) (name : List ℕ) (desk : DeskRecord) (device te
       -- the answer of the device, as the session takes it
       abbrev taken : ℕ → Result ℕ Errno → Acted
       taken i r =
-          let o = unless (bench_remasked y.number mask y.member.capacity) k (machine_of m) r in session_remasked desk i (bare_by k y) mask o.machine o.answer
+          let o = unless (bench_remasked y.number mask y.member.capacity) k (machine_of m) r in session_remasked client i (bare_by k y) mask o.machine o.answer
 
-      by_union : (i : ℕ) → slice_get desk.seats i ≡ Some (bare_by k y) → first_refusal own_list ≡ None → (b : Option Errno) → first_refusal union_list ≡ b
-          → IsAct s m name (Said (Ok (Remask device text))) (remask_wanted (front_of s) (machine_of m) desk i (bare_by k y) (Ok mask))
+      by_union : (i : ℕ) → slice_get client.seats i ≡ Some (bare_by k y) → first_refusal own_list ≡ None → (b : Option Errno) → first_refusal union_list ≡ b
+          → IsAct s m name (Said (Ok (Remask device text))) (remask_wanted (front_of s) (machine_of m) client i (bare_by k y) (Ok mask))
       unfolding remask_of
       by_union i here first b second =
           subst (λ (o : Option Errno). IsAct s m name (Said (Ok (Remask device text)))
@@ -311,44 +311,44 @@ module _ (s : Setup) (m : Told) (name : List ℕ) (desk : DeskRecord) (device te
           by : (b : Option Errno) → remask_answer (device_of st) (Conn name) text ≡ unless_refused made (first_of_two None b)
               → IsAct s m name (Said (Ok (Remask device text))) (taken i (unless_refused (length y.queue.scans) b))
           by (Some e) answer = is_refused e answer
-          by None answer = record { answer = reply_is (Ok made) answer; state = state_is answer; desk = desk_is answer i here }
+          by None answer = record { answer = reply_is (Ok made) answer; state = state_is answer; client = client_is answer i here }
 
-      by_own : (i : ℕ) → slice_get desk.seats i ≡ Some (bare_by k y) → (a : Option Errno) → first_refusal own_list ≡ a
-          → IsAct s m name (Said (Ok (Remask device text))) (remask_wanted (front_of s) (machine_of m) desk i (bare_by k y) (unless_refused mask a))
+      by_own : (i : ℕ) → slice_get client.seats i ≡ Some (bare_by k y) → (a : Option Errno) → first_refusal own_list ≡ a
+          → IsAct s m name (Said (Ok (Remask device text))) (remask_wanted (front_of s) (machine_of m) client i (bare_by k y) (unless_refused mask a))
       by_own i here (Some e) first = is_refused e (answer_is (Some e) (first_refusal union_list) first refl)
       by_own i here None first = by_union i here first (first_refusal union_list) refl
 
-      at_seat : (i : ℕ) → slice_get desk.seats i ≡ Some (bare_by k y)
-          → IsAct s m name (Said (Ok (Remask device text))) (remask_seat (front_of s) (machine_of m) desk text i (Some (bare_by k y)))
+      at_seat : (i : ℕ) → slice_get client.seats i ≡ Some (bare_by k y)
+          → IsAct s m name (Said (Ok (Remask device text))) (remask_seat (front_of s) (machine_of m) client text i (Some (bare_by k y)))
       at_seat i here =
-          subst (λ (r : Result ℕ Errno). IsAct s m name (Said (Ok (Remask device text))) (remask_wanted (front_of s) (machine_of m) desk i (bare_by k y) r))
+          subst (λ (r : Result ℕ Errno). IsAct s m name (Said (Ok (Remask device text))) (remask_wanted (front_of s) (machine_of m) client i (bare_by k y) r))
           (sym wanted_is) (by_own i here (first_refusal own_list) refl)
 
     by_seat : is_input st.kind ≡ true → st.site.plugged ≡ true → (o : Option Seat) → seat_of (Conn name) st.seats ≡ o
-        → IsAct s m name (Said (Ok (Remask device text))) (remask_place (front_of s) (machine_of m) desk text (place_of k desk.seats))
+        → IsAct s m name (Said (Ok (Remask device text))) (remask_place (front_of s) (machine_of m) client text (place_of k client.seats))
     by_seat input plugged None is =
-        subst (λ (p : Option ℕ). IsAct s m name (Said (Ok (Remask device text))) (remask_place (front_of s) (machine_of m) desk text p))
-        (sym (place_none k desk.seats (own_seat m name desk k st None d at is)))
+        subst (λ (p : Option ℕ). IsAct s m name (Said (Ok (Remask device text))) (remask_place (front_of s) (machine_of m) client text p))
+        (sym (place_none k client.seats (own_seat m name client k st None d at is)))
         (is_refused EBADF (plugged_answer input plugged None is))
     by_seat input plugged (Some y) is =
-        let f = is_at k desk.seats (bare_by k y) d.apart (own_seat m name desk k st (Some y) d at is) in
-        subst (λ (p : Option ℕ). IsAct s m name (Said (Ok (Remask device text))) (remask_place (front_of s) (machine_of m) desk text p)) (sym f.place)
-        (subst (λ (b : Option Bare). IsAct s m name (Said (Ok (Remask device text))) (remask_seat (front_of s) (machine_of m) desk text f.i b)) (sym f.here)
+        let f = is_at k client.seats (bare_by k y) d.apart (own_seat m name client k st (Some y) d at is) in
+        subst (λ (p : Option ℕ). IsAct s m name (Said (Ok (Remask device text))) (remask_place (front_of s) (machine_of m) client text p)) (sym f.place)
+        (subst (λ (b : Option Bare). IsAct s m name (Said (Ok (Remask device text))) (remask_seat (front_of s) (machine_of m) client text f.i b)) (sym f.here)
         (at_seat input plugged y is f.i f.here))
 
     remask_here : IsAct s m name (Said (Ok (Remask device text)))
-        (where_known (is_input (kind_at (front_of s) k)) (machine_of m) desk k (remask_at (front_of s) (machine_of m) desk text k))
+        (where_known (is_input (kind_at (front_of s) k)) (machine_of m) client k (remask_at (front_of s) (machine_of m) client text k))
     remask_here =
-        where_kind s m k st desk is_input _ (IsAct s m name (Said (Ok (Remask device text)))) bench at
-        (λ input. where_plugged m k st desk _ (IsAct s m name (Said (Ok (Remask device text)))) at
+        where_kind s m k st client is_input _ (IsAct s m name (Said (Ok (Remask device text)))) bench at
+        (λ input. where_plugged m k st client _ (IsAct s m name (Said (Ok (Remask device text)))) at
         (λ plugged. by_seat input plugged (seat_of (Conn name) st.seats) refl) (λ gone. is_refused ENODEV (gone_answer gone)))
         (λ other plugged. is_refused ENOSYS (barred_answer other plugged)) (λ other gone. is_refused ENODEV (gone_answer gone))
 
-pub remask_is : (s : Setup) (m : Told) (name : List ℕ) (desk : DeskRecord) (device text : List ℕ) → IsBench s m → IsDeskOf m name desk
-    → IsAct s m name (Said (Ok (Remask device text))) (act (front_of s) (machine_of m) desk (Said (Ok (Remask device text))))
+pub remask_is : (s : Setup) (m : Told) (name : List ℕ) (client : ClientRecord) (device text : List ℕ) → IsBench s m → IsClientOf m name client
+    → IsAct s m name (Said (Ok (Remask device text))) (act (front_of s) (machine_of m) client (Said (Ok (Remask device text))))
 unfolding act
-remask_is s m name desk device text bench d =
-    at_named s m name desk (Said (Ok (Remask device text))) device
-    (λ k. where_known (is_input (kind_at (front_of s) k)) (machine_of m) desk k (remask_at (front_of s) (machine_of m) desk text k)) bench d
-    (names s m name desk device text)
-    (λ k st found at. remask_here s m name desk device text k st bench d found at)
+remask_is s m name client device text bench d =
+    at_named s m name client (Said (Ok (Remask device text))) device
+    (λ k. where_known (is_input (kind_at (front_of s) k)) (machine_of m) client k (remask_at (front_of s) (machine_of m) client text k)) bench d
+    (names s m name client device text)
+    (λ k st found at. remask_here s m name client device text k st bench d found at)

@@ -19,7 +19,7 @@ pub mod BenchLists
 pub mod BenchSeats
 pub mod BenchSites
 pub mod BenchSteps
-pub mod BenchDesks
+pub mod BenchClients
 pub mod BenchKept
 pub mod BenchPlaces
 pub mod BenchPlain

@@ -1,4 +1,4 @@
--- The told state as a session sees it: its machine, where members and holders go by numbers; and the desk of a connection,
+-- The told state as a session sees it: its machine, where members and holders go by numbers; and the client of a connection,
 -- which is what the connection has of the told state.
 use Rattle.std.specs.Prelude.{◌≡◌, ℕ, suc, ◌-◌, ◌^◌, ◌<◌, ◌≤◌, ◌==◌, ◌||◌, Bool, true, false, List, [], ◌∷◌, map, length, Option, Some, None, option_map, slice_get, if◌then◌else◌}
 use Rattle.std.specs.Str.{bytes_eq}
@@ -12,7 +12,7 @@ use Rattle.iio_event.specs.Monitor.{MonitorRecord, is_holder}
 use Rattle.iio_device.specs.Site.{Site}
 use Rattle.iiod_grammar.specs.Stream.{Item}
 use Rattle.iiod_session.specs.Acts.{Acted}
-use Rattle.iiod_session.specs.Desk.{Bare, DeskRecord, buffers_of as desk_buffers}
+use Rattle.iiod_session.specs.Client.{Bare, ClientRecord, buffers_of as client_buffers}
 use Rattle.iio_core.specs.Front.{Front, first_front}
 use Rattle.iio_core.specs.Machine.{Machine, Member as MachineMember, Station as MachineStation}
 use Rattle.iio_history.specs.Who.{Who, Conn, Inner, same}
@@ -96,9 +96,9 @@ bench_by names st = record {
 abbrev pub machine_of : Told → Machine
 machine_of m = record { clock = m.clock; triggers = m.triggers; stations = map (bench_by (names_of m)) m.stations }
 
--- ---- what a desk has to be
+-- ---- what a client has to be
 
--- the first seat of a desk at a device
+-- the first seat of a client at a device
 abbrev pub seat_at : ℕ → List Bare → Option Bare
 seat_at dev [] = None
 seat_at dev (s ∷ ss) = if s.dev == dev then Some s else seat_at dev ss
@@ -125,12 +125,12 @@ holds_in who None = false
 holds_in who (Some st) = is_holder same who st.site.monitor
 
 -- the connection's number; its memberships, device by device; its buffers counts; and all devices whose events it holds
-pub record IsDeskOf (m : Told) (name : List ℕ) (desk : DeskRecord) : Type 0 where
-  pub who : desk.who ≡ place_in (names_of m) name
-  pub seats : (k : ℕ) → seat_at k desk.seats ≡ seat_in k (Conn name) (slice_get m.stations k)
-  pub apart : OnePerDevice desk.seats
-  pub buffers : (k : ℕ) → desk_buffers k desk.buffers ≡ buffers_of (registry_of m).users name k
-  pub holdings : (k : ℕ) → holds_in (Conn name) (slice_get m.stations k) ≡ true → is_listed k desk.holdings ≡ true
+pub record IsClientOf (m : Told) (name : List ℕ) (client : ClientRecord) : Type 0 where
+  pub who : client.who ≡ place_in (names_of m) name
+  pub seats : (k : ℕ) → seat_at k client.seats ≡ seat_in k (Conn name) (slice_get m.stations k)
+  pub apart : OnePerDevice client.seats
+  pub buffers : (k : ℕ) → client_buffers k client.buffers ≡ buffers_of (registry_of m).users name k
+  pub holdings : (k : ℕ) → holds_in (Conn name) (slice_get m.stations k) ≡ true → is_listed k client.holdings ≡ true
 
 -- ---- what holds of every told state
 
@@ -218,8 +218,8 @@ CanJoin st = st.joinings < 2 ^ 64 - 1
 
 -- ---- an item in both views
 
--- the answer and the machine after it are what the history says, and the desk after it is one of the state then
+-- the answer and the machine after it are what the history says, and the client after it is one of the state then
 pub record IsAct (s : Setup) (m : Told) (name : List ℕ) (item : Item) (o : Acted) : Type 0 where
   pub answer : o.reply ≡ reply s m name item
   pub state : o.machine ≡ machine_of (step s m (Heard name item))
-  pub desk : IsDeskOf (step s m (Heard name item)) name o.desk
+  pub client : IsClientOf (step s m (Heard name item)) name o.client

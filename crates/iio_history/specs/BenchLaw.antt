@@ -1,4 +1,4 @@
--- The law that joins a session's machine and desks to the told state.
+-- The law that joins a session's machine and clients to the told state.
 use Rattle.std.specs.Prelude.{◌≡◌, ℕ, suc, ◌+◌, ◌-◌, ◌^◌, ◌≤◌, false, true, List, [], ◌∷◌, ◌++◌, map, length, All, Option, Some}
 use Rattle.std.specs.Str.{bytes_eq}
 use Rattle.iio_text.specs.declared.errors.Errno.{Errno}
@@ -9,17 +9,17 @@ use Rattle.iio_desc.specs.Description.{heads_of}
 use Rattle.iiod_grammar.specs.Stream.{Item, End}
 use Rattle.iiod_reply.specs.Reply.{Reply, NoMemory}
 use Rattle.iiod_session.specs.declared.manner.Manner.TheVariants.{Script}
-use Rattle.iiod_session.specs.Acts.{Acts, act, left_desk, left_machine}
-use Rattle.iiod_session.specs.Desk.{DeskRecord}
+use Rattle.iiod_session.specs.Acts.{Acts, act, left_client, left_machine}
+use Rattle.iiod_session.specs.Client.{ClientRecord}
 use Rattle.iio_core.specs.Machine.{Machine}
-use Rattle.iiod_session.specs.Run.{FeedTells, State, desk_after, machine_after, texts_of}
+use Rattle.iiod_session.specs.Run.{FeedTells, State, client_after, machine_after, texts_of}
 use Rattle.iio_history.specs.Event.{Event, Arrived, Heard, Dropped}
 use Rattle.iio_history.specs.Registry.{Setup, is_live}
 use Rattle.iio_history.specs.Told.{Station, Told, registry_of, told}
 use Rattle.iio_history.specs.Machine.{step}
 use Rattle.iio_history.specs.Played.{steps, texts}
 use Rattle.iio_history.specs.Reply.{reply}
-use Rattle.iio_history.specs.Bench.{CanJoin, Every, HasDeviceSizes, HasSizes, IsAct, IsBench, IsDeskOf, IsStep, front_of, is_in, machine_of, names_of}
+use Rattle.iio_history.specs.Bench.{CanJoin, Every, HasDeviceSizes, HasSizes, IsAct, IsBench, IsClientOf, IsStep, front_of, is_in, machine_of, names_of}
 
 -- ---- what holds of every told state
 
@@ -72,21 +72,21 @@ RoomLasts =
 -- the answer to an item, and what stands then, are the same by the session's machine and by the history
 abbrev pub ItemsAreActs : Type 0
 ItemsAreActs =
-    (s : Setup) (m : Told) (name : List ℕ) (desk : DeskRecord) (item : Item) → IsBench s m → is_in (names_of m) name ≡ true → IsDeskOf m name desk
+    (s : Setup) (m : Told) (name : List ℕ) (client : ClientRecord) (item : Item) → IsBench s m → is_in (names_of m) name ≡ true → IsClientOf m name client
     → Every CanJoin m.stations
-    → IsAct s m name item (act (front_of s) (machine_of m) desk item)
+    → IsAct s m name item (act (front_of s) (machine_of m) client item)
 
 -- what a session promises of an item over a told state, by the history: want of memory changes nothing
-abbrev pub TellsAs : Setup → Told → List ℕ → DeskRecord → Item → Reply → Option Machine → DeskRecord → Type 0
-TellsAs s m name desk item NoMemory machine desk' = (machine ≡ Some (machine_of m)) × (desk' ≡ desk)
-TellsAs s m name desk item answer machine desk' =
-    (answer ≡ reply s m name item) × (machine ≡ Some (machine_of (step s m (Heard name item)))) × IsDeskOf (step s m (Heard name item)) name desk'
+abbrev pub TellsAs : Setup → Told → List ℕ → ClientRecord → Item → Reply → Option Machine → ClientRecord → Type 0
+TellsAs s m name client item NoMemory machine client' = (machine ≡ Some (machine_of m)) × (client' ≡ client)
+TellsAs s m name client item answer machine client' =
+    (answer ≡ reply s m name item) × (machine ≡ Some (machine_of (step s m (Heard name item)))) × IsClientOf (step s m (Heard name item)) name client'
 
 abbrev pub ActsTell : Type 0
 ActsTell =
-    (s : Setup) (m : Told) (name : List ℕ) (desk : DeskRecord) (item : Item) (answer : Reply) (machine : Option Machine) (desk' : DeskRecord)
-    → IsBench s m → is_in (names_of m) name ≡ true → IsDeskOf m name desk → Every CanJoin m.stations
-    → Acts (front_of s) (machine_of m) desk item answer machine desk' → TellsAs s m name desk item answer machine desk'
+    (s : Setup) (m : Told) (name : List ℕ) (client : ClientRecord) (item : Item) (answer : Reply) (machine : Option Machine) (client' : ClientRecord)
+    → IsBench s m → is_in (names_of m) name ≡ true → IsClientOf m name client → Every CanJoin m.stations
+    → Acts (front_of s) (machine_of m) client item answer machine client' → TellsAs s m name client item answer machine client'
 
 -- ---- other events, and other connections
 
@@ -96,19 +96,19 @@ IsOthers name (Heard speaker item) = bytes_eq speaker name ≡ false
 IsOthers name (Dropped speaker) = bytes_eq speaker name ≡ false
 IsOthers name e = Unit {0}
 
-abbrev pub DesksAreKept : Type 0
-DesksAreKept =
-    (s : Setup) (m : Told) (e : Event) (name : List ℕ) (desk : DeskRecord) → IsOthers name e → is_in (names_of m) name ≡ true → IsDeskOf m name desk
-    → IsDeskOf (step s m e) name desk
+abbrev pub ClientsAreKept : Type 0
+ClientsAreKept =
+    (s : Setup) (m : Told) (e : Event) (name : List ℕ) (client : ClientRecord) → IsOthers name e → is_in (names_of m) name ≡ true → IsClientOf m name client
+    → IsClientOf (step s m e) name client
 
 -- a connection that comes has nothing
-abbrev pub new_desk : ℕ → DeskRecord
-new_desk who = record { who = who; seats = []; buffers = []; holdings = [] }
+abbrev pub new_client : ℕ → ClientRecord
+new_client who = record { who = who; seats = []; buffers = []; holdings = [] }
 
-abbrev pub NewIsDesk : Type 0
-NewIsDesk =
+abbrev pub NewIsClient : Type 0
+NewIsClient =
     (s : Setup) (m : Told) (name bytes : List ℕ) → IsBench s m → is_in (names_of m) name ≡ false
-    → IsDeskOf (step s m (Arrived name bytes)) name (new_desk (length m.lines))
+    → IsClientOf (step s m (Arrived name bytes)) name (new_client (length m.lines))
 
 abbrev pub ArrivalIsNothing : Type 0
 ArrivalIsNothing = (s : Setup) (m : Told) (name bytes : List ℕ) → IsBench s m → machine_of (step s m (Arrived name bytes)) ≡ machine_of m
@@ -116,14 +116,14 @@ ArrivalIsNothing = (s : Setup) (m : Told) (name bytes : List ℕ) → IsBench s 
 -- ---- ends
 
 -- the end of a connection closes its seats, and ends its holdings
-pub record IsLeft (s : Setup) (m : Told) (name : List ℕ) (desk : DeskRecord) (e : Event) : Type 0 where
-  pub state : left_machine (front_of s) (machine_of m) desk ≡ machine_of (step s m e)
-  pub desk_then : IsDeskOf (step s m e) name (left_desk desk)
+pub record IsLeft (s : Setup) (m : Told) (name : List ℕ) (client : ClientRecord) (e : Event) : Type 0 where
+  pub state : left_machine (front_of s) (machine_of m) client ≡ machine_of (step s m e)
+  pub client_then : IsClientOf (step s m e) name (left_client client)
 
 abbrev pub EndsAreLeft : Type 0
 EndsAreLeft =
-    (s : Setup) (m : Told) (name : List ℕ) (desk : DeskRecord) → IsBench s m → IsDeskOf m name desk
-    → ((error : Option Errno) → IsLeft s m name desk (Heard name (End error))) × IsLeft s m name desk (Dropped name)
+    (s : Setup) (m : Told) (name : List ℕ) (client : ClientRecord) → IsBench s m → IsClientOf m name client
+    → ((error : Option Errno) → IsLeft s m name client (Heard name (End error))) × IsLeft s m name client (Dropped name)
 
 -- ---- items one after another
 
@@ -131,32 +131,32 @@ abbrev pub heard : List ℕ → List Item → List Event
 heard name items = map (λ item. Heard name item) items
 
 -- what a session of a script says of items over a told state is what the history says
-pub record IsFed (s : Setup) (m : Told) (name : List ℕ) (desk : DeskRecord) (items : List Item) : Type 0 where
-  pub printed : texts_of (front_of s) (machine_of m) desk items ≡ texts s m (heard name items)
-  pub state : machine_after (front_of s) (machine_of m) desk items ≡ machine_of (steps s m (heard name items))
-  pub desk_then : IsDeskOf (steps s m (heard name items)) name (desk_after (front_of s) (machine_of m) desk items)
+pub record IsFed (s : Setup) (m : Told) (name : List ℕ) (client : ClientRecord) (items : List Item) : Type 0 where
+  pub printed : texts_of (front_of s) (machine_of m) client items ≡ texts s m (heard name items)
+  pub state : machine_after (front_of s) (machine_of m) client items ≡ machine_of (steps s m (heard name items))
+  pub client_then : IsClientOf (steps s m (heard name items)) name (client_after (front_of s) (machine_of m) client items)
   pub bench : IsBench s (steps s m (heard name items))
 
 abbrev pub FeedsAreActs : Type 0
 FeedsAreActs =
-    (s : Setup) (m : Told) (name : List ℕ) (desk : DeskRecord) (items : List Item) → IsBench s m → is_in (names_of m) name ≡ true → IsDeskOf m name desk
-    → Every (CanJoinMore (length items)) m.stations → IsFed s m name desk items
+    (s : Setup) (m : Told) (name : List ℕ) (client : ClientRecord) (items : List Item) → IsBench s m → is_in (names_of m) name ≡ true → IsClientOf m name client
+    → Every (CanJoinMore (length items)) m.stations → IsFed s m name client items
 
 -- a session's feed in a script, over the told state: it prints what the history says, and what stands then is what the
 -- history tells
 abbrev pub ScriptFeedsTell : Type 0
 ScriptFeedsTell =
     (s : Setup) (m : Told) (name : List ℕ) (items : List Item) (a b : State) (before after : List ℕ) → IsBench s m → is_in (names_of m) name ≡ true
-    → IsDeskOf m name a.desk
+    → IsClientOf m name a.client
     → Every (CanJoinMore (length items)) m.stations → a.told ≡ Some (machine_of m) → FeedTells Script (front_of s) a items before after b
     → (after ≡ before ++ texts s m (heard name items))
     × (b.told ≡ Some (machine_of (steps s m (heard name items))))
-    × IsDeskOf (steps s m (heard name items)) name b.desk
+    × IsClientOf (steps s m (heard name items)) name b.client
     × IsBench s (steps s m (heard name items))
 
 -- and the other connections keep theirs
-abbrev pub FeedsKeepDesks : Type 0
-FeedsKeepDesks =
-    (s : Setup) (m : Told) (name : List ℕ) (items : List Item) (other : List ℕ) (desk : DeskRecord) → bytes_eq name other ≡ false
-    → is_in (names_of m) other ≡ true → IsDeskOf m other desk
-    → IsDeskOf (steps s m (heard name items)) other desk
+abbrev pub FeedsKeepClients : Type 0
+FeedsKeepClients =
+    (s : Setup) (m : Told) (name : List ℕ) (items : List Item) (other : List ℕ) (client : ClientRecord) → bytes_eq name other ≡ false
+    → is_in (names_of m) other ≡ true → IsClientOf m other client
+    → IsClientOf (steps s m (heard name items)) other client

@@ -30,9 +30,9 @@ abbrev pub told_part : List ℕ → List ℕ
 told_part text = if fits_line (cut_line text) then ended_part text else text
 
 -- the part of an input that is looked at
-abbrev pub looked_part : List ℕ → List ℕ
-looked_part input = if is_overlong input then told_part (take input_limit input) else input
+abbrev pub scanned_part : List ℕ → List ℕ
+scanned_part input = if is_overlong input then told_part (take input_limit input) else input
 
 -- and its lines
-abbrev pub looked_lines : List ℕ → List (List ℕ)
-looked_lines input = lines_of (looked_part input)
+abbrev pub scanned_lines : List ℕ → List (List ℕ)
+scanned_lines input = lines_of (scanned_part input)

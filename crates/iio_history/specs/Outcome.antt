@@ -7,7 +7,7 @@ use Rattle.iio_desc.specs.declared.reader.DescFault.TheVariants.{Line, Mem}
 use Rattle.iio_desc.specs.Description.{Description}
 use Rattle.iio_desc.specs.DescReader.{Reader, new_reader, after_line, finished, ended_by}
 use Rattle.iio_desc.specs.Lines.{is_end}
-use Rattle.iio_history.specs.Input.{is_overlong, looked_lines}
+use Rattle.iio_history.specs.Input.{is_overlong, scanned_lines}
 use Rattle.iio_history.specs.Registry.{Setup}
 use Rattle.iio_history.specs.Script.{Ending, Finished, Refused, TooLong, Script, script_from, script_text, ending_text}
 
@@ -35,7 +35,7 @@ head_from overlong (Ok reading) n (line ∷ lines) =
 
 -- the head of an input, whose description may use `drivers` drivers
 abbrev pub head_of : ℕ → List ℕ → Head
-head_of drivers input = head_from (is_overlong input) (new_reader drivers) 1 (looked_lines input)
+head_of drivers input = head_from (is_overlong input) (new_reader drivers) 1 (scanned_lines input)
 
 -- ---- the whole
 

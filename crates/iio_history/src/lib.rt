@@ -3,7 +3,7 @@
 
 ghost use Rattle.iio_history.specs.Law.{StepIsTold, MachineIsTold, QueuesArePrivate, MembersAreApart, OutputHasOne, GivenIsWritten, InnerIsThere, InnerIsEmpty, PluggedIsBases, MeansAre, MeansAlone, OthersAreAbsent, PlayedIsTranscript, OutstandingIs, ReadingIsOne};
 ghost use Rattle.iio_history.specs.Numbered.{NumberedAreSteps};
-ghost use Rattle.iio_history.specs.BenchLaw.{FirstIsBench, BenchIsKept, ToldIsBench, SizesAreSome, NamesStay, ArrivedIsThere, LiveIsThere, RoomLasts, ItemsAreActs, ActsTell, DesksAreKept, NewIsDesk, ArrivalIsNothing, EndsAreLeft, FeedsAreActs, ScriptFeedsTell, FeedsKeepDesks};
+ghost use Rattle.iio_history.specs.BenchLaw.{FirstIsBench, BenchIsKept, ToldIsBench, SizesAreSome, NamesStay, ArrivedIsThere, LiveIsThere, RoomLasts, ItemsAreActs, ActsTell, ClientsAreKept, NewIsClient, ArrivalIsNothing, EndsAreLeft, FeedsAreActs, ScriptFeedsTell, FeedsKeepClients};
 ghost use Rattle.iio_history.specs.BenchMoves.{UnpluggingIs, ClockIs, PollIs, LookIs, HandlingIs, MovesPrint};
 ghost use Rattle.iio_history.specs.ToldDevice.{EndsAgree, ToldHandlingsAgree, ToldLooksAgree};
 
@@ -45,13 +45,13 @@ pub fn bench_law()
     ensures room { RoomLasts }
     ensures items { ItemsAreActs }
     ensures acts { ActsTell }
-    ensures others { DesksAreKept }
-    ensures arrives { NewIsDesk }
+    ensures others { ClientsAreKept }
+    ensures arrives { NewIsClient }
     ensures arrival { ArrivalIsNothing }
     ensures ends { EndsAreLeft }
     ensures feeds { FeedsAreActs }
     ensures script { ScriptFeedsTell }
-    ensures beside { FeedsKeepDesks }
+    ensures beside { FeedsKeepClients }
 {}
 
 /// What happens to the core besides, by what a session sees of the told state.

@@ -234,7 +234,7 @@ fn numbered_with(channels: &[Channel], kind: Kind, suffix: Suffix) -> Option<usi
 // Whether each has.
 fn are_numbered(channels: &[Channel]) -> bool
     requires { length channels.now ≤ MAX_CHANNELS }
-    ensures { IsTrue result → AreNumbered channels.now }
+    ensures { IsTrue result ↔ AreNumbered channels.now }
 {
     for (c, channel) in channels.iter().enumerate() {
         if channel.suffix != Suffix::Number(c as u16) {

@@ -17,7 +17,7 @@ use Rattle.iio_script.specs.Told.{TakesUnended}
 use Rattle.iio_script.proofs.FrontLaws.{end_count}
 use Rattle.iio_script.proofs.HandLaws.{going_of}
 use Rattle.iio_script.proofs.FollowLaws.{by_over, taken_front}
-use Rattle.iio_script.proofs.TakenLaws.{looked_given}
+use Rattle.iio_script.proofs.TakenLaws.{scanned_given}
 use Rattle.iio_script.proofs.ToldLaws.{lines_of-ended_part}
 
 -- ---- the description
@@ -54,7 +54,7 @@ takes_unended drivers input front h left is cut follows =
       rest = (taken_front input front h left goes).1;
       before = h.given + h.looked;
       near = omega (arith, is.near);
-      head = ap (head_from true (new_reader drivers) 1) (looked_given input front h left is goes) ∙ cut;
+      head = ap (head_from true (new_reader drivers) 1) (scanned_given input front h left is goes) ∙ cut;
     })
     (λ over all. record {
       count = length input;
@@ -104,7 +104,7 @@ answers_found s first front given input sent h begin left is all going follows =
       before = h.given + h.looked;
       near = omega (arith, is.near);
       given = given;
-      lines = looked_given input (front ++ given) h left is goes;
+      lines = scanned_given input (front ++ given) h left is goes;
       more = [];
       written = all ∙ sym (append-nil (script_text s (script_from s.desc Finished [] first given)));
     })

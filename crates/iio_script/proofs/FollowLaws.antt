@@ -7,12 +7,12 @@ use Rattle.std.proofs.lemmas.List.{length-append, length-take-le, take-append-dr
 use Rattle.iio_io.specs.Bytes.{TakesAtMost}
 use Rattle.iio_text.specs.Lines.{lines_of}
 use Rattle.iio_text.specs.declared.lines.TheConstants.{MAX_LINE_BYTES}
-use Rattle.iio_history.specs.Input.{ended_part, input_limit, is_overlong, looked_lines}
+use Rattle.iio_history.specs.Input.{ended_part, input_limit, is_overlong, scanned_lines}
 use Rattle.iio_script.specs.declared.line_reader.Found.{Found}
 use Rattle.iio_script.specs.declared.line_reader.Found.TheVariants.{Cut, End, Line, Long}
 use Rattle.iio_script.specs.LineReader.{Follows, FollowsAll, FollowsBy, FollowsFront, Hand, HasLine, IsCut, IsDone, IsHand, IsLong, IsPlain, NeedsMore, Shows, TakesNear, bytes_until, ended_size, line_of, piece_size, taken_of}
 use Rattle.iio_script.proofs.LineLaws.{BeginsWith, ended_none, lines_begin, plain_take}
-use Rattle.iio_script.proofs.LookedLaws.{Begins, LongBehind, looked_begin, looked_cut, looked_long, looked_whole}
+use Rattle.iio_script.proofs.ScannedLaws.{Begins, LongBehind, scanned_begin, scanned_cut, scanned_long, scanned_whole}
 use Rattle.iio_script.proofs.HandLaws.{going_of, last_front, past, passed_front}
 
 -- a reader that has given nothing
@@ -39,30 +39,31 @@ by_over P input front h left going over follows = cases h.over refl follows
 -- ---- the next line
 
 pub next_line : (input : List ℕ) (front : List (List ℕ)) (h : Hand) (left : Option (List ℕ)) → IsHand h → HasLine h → Follows input front h left
-    → Begins (front ++ line_of h ∷ []) (looked_lines input)
+    → Begins (front ++ line_of h ∷ []) (scanned_lines input)
 next_line input front h left is (inl has) follows =
     let goes : FollowsFront input (front ++ line_of h ∷ []) (past h) left =
     passed_front input front h left is.plain has.stands (going_of input front h left has.going follows) in
-    subst (λ (xs : List ℕ). Begins (front ++ line_of h ∷ []) (looked_lines xs)) (sym goes.parts)
-    (looked_begin goes.bytes ((past h).bytes ++ goes.rest) (front ++ line_of h ∷ []) goes.front_is (omega (arith, goes.given, has.within)))
+    subst (λ (xs : List ℕ). Begins (front ++ line_of h ∷ []) (scanned_lines xs)) (sym goes.parts)
+    (scanned_begin goes.bytes ((past h).bytes ++ goes.rest) (front ++ line_of h ∷ []) goes.front_is (omega (arith, goes.given, has.within)))
 next_line input front h left is (inr has) follows =
     let all : FollowsAll input (front ++ line_of h ∷ []) left = last_front input front h left is.plain has (going_of input front h left has.going follows) in
     record { more = []; parts = all.lines ∙ sym (append-nil (front ++ line_of h ∷ [])) }
 
 -- the lines that were given are the first that are looked at
 pub follows_begin : (input : List ℕ) (front : List (List ℕ)) (h : Hand) (left : Option (List ℕ)) → IsHand h → Follows input front h left
-    → Begins front (looked_lines input)
+    → Begins front (scanned_lines input)
 follows_begin input front h left is follows =
-    by_over (Begins front (looked_lines input)) input front h left
-    (λ going goes. subst (λ (xs : List ℕ). Begins front (looked_lines xs)) (sym goes.parts)
-    (looked_begin goes.bytes (h.bytes ++ goes.rest) front goes.front_is (omega (arith, goes.given, is.given))))
+    by_over (Begins front (scanned_lines input)) input front h left
+    (λ going goes. subst (λ (xs : List ℕ). Begins front (scanned_lines xs)) (sym goes.parts)
+    (scanned_begin goes.bytes (h.bytes ++ goes.rest) front goes.front_is (omega (arith, goes.given, is.given))))
     (λ over all. record { more = []; parts = all.lines ∙ sym (append-nil front) }) follows
 
 -- none is left
 pub no_line : (input : List ℕ) (front : List (List ℕ)) (h : Hand) (left : Option (List ℕ)) → IsHand h → IsDone h → Follows input front h left
-    → (looked_lines input ≡ front) × (is_overlong input ≡ false) × (left ≡ Some []) × (length input ≤ ended_size front) × (lines_of input ≡ front)
+    → (scanned_lines input ≡ front) × (is_overlong input ≡ false) × (left ≡ Some []) × (length input ≤ ended_size front) × (lines_of input ≡ front)
 no_line input front h left is done follows =
-    by_over ((looked_lines input ≡ front) × (is_overlong input ≡ false) × (left ≡ Some []) × (length input ≤ ended_size front) × (lines_of input ≡ front)) input
+    by_over ((scanned_lines input ≡ front) × (is_overlong input ≡ false) × (left ≡ Some []) × (length input ≤ ended_size front) × (lines_of input ≡ front))
+    input
     front h left
     (λ going goes. at_end goes (spent going done)) (λ over all. (all.lines, all.short, all.none_left, all.size, all.every)) follows
   where
@@ -71,13 +72,13 @@ no_line input front h left is done follows =
     spent going (inr x) = (x.ended, x.none)
 
     at_end : FollowsFront input front h left → (h.ended ≡ true) × (h.bytes ≡ [])
-        → (looked_lines input ≡ front) × (is_overlong input ≡ false) × (left ≡ Some []) × (length input ≤ ended_size front) × (lines_of input ≡ front)
+        → (scanned_lines input ≡ front) × (is_overlong input ≡ false) × (left ≡ Some []) × (length input ≤ ended_size front) × (lines_of input ≡ front)
     at_end goes done =
         let none : goes.rest ≡ [] = goes.end done.0 in
         let parts : input ≡ goes.bytes =
         goes.parts ∙ ap (λ t. goes.bytes ++ (t ++ goes.rest)) done.1 ∙ ap (λ t. goes.bytes ++ t) none ∙ append-nil goes.bytes in
         let few : length goes.bytes ≤ input_limit = omega (arith, goes.given, is.given) in (
-          ap looked_lines parts ∙ looked_whole goes.bytes front goes.front_is few,
+          ap scanned_lines parts ∙ scanned_whole goes.bytes front goes.front_is few,
           grind (arith, nat_tests, ap length parts, few),
           goes.left_is ∙ ap Some none,
           omega (arith, ap length parts, goes.front_is.size),
@@ -86,7 +87,7 @@ no_line input front h left is done follows =
 
 -- no further one can be told
 pub cut_line : (input : List ℕ) (front : List (List ℕ)) (h : Hand) (left : Option (List ℕ)) → IsHand h → IsCut h → Follows input front h left
-    → (looked_lines input ≡ front) × (is_overlong input ≡ true)
+    → (scanned_lines input ≡ front) × (is_overlong input ≡ true)
 cut_line input front h left is cut follows =
     let goes : FollowsFront input front h left = going_of input front h left cut.going follows in
     let room : ℕ = input_limit - length goes.bytes in
@@ -96,15 +97,15 @@ cut_line input front h left is cut follows =
     let size : length input ≡ length goes.bytes + (length h.bytes + length goes.rest) =
     ap length goes.parts ∙ length-append goes.bytes (h.bytes ++ goes.rest) ∙ ap (λ n. length goes.bytes + n) (length-append h.bytes goes.rest) in
     let over : input_limit < length input = omega (arith, size, goes.given, cut.more) in (
-      ap looked_lines goes.parts
-          ∙ looked_cut goes.bytes (h.bytes ++ goes.rest) front goes.front_is (omega (arith, goes.given, is.given)) (omega (arith, over, ap length goes.parts))
+      ap scanned_lines goes.parts
+          ∙ scanned_cut goes.bytes (h.bytes ++ goes.rest) front goes.front_is (omega (arith, goes.given, is.given)) (omega (arith, over, ap length goes.parts))
           (subst IsPlain (sym part) (plain_take room (line_of h) is.plain)) (omega (arith, goes.given, cut.short)),
       grind (arith, nat_tests, over),
     )
 
 -- the next one is too long
 pub long_line : (input : List ℕ) (front : List (List ℕ)) (h : Hand) (left : Option (List ℕ)) → IsHand h → IsLong h → Follows input front h left
-    → LongBehind front (looked_lines input)
+    → LongBehind front (scanned_lines input)
 long_line input front h left is long follows =
     let goes : FollowsFront input front h left = going_of input front h left long.going follows in
     let n : ℕ = MAX_LINE_BYTES + 1 in
@@ -115,8 +116,8 @@ long_line input front h left is long follows =
     let parts : input ≡ goes.bytes ++ (line ++ (drop n h.bytes ++ goes.rest)) =
     goes.parts ∙ ap (λ t. goes.bytes ++ t)
     (ap (λ t. t ++ goes.rest) (sym (take-append-drop n h.bytes) ∙ ap (λ t. t ++ drop n h.bytes) (sym same)) ∙ append_assoc line (drop n h.bytes) goes.rest) in
-    subst (λ (xs : List ℕ). LongBehind front (looked_lines xs)) (sym parts)
-    (looked_long goes.bytes line (drop n h.bytes ++ goes.rest) front goes.front_is (plain_take n (line_of h) is.plain) (omega (arith, size))
+    subst (λ (xs : List ℕ). LongBehind front (scanned_lines xs)) (sym parts)
+    (scanned_long goes.bytes line (drop n h.bytes ++ goes.rest) front goes.front_is (plain_take n (line_of h) is.plain) (omega (arith, size))
     (omega (arith, size, goes.given, long.within)))
 
 -- ---- the bytes that were taken

@@ -7,10 +7,10 @@ use Rattle.std.proofs.lemmas.List.{length-append, length-drop, length-take-le, d
 use Rattle.std.proofs.lemmas.List.Folds.{list_any_more}
 use Rattle.memchr.specs.Find.{NoneBefore, Nowhere, Passes, is_byte}
 use Rattle.iio_text.specs.Lines.{is_line_end, lines_of}
-use Rattle.iio_history.specs.Input.{input_limit, looked_lines}
+use Rattle.iio_history.specs.Input.{input_limit, scanned_lines}
 use Rattle.iio_script.specs.LineReader.{Follows, FollowsAll, FollowsBy, FollowsFront, Hand, HasEnded, HasLast, HasLine, IsHand, IsPlain, NeedsMore, ReadsPiece, StandsAtEnd, empty_hand, line_of, piece_size, taken_of, to_take}
 use Rattle.iio_script.proofs.LineLaws.{ended_size-append, front_more, lines_last, plain_append}
-use Rattle.iio_script.proofs.LookedLaws.{looked_last}
+use Rattle.iio_script.proofs.ScannedLaws.{scanned_last}
 
 -- before the first byte
 pub hand_first : IsHand empty_hand
@@ -26,9 +26,9 @@ plain_before text (suc n) none few =
     let next : n + 1 ≡ suc n = omega arith in
     subst (λ (k : ℕ). IsPlain (take k text)) next (list_any_more is_line_end text n 0 (omega (arith, few)) ∙ rw (front, byte) refl)
 
-looked_on : (h : Hand) (k : ℕ) → IsHand h → h.looked + k ≤ length h.bytes → IsPlain (take k (drop h.looked h.bytes))
+scanned_on : (h : Hand) (k : ℕ) → IsHand h → h.looked + k ≤ length h.bytes → IsPlain (take k (drop h.looked h.bytes))
     → IsHand (record h { looked = h.looked + k })
-looked_on h k is few plain = record {
+scanned_on h k is few plain = record {
   looked = few;
   plain = subst IsPlain (sym (take-add h.looked k h.bytes)) (plain_append (line_of h) (take k (drop h.looked h.bytes)) is.plain plain);
   near = omega (arith, is.near);
@@ -37,12 +37,12 @@ looked_on h k is few plain = record {
   within = is.within;
 }
 
-pub looked_to : (h : Hand) (text : List ℕ) (k : ℕ) → IsHand h → text ≡ drop h.looked h.bytes → NoneBefore (Passes (is_byte 10) text) 0 (length text) k
+pub scanned_to : (h : Hand) (text : List ℕ) (k : ℕ) → IsHand h → text ≡ drop h.looked h.bytes → NoneBefore (Passes (is_byte 10) text) 0 (length text) k
     × Passes (is_byte 10) text k
     → IsHand (record h { looked = h.looked + k })
-looked_to h text k is same found =
+scanned_to h text k is same found =
     let within : k < length text = found.0.high in
-    looked_on h k is (omega (arith, ap length same, length-drop h.looked h.bytes, within))
+    scanned_on h k is (omega (arith, ap length same, length-drop h.looked h.bytes, within))
     (subst (λ (t : List ℕ). IsPlain (take k t)) same (plain_before text k found.0.before (omega (arith, within))))
 
 pub stands_at : (h : Hand) (text : List ℕ) (k : ℕ) → h.looked ≤ length h.bytes → text ≡ drop h.looked h.bytes
@@ -55,13 +55,13 @@ stands_at h text k few same found =
       end = sym (get_or-drop h.looked h.bytes k 0) ∙ ap (λ t. get_or t k 0) (sym same) ∙ byte;
     }
 
-pub looked_all : (h : Hand) (text : List ℕ) (all : ℕ) → IsHand h → text ≡ drop h.looked h.bytes → Nowhere (Passes (is_byte 10) text) 0 (length text)
+pub scanned_all : (h : Hand) (text : List ℕ) (all : ℕ) → IsHand h → text ≡ drop h.looked h.bytes → Nowhere (Passes (is_byte 10) text) 0 (length text)
     → all ≡ length h.bytes
     → IsHand (record h { looked = all })
-looked_all h text all is same none whole =
+scanned_all h text all is same none whole =
     let sum : all ≡ h.looked + length text = omega (arith, whole, ap length same, length-drop h.looked h.bytes, is.looked) in
     subst (λ (n : ℕ). IsHand (record h { looked = n })) (sym sum)
-    (looked_on h (length text) is (omega (arith, sum, whole))
+    (scanned_on h (length text) is (omega (arith, sum, whole))
     (subst (λ (t : List ℕ). IsPlain (take (length text) t)) same (plain_before text (length text) none (omega arith))))
 
 -- ---- a reader that hasn't given its last line
@@ -129,7 +129,7 @@ last_front input front h left plain has goes =
     record {
       none_left = goes.left_is ∙ ap Some none;
       lines =
-          ap looked_lines parts ∙ looked_last goes.bytes (line_of h) front goes.front_is plain some
+          ap scanned_lines parts ∙ scanned_last goes.bytes (line_of h) front goes.front_is plain some
           (omega (arith, few, size, length-append goes.bytes (line_of h)));
       every = ap lines_of parts ∙ goes.front_is.lines (line_of h) ∙ ap (λ ls. front ++ ls) (lines_last (line_of h) plain some);
       short = grind (arith, nat_tests, few);

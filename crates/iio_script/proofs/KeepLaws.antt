@@ -48,7 +48,7 @@ module _ {X : Type 0} {V : X → Type 0} (driver : Plug X V → Driver) where
   step_made law s a h n t None b text text' x' is some stands = let never : true ≡ false = sym some ∙ is in cc
   step_made law s a h n t (Some line) b text text' x' is some stands = record {
     stands = stands;
-    modest = λ none. cc;
+    neutral = λ none. cc;
     kept = λ ts ending. (law s a ending).3 line text h (record { number = n; step = t }) ts text' (with_step s h t);
   }
 
@@ -58,12 +58,12 @@ module _ {X : Type 0} {V : X → Type 0} (driver : Plug X V → Driver) where
       → b ≡ is_some offence → b ≡ false → ((offence ≡ None → only_bystanders s a h ≡ true))
       → (only_bystanders s a h ≡ true → meets ≡ only_bystanders s a (with_step s h t)) → meets ≡ false → StandsFor driver s (with_step s h t) x'
       → KeepsStep driver s a h n t offence (Some n) text text' x'
-  step_offends law s a h n t (Some line) b meets text text' x' is none modest decides against stands = let never : false ≡ true = sym none ∙ is in cc
-  step_offends law s a h n t None b meets text text' x' is none modest decides against stands =
-      let offends : only_bystanders s a (with_step s h t) ≡ false = sym (decides (modest refl)) ∙ against in
+  step_offends law s a h n t (Some line) b meets text text' x' is none neutral decides against stands = let never : false ≡ true = sym none ∙ is in cc
+  step_offends law s a h n t None b meets text text' x' is none neutral decides against stands =
+      let offends : only_bystanders s a (with_step s h t) ≡ false = sym (decides (neutral refl)) ∙ against in
       record {
         stands = stands;
-        modest = λ none. cc;
+        neutral = λ none. cc;
         kept = λ ts ending. (law s a ending).2 text h (record { number = n; step = t }) ts offends text' (with_step s h t);
       }
 
@@ -75,17 +75,17 @@ module _ {X : Type 0} {V : X → Type 0} (driver : Plug X V → Driver) where
       → (only_bystanders s a h ≡ true → meets ≡ only_bystanders s a (with_step s h t)) → meets ≡ true → StandsFor driver s (with_step s h t) x'
       → whole ≡ text ++ lines_of_step s h t → count ≡ cond (is_others a t) (length text) (length whole) → text' ≡ take count whole
       → KeepsStep driver s a h n t offence offence text text' x'
-  step_kept law s a h n t (Some line) b meets text whole text' count x' is none modest decides keeps stands printed counted cut =
+  step_kept law s a h n t (Some line) b meets text whole text' count x' is none neutral decides keeps stands printed counted cut =
       let never : false ≡ true = sym none ∙ is in cc
-  step_kept law s a h n t None b meets text whole text' count x' is none modest decides keeps stands printed counted cut =
-      let still : only_bystanders s a (with_step s h t) ≡ true = sym (decides (modest refl)) ∙ keeps in
+  step_kept law s a h n t None b meets text whole text' count x' is none neutral decides keeps stands printed counted cut =
+      let still : only_bystanders s a (with_step s h t) ≡ true = sym (decides (neutral refl)) ∙ keeps in
       let part : text' ≡ take (cond (is_others a t) (length text) (length (text ++ lines_of_step s h t))) (text ++ lines_of_step s h t) =
       cut ∙ ap (λ (k : ℕ). take k whole) counted
       ∙ ap (λ (w : List ℕ). take (cond (is_others a t) (length text) (length w)) w) printed in
       let left : text ++ cond (is_others a t) [] (lines_of_step s h t) ≡ text' = kept_part (is_others a t) text (lines_of_step s h t) ∙ sym part in
       record {
         stands = stands;
-        modest = λ none. still;
+        neutral = λ none. still;
         kept = λ ts ending.
             (law s a ending).1 text h (record { number = n; step = t }) ts still ∙ ap (λ (w : List ℕ). kept_on s a None w (with_step s h t) ts ending) left;
       }
@@ -99,7 +99,7 @@ module _ {X : Type 0} {V : X → Type 0} (driver : Plug X V → Driver) where
     names = [];
     stands = stands;
     same = subst (λ (ns : List (List ℕ)). AreSame [] ns) (sym none) (record { known = λ name. refl; count = refl });
-    modest = λ is. refl;
+    neutral = λ is. refl;
     kept = λ ending lines. (law s a (script_from s.desc ending [] first lines).ending).0 (numbered_from s.desc [] first lines);
   }
 
@@ -112,7 +112,7 @@ module _ {X : Type 0} {V : X → Type 0} (driver : Plug X V → Driver) where
     names = keeps.names;
     stands = keeps.stands;
     same = keeps.same;
-    modest = keeps.modest;
+    neutral = keeps.neutral;
     kept = λ ending lines.
         sym (ap (λ (ts : List Numbered). kept_on s a offence text keeps.done ts (script_from s.desc ending keeps.names n (line ∷ lines)).ending)
         (numbered_nothing s.desc keeps.names n line lines said)
@@ -131,14 +131,14 @@ module _ {X : Type 0} {V : X → Type 0} (driver : Plug X V → Driver) where
       → names_by x' ≡ names_with (names_by x) step
       → KeepsOn driver s a x offence text first n given → KeepsOn driver s a x' offence' text' first (n + 1) (given ++ line ∷ [])
   keeps_more s a x x' offence offence' text text' first n given line step said room makes fed keeps =
-      let made = makes keeps.done keeps.stands keeps.modest in
+      let made = makes keeps.done keeps.stands keeps.neutral in
       let known : keeps_names keeps.names (Some step) ≡ true = same_kept keeps.names (names_by x) step keeps.same ∙ room in
       record {
         done = with_step s keeps.done step;
         names = names_after keeps.names (Some step);
         stands = made.stands;
         same = subst (AreSame (names_after keeps.names (Some step))) (sym fed) (same_after keeps.names (names_by x) step keeps.same);
-        modest = made.modest;
+        neutral = made.neutral;
         kept = λ ending lines.
             let next : Script = script_from s.desc ending (names_after keeps.names (Some step)) (n + 1) lines in
             let ts : List Numbered = numbered_from s.desc (names_after keeps.names (Some step)) (n + 1) lines in

@@ -8,7 +8,7 @@ use Rattle.iio_desc.specs.declared.reader.DescFault.TheVariants.{Line}
 use Rattle.iio_desc.specs.Description.{Description}
 use Rattle.iio_desc.specs.DescReader.{new_reader}
 use Rattle.iio_device.specs.declared.plug.Plug.{Plug}
-use Rattle.iio_history.specs.Input.{input_limit, is_overlong, looked_lines}
+use Rattle.iio_history.specs.Input.{input_limit, is_overlong, scanned_lines}
 use Rattle.iio_history.specs.Outcome.{Cut, Described, Faulty, Head, head_from, head_of, last_ending}
 use Rattle.iio_history.specs.Registry.{Setup}
 use Rattle.iio_history.specs.Script.{Ending, Finished, Refused, TooLong}
@@ -74,7 +74,7 @@ module _ {X : Type 0} {V : X → Type 0} (driver : Plug X V → Driver) where
 
   -- the same of the lines that were given and those after them
   kept_by : (s : Setup) (a : List ℕ) (first : ℕ) (front given more rest : List (List ℕ)) (input : List ℕ) (over : Bool) (kept : Result (List ℕ) Ending)
-      → looked_lines input ≡ front ++ more → looked_lines input ≡ front ++ (given ++ rest) → is_overlong input ≡ over
+      → scanned_lines input ≡ front ++ more → scanned_lines input ≡ front ++ (given ++ rest) → is_overlong input ≡ over
       → kept_of_lines s a (last_ending over) first (given ++ rest) ≡ kept → Kept s a first input more kept
   kept_by s a first front given more rest input over kept looked lines long is =
       ap (λ (o : Bool). kept_of_lines s a (last_ending o) first more) long
@@ -89,7 +89,7 @@ module _ {X : Type 0} {V : X → Type 0} (driver : Plug X V → Driver) where
   pub kept_done : KeptGoesOn
       → (s : Setup) (a : List ℕ) (x : System X V) (offence : Option ℕ) (text : List ℕ) (first n : ℕ) (h h' : Hand) (left left' : Option (List ℕ))
       (front more : List (List ℕ)) (input : List ℕ)
-      → IsHand h' → IsDone h' → Follows input front h left → looked_lines input ≡ front ++ more → KeptSoFar s a x offence text first n h h' left left'
+      → IsHand h' → IsDone h' → Follows input front h left → scanned_lines input ≡ front ++ more → KeptSoFar s a x offence text first n h h' left left'
       → Kept s a first input more (kept_at_end offence text)
   kept_done law s a x offence text first n h h' left left' front more input is done follows looked so =
       let none = no_line input (front ++ so.given) h' left' is done (so.follows input front follows) in
@@ -100,7 +100,7 @@ module _ {X : Type 0} {V : X → Type 0} (driver : Plug X V → Driver) where
 
   pub kept_cut : (s : Setup) (a : List ℕ) (x : System X V) (offence : Option ℕ) (text : List ℕ) (first n : ℕ) (h h' : Hand) (left left' : Option (List ℕ))
       (front more : List (List ℕ)) (input : List ℕ)
-      → IsHand h' → IsCut h' → Follows input front h left → looked_lines input ≡ front ++ more → KeptSoFar s a x offence text first n h h' left left'
+      → IsHand h' → IsCut h' → Follows input front h left → scanned_lines input ≡ front ++ more → KeptSoFar s a x offence text first n h h' left left'
       → Kept s a first input more (Err TooLong)
   kept_cut s a x offence text first n h h' left left' front more input is cut follows looked so =
       let none = cut_line input (front ++ so.given) h' left' is cut (so.follows input front follows) in
@@ -110,13 +110,13 @@ module _ {X : Type 0} {V : X → Type 0} (driver : Plug X V → Driver) where
 
   pub kept_refused : (s : Setup) (a : List ℕ) (x : System X V) (offence : Option ℕ) (text line : List ℕ) (first n : ℕ) (h h' : Hand)
       (left left' : Option (List ℕ)) (front more : List (List ℕ)) (input : List ℕ) (why : Why)
-      → IsHand h' → HasLine h' → Follows input front h left → looked_lines input ≡ front ++ more → line ≡ line_of h'
+      → IsHand h' → HasLine h' → Follows input front h left → scanned_lines input ≡ front ++ more → line ≡ line_of h'
       → (so : KeptSoFar s a x offence text first n h h' left left')
       → ((ending : Ending) (lines : List (List ℕ)) → kept_of_lines s a ending first (so.given ++ line ∷ lines) ≡ Err (Refused n why))
       → Kept s a first input more (Err (Refused n why))
   kept_refused s a x offence text line first n h h' left left' front more input why is has follows looked same so refused =
       let next = next_line input (front ++ so.given) h' left' is has (so.follows input front follows) in
-      let begins : looked_lines input ≡ front ++ (so.given ++ (line ∷ next.more)) =
+      let begins : scanned_lines input ≡ front ++ (so.given ++ (line ∷ next.more)) =
       next.parts ∙ append_assoc (front ++ so.given) (line_of h' ∷ []) next.more ∙ ap (λ l. (front ++ so.given) ++ l ∷ next.more) (sym same)
       ∙ append_assoc front so.given (line ∷ next.more) in
       kept_by s a first front so.given more (line ∷ next.more) input (is_overlong input) (Err (Refused n why)) looked begins refl
@@ -124,7 +124,7 @@ module _ {X : Type 0} {V : X → Type 0} (driver : Plug X V → Driver) where
 
   pub kept_long : (s : Setup) (a : List ℕ) (x : System X V) (offence : Option ℕ) (text : List ℕ) (first n : ℕ) (h h' : Hand) (left left' : Option (List ℕ))
       (front more : List (List ℕ)) (input : List ℕ)
-      → IsHand h' → IsLong h' → Follows input front h left → looked_lines input ≡ front ++ more → KeptSoFar s a x offence text first n h h' left left'
+      → IsHand h' → IsLong h' → Follows input front h left → scanned_lines input ≡ front ++ more → KeptSoFar s a x offence text first n h h' left left'
       → Kept s a first input more (Err (Refused n Long))
   kept_long s a x offence text first n h h' left left' front more input is long follows looked so =
       let next = long_line input (front ++ so.given) h' left' is long (so.follows input front follows) in
@@ -141,7 +141,7 @@ kept_head a drivers count input head many is = ap (kept_of_head a drivers (is_ov
 pub kept_described : (a : List ℕ) (drivers : List Driver) (count : ℕ) (desc : Description) (first : ℕ) (input : List ℕ) (h : Hand)
     (left left' : Option (List ℕ)) {B E : Type 0} (bytes : B → Result (List ℕ) Ending) (r : Result B E)
     → count ≡ length drivers → IsHand h → EndsAt count desc first input h left
-    → ((front more : List (List ℕ)) → Follows input front h left → looked_lines input ≡ front ++ more
+    → ((front more : List (List ℕ)) → Follows input front h left → scanned_lines input ≡ front ++ more
     → IfOk r (λ kept. kept_of_lines (record { desc = desc; drivers = drivers }) a (last_ending (is_overlong input)) first more ≡ bytes kept)
     × TakesAtMost input (input_limit + 1) left')
     → IfOk r (λ kept. kept_of a drivers input ≡ bytes kept) × TakesAtMost input (input_limit + 1) left'
@@ -193,7 +193,7 @@ module _ {B E : Type 0} (bytes : B → Result (List ℕ) Ending) (a : List ℕ) 
   -- what a script kept, whatever lines it began after
   abbrev pub KeepsAll : (input : List ℕ) (left left' : Option (List ℕ)) → Result B E → Type 0
   KeepsAll input left left' r =
-      (front more : List (List ℕ)) → Follows input front h left → looked_lines input ≡ front ++ more
+      (front more : List (List ℕ)) → Follows input front h left → scanned_lines input ≡ front ++ more
       → IfOk r (λ kept. kept_of_lines (record { desc = desc; drivers = drivers }) a (last_ending (is_overlong input)) first more ≡ bytes kept)
       × TakesAtMost input (input_limit + 1) left'
 

@@ -2,7 +2,7 @@ pub mod OutlineLemmas
 pub mod FeedLemmas
 pub mod CostLemmas
 pub mod LineLaws
-pub mod LookedLaws
+pub mod ScannedLaws
 pub mod HandLaws
 pub mod FollowLaws
 pub mod FrontLaws

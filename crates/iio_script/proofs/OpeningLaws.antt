@@ -16,7 +16,7 @@ use Rattle.iio_desc.specs.Lines as line
 use Rattle.iio_desc.specs.PartialDesc.{PartialDesc}
 use Rattle.iio_desc.specs.Lines.{is_end}
 use Rattle.iio_history.specs.Outcome.{Cut, Faulty, described, head_from, head_of}
-use Rattle.iio_history.specs.Input.{is_overlong, looked_lines}
+use Rattle.iio_history.specs.Input.{is_overlong, scanned_lines}
 use Rattle.iio_script.specs.declared.line_reader.Found.TheVariants as found
 use Rattle.iio_script.specs.declared.opening.Opening.{Opening}
 use Rattle.iio_script.specs.declared.opening.Opening.TheVariants.{Alone, Described, Refused}
@@ -175,7 +175,7 @@ followed P drivers reader number h h' (Some input) left' empty so each =
 
 -- the head of an input that goes on so
 head_at : (drivers : ℕ) (reader : Reader) (number : ℕ) (front rest : List (List ℕ)) (input : List ℕ) (overlong : Bool) → ReadsFront drivers reader number front
-    → looked_lines input ≡ front ++ rest
+    → scanned_lines input ≡ front ++ rest
     → is_overlong input ≡ overlong → head_of drivers input ≡ head_from overlong reader number rest
 head_at drivers reader number front rest input overlong reads looked long =
     ap (head_from (is_overlong input) (new_reader drivers) 1) looked ∙ reads.head (is_overlong input) rest
@@ -227,7 +227,7 @@ pub opens_line : (drivers : ℕ) (reader : Reader) (number m : ℕ) (why : Why) 
 opens_line drivers reader number m why line h h' left left' empty is has ok lines same other refused so =
     followed (λ input. RefusesAt drivers (Refused m why) m input left') drivers reader number h h' left left' empty so
     (λ input follows. let next = next_line input so.front h' left' is has follows in
-    let looked : looked_lines input ≡ so.front ++ line ∷ next.more =
+    let looked : scanned_lines input ≡ so.front ++ line ∷ next.more =
     next.parts ∙ append_assoc so.front (line_of h' ∷ []) next.more ∙ ap (λ l. so.front ++ l ∷ next.more) (sym same) in
     let at : m ≡ length so.front + 1 = line_number reader line m why ok refused ∙ lines ∙ so.reads.count in
     record {
@@ -267,7 +267,7 @@ pub opens_at : (drivers : ℕ) (reader : Reader) (number : ℕ) (opening : Openi
 opens_at drivers reader number opening line h h1 h2 left left' empty is has same ends says at ended passes so =
     followed (λ input. Opens drivers opening input h2 left') drivers reader number h h1 left left' empty so
     (λ input follows. let next = next_line input so.front h1 left' is has follows in
-    let looked : looked_lines input ≡ so.front ++ line ∷ next.more =
+    let looked : scanned_lines input ≡ so.front ++ line ∷ next.more =
     next.parts ∙ append_assoc so.front (line_of h1 ∷ []) next.more ∙ ap (λ l. so.front ++ l ∷ next.more) (sym same) in
     let head : (overlong : Bool) (more : List (List ℕ))
     → head_from overlong (new_reader drivers) 1 ((so.front ++ line_of h1 ∷ []) ++ more) ≡ told number more opening =

@@ -7,7 +7,7 @@ use Rattle.iio_sensor.specs.Driver.{Driver}
 use Rattle.iio_desc.specs.declared.reader.DescFault.TheVariants.{Line}
 use Rattle.iio_desc.specs.Description.{Description}
 use Rattle.iio_desc.specs.DescReader.{new_reader}
-use Rattle.iio_history.specs.Input.{ended_part, input_limit, is_overlong, looked_lines}
+use Rattle.iio_history.specs.Input.{ended_part, input_limit, is_overlong, scanned_lines}
 use Rattle.iio_history.specs.Outcome.{Cut, Described, Faulty, Head, Outcome, head_from, head_of, last_ending, only_ending, outcome_of, outcome_of_head, outcome_of_script}
 use Rattle.iio_history.specs.Script.{script_from}
 use Rattle.iio_history.specs.Script as ending
@@ -85,7 +85,7 @@ run_of_script : (drivers : List Driver) (count : ℕ) (desc : Description) (firs
     (text : List ℕ) (left : Option (List ℕ))
     → count ≡ length drivers
     → ((overlong : Bool) (lines : List (List ℕ)) → head_from overlong (new_reader count) 1 (front ++ lines) ≡ Described desc first lines)
-    → looked_lines input ≡ front ++ more
+    → scanned_lines input ≡ front ++ more
     → EndsScript (record { desc = desc; drivers = drivers }) first front
     (outcome_of_script (record { desc = desc; drivers = drivers }) (script_from desc (last_ending (is_overlong input)) [] first more)) input status text left
     → EndsRun drivers input status text left
@@ -120,7 +120,7 @@ run_of_script drivers count desc first front more input status text left many he
 pub runs_described : (drivers : List Driver) (count : ℕ) (desc : Description) (first : ℕ) (input : List ℕ) (h : Hand)
     (left left' before after : Option (List ℕ)) (status : Status)
     → count ≡ length drivers → IsHand h → (ends : EndsAt count desc first input h left) → TakesUnended count input left
-    → ((front more : List (List ℕ)) → Follows input front h left → first ≡ length front + 1 → looked_lines input ≡ front ++ more → (text : List ℕ)
+    → ((front more : List (List ℕ)) → Follows input front h left → first ≡ length front + 1 → scanned_lines input ≡ front ++ more → (text : List ℕ)
     × WritesText before after text
     × EndsScript (record { desc = desc; drivers = drivers }) first front
     (outcome_of_script (record { desc = desc; drivers = drivers }) (script_from desc (last_ending (is_overlong input)) [] first more)) input status text left'

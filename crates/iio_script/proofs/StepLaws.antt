@@ -7,7 +7,7 @@ use Rattle.iio_text.specs.declared.refusals.Why.{Why}
 use Rattle.iio_text.specs.declared.refusals.Why.TheVariants.{Long}
 use Rattle.iio_sensor.specs.Driver.{Driver}
 use Rattle.iio_device.specs.declared.plug.Plug.{Plug}
-use Rattle.iio_history.specs.Input.{input_limit, is_overlong, looked_lines}
+use Rattle.iio_history.specs.Input.{input_limit, is_overlong, scanned_lines}
 use Rattle.iio_history.specs.Outcome.{Outcome, last_ending, only_ending, outcome_of_script}
 use Rattle.iio_history.specs.Registry.{Setup}
 use Rattle.iio_history.specs.Script.{Ending, Refused, script_from}
@@ -163,13 +163,13 @@ module _ {X : Type 0} {V : X → Type 0} (driver : Plug X V → Driver) where
   -- ---- the end
 
   -- the lines given are those that are looked at, up to the next
-  given_of : (front given more rest : List (List ℕ)) (input : List ℕ) → looked_lines input ≡ front ++ more → looked_lines input ≡ (front ++ given) ++ rest
+  given_of : (front given more rest : List (List ℕ)) (input : List ℕ) → scanned_lines input ≡ front ++ more → scanned_lines input ≡ (front ++ given) ++ rest
       → more ≡ given ++ rest
   given_of front given more rest input is begins = same_rest front more (given ++ rest) (sym is ∙ begins ∙ append_assoc front given rest)
 
   pub ends_fault : (s : Setup) (x : System X V) (kept kept' : List ℕ) (first n : ℕ) (h h' : Hand) (left left' written written' : Option (List ℕ))
       (front more : List (List ℕ)) (input : List ℕ) (st : Status)
-      → IsHand h' → Follows input front h left → looked_lines input ≡ front ++ more → SoFar s x kept first n h h' left left' written written'
+      → IsHand h' → Follows input front h left → scanned_lines input ≡ front ++ more → SoFar s x kept first n h h' left left' written written'
       → Ended s first front more input (Err st) kept' left left' written written'
   ends_fault s x kept kept' first n h h' left left' written written' front more input st is follows looked so =
       let now = so.follows input front follows in
@@ -190,7 +190,7 @@ module _ {X : Type 0} {V : X → Type 0} (driver : Plug X V → Driver) where
   pub ends_sent_fault : (s : Setup) (x : System X V) (kept kept' : List ℕ) (first n : ℕ) (h h1 h2 : Hand) (left left' written w1 w2 : Option (List ℕ))
       (front more : List (List ℕ)) (input : List ℕ) (st : Status)
       → ((input : List ℕ) (front : List (List ℕ)) (l : Option (List ℕ)) → Follows input front h1 l → Follows input front h2 l) → IsHand h2
-      → Follows input front h left → looked_lines input ≡ front ++ more → ((rest : List ℕ) × Sends w1 w2 kept rest)
+      → Follows input front h left → scanned_lines input ≡ front ++ more → ((rest : List ℕ) × Sends w1 w2 kept rest)
       → SoFar s x kept first n h h1 left left' written w1
       → Ended s first front more input (Err st) kept' left left' written w2
   ends_sent_fault s x kept kept' first n h h1 h2 left left' written w1 w2 front more input st keeps is follows looked sends so =
@@ -199,7 +199,7 @@ module _ {X : Type 0} {V : X → Type 0} (driver : Plug X V → Driver) where
 
   pub ends_read_fault : (s : Setup) (x : System X V) (kept : List ℕ) (first n : ℕ) (h h' : Hand) (left left' written written' : Option (List ℕ))
       (front more : List (List ℕ)) (input : List ℕ)
-      → IsHand h' → NeedsMore h' → Follows input front h left → looked_lines input ≡ front ++ more → SoFar s x kept first n h h' left left' written written'
+      → IsHand h' → NeedsMore h' → Follows input front h left → scanned_lines input ≡ front ++ more → SoFar s x kept first n h h' left left' written written'
       → Ended s first front more input (Ok status.ReadFault) kept left left' written written'
   ends_read_fault s x kept first n h h' left left' written written' front more input is needs follows looked so =
       let now = so.follows input front follows in
@@ -224,7 +224,7 @@ module _ {X : Type 0} {V : X → Type 0} (driver : Plug X V → Driver) where
   -- at the end of all lines
   ends_last : (s : Setup) (x : System X V) (kept kept' : List ℕ) (first n : ℕ) (h h' : Hand) (left left' written written' : Option (List ℕ))
       (front more : List (List ℕ)) (input : List ℕ) (over : Bool) (st : Status)
-      → looked_lines input ≡ front ++ more → (so : SoFar s x kept first n h h' left left' written written') → looked_lines input ≡ front ++ so.given
+      → scanned_lines input ≡ front ++ more → (so : SoFar s x kept first n h h' left left' written written') → scanned_lines input ≡ front ++ so.given
       → is_overlong input ≡ over
       → TakesAtMost input (input_limit + 1) left' → AnswersScript s first front input so.sent left left'
       → Finishes (only_ending (last_ending over)) st kept kept' → Ended s first front more input (Ok st) kept' left left' written written'
@@ -248,7 +248,7 @@ module _ {X : Type 0} {V : X → Type 0} (driver : Plug X V → Driver) where
   -- the input's end
   pub ends_done : (s : Setup) (x : System X V) (kept kept' : List ℕ) (first n : ℕ) (h h' : Hand) (left left' written written' : Option (List ℕ))
       (front more : List (List ℕ)) (input : List ℕ)
-      → IsHand h' → IsDone h' → Follows input front h left → looked_lines input ≡ front ++ more → kept' ≡ kept
+      → IsHand h' → IsDone h' → Follows input front h left → scanned_lines input ≡ front ++ more → kept' ≡ kept
       → SoFar s x kept first n h h' left left' written written'
       → Ended s first front more input (Ok status.Done) kept' left left' written written'
   ends_done s x kept kept' first n h h' left left' written written' front more input is done follows looked same so =
@@ -261,7 +261,7 @@ module _ {X : Type 0} {V : X → Type 0} (driver : Plug X V → Driver) where
   -- the system then stands for the history of the script's steps
   pub stands_done : (s : Setup) (x : System X V) (kept : List ℕ) (first n : ℕ) (h h' : Hand) (left left' written written' : Option (List ℕ))
       (front more : List (List ℕ)) (input : List ℕ)
-      → IsHand h' → IsDone h' → Follows input front h left → looked_lines input ≡ front ++ more → SoFar s x kept first n h h' left left' written written'
+      → IsHand h' → IsDone h' → Follows input front h left → scanned_lines input ≡ front ++ more → SoFar s x kept first n h h' left left' written written'
       → StandsFor driver s (with_steps s [] (script_from s.desc (last_ending (is_overlong input)) [] first more).steps) x
   stands_done s x kept first n h h' left left' written written' front more input is done follows looked so =
       let none = no_line input (front ++ so.given) h' left' is done (so.follows input front follows) in
@@ -273,7 +273,7 @@ module _ {X : Type 0} {V : X → Type 0} (driver : Plug X V → Driver) where
   -- the end of what is looked at
   pub ends_cut : (s : Setup) (x : System X V) (kept kept' : List ℕ) (first n : ℕ) (h h' : Hand) (left left' written written' : Option (List ℕ))
       (front more : List (List ℕ)) (input : List ℕ) (st : Status)
-      → IsHand h' → IsCut h' → Follows input front h left → looked_lines input ≡ front ++ more → Finishes (only_ending (last_ending true)) st kept kept'
+      → IsHand h' → IsCut h' → Follows input front h left → scanned_lines input ≡ front ++ more → Finishes (only_ending (last_ending true)) st kept kept'
       → SoFar s x kept first n h h' left left' written written' → Ended s first front more input (Ok st) kept' left left' written written'
   ends_cut s x kept kept' first n h h' left left' written written' front more input st is cut follows looked f so =
       let now = so.follows input front follows in
@@ -284,8 +284,8 @@ module _ {X : Type 0} {V : X → Type 0} (driver : Plug X V → Driver) where
   -- a line that is refused
   refused : (s : Setup) (x : System X V) (kept kept' : List ℕ) (first n : ℕ) (h h' : Hand) (left left' written written' : Option (List ℕ))
       (front more rest : List (List ℕ)) (line : List ℕ) (input : List ℕ) (st : Status)
-      → looked_lines input ≡ front ++ more → (so : SoFar s x kept first n h h' left left' written written')
-      → looked_lines input ≡ (front ++ so.given) ++ line ∷ rest
+      → scanned_lines input ≡ front ++ more → (so : SoFar s x kept first n h h' left left' written written')
+      → scanned_lines input ≡ (front ++ so.given) ++ line ∷ rest
       → TakesAtMost input (input_limit + 1) left' → AnswersScript s first front input so.sent left left' → TakesFor st input left'
       → Finishes (script_outcome s input first (so.given ++ line ∷ rest)) st [] (so.sent ++ kept')
       → Ended s first front more input (Ok st) kept' left left' written written'
@@ -309,7 +309,7 @@ module _ {X : Type 0} {V : X → Type 0} (driver : Plug X V → Driver) where
 
   pub ends_refused : (s : Setup) (x : System X V) (kept kept' line : List ℕ) (first n : ℕ) (h h' : Hand) (left left' written written' : Option (List ℕ))
       (front more : List (List ℕ)) (input : List ℕ) (st : Status)
-      → IsHand h' → HasLine h' → Follows input front h left → first ≡ length front + 1 → looked_lines input ≡ front ++ more → line ≡ line_of h'
+      → IsHand h' → HasLine h' → Follows input front h left → first ≡ length front + 1 → scanned_lines input ≡ front ++ more → line ≡ line_of h'
       → IsRefusedWith n st
       → (so : SoFar s x kept first n h h' left left' written written')
       → ((ending : Ending) (lines : List (List ℕ))
@@ -318,7 +318,7 @@ module _ {X : Type 0} {V : X → Type 0} (driver : Plug X V → Driver) where
   ends_refused s x kept kept' line first n h h' left left' written written' front more input st is has follows at looked same number so f =
       let now = so.follows input front follows in
       let next = next_line input (front ++ so.given) h' left' is has now in
-      let begins : looked_lines input ≡ (front ++ so.given) ++ line ∷ next.more =
+      let begins : scanned_lines input ≡ (front ++ so.given) ++ line ∷ next.more =
       next.parts ∙ append_assoc (front ++ so.given) (line_of h' ∷ []) next.more ∙ ap (λ l. (front ++ so.given) ++ l ∷ next.more) (sym same) in
       refused s x kept kept' first n h h' left left' written written' front more next.more line input st looked so begins
       (takes_at_most input (front ++ so.given) h' left' is now) (so.answers input front follows)
@@ -329,7 +329,7 @@ module _ {X : Type 0} {V : X → Type 0} (driver : Plug X V → Driver) where
 
   pub ends_long : (s : Setup) (x : System X V) (kept kept' : List ℕ) (first n : ℕ) (h h' : Hand) (left left' written written' : Option (List ℕ))
       (front more : List (List ℕ)) (input : List ℕ) (st : Status)
-      → IsHand h' → IsLong h' → Follows input front h left → first ≡ length front + 1 → looked_lines input ≡ front ++ more
+      → IsHand h' → IsLong h' → Follows input front h left → first ≡ length front + 1 → scanned_lines input ≡ front ++ more
       → Finishes (only_ending (Refused n Long)) st kept kept'
       → SoFar s x kept first n h h' left left' written written' → Ended s first front more input (Ok st) kept' left left' written written'
   ends_long s x kept kept' first n h h' left left' written written' front more input st is long follows at looked f so =

@@ -26,9 +26,9 @@ any_take p n lines none =
     both false b h = refl
 
 -- the bytes up to those that were looked at
-looked_front : (input : List ℕ) (front : List (List ℕ)) (h : Hand) (left : Option (List ℕ)) → IsHand h → (goes : FollowsFront input front h left)
+scanned_front : (input : List ℕ) (front : List (List ℕ)) (h : Hand) (left : Option (List ℕ)) → IsHand h → (goes : FollowsFront input front h left)
     → take (h.given + h.looked) input ≡ goes.bytes ++ line_of h
-looked_front input front h left is goes =
+scanned_front input front h left is goes =
     let line : List ℕ = line_of h in
     let parts : input ≡ (goes.bytes ++ line) ++ (drop h.looked h.bytes ++ goes.rest) =
     goes.parts ∙ ap (λ t. goes.bytes ++ t)
@@ -39,17 +39,17 @@ looked_front input front h left is goes =
     ap (λ n. take n input) size ∙ ap (take (length (goes.bytes ++ line))) parts ∙ take-append_seam (goes.bytes ++ line) (drop h.looked h.bytes ++ goes.rest)
 
 -- whose whole lines are those that were given
-pub looked_given : (input : List ℕ) (front : List (List ℕ)) (h : Hand) (left : Option (List ℕ)) → IsHand h → FollowsFront input front h left
+pub scanned_given : (input : List ℕ) (front : List (List ℕ)) (h : Hand) (left : Option (List ℕ)) → IsHand h → FollowsFront input front h left
     → lines_of (ended_part (take (h.given + h.looked) input)) ≡ front
-looked_given input front h left is goes =
-    ap (λ t. lines_of (ended_part t)) (looked_front input front h left is goes)
+scanned_given input front h left is goes =
+    ap (λ t. lines_of (ended_part t)) (scanned_front input front h left is goes)
     ∙ ap lines_of (goes.front_is.ended (line_of h) ∙ ap (λ t. goes.bytes ++ t) (ended_none (line_of h) is.plain)) ∙ goes.front_is.lines [] ∙ append-nil front
 
 -- none of its lines ends a description
 none_ends : (input : List ℕ) (front : List (List ℕ)) (h : Hand) (left : Option (List ℕ)) → IsHand h → FollowsFront input front h left
     → list_any is_end front ≡ false
     → has_end (take (h.given + h.looked) input) ≡ false
-none_ends input front h left is goes none = ap (list_any is_end) (looked_given input front h left is goes) ∙ none
+none_ends input front h left is goes none = ap (list_any is_end) (scanned_given input front h left is goes) ∙ none
 
 -- so a front part that has such a line is longer
 pub takes_blocks : (input : List ℕ) (front : List (List ℕ)) (h : Hand) (left : Option (List ℕ)) → IsHand h → list_any is_end front ≡ false

@@ -5,7 +5,7 @@ use Rattle.iio_sensor.specs.Driver.{Driver}
 use Rattle.iio_desc.specs.Description.{Description}
 use Rattle.iio_desc.specs.DescReader.{new_reader}
 use Rattle.iio_device.specs.declared.plug.Plug.{Plug}
-use Rattle.iio_history.specs.Input.{is_overlong, looked_lines}
+use Rattle.iio_history.specs.Input.{is_overlong, scanned_lines}
 use Rattle.iio_history.specs.Outcome.{Head, Described, head_from, head_of, last_ending, outcome_of_head, outcome_of_script}
 use Rattle.iio_history.specs.Registry.{Setup}
 use Rattle.iio_history.specs.Script.{Ending, Finished, Script, TooLong, script_from}
@@ -77,7 +77,7 @@ of_script desc over first lines (Err stop.Mem) t = tt
 
 pub described : (text : List ℕ) (desc : Description) (first : ℕ) (h : Hand) (left : Option (List ℕ)) (r : Result Tally Stop) → IsHand h
     → EndsAt 0 desc first text h left
-    → ((front more : List (List ℕ)) → Follows text front h left → first ≡ length front + 1 → looked_lines text ≡ front ++ more
+    → ((front more : List (List ℕ)) → Follows text front h left → first ≡ length front + 1 → scanned_lines text ≡ front ++ more
     → TalliesScript (record { desc = desc; drivers = [] }) (script_from desc (last_ending (is_overlong text)) [] first more) r)
     → Tallies text r
 described text desc first h left r is ends played =

@@ -54,7 +54,7 @@ module _ {X : Type 0} {V : X → Type 0} (driver : Plug X V → Driver) where
     pub names : List (List ℕ)
     pub stands : StandsFor driver s done x
     pub same : AreSame names (names_by x)
-    pub modest : offence ≡ None → only_bystanders s a done ≡ true
+    pub neutral : offence ≡ None → only_bystanders s a done ≡ true
     pub kept : (ending : Ending) (lines : List (List ℕ))
         → kept_on_lines s a offence text done ending names n lines ≡ kept_of_lines s a ending first (given ++ lines)
 
@@ -62,7 +62,7 @@ module _ {X : Type 0} {V : X → Type 0} (driver : Plug X V → Driver) where
   pub record KeepsStep (s : Setup) (a : List ℕ) (h : List Event) (n : ℕ) (t : Step) (offence offence' : Option ℕ) (text text' : List ℕ) (x' : System X V) : Type
       0 where
     pub stands : StandsFor driver s (with_step s h t) x'
-    pub modest : offence' ≡ None → only_bystanders s a (with_step s h t) ≡ true
+    pub neutral : offence' ≡ None → only_bystanders s a (with_step s h t) ≡ true
     pub kept : (ts : List Numbered) (ending : Ending)
         → kept_on s a offence text h (record { number = n; step = t } ∷ ts) ending ≡ kept_on s a offence' text' (with_step s h t) ts ending
 

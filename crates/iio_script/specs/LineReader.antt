@@ -4,7 +4,7 @@ use Rattle.std.specs.List.{list_any}
 use Rattle.iio_text.specs.Lines.{is_line_end, lines_of}
 use Rattle.iio_text.specs.declared.lines.TheConstants.{MAX_LINE_BYTES}
 use Rattle.iio_desc.specs.Lines.{is_end}
-use Rattle.iio_history.specs.Input.{ended_part, input_limit, is_overlong, looked_lines}
+use Rattle.iio_history.specs.Input.{ended_part, input_limit, is_overlong, scanned_lines}
 use Rattle.iio_script.specs.declared.line_reader.TheConstants.{MAX_PIECE_BYTES}
 use Rattle.iio_script.specs.declared.line_reader.Found.{Found}
 use Rattle.iio_script.specs.declared.line_reader.Found.TheVariants.{Cut, End, Line, Long}
@@ -144,7 +144,7 @@ pub record FollowsFront (input : List ℕ) (front : List (List ℕ)) (h : Hand) 
 -- all lines of the input were given, and the last has no LF
 pub record FollowsAll (input : List ℕ) (front : List (List ℕ)) (left : Option (List ℕ)) : Type 0 where
   pub none_left : left ≡ Some []
-  pub lines : looked_lines input ≡ front
+  pub lines : scanned_lines input ≡ front
   pub every : lines_of input ≡ front
   pub short : is_overlong input ≡ false
   pub size : length input ≤ ended_size front

@@ -7,7 +7,7 @@ ghost use Rattle.iio_desc.specs.Description.{heads_of};
 ghost use Rattle.iio_desc.specs.WellFormed.{IsWellFormed};
 ghost use Rattle.iio_device.specs.declared.plug.Plug.TheVariants.{Given};
 ghost use Rattle.iio_history.specs.Event.{Event};
-ghost use Rattle.iio_history.specs.Input.{input_limit, is_overlong, looked_lines};
+ghost use Rattle.iio_history.specs.Input.{input_limit, is_overlong, scanned_lines};
 ghost use Rattle.iio_history.specs.Outcome.{last_ending};
 ghost use Rattle.iio_history.specs.Registry.{Setup};
 ghost use Rattle.iio_system.specs.Bench.{front_of};
@@ -173,7 +173,7 @@ fn keep_steps<S: Source>(
     requires hand { IsHand lines.old }
     ensures keeps { (s : Setup) (input' : List ℕ) (front more : List (List ℕ)) → StandsFor ⟦<Plug as Sensor>⟧.driver s [] system.old
         → FindsSame names.now s.desc
-        → Follows input' front lines.old (S.left input.old) → looked_lines input' ≡ front ++ more
+        → Follows input' front lines.old (S.left input.old) → scanned_lines input' ≡ front ++ more
         → IfOk result (λ keeping. kept_of_lines s watched.now (last_ending (is_overlong input')) first more ≡ keeping_view keeping)
         × TakesAtMost input' (input_limit + 1) (S.left input.new) }
     ensures silent { IfNone (S.left input.old) (S.left input.new ≡ None) }
@@ -232,7 +232,7 @@ fn keep_described<S: Source>(
     requires sound { IsWellFormed (length drivers.items) desc }
     requires begun { first ≤ lines.old.given + 1 }
     requires hand { IsHand lines.old }
-    ensures keeps { (input' : List ℕ) (front more : List (List ℕ)) → Follows input' front lines.old (S.left input.old) → looked_lines input' ≡ front ++ more
+    ensures keeps { (input' : List ℕ) (front more : List (List ℕ)) → Follows input' front lines.old (S.left input.old) → scanned_lines input' ≡ front ++ more
         → IfOk result (λ keeping. kept_of_lines (record { desc = desc; drivers = map (λ d. ⟦<Plug as Sensor>⟧.driver (Given d)) drivers.items })
         watched.now (last_ending (is_overlong input')) first more ≡ keeping_view keeping)
         × TakesAtMost input' (input_limit + 1) (S.left input.new) }

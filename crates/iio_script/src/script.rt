@@ -6,7 +6,7 @@ ghost use Rattle.iio_io.specs.Bytes.{TakesAtMost};
 ghost use Rattle.iio_desc.specs.Description.{heads_of};
 ghost use Rattle.iio_desc.specs.WellFormed.{IsWellFormed};
 ghost use Rattle.iio_device.specs.declared.plug.Plug.TheVariants.{Given};
-ghost use Rattle.iio_history.specs.Input.{input_limit, is_overlong, looked_lines};
+ghost use Rattle.iio_history.specs.Input.{input_limit, is_overlong, scanned_lines};
 ghost use Rattle.iio_history.specs.Outcome.{last_ending, outcome_of, outcome_of_script};
 ghost use Rattle.iio_history.specs.Registry.{Setup};
 ghost use Rattle.iio_history.specs.Script.{keeps_names, script_from};
@@ -142,7 +142,7 @@ pub(crate) fn play_steps<S: Source, K: Sink>(
     requires empty { out.old.items ≡ [] }
     ensures played { (s : Setup) (input' : List ℕ) (front more : List (List ℕ)) → StandsFor ⟦<Plug as Sensor>⟧.driver s [] system.old
         → FindsSame names.now s.desc
-        → Follows input' front lines.old (S.left input.old) → first ≡ length front + 1 → looked_lines input' ≡ front ++ more
+        → Follows input' front lines.old (S.left input.old) → first ≡ length front + 1 → scanned_lines input' ≡ front ++ more
         → (sent : List ℕ) × (IfSome (K.written output.old) (λ written. K.written output.new ≡ Some (written ++ sent)))
         × EndsSteps s first front (outcome_of_script s (script_from s.desc (last_ending (is_overlong input')) [] first more)) input' result sent out.new.items
         (S.left input.new)
@@ -150,7 +150,7 @@ pub(crate) fn play_steps<S: Source, K: Sink>(
         × AnswersScript s first front input' sent (S.left input.old) (S.left input.new) }
     ensures stands { result ≡ Ok Status.Done → (s : Setup) (input' : List ℕ) (front more : List (List ℕ)) → StandsFor ⟦<Plug as Sensor>⟧.driver s [] system.old
         → FindsSame names.now s.desc
-        → Follows input' front lines.old (S.left input.old) → looked_lines input' ≡ front ++ more
+        → Follows input' front lines.old (S.left input.old) → scanned_lines input' ≡ front ++ more
         → StandsFor ⟦<Plug as Sensor>⟧.driver s (with_steps s [] (script_from s.desc (last_ending (is_overlong input')) [] first more).steps) system.new }
     ensures over { IsOver result }
     ensures flushed { result ≡ Ok Status.ReadFault → out.new.items ≡ [] }
@@ -203,7 +203,7 @@ fn play_described<S: Source, K: Sink>(
     requires begun { first ≤ lines.old.given + 1 }
     requires hand { IsHand lines.old }
     ensures played { (input' : List ℕ) (front more : List (List ℕ)) → Follows input' front lines.old (S.left input.old) → first ≡ length front + 1
-        → looked_lines input' ≡ front ++ more
+        → scanned_lines input' ≡ front ++ more
         → (text : List ℕ) × WritesText (K.written output.old) (K.written output.new) text
         × EndsScript (record { desc = desc; drivers = map (λ d. ⟦<Plug as Sensor>⟧.driver (Given d)) drivers.items }) first front
         (outcome_of_script (record { desc = desc; drivers = map (λ d. ⟦<Plug as Sensor>⟧.driver (Given d)) drivers.items })
@@ -246,7 +246,8 @@ fn play_input<S: Source, K: Sink>(
 ) -> Status
     requires { count ≡ length drivers.items }
     ensures runs { IfSome (S.left input.old)
-        (λ left. Runs (map (λ d. ⟦<Plug as Sensor>⟧.driver (Given d)) drivers.items) left result (S.left input.new) (K.written output.old) (K.written output.new)) }
+        (λ left. Runs (map (λ d. ⟦<Plug as Sensor>⟧.driver (Given d)) drivers.items) left result (S.left input.new) (K.written output.old)
+        (K.written output.new)) }
     ensures words { result ≡ Status.Usage → ⊥ }
     ensures faults { ShowsFaults S.left S.faults K.written K.faults result input.old input.new output.old output.new }
 {

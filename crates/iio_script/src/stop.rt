@@ -3,7 +3,7 @@
 ghost use Rattle.std.specs.Prelude.{◌≡◌, ◌+◌, ◌≤◌, [], ◌++◌, List, ℕ, length, map, None, Some};
 ghost use Rattle.iio_desc.specs.WellFormed.{IsWellFormed};
 ghost use Rattle.iio_device.specs.declared.plug.Plug.TheVariants.{Given};
-ghost use Rattle.iio_history.specs.Input.{input_limit, is_overlong, looked_lines};
+ghost use Rattle.iio_history.specs.Input.{input_limit, is_overlong, scanned_lines};
 ghost use Rattle.iio_history.specs.Outcome.{last_ending};
 ghost use Rattle.iio_history.specs.Script.{Finished, script_from};
 ghost use Rattle.iio_script.specs.Keeps.{KeepsText};
@@ -80,7 +80,7 @@ fn tally_steps<S: Source>(
     requires begun { first ≤ lines.old.given + 1 }
     requires hand { IsHand lines.old }
     ensures { (text : List ℕ) (front more : List (List ℕ)) → Follows text front lines.old (S.left input.old) → first ≡ length front + 1
-        → looked_lines text ≡ front ++ more
+        → scanned_lines text ≡ front ++ more
         → TalliesScript (record { desc = desc; drivers = [] }) (script_from desc (last_ending (is_overlong text)) [] first more) result }
 {
     let Ok(names) = outline(alloc, &desc) else {

@@ -12,7 +12,7 @@ use Rattle.iio_device.specs.Site.{at_place, is_empty}
 use Rattle.iio_core.specs.Opening.{own_host}
 use Rattle.iio_core.specs.Attached.{is_attached}
 use Rattle.iio_core.specs.Lists.{map_from}
-use Rattle.iio_core.specs.Calls.{Outcome, all_joined, closed, inner_gone, inner_joined, inner_left, joined, left, open_of, open_refusals, trigger_by, trigger_of, unless, unless_made, with_inner, without_inner, host_of}
+use Rattle.iio_core.specs.Calls.{Outcome, all_joined, machine_after_close, inner_gone, inner_joined, inner_left, station_after_join, station_after_leave, open_of, open_refusals, trigger_by, trigger_of, unless, unless_made, with_inner, without_inner, host_of}
 use Rattle.iio_core.specs.Front.{Front, kind_at, shape_at}
 use Rattle.iio_core.specs.Machine.{Machine, Station, station_at, with_station, attachment_of, masks_of}
 use Rattle.iio_core.proofs.PlaceLists.{placed_from}
@@ -79,9 +79,9 @@ module _ (front : Front) (dev : ℕ) (plain : is_average (kind_at front dev) ≡
       (λ j st. ap (λ (b : Bool). cond (b && is_input (kind_at front j) && is_empty (station_at m dev).members) (inner_gone dev st) st)
       (over_none (kind_at front dev) j plain)))
 
-  pub closed_alone : (m : Machine) (number : ℕ) → closed front m dev number ≡ with_station (left number) dev m
-  unfolding closed
-  closed_alone m number = left_alone (with_station (left number) dev m)
+  pub closed_alone : (m : Machine) (number : ℕ) → machine_after_close front m dev number ≡ with_station (station_after_leave number) dev m
+  unfolding machine_after_close
+  closed_alone m number = left_alone (with_station (station_after_leave number) dev m)
 
   made_alone : (change : Station → Station) (m : Machine) (x : Result ℕ Errno) → unless_made (all_joined front dev change) m x ≡ unless change dev m x
   made_alone change m (Ok n) = ap (λ (y : Machine). (let o : Outcome ℕ = record { answer = Ok n; machine = y } in o)) (joined_alone change m)
@@ -102,12 +102,12 @@ module _ (front : Front) (dev : ℕ) (plain : is_average (kind_at front dev) ≡
     -- an OPEN by the refusals of the device itself
     pub open_alone : (kind : Kind) (r : Option Errno) → kind_at front dev ≡ kind
         → first_refusal (open_refusals front m.stations kind (own_host st shape mask (masks_of st.members)) st) ≡ r
-        → open_of front m dev mask capacity cyclic ≡ unless (joined mask capacity cyclic None) dev m (unless_refused st.next r)
+        → open_of front m dev mask capacity cyclic ≡ unless (station_after_join mask capacity cyclic None) dev m (unless_refused st.next r)
     unfolding open_of
     open_alone kind r is e =
-        ap (λ (x : Result ℕ Errno). unless_made (all_joined front dev (joined mask capacity cyclic None)) m x)
+        ap (λ (x : Result ℕ Errno). unless_made (all_joined front dev (station_after_join mask capacity cyclic None)) m x)
         (numbered_by kind r (ap is_average (sym is) ∙ plain) is e)
-        ∙ made_alone (joined mask capacity cyclic None) m (unless_refused st.next r)
+        ∙ made_alone (station_after_join mask capacity cyclic None) m (unless_refused st.next r)
 
 -- ---- devices
 

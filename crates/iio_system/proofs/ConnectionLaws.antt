@@ -31,18 +31,19 @@ left_is front a b all left before after Ended whole f =
 
 module _ {S : Type 0} (seen : S → SeatRecord) where
   pub has_heard : (front : Front) (told told' : Option Machine) (x x' : SessionRecord S) (bytes before after : List ℕ) (going : Going)
-      → Feeds x.manner front (state_of seen told x.desk) (scan_on x.stream bytes) before after (state_of seen told' x'.desk) x'.stream going
+      → Feeds x.manner front (state_of seen told x.client) (scan_on x.stream bytes) before after (state_of seen told' x'.client) x'.stream going
       → (going ≡ On → x'.stream.items ≡ []) → x'.manner ≡ x.manner
-      → FeedTells x.manner front (state_of seen told x.desk) (scan_on x.stream bytes).items before after (state_of seen told' x'.desk)
+      → FeedTells x.manner front (state_of seen told x.client) (scan_on x.stream bytes).items before after (state_of seen told' x'.client)
       → (s : Setup) (m : Told) (name : List ℕ) (begun : Scanner) → IsHearing seen s m front told name begun bytes x
       → HasHeard seen s m told' name begun bytes before after x'
   has_heard front told told' x x' bytes before after going feeds whole manner tells s m name begun h =
-      let f : Feeds Script front (state_of seen told x.desk) (scan_on (no_item begun) bytes) before after (state_of seen told' x'.desk) x'.stream going =
+      let f : Feeds Script front (state_of seen told x.client) (scan_on (no_item begun) bytes) before after (state_of seen told' x'.client) x'.stream going =
       rw (h.session.manner, h.session.stream) at feeds in
-      let t : FeedTells Script (front_of s) (state_of seen told x.desk) (items_from begun bytes) before after (state_of seen told' x'.desk) =
+      let t : FeedTells Script (front_of s) (state_of seen told x.client) (items_from begun bytes) before after (state_of seen told' x'.client) =
       rw (h.session.manner, h.session.stream, h.front_is) at tells in
       let r =
-      script_feeds_tell s m name (items_from begun bytes) (state_of seen told x.desk) (state_of seen told' x'.desk) before after h.bench h.there h.session.desk
+      script_feeds_tell s m name (items_from begun bytes) (state_of seen told x.client) (state_of seen told' x'.client) before after h.bench h.there
+      h.session.client
       h.room h.told_is t in
       record {
         said = r.0;
@@ -51,6 +52,6 @@ module _ {S : Type 0} (seen : S → SeatRecord) where
         session = record {
           manner = manner ∙ h.session.manner;
           stream = left_is front _ _ (scan_on (no_item begun) bytes) x'.stream before after going whole f;
-          desk = r.2;
+          client = r.2;
         };
       }

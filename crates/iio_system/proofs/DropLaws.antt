@@ -2,8 +2,8 @@
 use Rattle.std.proofs.Common.{◌≡◌, ℕ, ◌<◌, ◌||◌, not, Bool, true, false, cond, List, [], ◌∷◌, length, map, get_or, set, Option, Some, None, is_some, option_map, refl, sym, ap, ◌∙◌, subst, append-nil}
 use Rattle.std.specs.Prelude.{codes}
 use Rattle.std.specs.Str.{bytes_eq}
-use Rattle.iiod_session.specs.Acts.{left_desk, left_machine}
-use Rattle.iiod_session.specs.Desk.{DeskRecord, desk_of}
+use Rattle.iiod_session.specs.Acts.{left_client, left_machine}
+use Rattle.iiod_session.specs.Client.{ClientRecord, client_of}
 use Rattle.iio_core.specs.Front.{Front}
 use Rattle.iio_core.specs.Machine.{Machine}
 use Rattle.iiod_session.specs.Seat.{SeatRecord}
@@ -14,18 +14,18 @@ use Rattle.iio_history.specs.Told.{Line, Told, registry_of, user_of}
 use Rattle.iio_history.specs.Machine.{line_after, step}
 use Rattle.iio_history.specs.Played.{state_after, step_lines}
 use Rattle.iio_history.specs.Transcript.{Drop, line_named, printed}
-use Rattle.iio_history.specs.Bench.{IsDeskOf, is_in, machine_of, names_of, place_in}
-use Rattle.iio_history.specs.BenchLaw.{IsLeft, new_desk}
+use Rattle.iio_history.specs.Bench.{IsClientOf, is_in, machine_of, names_of, place_in}
+use Rattle.iio_history.specs.BenchLaw.{IsLeft, new_client}
 use Rattle.iio_history.proofs.BenchEnds.{ends_are_left}
 use Rattle.iio_history.proofs.BenchKept.{bench_kept}
 use Rattle.iio_history.proofs.BenchLists.{name_same}
-use Rattle.iio_history.proofs.BenchOthers.{absent_is_desk}
+use Rattle.iio_history.proofs.BenchOthers.{absent_is_client}
 use Rattle.iio_system.specs.declared.connection.Connection.{Connection}
 use Rattle.iio_system.specs.Feeding.{left_by}
 use Rattle.iio_history.specs.Words.{dropped_word}
 use Rattle.iio_system.specs.System.{AreLines, IsServed, Stands}
 use Rattle.iio_system.proofs.FedLaws.{user_is, user_of_line}
-use Rattle.iio_system.proofs.LineLaws.{OthersAre, SameLine, apart_sym, desks_kept, every_line_there, others_are, others_move}
+use Rattle.iio_system.proofs.LineLaws.{OthersAre, SameLine, apart_sym, clients_kept, every_line_there, others_are, others_move}
 use Rattle.iio_system.proofs.NameLaws.{is_named, line_at, no_line}
 use Rattle.iio_system.proofs.NewLaws.{none_in}
 use Rattle.iio_system.proofs.OwnLaws.{all_others, line_found, line_mapped, rejoined, with_session}
@@ -62,23 +62,24 @@ module _ {S : Type 0} (seen : S → SeatRecord) where
       subst (λ (ls : List Line). OthersAre seen front (step s m (Dropped name)) name ls cs) (sym (lines_dropped s m name))
       (others_move seen front m (step s m (Dropped name)) name (line_after s (registry_of m) (Dropped name)) m.lines cs (λ l. refl)
       (λ l apart. other_dropped s (registry_of m) name l apart)
-      (desks_kept s m (Dropped name) name m.lines (λ l apart. apart_sym l.user.who name apart) (every_line_there m))
+      (clients_kept s m (Dropped name) name m.lines (λ l apart. apart_sym l.user.who name apart) (every_line_there m))
       (others_are seen front m name m.lines cs are))
 
-  -- what a connection has: a desk, by which its session is left
-  abbrev pub HasDesk : Told → List ℕ → Option (SessionRecord S) → Type 0
-  HasDesk m name o =
-      (desk : DeskRecord) × IsDeskOf m name desk × ((front : Front) (machine : Machine) → left_by seen front machine o ≡ left_machine front machine desk)
+  -- what a connection has: a client, by which its session is left
+  abbrev pub HasClient : Told → List ℕ → Option (SessionRecord S) → Type 0
+  HasClient m name o =
+      (client : ClientRecord) × IsClientOf m name client
+      × ((front : Front) (machine : Machine) → left_by seen front machine o ≡ left_machine front machine client)
 
-  desk_by : (front : Front) (m : Told) (name : List ℕ) (l : Line) (o : Option (SessionRecord S)) → l.user.who ≡ name → IsServed seen front m l o
-      → HasDesk m name o
-  desk_by front m name l None who served = (
-    served.desk,
-    subst (λ (w : List ℕ). IsDeskOf m w served.desk) who served.has,
+  client_by : (front : Front) (m : Told) (name : List ℕ) (l : Line) (o : Option (SessionRecord S)) → l.user.who ≡ name → IsServed seen front m l o
+      → HasClient m name o
+  client_by front m name l None who served = (
+    served.client,
+    subst (λ (w : List ℕ). IsClientOf m w served.client) who served.has,
     λ front machine. sym (rw (served.bare.0, served.bare.1) refl),
   )
-  desk_by front m name l (Some x) who served =
-      (desk_of seen x.desk, subst (λ (w : List ℕ). IsDeskOf m w (desk_of seen x.desk)) who served.session.desk, λ front machine. refl)
+  client_by front m name l (Some x) who served =
+      (client_of seen x.client, subst (λ (w : List ℕ). IsClientOf m w (client_of seen x.client)) who served.session.client, λ front machine. refl)
 
   live_is : (front : Front) (m : Told) (name : List ℕ) (l : Line) (o : Option (SessionRecord S)) → line_named name m.lines ≡ Some l → IsServed seen front m l o
       → is_live name (registry_of m).users ≡ is_some o
@@ -95,7 +96,7 @@ module _ {S : Type 0} (seen : S → SeatRecord) where
       let at = line_at name seen front m m.lines cs i d stands.lines within here apart in
       let l : Line = at.0 in
       let own = line_found name m.lines l at.1 in
-      let has = desk_by front m name l (get_or cs i d).session (name_same l.user.who name own) at.2 in
+      let has = client_by front m name l (get_or cs i d).session (name_same l.user.who name own) at.2 in
       let gone : IsLeft s m name has.0 (Dropped name) = (ends_are_left s m name has.0 stands.bench has.1).1 in
       let bench = bench_kept s m (Dropped name) tt stands.bench in
       let same : machine ≡ machine_of m = (let e = stands.told_is in cc) in
@@ -116,9 +117,9 @@ module _ {S : Type 0} (seen : S → SeatRecord) where
               within apart here
               (record {
                 ended = ap (λ (b : Bool). l.user.ended || b) own ∙ or_true l.user.ended;
-                desk = left_desk has.0;
+                client = left_client has.0;
                 bare = (refl, refl);
-                has = subst (λ (w : List ℕ). IsDeskOf (step s m (Dropped name)) w (left_desk has.0)) (sym (name_same l.user.who name own)) gone.desk_then;
+                has = subst (λ (w : List ℕ). IsClientOf (step s m (Dropped name)) w (left_client has.0)) (sym (name_same l.user.who name own)) gone.client_then;
               });
         },
       )
@@ -130,8 +131,8 @@ module _ {S : Type 0} (seen : S → SeatRecord) where
   dropped_nowhere s m front machine cs name stands none =
       let nobody = no_line name seen front m m.lines cs stands.lines none in
       let absent : is_in (names_of m) name ≡ false = none_in name m.lines nobody in
-      let gone : IsLeft s m name (new_desk (place_in (names_of m) name)) (Dropped name) =
-      (ends_are_left s m name (new_desk (place_in (names_of m) name)) stands.bench (absent_is_desk s m name stands.bench absent)).1 in
+      let gone : IsLeft s m name (new_client (place_in (names_of m) name)) (Dropped name) =
+      (ends_are_left s m name (new_client (place_in (names_of m) name)) stands.bench (absent_is_client s m name stands.bench absent)).1 in
       let f : Line → Line = line_after s (registry_of m) (Dropped name) in (
         drop_lines s m name false (live_by m name None (user_of_line name m.lines ∙ ap (λ (o : Option Line). option_map user_of o) nobody)),
         record {

@@ -7,10 +7,10 @@ use Rattle.iiod_grammar.specs.Command.{Command, Exit, Write, WriteBuf, command_o
 use Rattle.iiod_grammar.specs.Stream.{AtEnd, InLine, InPayload, Item, End, OfWrite, OfWriteBuf, Pending, Scanned, Scanner, after_byte, after_bytes, after_line, after_said, ended_by, items_from, no_item, one_item, payload_after, payload_begun, scanner_after, with_payload}
 use Rattle.std.specs.Prelude.{Option, None, Some}
 use Rattle.iiod_session.specs.Acts.{act}
-use Rattle.iiod_session.specs.Desk.{DeskRecord}
+use Rattle.iiod_session.specs.Client.{ClientRecord}
 use Rattle.iio_core.specs.Front.{Front}
 use Rattle.iio_core.specs.Machine.{Machine}
-use Rattle.iiod_session.specs.Run.{desk_after, machine_after}
+use Rattle.iiod_session.specs.Run.{client_after, machine_after}
 use Rattle.iio_text.specs.declared.errors.Errno.{Errno}
 use Rattle.iio_system.specs.Feeding.{is_at_end}
 use Rattle.iio_system.specs.System.{IsBare}
@@ -143,30 +143,30 @@ nothing_more AtEnd (b ∷ bs) h = nothing_more AtEnd bs refl
 nothing_more (InLine begun) bytes h = absurd (true≢false (sym h))
 nothing_more (InPayload pending count begun) bytes h = absurd (true≢false (sym h))
 
-desk_after-append : (front : Front) (m : Machine) (desk : DeskRecord) (xs ys : List Item)
-    → desk_after front m desk (xs ++ ys) ≡ desk_after front (machine_after front m desk xs) (desk_after front m desk xs) ys
-desk_after-append front m desk [] ys = refl
-desk_after-append front m desk (x ∷ xs) ys = desk_after-append front (act front m desk x).machine (act front m desk x).desk xs ys
+client_after-append : (front : Front) (m : Machine) (client : ClientRecord) (xs ys : List Item)
+    → client_after front m client (xs ++ ys) ≡ client_after front (machine_after front m client xs) (client_after front m client xs) ys
+client_after-append front m client [] ys = refl
+client_after-append front m client (x ∷ xs) ys = client_after-append front (act front m client x).machine (act front m client x).client xs ys
 
-pub bare_after : (front : Front) (m : Machine) (desk : DeskRecord) (s : Scanner) (bytes : List ℕ) → is_at_end s ≡ false
-    → is_at_end (scanner_after s bytes) ≡ true → IsBare (desk_after front m desk (items_from s bytes))
+pub bare_after : (front : Front) (m : Machine) (client : ClientRecord) (s : Scanner) (bytes : List ℕ) → is_at_end s ≡ false
+    → is_at_end (scanner_after s bytes) ≡ true → IsBare (client_after front m client (items_from s bytes))
 unfolding act
-bare_after front m desk s [] before after = absurd (true≢false (sym after ∙ before))
-bare_after front m desk s (b ∷ bs) before after =
-    by (is_at_end (after_byte s b).next) refl (λ m' desk' at. bare_after front m' desk' (after_byte s b).next bs at after)
+bare_after front m client s [] before after = absurd (true≢false (sym after ∙ before))
+bare_after front m client s (b ∷ bs) before after =
+    by (is_at_end (after_byte s b).next) refl (λ m' client' at. bare_after front m' client' (after_byte s b).next bs at after)
   where
     first : List Item
     first = (after_byte s b).items
 
     by : (e : Bool) → is_at_end (after_byte s b).next ≡ e
-        → ((m' : Machine) (desk' : DeskRecord) → is_at_end (after_byte s b).next ≡ false
-        → IsBare (desk_after front m' desk' (items_from (after_byte s b).next bs)))
-        → IsBare (desk_after front m desk (first ++ items_from (after_byte s b).next bs))
+        → ((m' : Machine) (client' : ClientRecord) → is_at_end (after_byte s b).next ≡ false
+        → IsBare (client_after front m' client' (items_from (after_byte s b).next bs)))
+        → IsBare (client_after front m client (first ++ items_from (after_byte s b).next bs))
     by true at rest =
         let one = byte_ends s b before at in
         let all : first ++ items_from (after_byte s b).next bs ≡ End one.0 ∷ [] =
         ap (λ (xs : List Item). first ++ xs) (nothing_more (after_byte s b).next bs at) ∙ ap (λ (xs : List Item). xs ++ []) one.1 in
-        subst (λ (xs : List Item). IsBare (desk_after front m desk xs)) (sym all) (refl, refl)
+        subst (λ (xs : List Item). IsBare (client_after front m client xs)) (sym all) (refl, refl)
     by false at rest =
-        subst IsBare (sym (desk_after-append front m desk first (items_from (after_byte s b).next bs)))
-        (rest (machine_after front m desk first) (desk_after front m desk first) at)
+        subst IsBare (sym (client_after-append front m client first (items_from (after_byte s b).next bs)))
+        (rest (machine_after front m client first) (client_after front m client first) at)

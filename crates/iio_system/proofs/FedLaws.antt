@@ -3,10 +3,10 @@ use Rattle.std.proofs.Common.{◌≡◌, ℕ, suc, ◌<◌, ◌||◌, Bool, true
 use Rattle.std.specs.Str.{bytes_eq}
 use Rattle.iio_text.specs.Escape.{quoted}
 use Rattle.iiod_grammar.specs.Stream.{AtEnd, InLine, InPayload, Scanner, items_from, scanner_after}
-use Rattle.iiod_session.specs.Desk.{DeskRecord, desk_of}
+use Rattle.iiod_session.specs.Client.{ClientRecord, client_of}
 use Rattle.iio_core.specs.Front.{Front}
 use Rattle.iio_core.specs.Machine.{Machine}
-use Rattle.iiod_session.specs.Run.{desk_after}
+use Rattle.iiod_session.specs.Run.{client_after}
 use Rattle.iiod_session.specs.Seat.{SeatRecord}
 use Rattle.iiod_session.specs.Session.{SessionRecord}
 use Rattle.iio_history.specs.Event.{Event, Arrived, Heard}
@@ -16,12 +16,12 @@ use Rattle.iio_history.specs.Told.{Line, Told, registry_of, user_of}
 use Rattle.iio_history.specs.Machine.{line_after, new_line, step}
 use Rattle.iio_history.specs.Played.{state_after, step_lines, steps, texts}
 use Rattle.iio_history.specs.Transcript.{Feed, begun_by, closed_line, events_of_step, line_named, printed, step_text}
-use Rattle.iio_history.specs.Bench.{Every, IsDeskOf, front_of, is_in, machine_of, names_of}
+use Rattle.iio_history.specs.Bench.{Every, IsClientOf, front_of, is_in, machine_of, names_of}
 use Rattle.iio_history.specs.BenchLaw.{CanJoinMore, heard}
 use Rattle.iio_history.proofs.BenchFeeds.{feeds_are_acts}
 use Rattle.iio_history.proofs.BenchKept.{arrived_is_there, bench_kept, room_after}
 use Rattle.iio_history.proofs.BenchLists.{name_itself, name_same}
-use Rattle.iio_history.proofs.BenchOthers.{arrival_is_nothing, desks_are_kept}
+use Rattle.iio_history.proofs.BenchOthers.{arrival_is_nothing, clients_are_kept}
 use Rattle.iio_system.specs.declared.connection.Connection.{Connection}
 use Rattle.iio_system.specs.Connection.{HasHeard, IsHearing, IsSessionOf}
 use Rattle.iio_system.specs.System.{IsBare, IsLive, IsServed, Stands}
@@ -87,18 +87,18 @@ module _ {S : Type 0} (seen : S → SeatRecord) where
         session = record {
           manner = live.session.manner;
           stream = live.session.stream;
-          desk =
-              desks_are_kept s m (Arrived name bytes) name (desk_of seen x.desk) tt there
-              (subst (λ (w : List ℕ). IsDeskOf m w (desk_of seen x.desk)) own live.session.desk);
+          client =
+              clients_are_kept s m (Arrived name bytes) name (client_of seen x.client) tt there
+              (subst (λ (w : List ℕ). IsClientOf m w (client_of seen x.client)) own live.session.client);
         };
         room = room_after s m (Arrived name bytes) (length (items_from l.begun bytes)) room;
       }
 
 -- ---- what stands then
 
--- a connection has a desk with nothing on it
+-- a connection has a client with nothing on it
 abbrev pub HasNothing : Told → List ℕ → Type 0
-HasNothing m name = (desk : DeskRecord) × IsBare desk × IsDeskOf m name desk
+HasNothing m name = (client : ClientRecord) × IsBare client × IsClientOf m name client
 
 at_end_not : (x : Scanner) → is_at_end x ≡ false → x ≡ AtEnd → ⊥
 at_end_not x h at = true≢false (sym (ap is_at_end at) ∙ h)
@@ -127,22 +127,22 @@ module _ {S : Type 0} (seen : S → SeatRecord) where
       → is_at_end begun ≡ e → l.user.ended ≡ is_at_end begun → l.begun ≡ begun → IsSessionOf seen m name begun x → IsOwning seen front (cond e None (Some x))
       → (is_at_end begun ≡ true → HasNothing m name)
       → IsServed seen front m l (cond e None (Some x))
-  served_by front m name begun l x true own at ended same session desk gone =
+  served_by front m name begun l x true own at ended same session client gone =
       let left = gone at in
       record {
         ended = ended ∙ at;
-        desk = left.0;
+        client = left.0;
         bare = left.1;
         has =
-            subst (λ (w : List ℕ). IsDeskOf m w left.0) (sym (name_same l.user.who name own)) left.2;
+            subst (λ (w : List ℕ). IsClientOf m w left.0) (sym (name_same l.user.who name own)) left.2;
       }
-  served_by front m name begun l x false own at ended same session desk gone = record {
+  served_by front m name begun l x false own at ended same session client gone = record {
     live = ended ∙ at;
     begun = λ stops. at_end_not begun at (sym same ∙ stops);
     session =
         subst (λ (w : List ℕ). IsSessionOf seen m w l.begun x) (sym (name_same l.user.who name own))
         (subst (λ (b : Scanner). IsSessionOf seen m name b x) (sym same) session);
-    desk = desk;
+    client = client;
   }
 
   pub stands_fed : (s : Setup) (n : Told) (front : Front) (told' : Option Machine) (cs : List (Connection S)) (name : List ℕ) (begun : Scanner) (bytes : List ℕ)
@@ -153,7 +153,7 @@ module _ {S : Type 0} (seen : S → SeatRecord) where
       → i < length cs → ((k : ℕ) → k < i → bytes_eq (get_or cs k d).name name ≡ false) → bytes_eq (get_or cs i d).name name ≡ true
       → Stands seen s (steps s n (heard name (items_from begun bytes))) front told'
       (set cs i (with_session seen (cond (is_at_end (scanner_after begun bytes)) None (Some x')) (get_or cs i d)))
-  stands_fed s n front told' cs name begun bytes x' i d before after same arrived said desk gone less apart here =
+  stands_fed s n front told' cs name begun bytes x' i d before after same arrived said client gone less apart here =
       let m2 = steps s n (heard name (items_from begun bytes)) in
       let line = line_heard s front n name begun bytes cs arrived in
       record {
@@ -165,7 +165,7 @@ module _ {S : Type 0} (seen : S → SeatRecord) where
             (others_after_items seen s n front name (items_from begun bytes) cs arrived.others)
             line.1 less apart here
             (served_by front m2 name (scanner_after begun bytes) line.0 x' (is_at_end (scanner_after begun bytes)) (line_found name m2.lines line.0 line.1) refl
-            line.2 line.3 said.session desk gone);
+            line.2 line.3 said.session client gone);
       }
 
   -- one that was there
@@ -193,9 +193,9 @@ module _ {S : Type 0} (seen : S → SeatRecord) where
       → IsHearing seen s n front told name begun bytes x → is_at_end begun ≡ false → is_at_end (scanner_after begun bytes) ≡ true
       → HasNothing (steps s n (heard name (items_from begun bytes))) name
   has_nothing s n front told name begun bytes x h before after = (
-    desk_after (front_of s) (machine_of n) (desk_of seen x.desk) (items_from begun bytes),
-    bare_after (front_of s) (machine_of n) (desk_of seen x.desk) begun bytes before after,
-    (feeds_are_acts s n name (desk_of seen x.desk) (items_from begun bytes) h.bench h.there h.session.desk h.room).desk_then,
+    client_after (front_of s) (machine_of n) (client_of seen x.client) (items_from begun bytes),
+    bare_after (front_of s) (machine_of n) (client_of seen x.client) begun bytes before after,
+    (feeds_are_acts s n name (client_of seen x.client) (items_from begun bytes) h.bench h.there h.session.client h.room).client_then,
   )
 
 -- ---- what is printed

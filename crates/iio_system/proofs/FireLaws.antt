@@ -15,7 +15,7 @@ use Rattle.iio_core.specs.Machine.{Machine, station_at, attachment_of}
 use Rattle.iio_core.specs.Moves.{entry_answer, machine_after_handling, entry_in, machine_after_entry, machine_after_poll, polled_answer, taken_off}
 use Rattle.iio_history.specs.Event.{Handled, Polled}
 use Rattle.iio_history.specs.Registry.{Setup, attachments_of}
-use Rattle.iio_core.specs.Trigger.{Trigger, entries_at, entry_of, without_entry, handled, polled_by, first_due, missed_at, poll_answer}
+use Rattle.iio_core.specs.Trigger.{Trigger, entries_at, entry_of, without_entry, trigger_after_handling, polled_by, first_due, missed_at, poll_answer}
 use Rattle.iio_history.specs.Told.{Told, registry_of}
 use Rattle.iio_history.specs.Machine.{step}
 use Rattle.iio_history.specs.Played.{state_after, step_lines, steps, texts}
@@ -45,7 +45,7 @@ use Rattle.iio_system.proofs.MoveLaws.{handle_holds, handle_line, machine_told, 
 without_none : (dev : ℕ) (es : List Handed) → entry_of dev es ≡ None → without_entry dev es ≡ es
 without_none dev es none = filter_none (λ (e : Handed). e.dev == dev) es none
 
-handled_none : (dev trigger : ℕ) (ts : List Trigger) → entry_of dev (entries_at ts trigger) ≡ None → at_place trigger (handled dev) ts ≡ ts
+handled_none : (dev trigger : ℕ) (ts : List Trigger) → entry_of dev (entries_at ts trigger) ≡ None → at_place trigger (trigger_after_handling dev) ts ≡ ts
 handled_none dev trigger [] none = refl
 handled_none dev zero (t ∷ ts) none = ap (λ (es : List Handed). (let x : Trigger = record t { entries = es } in x) ∷ ts) (without_none dev t.entries none)
 handled_none dev (suc trigger) (t ∷ ts) none = ap (λ (xs : List Trigger). t ∷ xs) (handled_none dev trigger ts none)
@@ -214,7 +214,7 @@ module _ {X : Type 0} {V : X → Type 0} (driver : Plug X V → Driver) where
           state = step s n (Handled trigger dev);
           entries = es;
           there =
-              entries_placed (handled dev) (without_entry dev) (λ t. refl) trigger n.triggers (λ past. refl)
+              entries_placed (trigger_after_handling dev) (without_entry dev) (λ t. refl) trigger n.triggers (λ past. refl)
               ∙ ap (λ (xs : List Handed). without_entry dev xs) at ∙ ap (λ (c : Bool). cond (not c) (e ∷ without_entry dev es) (without_entry dev es)) own
               ∙ without_none dev es (entry_none dev (suc e.dev) high es (omega (arith, same)) order.1);
           holds = took'.1;

@@ -13,7 +13,7 @@ use Rattle.iio_device.specs.Sensing.{sensed, with_sensed}
 use Rattle.iio_device.specs.Site.{at_place, unplugged}
 use Rattle.iio_core.specs.Attached.{entries_from}
 use Rattle.iio_core.specs.Machine.{Station, with_site, attachments_of}
-use Rattle.iio_core.specs.Trigger.{polled_by, handled, Trigger, entry_of, trigger_in, first_trigger, poll_answer, entries_at, missed_at}
+use Rattle.iio_core.specs.Trigger.{polled_by, trigger_after_handling, Trigger, entry_of, trigger_in, first_trigger, poll_answer, entries_at, missed_at}
 use Rattle.iio_core.specs.Moves.{look_made}
 use Rattle.iio_system.specs.Acting.{Keeps, KeepsCaptures}
 use Rattle.iio_core.specs.declared.became.Became.{Became}
@@ -130,8 +130,8 @@ module _ (triggers : List TriggerDesc) (states : List State) (sts : List Station
       bench_triggered triggers states sts t s s' bench there (ap (λ (x : State). x.places) off) (off_sound t dev sts s s' (bench.each t s there) off)
 
 pub entry_triggers : (states : List State) (t dev : ℕ) (s s' : State) → slice_get states t ≡ Some s → s' ≡ without dev s
-    → map trigger_of (set states t s') ≡ at_place t (handled dev) (map trigger_of states)
-entry_triggers states t dev s s' there off = map_changed trigger_of states t s s' (handled dev) there (off_told dev s s' off)
+    → map trigger_of (set states t s') ≡ at_place t (trigger_after_handling dev) (map trigger_of states)
+entry_triggers states t dev s s' there off = map_changed trigger_of states t s s' (trigger_after_handling dev) there (off_told dev s s' off)
 
 pub entry_here : (states : List State) (t dev : ℕ) (s : State) → slice_get states t ≡ Some s
     → entry_of dev (entries_at (map trigger_of states) t) ≡ entry_of dev (trigger_of s).entries

@@ -578,7 +578,9 @@ pub first_averaged : (triggers first : ℕ) (heads : List DeviceHead) (sts : Lis
     → AreFresh triggers sts → IsAveraged triggers first heads sts
 first_averaged triggers first heads sts bases many bare fresh = record {
   bases = bases;
-  hosted = λ dev plain. on_one triggers (station_in sts dev).site.trigger (is_empty (station_in sts dev).members) (fresh_on triggers sts dev fresh) (bare_at sts dev bare);
+  hosted =
+      λ dev plain. on_one triggers (station_in sts dev).site.trigger (is_empty (station_in sts dev).members) (fresh_on triggers sts dev fresh)
+      (bare_at sts dev bare);
   inners = λ j base window is. record {
     plugged =
         plugged j (let less = average_there heads j base window is in omega (arith, less, many))

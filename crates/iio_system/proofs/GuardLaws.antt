@@ -5,7 +5,7 @@ use Rattle.std.proofs.lemmas.Slice.Eq.{bytes_eq-Decides}
 use Rattle.iiod_grammar.specs.Command.{Open, Close, Read, ReadBuf, GetTrig, SetBuffers, Remask}
 use Rattle.iiod_grammar.specs.Stream.{Item, Said, End, Scanner, items_from}
 use Rattle.iio_desc.specs.Kind.{is_input}
-use Rattle.iiod_session.specs.Desk.{Bare, DeskRecord, desk_of}
+use Rattle.iiod_session.specs.Client.{Bare, ClientRecord, client_of}
 use Rattle.iio_core.specs.Front.{Front, find_device, kind_at}
 use Rattle.iio_core.specs.Machine.{Machine}
 use Rattle.iiod_session.specs.Seat.{SeatRecord}
@@ -14,11 +14,11 @@ use Rattle.iio_device.specs.Site.{is_empty}
 use Rattle.iio_history.specs.Registry.{Setup, has_ended}
 use Rattle.iio_history.specs.Told.{Line, Told, registry_of}
 use Rattle.iio_history.specs.Transcript.{Feed, Drop, begun_by}
-use Rattle.iio_history.specs.Bench.{AreDistinct, Every, IsDeskOf, front_of, is_in, name_of, names_of, seat_at}
+use Rattle.iio_history.specs.Bench.{AreDistinct, Every, IsClientOf, front_of, is_in, name_of, names_of, seat_at}
 use Rattle.iio_worlds.specs.Bystanders.{may_say}
-use Rattle.iio_worlds.specs.Stance.{DesksDecide, Opens, by_number, desk_there, desks_but, has_seat, item_meets, items_meet, may_part, none_seated, one_seated, opens_by, opens_of, own_has, stance_of, step_meets}
+use Rattle.iio_worlds.specs.Stance.{ClientsDecide, Opens, by_number, client_there, clients_but, has_seat, item_meets, items_meet, may_part, none_seated, one_seated, opens_by, opens_of, own_has, stance_of, step_meets}
 use Rattle.iio_system.specs.declared.connection.Connection.{Connection}
-use Rattle.iio_system.specs.Guard.{desk_named, desks_besides, own_input, with_desk}
+use Rattle.iio_system.specs.Guard.{client_named, clients_besides, own_input, with_client}
 use Rattle.iio_system.specs.System.{AreLines, IsServed, Stands}
 
 -- ---- what is asked of what is open
@@ -82,129 +82,130 @@ others_all w (n ∷ ns) absent = by (bytes_eq n w) refl absent (λ h. others_all
     by true is h rest = cc
     by false is h rest = (turned n w is, rest h)
 
--- ---- desks by connections
+-- ---- clients by connections
 
-abbrev pub bare_desk : DeskRecord
-bare_desk = record { who = 0; seats = []; buffers = []; holdings = [] }
+abbrev pub bare_client : ClientRecord
+bare_client = record { who = 0; seats = []; buffers = []; holdings = [] }
 
 module _ {S : Type 0} (seen : S → SeatRecord) (front : Front) (m : Told) where
-  abbrev pub desk_of_line : (l : Line) (o : Option (SessionRecord S)) → IsServed seen front m l o → DeskRecord
-  desk_of_line l None gone = gone.desk
-  desk_of_line l (Some x) live = desk_of seen x.desk
+  abbrev pub client_of_line : (l : Line) (o : Option (SessionRecord S)) → IsServed seen front m l o → ClientRecord
+  client_of_line l None gone = gone.client
+  client_of_line l (Some x) live = client_of seen x.client
 
-  desk_of_line_is : (l : Line) (o : Option (SessionRecord S)) (p : IsServed seen front m l o) → IsDeskOf m l.user.who (desk_of_line l o p)
-  desk_of_line_is l None gone = gone.has
-  desk_of_line_is l (Some x) live = live.session.desk
+  client_of_line_is : (l : Line) (o : Option (SessionRecord S)) (p : IsServed seen front m l o) → IsClientOf m l.user.who (client_of_line l o p)
+  client_of_line_is l None gone = gone.has
+  client_of_line_is l (Some x) live = live.session.client
 
-  abbrev pub desk_at : (ls : List Line) (cs : List (Connection S)) → AreLines seen front m ls cs → List ℕ → DeskRecord
-  desk_at (l ∷ ls) (c ∷ cs) are name = cond (bytes_eq l.user.who name) (desk_of_line l c.session are.0.served) (desk_at ls cs are.1 name)
-  desk_at ls cs are name = bare_desk
+  abbrev pub client_at : (ls : List Line) (cs : List (Connection S)) → AreLines seen front m ls cs → List ℕ → ClientRecord
+  client_at (l ∷ ls) (c ∷ cs) are name = cond (bytes_eq l.user.who name) (client_of_line l c.session are.0.served) (client_at ls cs are.1 name)
+  client_at ls cs are name = bare_client
 
-  desks_are : (ls : List Line) (cs : List (Connection S)) (are : AreLines seen front m ls cs)
-      → Every (λ name. IsDeskOf m name (desk_at ls cs are name)) (map name_of ls)
-  desks_are [] cs are = tt
-  desks_are (l ∷ ls) [] are = absurd are
-  desks_are (l ∷ ls) (c ∷ cs) are =
-      let d = desk_of_line l c.session are.0.served in
-      let own : IsDeskOf m l.user.who d = desk_of_line_is l c.session are.0.served in (
-        subst (λ (b : Bool). IsDeskOf m l.user.who (cond b d (desk_at ls cs are.1 l.user.who))) (sym (itself l.user.who)) own,
-        every_map (λ n. IsDeskOf m n (desk_at ls cs are.1 n)) (λ n. IsDeskOf m n (desk_at (l ∷ ls) (c ∷ cs) are n)) (map name_of ls)
-            (λ n is. by n d own is (bytes_eq l.user.who n) refl) (desks_are ls cs are.1),
+  clients_are : (ls : List Line) (cs : List (Connection S)) (are : AreLines seen front m ls cs)
+      → Every (λ name. IsClientOf m name (client_at ls cs are name)) (map name_of ls)
+  clients_are [] cs are = tt
+  clients_are (l ∷ ls) [] are = absurd are
+  clients_are (l ∷ ls) (c ∷ cs) are =
+      let d = client_of_line l c.session are.0.served in
+      let own : IsClientOf m l.user.who d = client_of_line_is l c.session are.0.served in (
+        subst (λ (b : Bool). IsClientOf m l.user.who (cond b d (client_at ls cs are.1 l.user.who))) (sym (itself l.user.who)) own,
+        every_map (λ n. IsClientOf m n (client_at ls cs are.1 n)) (λ n. IsClientOf m n (client_at (l ∷ ls) (c ∷ cs) are n)) (map name_of ls)
+            (λ n is. by n d own is (bytes_eq l.user.who n) refl) (clients_are ls cs are.1),
       )
     where
-      by : (n : List ℕ) (d : DeskRecord) → IsDeskOf m l.user.who d → IsDeskOf m n (desk_at ls cs are.1 n) → (b : Bool) → bytes_eq l.user.who n ≡ b
-          → IsDeskOf m n (cond (bytes_eq l.user.who n) d (desk_at ls cs are.1 n))
-      by n d own is true e = rw e (subst (λ w. IsDeskOf m w d) ((bytes_eq-Decides l.user.who n).0 e) own)
+      by : (n : List ℕ) (d : ClientRecord) → IsClientOf m l.user.who d → IsClientOf m n (client_at ls cs are.1 n) → (b : Bool) → bytes_eq l.user.who n ≡ b
+          → IsClientOf m n (cond (bytes_eq l.user.who n) d (client_at ls cs are.1 n))
+      by n d own is true e = rw e (subst (λ w. IsClientOf m w d) ((bytes_eq-Decides l.user.who n).0 e) own)
       by n d own is false e = rw e is
 
   -- ---- the others
 
-  but_same : (f g : List ℕ → DeskRecord) (a : List ℕ) (ns : List (List ℕ)) → Every (λ n. f n ≡ g n) ns → desks_but f a ns ≡ desks_but g a ns
+  but_same : (f g : List ℕ → ClientRecord) (a : List ℕ) (ns : List (List ℕ)) → Every (λ n. f n ≡ g n) ns → clients_but f a ns ≡ clients_but g a ns
   but_same f g a [] same = refl
   but_same f g a (n ∷ ns) same = by (bytes_eq n a) (but_same f g a ns same.1)
     where
-      by : (b : Bool) → desks_but f a ns ≡ desks_but g a ns
-          → cond b (desks_but f a ns) (f n ∷ desks_but f a ns) ≡ cond b (desks_but g a ns) (g n ∷ desks_but g a ns)
+      by : (b : Bool) → clients_but f a ns ≡ clients_but g a ns
+          → cond b (clients_but f a ns) (f n ∷ clients_but f a ns) ≡ cond b (clients_but g a ns) (g n ∷ clients_but g a ns)
       by true rest = rest
-      by false rest = ap (λ d. d ∷ desks_but f a ns) same.0 ∙ ap (λ ds. g n ∷ ds) rest
+      by false rest = ap (λ d. d ∷ clients_but f a ns) same.0 ∙ ap (λ ds. g n ∷ ds) rest
 
   -- past the first line
   past : (l : Line) (ls : List Line) (c : Connection S) (cs : List (Connection S)) (are : AreLines seen front m (l ∷ ls) (c ∷ cs)) (a : List ℕ)
       → is_in (map name_of ls) l.user.who ≡ false
-      → desks_but (desk_at (l ∷ ls) (c ∷ cs) are) a (map name_of ls) ≡ desks_but (desk_at ls cs are.1) a (map name_of ls)
+      → clients_but (client_at (l ∷ ls) (c ∷ cs) are) a (map name_of ls) ≡ clients_but (client_at ls cs are.1) a (map name_of ls)
   past l ls c cs are a absent =
-      but_same (desk_at (l ∷ ls) (c ∷ cs) are) (desk_at ls cs are.1) a (map name_of ls)
-      (every_map (λ n. bytes_eq l.user.who n ≡ false) (λ n. desk_at (l ∷ ls) (c ∷ cs) are n ≡ desk_at ls cs are.1 n) (map name_of ls)
-      (λ n other. ap (λ (b : Bool). cond b (desk_of_line l c.session are.0.served) (desk_at ls cs are.1 n)) other)
+      but_same (client_at (l ∷ ls) (c ∷ cs) are) (client_at ls cs are.1) a (map name_of ls)
+      (every_map (λ n. bytes_eq l.user.who n ≡ false) (λ n. client_at (l ∷ ls) (c ∷ cs) are n ≡ client_at ls cs are.1 n) (map name_of ls)
+      (λ n other. ap (λ (b : Bool). cond b (client_of_line l c.session are.0.served) (client_at ls cs are.1 n)) other)
       (others_all l.user.who (map name_of ls) absent))
 
-  seated_more : (l : Line) (o : Option (SessionRecord S)) (p : IsServed seen front m l o) (k : ℕ) (ds es : List DeskRecord) → one_seated ds k ≡ one_seated es k
-      → one_seated (desk_of_line l o p ∷ ds) k ≡ one_seated (with_desk seen o es) k
+  seated_more : (l : Line) (o : Option (SessionRecord S)) (p : IsServed seen front m l o) (k : ℕ) (ds es : List ClientRecord)
+      → one_seated ds k ≡ one_seated es k
+      → one_seated (client_of_line l o p ∷ ds) k ≡ one_seated (with_client seen o es) k
   seated_more l None gone k ds es rest = ap (λ (ss : List Bare). is_some (seat_at k ss) || one_seated ds k) gone.bare.0 ∙ rest
-  seated_more l (Some x) live k ds es rest = ap (λ b. has_seat k (desk_of seen x.desk) || b) rest
+  seated_more l (Some x) live k ds es rest = ap (λ b. has_seat k (client_of seen x.client) || b) rest
 
-  none_more : (l : Line) (o : Option (SessionRecord S)) (p : IsServed seen front m l o) (ds es : List DeskRecord) → none_seated ds ≡ none_seated es
-      → none_seated (desk_of_line l o p ∷ ds) ≡ none_seated (with_desk seen o es)
+  none_more : (l : Line) (o : Option (SessionRecord S)) (p : IsServed seen front m l o) (ds es : List ClientRecord) → none_seated ds ≡ none_seated es
+      → none_seated (client_of_line l o p ∷ ds) ≡ none_seated (with_client seen o es)
   none_more l None gone ds es rest = ap (λ (ss : List Bare). is_empty ss && none_seated ds) gone.bare.0 ∙ rest
-  none_more l (Some x) live ds es rest = ap (λ b. is_empty (desk_of seen x.desk).seats && b) rest
+  none_more l (Some x) live ds es rest = ap (λ b. is_empty (client_of seen x.client).seats && b) rest
 
-  -- the same of a list of desks by any test that a desk of nothing doesn't change
-  others_are : {B : Type 0} (f : List DeskRecord → B)
-      → ((l : Line) (o : Option (SessionRecord S)) (p : IsServed seen front m l o) (ds es : List DeskRecord) → f ds ≡ f es
-      → f (desk_of_line l o p ∷ ds) ≡ f (with_desk seen o es))
+  -- the same of a list of clients by any test that a client of nothing doesn't change
+  others_are : {B : Type 0} (f : List ClientRecord → B)
+      → ((l : Line) (o : Option (SessionRecord S)) (p : IsServed seen front m l o) (ds es : List ClientRecord) → f ds ≡ f es
+      → f (client_of_line l o p ∷ ds) ≡ f (with_client seen o es))
       → (ls : List Line) (cs : List (Connection S)) (are : AreLines seen front m ls cs) (a : List ℕ) → AreDistinct (map name_of ls)
-      → f (desks_but (desk_at ls cs are) a (map name_of ls)) ≡ f (desks_besides seen a cs)
+      → f (clients_but (client_at ls cs are) a (map name_of ls)) ≡ f (clients_besides seen a cs)
   others_are f more [] [] are a apart = refl
   others_are f more [] (c ∷ cs) are a apart = absurd are
   others_are f more (l ∷ ls) [] are a apart = absurd are
   others_are f more (l ∷ ls) (c ∷ cs) are a apart =
-      let rest : f (desks_but (desk_at (l ∷ ls) (c ∷ cs) are) a (map name_of ls)) ≡ f (desks_besides seen a cs) =
+      let rest : f (clients_but (client_at (l ∷ ls) (c ∷ cs) are) a (map name_of ls)) ≡ f (clients_besides seen a cs) =
       ap f (past l ls c cs are a apart.0) ∙ others_are f more ls cs are.1 a apart.1 in
       by (bytes_eq l.user.who a) (ap (λ w. bytes_eq w a) are.0.name) rest
     where
-      d : DeskRecord
-      d = desk_at (l ∷ ls) (c ∷ cs) are l.user.who
+      d : ClientRecord
+      d = client_at (l ∷ ls) (c ∷ cs) are l.user.who
 
-      first : d ≡ desk_of_line l c.session are.0.served
-      first = ap (λ (b : Bool). cond b (desk_of_line l c.session are.0.served) (desk_at ls cs are.1 l.user.who)) (itself l.user.who)
+      first : d ≡ client_of_line l c.session are.0.served
+      first = ap (λ (b : Bool). cond b (client_of_line l c.session are.0.served) (client_at ls cs are.1 l.user.who)) (itself l.user.who)
 
       by : (b : Bool) → bytes_eq c.name a ≡ b
-          → f (desks_but (desk_at (l ∷ ls) (c ∷ cs) are) a (map name_of ls)) ≡ f (desks_besides seen a cs)
-          → f (cond b (desks_but (desk_at (l ∷ ls) (c ∷ cs) are) a (map name_of ls)) (d ∷ desks_but (desk_at (l ∷ ls) (c ∷ cs) are) a (map name_of ls)))
-          ≡ f (cond (bytes_eq c.name a) (desks_besides seen a cs) (with_desk seen c.session (desks_besides seen a cs)))
+          → f (clients_but (client_at (l ∷ ls) (c ∷ cs) are) a (map name_of ls)) ≡ f (clients_besides seen a cs)
+          → f (cond b (clients_but (client_at (l ∷ ls) (c ∷ cs) are) a (map name_of ls)) (d ∷ clients_but (client_at (l ∷ ls) (c ∷ cs) are) a (map name_of ls)))
+          ≡ f (cond (bytes_eq c.name a) (clients_besides seen a cs) (with_client seen c.session (clients_besides seen a cs)))
       by true e rest = rw e rest
       by false e rest =
-          rw e (ap (λ x. f (x ∷ desks_but (desk_at (l ∷ ls) (c ∷ cs) are) a (map name_of ls))) first ∙ more l c.session are.0.served _ _ rest)
+          rw e (ap (λ x. f (x ∷ clients_but (client_at (l ∷ ls) (c ∷ cs) are) a (map name_of ls))) first ∙ more l c.session are.0.served _ _ rest)
 
   pub seated_besides : (ls : List Line) (cs : List (Connection S)) (are : AreLines seen front m ls cs) (a : List ℕ) (k : ℕ) → AreDistinct (map name_of ls)
-      → one_seated (desks_but (desk_at ls cs are) a (map name_of ls)) k ≡ one_seated (desks_besides seen a cs) k
+      → one_seated (clients_but (client_at ls cs are) a (map name_of ls)) k ≡ one_seated (clients_besides seen a cs) k
   seated_besides ls cs are a k apart = others_are (λ ds. one_seated ds k) (λ l o p ds es rest. seated_more l o p k ds es rest) ls cs are a apart
 
   pub none_besides : (ls : List Line) (cs : List (Connection S)) (are : AreLines seen front m ls cs) (a : List ℕ) → AreDistinct (map name_of ls)
-      → none_seated (desks_but (desk_at ls cs are) a (map name_of ls)) ≡ none_seated (desks_besides seen a cs)
+      → none_seated (clients_but (client_at ls cs are) a (map name_of ls)) ≡ none_seated (clients_besides seen a cs)
   none_besides ls cs are a apart = others_are none_seated none_more ls cs are a apart
 
   -- ---- the watched connection's own
 
   own_line : (l : Line) (o : Option (SessionRecord S)) (p : IsServed seen front m l o) (k : ℕ)
-      → own_has (Some (desk_of_line l o p)) k ≡ own_has (option_map (λ (x : SessionRecord S). desk_of seen x.desk) o) k
+      → own_has (Some (client_of_line l o p)) k ≡ own_has (option_map (λ (x : SessionRecord S). client_of seen x.client) o) k
   own_line l None gone k = ap (λ (ss : List Bare). is_some (seat_at k ss)) gone.bare.0
   own_line l (Some x) live k = refl
 
   pub own_named : (ls : List Line) (cs : List (Connection S)) (are : AreLines seen front m ls cs) (a : List ℕ) (k : ℕ)
-      → own_has (desk_there (desk_at ls cs are) a (map name_of ls)) k ≡ own_has (desk_named seen a cs) k
+      → own_has (client_there (client_at ls cs are) a (map name_of ls)) k ≡ own_has (client_named seen a cs) k
   own_named [] [] are a k = refl
   own_named [] (c ∷ cs) are a k = absurd are
   own_named (l ∷ ls) [] are a k = absurd are
   own_named (l ∷ ls) (c ∷ cs) are a k = by (bytes_eq l.user.who a) (ap (λ w. bytes_eq w a) are.0.name) (own_named ls cs are.1 a k)
     where
-      d : DeskRecord
-      d = desk_of_line l c.session are.0.served
+      d : ClientRecord
+      d = client_of_line l c.session are.0.served
 
       by : (b : Bool) → bytes_eq c.name a ≡ b
-          → own_has (desk_there (desk_at ls cs are.1) a (map name_of ls)) k ≡ own_has (desk_named seen a cs) k
-          → own_has (cond (b || is_in (map name_of ls) a) (Some (cond b d (desk_at ls cs are.1 a))) None) k
-          ≡ own_has (cond (bytes_eq c.name a) (option_map (λ (x : SessionRecord S). desk_of seen x.desk) c.session) (desk_named seen a cs)) k
+          → own_has (client_there (client_at ls cs are.1) a (map name_of ls)) k ≡ own_has (client_named seen a cs) k
+          → own_has (cond (b || is_in (map name_of ls) a) (Some (cond b d (client_at ls cs are.1 a))) None) k
+          ≡ own_has (cond (bytes_eq c.name a) (option_map (λ (x : SessionRecord S). client_of seen x.client) c.session) (client_named seen a cs)) k
       by true e rest = rw e (own_line l c.session are.0.served k)
       by false e rest = rw e rest
 
@@ -213,16 +214,17 @@ module _ {S : Type 0} (seen : S → SeatRecord) (front : Front) (m : Told) where
   -- of the watched one's own feed the others are asked, of another's the watched one
   pub asks_those : (s : Setup) (a : List ℕ) (mine : Bool) (ls : List Line) (cs others : List (Connection S)) (are : AreLines seen front m ls cs)
       → AreDistinct (map name_of ls) → front ≡ front_of s
-      → (mine ≡ false → desk_named seen a others ≡ desk_named seen a cs) → (mine ≡ true → desks_besides seen a others ≡ desks_besides seen a cs)
-      → Asks mine (opens_by front (desk_named seen a others) (desks_besides seen a others))
-      (opens_by (front_of s) (desk_there (desk_at ls cs are) a (map name_of ls)) (desks_but (desk_at ls cs are) a (map name_of ls)))
+      → (mine ≡ false → client_named seen a others ≡ client_named seen a cs) → (mine ≡ true → clients_besides seen a others ≡ clients_besides seen a cs)
+      → Asks mine (opens_by front (client_named seen a others) (clients_besides seen a others))
+      (opens_by (front_of s) (client_there (client_at ls cs are) a (map name_of ls)) (clients_but (client_at ls cs are) a (map name_of ls)))
   asks_those s a mine ls cs others are apart same own besides = record {
-    own = λ other device. ap (λ (f : Front). by_number (find_device f device) (own_input f (desk_named seen a others))) same
-        ∙ by_same (find_device (front_of s) device) (own_input (front_of s) (desk_named seen a others))
-        (own_input (front_of s) (desk_there (desk_at ls cs are) a (map name_of ls)))
+    own = λ other device. ap (λ (f : Front). by_number (find_device f device) (own_input f (client_named seen a others))) same
+        ∙ by_same (find_device (front_of s) device) (own_input (front_of s) (client_named seen a others))
+        (own_input (front_of s) (client_there (client_at ls cs are) a (map name_of ls)))
         (λ k. ap (λ (b : Bool). is_input (kind_at (front_of s) k) && b) (ap (λ o. own_has o k) (own other) ∙ sym (own_named ls cs are a k)));
-    others = λ is device. ap (λ (f : Front). by_number (find_device f device) (one_seated (desks_besides seen a others))) same
-        ∙ by_same (find_device (front_of s) device) (one_seated (desks_besides seen a others)) (one_seated (desks_but (desk_at ls cs are) a (map name_of ls)))
+    others = λ is device. ap (λ (f : Front). by_number (find_device f device) (one_seated (clients_besides seen a others))) same
+        ∙ by_same (find_device (front_of s) device) (one_seated (clients_besides seen a others))
+        (one_seated (clients_but (client_at ls cs are) a (map name_of ls)))
         (λ k. ap (λ ds. one_seated ds k) (besides is) ∙ sym (seated_besides ls cs are a k apart));
     none = λ is. ap none_seated (besides is) ∙ sym (none_besides ls cs are a apart);
   }
@@ -231,24 +233,25 @@ module _ {S : Type 0} (seen : S → SeatRecord) where
   -- ---- the whole
 
   -- what is said, by what is open
-  pub meets_those : DesksDecide
+  pub meets_those : ClientsDecide
       → (s : Setup) (m : Told) (front : Front) (told : Option Machine) (cs others : List (Connection S)) (a name bytes : List ℕ) (begun : Scanner)
       (meets : Bool)
       → Stands seen s m front told cs → has_ended name (registry_of m).users ≡ false → begun_by name m.lines ≡ begun
-      → (bytes_eq name a ≡ false → desk_named seen a others ≡ desk_named seen a cs)
-      → (bytes_eq name a ≡ true → desks_besides seen a others ≡ desks_besides seen a cs)
-      → meets ≡ items_meet (opens_by front (desk_named seen a others) (desks_besides seen a others)) (bytes_eq name a) (items_from begun bytes)
+      → (bytes_eq name a ≡ false → client_named seen a others ≡ client_named seen a cs)
+      → (bytes_eq name a ≡ true → clients_besides seen a others ≡ clients_besides seen a cs)
+      → meets ≡ items_meet (opens_by front (client_named seen a others) (clients_besides seen a others)) (bytes_eq name a) (items_from begun bytes)
       → meets ≡ step_meets s a m (Feed name bytes)
   meets_those decide s m front told cs others a name bytes begun meets stands live was own besides is =
-      let desks = desk_at seen front m m.lines cs stands.lines in
-      let by_desks = decide s m a desks (Feed name bytes) stands.bench (desks_are seen front m m.lines cs stands.lines) in
+      let clients = client_at seen front m m.lines cs stands.lines in
+      let by_clients = decide s m a clients (Feed name bytes) stands.bench (clients_are seen front m m.lines cs stands.lines) in
       let asks = asks_those seen front m s a (bytes_eq name a) m.lines cs others stands.lines stands.bench.names stands.front_is own besides in
       is ∙ items_same _ _ (bytes_eq name a) (items_from begun bytes) asks
-      ∙ ap (λ b. items_meet (opens_by (front_of s) (desk_there desks a (names_of m)) (desks_but desks a (names_of m))) (bytes_eq name a) (items_from b bytes))
+      ∙ ap (λ b. items_meet (opens_by (front_of s) (client_there clients a (names_of m)) (clients_but clients a (names_of m))) (bytes_eq name a)
+      (items_from b bytes))
       (sym was)
-      ∙ ap (λ b. b || items_meet (opens_by (front_of s) (desk_there desks a (names_of m)) (desks_but desks a (names_of m))) (bytes_eq name a)
+      ∙ ap (λ b. b || items_meet (opens_by (front_of s) (client_there clients a (names_of m)) (clients_but clients a (names_of m))) (bytes_eq name a)
       (items_from (begun_by name m.lines) bytes)) (sym live)
-      ∙ sym by_desks
+      ∙ sym by_clients
 
   -- a connection that has ended says nothing
   pub meets_ended : (s : Setup) (m : Told) (a name bytes : List ℕ) → has_ended name (registry_of m).users ≡ true → true ≡ step_meets s a m (Feed name bytes)
@@ -257,10 +260,10 @@ module _ {S : Type 0} (seen : S → SeatRecord) where
       (sym ended)
 
   -- a loss
-  pub meets_lost : DesksDecide → (s : Setup) (m : Told) (front : Front) (told : Option Machine) (cs : List (Connection S)) (a name : List ℕ) (meets : Bool)
+  pub meets_lost : ClientsDecide → (s : Setup) (m : Told) (front : Front) (told : Option Machine) (cs : List (Connection S)) (a name : List ℕ) (meets : Bool)
       → Stands seen s m front told cs
-      → meets ≡ (not (bytes_eq name a) || none_seated (desks_besides seen a cs)) → meets ≡ step_meets s a m (Drop name)
+      → meets ≡ (not (bytes_eq name a) || none_seated (clients_besides seen a cs)) → meets ≡ step_meets s a m (Drop name)
   meets_lost decide s m front told cs a name meets stands is =
-      let desks = desk_at seen front m m.lines cs stands.lines in
+      let clients = client_at seen front m m.lines cs stands.lines in
       is ∙ ap (λ b. not (bytes_eq name a) || b) (sym (none_besides seen front m m.lines cs stands.lines a stands.bench.names))
-      ∙ sym (decide s m a desks (Drop name) stands.bench (desks_are seen front m m.lines cs stands.lines))
+      ∙ sym (decide s m a clients (Drop name) stands.bench (clients_are seen front m m.lines cs stands.lines))

@@ -15,7 +15,7 @@ use Rattle.iio_history.specs.Transcript.{Drop, Feed, line_named, with_step}
 use Rattle.iio_history.specs.Bench.{Every}
 use Rattle.iio_history.specs.BenchLaw.{CanJoinMore}
 use Rattle.iio_worlds.specs.Bystanders.{only_bystanders}
-use Rattle.iio_worlds.specs.Stance.{DesksDecide, StepDecides, none_seated, step_meets}
+use Rattle.iio_worlds.specs.Stance.{ClientsDecide, StepDecides, none_seated, step_meets}
 use Rattle.iio_system.specs.declared.bench.Bench.{Bench}
 use Rattle.iio_system.specs.declared.connection.Connection.{Connection}
 use Rattle.iio_system.specs.declared.seat.Seat.{Seat}
@@ -23,7 +23,7 @@ use Rattle.iio_system.specs.declared.step.Step.{Step as CodeStep}
 use Rattle.iio_system.specs.declared.step.Step.TheVariants as code
 use Rattle.iio_system.specs.declared.system.System.{System}
 use Rattle.iio_system.specs.Bench.{front_of, machine_of}
-use Rattle.iio_system.specs.Guard.{MeetsBeside, desk_named, desks_besides}
+use Rattle.iio_system.specs.Guard.{MeetsBeside, client_named, clients_besides}
 use Rattle.iio_system.specs.Seat.{seen_of}
 use Rattle.iio_system.specs.Standing.{Holds, IsNew, Meets, MeetsFeed, MeetsStep, StandsFor}
 use Rattle.iio_system.specs.Step.{cost_of, step_view}
@@ -41,10 +41,10 @@ module _ {X : Type 0} {V : X → Type 0} (driver : Plug X V → Driver) where
   -- ---- a feed
 
   -- of one that is there
-  meets_there : DesksDecide → (b : Bench X V) (cs others : List (Connection Seat)) (i : ℕ) (c : Connection Seat) (a name bytes : List ℕ) (r : Result Bool Mem)
+  meets_there : ClientsDecide → (b : Bench X V) (cs others : List (Connection Seat)) (i : ℕ) (c : Connection Seat) (a name bytes : List ℕ) (r : Result Bool Mem)
       → position (is_named name) cs ≡ Some i → c ≡ get_or cs i c
-      → (bytes_eq name a ≡ false → desk_named seen_of a others ≡ desk_named seen_of a cs)
-      → (bytes_eq name a ≡ true → desks_besides seen_of a others ≡ desks_besides seen_of a cs)
+      → (bytes_eq name a ≡ false → client_named seen_of a others ≡ client_named seen_of a cs)
+      → (bytes_eq name a ≡ true → clients_besides seen_of a others ≡ clients_besides seen_of a cs)
       → IfOk r (MeetsBeside seen_of a name bytes (front_of b) (Some (machine_of driver b)) c.session others)
       → IfOk r (MeetsFeed driver a name bytes b cs)
   meets_there decides b cs others i c a name bytes (Err e) at is own besides fed = tt
@@ -67,7 +67,7 @@ module _ {X : Type 0} {V : X → Type 0} (driver : Plug X V → Driver) where
 
   -- the same, where the others are those before it and those after it: one of the watched name counts as nobody, and one of
   -- another name isn't the watched one
-  pub meets_between : DesksDecide
+  pub meets_between : ClientsDecide
       → (b : Bench X V) (cs before : List (Connection Seat)) (c : Connection Seat) (after : List (Connection Seat)) (a name bytes : List ℕ)
       (r : Result Bool Mem)
       → StandsAt name cs before c after
@@ -77,12 +77,12 @@ module _ {X : Type 0} {V : X → Type 0} (driver : Plug X V → Driver) where
       let own : c.name ≡ name = named_there name cs before c after at in
       let called : (e : Bool) → bytes_eq name a ≡ e → bytes_eq c.name a ≡ e = λ e h. ap (λ (w : List ℕ). bytes_eq w a) own ∙ h in
       meets_there decides b cs (before ++ after) (length before) c a name bytes r (sym at.place) (there name cs before c after at)
-      (λ other. named_between seen_of a before after c (called false other) ∙ ap (λ (xs : List (Connection Seat)). desk_named seen_of a xs) (sym at.parts))
-      (λ mine. besides_between seen_of a before after c (called true mine) ∙ ap (λ (xs : List (Connection Seat)). desks_besides seen_of a xs) (sym at.parts))
+      (λ other. named_between seen_of a before after c (called false other) ∙ ap (λ (xs : List (Connection Seat)). client_named seen_of a xs) (sym at.parts))
+      (λ mine. besides_between seen_of a before after c (called true mine) ∙ ap (λ (xs : List (Connection Seat)). clients_besides seen_of a xs) (sym at.parts))
       (subst (λ (n : List ℕ). IfOk r (MeetsBeside seen_of a n bytes (front_of b) (Some (machine_of driver b)) c.session (before ++ after))) own fed)
 
   -- of one that comes
-  pub meets_new : DesksDecide → (b : Bench X V) (cs : List (Connection Seat)) (c : Connection Seat) (a name bytes : List ℕ) (r : Result Bool Mem)
+  pub meets_new : ClientsDecide → (b : Bench X V) (cs : List (Connection Seat)) (c : Connection Seat) (a name bytes : List ℕ) (r : Result Bool Mem)
       → position (is_named name) cs ≡ None → IsNew name (length cs) c
       → IfOk r (MeetsBeside seen_of a c.name bytes (front_of b) (Some (machine_of driver b)) c.session cs)
       → IfOk r (MeetsFeed driver a name bytes b cs)
@@ -101,8 +101,8 @@ module _ {X : Type 0} {V : X → Type 0} (driver : Plug X V → Driver) where
 
   -- ---- a loss
 
-  pub meets_drop : DesksDecide → (b : Bench X V) (cs : List (Connection Seat)) (a name : List ℕ) (meets : Bool)
-      → meets ≡ (not (bytes_eq name a) || none_seated (desks_besides seen_of a cs)) → Meets driver a (Drop name) b cs meets
+  pub meets_drop : ClientsDecide → (b : Bench X V) (cs : List (Connection Seat)) (a name : List ℕ) (meets : Bool)
+      → meets ≡ (not (bytes_eq name a) || none_seated (clients_besides seen_of a cs)) → Meets driver a (Drop name) b cs meets
   meets_drop decides b cs a name meets is =
       λ s m holds. meets_lost seen_of decides s m (front_of b) (Some (machine_of driver b)) cs a name meets holds is
 

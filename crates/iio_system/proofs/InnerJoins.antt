@@ -24,7 +24,7 @@ use Rattle.iio_text.specs.declared.errors.Errno.{Errno}
 use Rattle.iio_text.specs.declared.errors.Errno.TheVariants.{EBADF, EINVAL, ENODEV}
 use Rattle.iiod_session.specs.declared.iio.No.{No}
 use Rattle.iiod_session.specs.declared.iio.No.TheVariants.{Errno as NoErrno, Mem as NoMem}
-use Rattle.iio_core.specs.Calls.{is_inner_of, joined, left, newcomer, remasked, with_mask}
+use Rattle.iio_core.specs.Calls.{is_inner_of, station_after_join, station_after_leave, newcomer, station_after_remask, with_mask}
 use Rattle.iio_core.specs.Machine.{Member, Station, is_seat_of, masks_of, member_in, scans_in, without}
 use Rattle.iio_system.specs.declared.in_device.Inner.{Inner}
 use Rattle.iio_system.specs.declared.seat.Seat.{Seat}
@@ -159,10 +159,11 @@ acts_members change (Err e) (Err NoMem) old new h = (false, ap (λ (st : Station
 
 pub remasked_facts : (shape shape' : ShapeRecord) (inners : List Inner) (room : List ℕ) (ms ms' : List (Membership Queue)) (number mask capacity : ℕ)
     → shape' ≡ shape → (r : Result ℕ Errno) (result : Result ℕ No) (old new : Station)
-    → old.members ≡ map member_of ms → new.members ≡ map member_of ms' → inner_at inners number ≡ None → Acts (remasked number mask capacity) r result old new
+    → old.members ≡ map member_of ms → new.members ≡ map member_of ms' → inner_at inners number ≡ None
+    → Acts (station_after_remask number mask capacity) r result old new
     → HasInners shape ms inners room → HasInners shape' ms' inners room
 remasked_facts shape shape' inners room ms ms' number mask capacity same r result old new was is free acts sound =
-    let left = acts_members (remasked number mask capacity) r result old new acts in
+    let left = acts_members (station_after_remask number mask capacity) r result old new acts in
     let told : map member_of ms' ≡ cond left.0 (map (with_mask number mask capacity) (map member_of ms)) (map member_of ms)
     = sym is ∙ left.1 ∙ ap (λ (xs : List Member). cond left.0 (map (with_mask number mask capacity) xs) xs) was in
     facts_by shape shape' inners room ms ms' same sound
@@ -207,7 +208,7 @@ next_none next xs (i ∷ is) all there = by (i.number == next) refl (next_none n
     by false e rest = rest
 
 module _ (mask capacity : ℕ) (inners : List Inner) (st : Station) (none : inner_at inners st.next ≡ None) where
-  pub joined_named : named inners (joined mask capacity false None st) ≡ joined mask capacity false None (named inners st)
+  pub joined_named : named inners (station_after_join mask capacity false None st) ≡ station_after_join mask capacity false None (named inners st)
   joined_named =
       rw (map_push (with_inner_name inners) st.members (newcomer mask capacity false None st), empty_named inners st.members, none) refl
 
@@ -298,8 +299,8 @@ told_before inners next j (x ∷ xs) all =
 
 module _ (mask capacity j : ℕ) (inners : List Inner) (st : Station) (below : AllByRecursion (λ (x : Member). x.number < st.next) st.members)
     (none : inner_at inners st.next ≡ None) where
-  pub inner_joined_named : named (inners ++ record { number = st.next; average = j } ∷ []) (joined mask capacity false None st)
-      ≡ joined mask capacity false (Some j) (named inners st)
+  pub inner_joined_named : named (inners ++ record { number = st.next; average = j } ∷ []) (station_after_join mask capacity false None st)
+      ≡ station_after_join mask capacity false (Some j) (named inners st)
   inner_joined_named =
       let more : List Inner = inners ++ record { number = st.next; average = j } ∷ [] in
       rw (
@@ -466,7 +467,8 @@ refused_by false none count rest p n = absurd (cc)
 
 pub remask_refused : (shape : ShapeRecord) (inners : List Inner) (st : Station) (ms : List (Membership Queue)) (number own mask capacity : ℕ)
     → st.members ≡ map member_of ms → st.site.plugged ≡ true → is_some (inner_at inners number) ≡ true
-    → Acts (remasked number mask capacity) (remask_answer shape (named inners st) (record { number = number; mask = own }) mask) (Err (NoErrno EBADF))
+    → Acts (station_after_remask number mask capacity) (remask_answer shape (named inners st) (record { number = number; mask = own }) mask)
+    (Err (NoErrno EBADF))
     (named inners st) (named inners st)
 remask_refused shape inners st ms number own mask capacity of plugged inner =
     let none : is_none (member_in (record { number = number; mask = own }) (map (with_inner_name inners) st.members)) ≡ true =
@@ -477,4 +479,4 @@ remask_refused shape inners st ms number own mask capacity of plugged inner =
     refused_by st.site.plugged (is_none (member_in (record { number = number; mask = own }) (map (with_inner_name inners) st.members)))
     (length (scans_in (record { number = number; mask = own }) (map (with_inner_name inners) st.members)))
     ((is_without_union shape (masks_of (without number (map (with_inner_name inners) st.members))) mask, EINVAL) ∷ []) plugged none in
-    (is, ap (λ (a : Result ℕ Errno). turned (remasked number mask capacity) a (named inners st)) (sym is))
+    (is, ap (λ (a : Result ℕ Errno). turned (station_after_remask number mask capacity) a (named inners st)) (sym is))

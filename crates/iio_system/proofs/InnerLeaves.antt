@@ -12,7 +12,7 @@ use Rattle.iio_device.specs.declared.membership.Membership.{Membership}
 use Rattle.iio_device.specs.declared.totals.Totals.{Totals}
 use Rattle.iio_device.specs.Site.{is_empty}
 use Rattle.iio_device.specs.Totals.{with_left, with_lost}
-use Rattle.iio_core.specs.Calls.{inner_gone, is_inner_of, left, window_left, with_inner_lost}
+use Rattle.iio_core.specs.Calls.{inner_gone, is_inner_of, station_after_leave, window_left, with_inner_lost}
 use Rattle.iio_core.specs.Machine.{Member, Station, is_seat_of, lost_by, without}
 use Rattle.iio_system.specs.declared.in_device.Inner.{Inner}
 use Rattle.iio_system.specs.Inner.{AreApart, HasInners, average_of, inner_at, inners_without, number_by, number_of, with_inner_name}
@@ -291,7 +291,7 @@ module _ (j n : ℕ) where
         by false = refl
 
     pub one_gone : (st : Station) (ms : List (Membership Queue)) → st.members ≡ map member_of ms → st.window ≡ no_window
-        → AreApart (map (λ (x : Member). x.number) (map member_of ms)) → named left_ones (left n st) ≡ inner_gone j (named inners st)
+        → AreApart (map (λ (x : Member). x.number) (map member_of ms)) → named left_ones (station_after_leave n st) ≡ inner_gone j (named inners st)
     one_gone st ms of new numbers =
         let members : map (with_inner_name left_ones) (without n st.members)
         ≡ filter (λ (x : Member). not (is_inner_of j x)) (map (with_inner_name inners) st.members)
@@ -302,9 +302,10 @@ module _ (j n : ℕ) where
         =
         subst (λ (xs : List Member). with_left (lost_by n xs) st.totals ≡ with_inner_lost j (map (with_inner_name inners) xs) st.totals) (sym of)
         (totals_gone ms st.totals numbers) in
-        ap (λ (xs : List Member). (let x : Station = record (left n st) { members = xs } in x)) members
+        ap (λ (xs : List Member). (let x : Station = record (station_after_leave n st) { members = xs } in x)) members
         ∙ ap (λ (t : Totals). (let x : Station =
-        record (left n st) { members = filter (λ (x : Member). not (is_inner_of j x)) (map (with_inner_name inners) st.members); totals = t } in x)) totals
+        record (station_after_leave n st) { members = filter (λ (x : Member). not (is_inner_of j x)) (map (with_inner_name inners) st.members); totals = t } in
+        x)) totals
         ∙ ap (λ (w : Window). (let x : Station = record (inner_gone j (named inners st)) { window = w } in x))
         (ap (λ (w : Window). window_left st.members (without n st.members) w) new ∙ none_window st.members (without n st.members)
         ∙ sym (none_window (map (with_inner_name inners) st.members) (filter (λ (x : Member). not (is_inner_of j x)) (map (with_inner_name inners) st.members)))

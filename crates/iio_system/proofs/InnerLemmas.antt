@@ -28,7 +28,7 @@ use Rattle.iiod_session.specs.declared.iio.No.{No}
 use Rattle.iiod_session.specs.declared.iio.No.TheVariants.{Errno as NoErrno, Mem as NoMem}
 use Rattle.iiod_session.specs.declared.iio.Took.{Took}
 use Rattle.iiod_session.specs.declared.iio.Took.TheVariants.{Scan, Empty, Gone}
-use Rattle.iio_core.specs.Calls.{attr_answer, is_asking, left, raw_answer, read_answer, remasked, window_left, with_mask}
+use Rattle.iio_core.specs.Calls.{attr_answer, is_asking, station_after_leave, raw_answer, read_answer, station_after_remask, window_left, with_mask}
 use Rattle.iio_core.specs.Machine.{Member, MemberId, Station, is_id_of, is_seat_of, lost_by, masks_of, member_in, scans_in, with_scans, with_site, without}
 use Rattle.iio_core.specs.Moves.{look_made}
 use Rattle.iio_system.specs.declared.in_device.Inner.{Inner}
@@ -205,7 +205,8 @@ module _ (inners : List Inner) (number : ℕ) (own : is_some (inner_at inners nu
   stays_by (x ∷ xs) w = refl
 
   -- so that no leaving of it changes anything
-  pub nobody_leaves : (st : Station) (ms : List (Membership Queue)) → st.members ≡ map member_of ms → named inners st ≡ left number (named inners st)
+  pub nobody_leaves : (st : Station) (ms : List (Membership Queue)) → st.members ≡ map member_of ms
+      → named inners st ≡ station_after_leave number (named inners st)
   nobody_leaves st ms is =
       let lost : lost_by number (map (with_inner_name inners) st.members) ≡ None =
       ap (λ (xs : List Member). lost_by number (map (with_inner_name inners) xs)) is ∙ lost_by_none ms in
@@ -326,10 +327,11 @@ module _ (inners : List Inner) (number : ℕ) (free : inner_at inners number ≡
   takes_named mask most Empty before after new h = (h.0, scans_same mask ∙ h.1, h.2, ap (named inners) h.3)
   takes_named mask most Gone before after new h = (h.0, scans_same mask ∙ h.1, h.2, ap (named inners) h.3)
 
-  pub left_named : named inners (left number st) ≡ left number (named inners st)
+  pub left_named : named inners (station_after_leave number st) ≡ station_after_leave number (named inners st)
   left_named = rw (lost_same, without_same, empty_named inners st.members, empty_named inners (without number st.members)) refl
 
-  pub remasked_named : (mask capacity : ℕ) → remasked number mask capacity (named inners st) ≡ named inners (remasked number mask capacity st)
+  pub remasked_named : (mask capacity : ℕ)
+      → station_after_remask number mask capacity (named inners st) ≡ named inners (station_after_remask number mask capacity st)
   remasked_named mask capacity =
       let masks : map (with_mask number mask capacity) (map (with_inner_name inners) st.members)
       ≡ map (with_inner_name inners) (map (with_mask number mask capacity) st.members)

@@ -27,7 +27,7 @@ use Rattle.iio_core.specs.Machine.{Station, masks_of, attachments_of}
 use Rattle.iio_core.specs.Faults.{errno_of}
 use Rattle.iio_core.specs.Opening.{join_refusals, own_host}
 use Rattle.iiod_session.specs.No.{no_of}
-use Rattle.iio_core.specs.Calls.{joined, open_refusals}
+use Rattle.iio_core.specs.Calls.{station_after_join, open_refusals}
 use Rattle.iio_core.specs.Devices.{queue_waits}
 use Rattle.iio_core.proofs.DeviceLaws.{agree, joined_is as plain_joined, masks_are as plain_masks}
 use Rattle.iio_system.specs.declared.seat.Seat.{Seat}
@@ -152,7 +152,7 @@ may_join d mask s good e =
 
 -- the device with a member more
 pub joined_is : (mask : Mask) (capacity : ℕ) (d : DeviceView Queue)
-    → station_of (device_joined mask (first_queue d.standing.shape mask capacity) d) ≡ joined mask.bits capacity false None (station_of d)
+    → station_of (device_joined mask (first_queue d.standing.shape mask capacity) d) ≡ station_after_join mask.bits capacity false None (station_of d)
 joined_is mask capacity d =
     sym (plain_joined (λ (q : Queue). q.lost) (λ q. q.capacity) queue_waits mask (first_queue d.standing.shape mask capacity) d
     (record { none = refl; unlost = refl }))

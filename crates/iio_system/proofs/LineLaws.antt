@@ -2,7 +2,7 @@
 use Rattle.std.proofs.Common.{◌≡◌, ℕ, ◌||◌, Bool, true, false, cond, List, [], ◌∷◌, map, Option, Some, None, refl, sym, ap, ◌∙◌, subst, append-nil, true≢false}
 use Rattle.std.specs.Str.{bytes_eq}
 use Rattle.iiod_grammar.specs.Stream.{Item, End, Scanner, no_item, scanner_after}
-use Rattle.iiod_session.specs.Desk.{DeskRecord, desk_of}
+use Rattle.iiod_session.specs.Client.{ClientRecord, client_of}
 use Rattle.iio_core.specs.Front.{Front}
 use Rattle.iiod_session.specs.Seat.{SeatRecord}
 use Rattle.iiod_session.specs.Session.{SessionRecord}
@@ -11,10 +11,10 @@ use Rattle.iio_history.specs.Registry.{Registry, Setup}
 use Rattle.iio_history.specs.Told.{Line, Told, registry_of}
 use Rattle.iio_history.specs.Machine.{line_after, step}
 use Rattle.iio_history.specs.Played.{steps}
-use Rattle.iio_history.specs.Bench.{Every, IsDeskOf, is_in, name_of, names_of}
+use Rattle.iio_history.specs.Bench.{Every, IsClientOf, is_in, name_of, names_of}
 use Rattle.iio_history.specs.BenchLaw.{IsOthers, heard}
 use Rattle.iio_history.proofs.BenchLists.{name_itself, name_same}
-use Rattle.iio_history.proofs.BenchOthers.{desks_are_kept}
+use Rattle.iio_history.proofs.BenchOthers.{clients_are_kept}
 use Rattle.iio_system.specs.declared.connection.Connection.{Connection}
 use Rattle.iio_system.specs.System.{AreLines, IsServed}
 
@@ -51,22 +51,22 @@ other_arrived s r name bytes l apart = record {
 
 module _ {S : Type 0} (seen : S → SeatRecord) where
   pub served_moves : (front : Front) (m m' : Told) (l l' : Line) (o : Option (SessionRecord S)) → SameLine l l'
-      → ((desk : DeskRecord) → IsDeskOf m l.user.who desk → IsDeskOf m' l.user.who desk) → IsServed seen front m l o → IsServed seen front m' l' o
-  served_moves front m m' l l' None same desks served = record {
+      → ((client : ClientRecord) → IsClientOf m l.user.who client → IsClientOf m' l.user.who client) → IsServed seen front m l o → IsServed seen front m' l' o
+  served_moves front m m' l l' None same clients served = record {
     ended = same.ended ∙ served.ended;
-    desk = served.desk;
+    client = served.client;
     bare = served.bare;
-    has = subst (λ (w : List ℕ). IsDeskOf m' w served.desk) (sym same.who) (desks served.desk served.has);
+    has = subst (λ (w : List ℕ). IsClientOf m' w served.client) (sym same.who) (clients served.client served.has);
   }
-  served_moves front m m' l l' (Some x) same desks served = record {
+  served_moves front m m' l l' (Some x) same clients served = record {
     live = same.ended ∙ served.live;
     begun = λ at. served.begun (sym same.begun ∙ at);
     session = record {
       manner = served.session.manner;
       stream = served.session.stream ∙ ap (λ (b : Scanner). no_item b) (sym same.begun);
-      desk = subst (λ (w : List ℕ). IsDeskOf m' w (desk_of seen x.desk)) (sym same.who) (desks (desk_of seen x.desk) served.session.desk);
+      client = subst (λ (w : List ℕ). IsClientOf m' w (client_of seen x.client)) (sym same.who) (clients (client_of seen x.client) served.session.client);
     };
-    desk = served.desk;
+    client = served.client;
   }
 
   -- the lines but for the one of that name
@@ -87,16 +87,16 @@ module _ {S : Type 0} (seen : S → SeatRecord) where
   pub others_move : (front : Front) (m m' : Told) (name : List ℕ) (f : Line → Line) (ls : List Line) (cs : List (Connection S))
       → ((l : Line) → (f l).user.who ≡ l.user.who)
       → ((l : Line) → bytes_eq l.user.who name ≡ false → SameLine l (f l))
-      → Every (λ (l : Line). (desk : DeskRecord) → bytes_eq l.user.who name ≡ false → IsDeskOf m l.user.who desk → IsDeskOf m' l.user.who desk) ls
+      → Every (λ (l : Line). (client : ClientRecord) → bytes_eq l.user.who name ≡ false → IsClientOf m l.user.who client → IsClientOf m' l.user.who client) ls
       → OthersAre front m name ls cs → OthersAre front m' name (map f ls) cs
-  others_move front m m' name f [] [] who same desks are = tt
-  others_move front m m' name f [] (c ∷ cs) who same desks are = absurd are
-  others_move front m m' name f (l ∷ ls) [] who same desks are = absurd are
-  others_move front m m' name f (l ∷ ls) (c ∷ cs) who same desks are = (
+  others_move front m m' name f [] [] who same clients are = tt
+  others_move front m m' name f [] (c ∷ cs) who same clients are = absurd are
+  others_move front m m' name f (l ∷ ls) [] who same clients are = absurd are
+  others_move front m m' name f (l ∷ ls) (c ∷ cs) who same clients are = (
     are.0 ∙ sym (who l),
     λ apart. let was : bytes_eq l.user.who name ≡ false = ap (λ (w : List ℕ). bytes_eq w name) (sym (who l)) ∙ apart in
-        served_moves front m m' l (f l) c.session (same l was) (λ desk d. desks.0 desk was d) (are.1 was),
-    others_move front m m' name f ls cs who same desks.1 are.2,
+        served_moves front m m' l (f l) c.session (same l was) (λ client d. clients.0 client was d) (are.1 was),
+    others_move front m m' name f ls cs who same clients.1 are.2,
   )
 
 -- each line's name is there
@@ -115,13 +115,14 @@ every_there names (l ∷ ls) all = (
 pub every_line_there : (m : Told) → Every (λ (l : Line). is_in (names_of m) l.user.who ≡ true) m.lines
 every_line_there m = every_there (names_of m) m.lines (λ w h. h)
 
-pub desks_kept : (s : Setup) (m : Told) (e : Event) (name : List ℕ) (ls : List Line)
+pub clients_kept : (s : Setup) (m : Told) (e : Event) (name : List ℕ) (ls : List Line)
     → ((l : Line) → bytes_eq l.user.who name ≡ false → IsOthers l.user.who e)
     → Every (λ (l : Line). is_in (names_of m) l.user.who ≡ true) ls
-    → Every (λ (l : Line). (desk : DeskRecord) → bytes_eq l.user.who name ≡ false → IsDeskOf m l.user.who desk → IsDeskOf (step s m e) l.user.who desk) ls
-desks_kept s m e name [] others there = tt
-desks_kept s m e name (l ∷ ls) others there =
-    (λ desk apart d. desks_are_kept s m e l.user.who desk (others l apart) there.0 d, desks_kept s m e name ls others there.1)
+    → Every (λ (l : Line). (client : ClientRecord) → bytes_eq l.user.who name ≡ false → IsClientOf m l.user.who client
+    → IsClientOf (step s m e) l.user.who client) ls
+clients_kept s m e name [] others there = tt
+clients_kept s m e name (l ∷ ls) others there =
+    (λ client apart d. clients_are_kept s m e l.user.who client (others l apart) there.0 d, clients_kept s m e name ls others there.1)
 
 module _ {S : Type 0} (seen : S → SeatRecord) where
   pub others_after_item : (s : Setup) (m : Told) (front : Front) (name : List ℕ) (item : Item) (cs : List (Connection S))
@@ -131,7 +132,7 @@ module _ {S : Type 0} (seen : S → SeatRecord) where
       (sym (append-nil (map (line_after s (registry_of m) (Heard name item)) m.lines)))
       (others_move seen front m (step s m (Heard name item)) name (line_after s (registry_of m) (Heard name item)) m.lines cs (λ l. refl)
       (λ l apart. other_heard s (registry_of m) name item l apart)
-      (desks_kept s m (Heard name item) name m.lines (λ l apart. apart_sym l.user.who name apart) (every_line_there m)) are)
+      (clients_kept s m (Heard name item) name m.lines (λ l apart. apart_sym l.user.who name apart) (every_line_there m)) are)
 
   pub others_after_items : (s : Setup) (m : Told) (front : Front) (name : List ℕ) (items : List Item) (cs : List (Connection S))
       → OthersAre seen front m name m.lines cs → OthersAre seen front (steps s m (heard name items)) name (steps s m (heard name items)).lines cs
@@ -146,4 +147,4 @@ module _ {S : Type 0} (seen : S → SeatRecord) where
       subst (λ (ls : List Line). OthersAre seen front (step s m (Arrived name bytes)) name ls cs) (sym lines)
       (others_move seen front m (step s m (Arrived name bytes)) name (line_after s (registry_of m) (Arrived name bytes)) m.lines cs (λ l. refl)
       (λ l apart. other_arrived s (registry_of m) name bytes l apart)
-      (desks_kept s m (Arrived name bytes) name m.lines (λ l apart. tt) (every_line_there m)) are)
+      (clients_kept s m (Arrived name bytes) name m.lines (λ l apart. tt) (every_line_there m)) are)

@@ -14,7 +14,7 @@ use Rattle.iio_trigger.specs.Trigger.{State}
 use Rattle.iio_device.specs.Active.{is_without_union}
 use Rattle.iio_device.specs.Site.{at_place, attached, is_empty}
 use Rattle.iio_core.specs.Attached.{has_no_place, is_attached}
-use Rattle.iio_core.specs.Calls.{all_joined, closed, has_no_number, inner_gone, inner_joined, is_inner_of, joined, left, newcomer, open_of, open_refusals, unless_made, with_inner, without_inner, host_of}
+use Rattle.iio_core.specs.Calls.{all_joined, machine_after_close, has_no_number, inner_gone, inner_joined, is_inner_of, station_after_join, station_after_leave, newcomer, open_of, open_refusals, unless_made, with_inner, without_inner, host_of}
 use Rattle.iio_core.specs.Front.{Front, kind_at, shape_at}
 use Rattle.iio_core.specs.Machine.{Machine, Member, Station, masks_of, no_station, station_at, is_seat_of, station_in, with_station, attachment_of, attachments_of}
 use Rattle.iio_core.specs.Opening.{join_refusals, Host, inner_host, own_host}
@@ -87,10 +87,10 @@ module _ (front : Front) (j base window : ℕ) (is : kind_at front j ≡ Average
     -- ---- a leaving
 
     abbrev left_there : ℕ → Machine
-    left_there n = with_station (left n) j m
+    left_there n = with_station (station_after_leave n) j m
 
-    gone_base : (n : ℕ) (x : Station) → station_at (left_there n) j ≡ left n st
-        → without_inner front (left_there n) j base x ≡ cond (is_empty (left n st).members) (inner_gone j x) x
+    gone_base : (n : ℕ) (x : Station) → station_at (left_there n) j ≡ station_after_leave n st
+        → without_inner front (left_there n) j base x ≡ cond (is_empty (station_after_leave n st).members) (inner_gone j x) x
     gone_base n x own =
         ap (λ (kind : Kind). cond (is_over kind base && is_input (kind_at front base) && is_empty (station_at (left_there n) j).members) (inner_gone j x) x) is
         ∙ ap (λ (kind : Kind). cond ((base == base) && is_input kind && is_empty (station_at (left_there n) j).members) (inner_gone j x) x) input
@@ -108,24 +108,24 @@ module _ (front : Front) (j base window : ℕ) (is : kind_at front j ≡ Average
     placed_there f (y ∷ ys) zero x e = let same : y ≡ x = cc in ap f same
     placed_there f (y ∷ ys) (suc i) x e = placed_there f ys i x e
 
-    left_is : (n : ℕ) → station_at (left_there n) j ≡ left n st
+    left_is : (n : ℕ) → station_at (left_there n) j ≡ station_after_leave n st
     unfolding station_at with_station
-    left_is n = placed_there (left n) m.stations j st at
+    left_is n = placed_there (station_after_leave n) m.stations j st at
 
-    pub mean_closed : (n : ℕ) → st' ≡ left n st → b' ≡ cond (is_empty (left n st).members) (inner_gone j b) b
-        → (let x : Machine = record m { stations = both } in x) ≡ closed front m j n
-    unfolding closed with_station
+    pub mean_closed : (n : ℕ) → st' ≡ station_after_leave n st → b' ≡ cond (is_empty (station_after_leave n st).members) (inner_gone j b) b
+        → (let x : Machine = record m { stations = both } in x) ≡ machine_after_close front m j n
+    unfolding machine_after_close with_station
     mean_closed n own inner =
         ap (λ (sts : List Station). (let x : Machine = record m { stations = sts } in x))
         (from_each step 0 m.stations both many
         (λ k x y there there'. by k x y there (after_set (set m.stations j st') base k b' y there')
         ∙ ap (λ (i : ℕ). step i x) (let e : k ≡ 0 + k = omega arith in e))
         ∙ sym (ap (λ (xs : List Station). map_from (without_inner front (left_there n) j) 0 xs)
-        (placed_from (left n) j j 0 m.stations (let e : j ≡ j + 0 = omega arith in e))
-        ∙ twice_from (without_inner front (left_there n) j) (λ i x. cond (j == i) (left n x) x) 0 m.stations))
+        (placed_from (station_after_leave n) j j 0 m.stations (let e : j ≡ j + 0 = omega arith in e))
+        ∙ twice_from (without_inner front (left_there n) j) (λ i x. cond (j == i) (station_after_leave n x) x) 0 m.stations))
       where
         step : ℕ → Station → Station
-        step k x = without_inner front (left_there n) j k (cond (j == k) (left n x) x)
+        step k x = without_inner front (left_there n) j k (cond (j == k) (station_after_leave n x) x)
 
         by : (k : ℕ) (x y : Station) → slice_get m.stations k ≡ Some x → ((k ≡ base) × (y ≡ b'))
             ⊎ ((k ≡ base → ⊥) × (slice_get (set m.stations j st') k ≡ Some y)) → y ≡ step k x
@@ -133,19 +133,20 @@ module _ (front : Front) (j base window : ℕ) (is : kind_at front j ≡ Average
             let one : b ≡ x = same_element m.stations base b x under (ap (λ (i : ℕ). slice_get m.stations i) (sym p.0) ∙ there) in
             p.1 ∙ inner ∙ sym (gone_base n b (left_is n)) ∙ ap (λ (z : Station). without_inner front (left_there n) j base z) one
             ∙ ap (λ (i : ℕ). without_inner front (left_there n) j i x) (sym p.0)
-            ∙ sym (ap (λ (t : Bool). without_inner front (left_there n) j k (cond t (left n x) x)) (other j k (λ e. apart (e ∙ p.0))))
+            ∙ sym (ap (λ (t : Bool). without_inner front (left_there n) j k (cond t (station_after_leave n x) x)) (other j k (λ e. apart (e ∙ p.0))))
         by k x y there (inr p) = further k x y there p.0 (after_set m.stations j k st' y p.1)
           where
             further : (k : ℕ) (x y : Station) → slice_get m.stations k ≡ Some x → (k ≡ base → ⊥) → ((k ≡ j) × (y ≡ st'))
                 ⊎ ((k ≡ j → ⊥) × (slice_get m.stations k ≡ Some y)) → y ≡ step k x
             further k x y there away (inl q) =
                 let one : st ≡ x = same_element m.stations j st x at (ap (λ (i : ℕ). slice_get m.stations i) (sym q.0) ∙ there) in
-                q.1 ∙ own ∙ ap (left n) one
-                ∙ sym (ap (λ (t : Bool). without_inner front (left_there n) j k (cond t (left n x) x)) (ap (λ (i : ℕ). j == i) q.0 ∙ itself j)
-                ∙ gone_other n k (left n x) away)
+                q.1 ∙ own ∙ ap (station_after_leave n) one
+                ∙ sym (ap (λ (t : Bool). without_inner front (left_there n) j k (cond t (station_after_leave n x) x)) (ap (λ (i : ℕ). j == i) q.0 ∙ itself j)
+                ∙ gone_other n k (station_after_leave n x) away)
             further k x y there away (inr q) =
                 same_element m.stations k y x q.1 there
-                ∙ sym (ap (λ (t : Bool). without_inner front (left_there n) j k (cond t (left n x) x)) (other j k (λ e. q.0 (sym e))) ∙ gone_other n k x away)
+                ∙ sym (ap (λ (t : Bool). without_inner front (left_there n) j k (cond t (station_after_leave n x) x)) (other j k (λ e. q.0 (sym e)))
+                ∙ gone_other n k x away)
 
   -- ---- refusals
 
@@ -156,23 +157,23 @@ module _ (front : Front) (j base window : ℕ) (is : kind_at front j ≡ Average
   pub open_mean : (m : Machine) (mask capacity : ℕ) (cyclic : Bool) (st b : Station) (r : Option Errno) → slice_get m.stations j ≡ Some st
       → slice_get m.stations base ≡ Some b
       → first_refusal (open_refusals front m.stations (Average base window) (mean_host st b) st) ≡ r
-      → open_of front m j mask capacity cyclic ≡ unless_made (all_joined front j (joined mask capacity cyclic None)) m (unless_refused st.next r)
+      → open_of front m j mask capacity cyclic ≡ unless_made (all_joined front j (station_after_join mask capacity cyclic None)) m (unless_refused st.next r)
   unfolding open_of station_at
   open_mean m mask capacity cyclic st b r at under e =
-      ap (λ (kind : Kind). unless_made (all_joined front j (joined mask capacity cyclic None)) m
+      ap (λ (kind : Kind). unless_made (all_joined front j (station_after_join mask capacity cyclic None)) m
       (unless_refused (unwrap_or (slice_get m.stations j) no_station).next
       (first_refusal (open_refusals front m.stations kind
       (host_of front m.stations kind (unwrap_or (slice_get m.stations j) no_station) (shape_at front j) mask)
       (unwrap_or (slice_get m.stations j) no_station))))) is
-      ∙ ap (λ (o : Option Station). unless_made (all_joined front j (joined mask capacity cyclic None)) m
+      ∙ ap (λ (o : Option Station). unless_made (all_joined front j (station_after_join mask capacity cyclic None)) m
       (unless_refused (unwrap_or o no_station).next
       (first_refusal (open_refusals front m.stations (Average base window)
       (host_of front m.stations (Average base window) (unwrap_or o no_station) (shape_at front j) mask) (unwrap_or o no_station))))) at
-      ∙ ap (λ (o : Option Station). unless_made (all_joined front j (joined mask capacity cyclic None)) m
+      ∙ ap (λ (o : Option Station). unless_made (all_joined front j (station_after_join mask capacity cyclic None)) m
       (unless_refused st.next (first_refusal (open_refusals front m.stations (Average base window)
       (unwrap_or (option_map (mean_host st) o) (own_host st (shape_at front j) mask (masks_of st.members))) st))))
       under
-      ∙ ap (λ (x : Option Errno). unless_made (all_joined front j (joined mask capacity cyclic None)) m (unless_refused st.next x)) e
+      ∙ ap (λ (x : Option Errno). unless_made (all_joined front j (station_after_join mask capacity cyclic None)) m (unless_refused st.next x)) e
 
 -- the refusals of a first member, by those of the inner one at the base: its own numbers may end besides
 abbrev pub base_list : (gone t u e p nb : Bool) → List (Bool × Errno)
@@ -295,8 +296,8 @@ inner_own j (x ∷ ms) m own = ap (λ (b : Bool). is_inner_of j x || b) (inner_o
     by false = refl
 
 -- the first member and its inner one
-pub has_first : (j mask capacity : ℕ) (shape : ShapeRecord) (st b st' b' : Station) → HasInner j b st → st' ≡ joined mask capacity false None st
-    → b' ≡ joined (full_mask shape) 1 false (Some j) b → HasInner j b' st'
+pub has_first : (j mask capacity : ℕ) (shape : ShapeRecord) (st b st' b' : Station) → HasInner j b st → st' ≡ station_after_join mask capacity false None st
+    → b' ≡ station_after_join (full_mask shape) 1 false (Some j) b → HasInner j b' st'
 has_first j mask capacity shape st b st' b' own is inner = record {
   plugged =
       ap (λ (x : Station). x.site.plugged) is ∙ attached_plugged (is_empty st.members) st.site ∙ own.plugged
@@ -309,7 +310,8 @@ has_first j mask capacity shape st b st' b' own is inner = record {
 }
 
 -- a further member
-pub has_further : (j mask capacity : ℕ) (st b st' : Station) → HasInner j b st → is_empty st.members ≡ false → st' ≡ joined mask capacity false None st
+pub has_further : (j mask capacity : ℕ) (st b st' : Station) → HasInner j b st → is_empty st.members ≡ false
+    → st' ≡ station_after_join mask capacity false None st
     → HasInner j b st'
 has_further j mask capacity st b st' own some is = record {
   plugged = ap (λ (x : Station). x.site.plugged) is ∙ attached_plugged (is_empty st.members) st.site ∙ own.plugged;
@@ -352,18 +354,19 @@ inner_stays j i (x ∷ ms) apart = by x.inner (inner_stays j i ms apart)
     by (Some n) rest = some n (n == j) (n == i) refl refl rest
 
 -- the last member takes the inner one with it
-pub has_left : (j n : ℕ) (st b st' b' : Station) → HasInner j b st → st' ≡ left n st → b' ≡ cond (is_empty (left n st).members) (inner_gone j b) b
+pub has_left : (j n : ℕ) (st b st' b' : Station) → HasInner j b st → st' ≡ station_after_leave n st
+    → b' ≡ cond (is_empty (station_after_leave n st).members) (inner_gone j b) b
     → HasInner j b' st'
-has_left j n st b st' b' own is inner = by (is_empty (left n st).members) refl inner
+has_left j n st b st' b' own is inner = by (is_empty (station_after_leave n st).members) refl inner
   where
-    some : is_empty (left n st).members ≡ false → is_empty st.members ≡ false
+    some : is_empty (station_after_leave n st).members ≡ false → is_empty st.members ≡ false
     some e = two st.members e
       where
         two : (ms : List Member) → is_empty (filter (λ (x : Member). not (is_seat_of n x)) ms) ≡ false → is_empty ms ≡ false
         two [] e = absurd (cc)
         two (m ∷ ms) e = refl
 
-    by : (t : Bool) → is_empty (left n st).members ≡ t → b' ≡ cond t (inner_gone j b) b → HasInner j b' st'
+    by : (t : Bool) → is_empty (station_after_leave n st).members ≡ t → b' ≡ cond t (inner_gone j b) b → HasInner j b' st'
     by true e inner = record {
       plugged = ap (λ (x : Station). x.site.plugged) is ∙ own.plugged ∙ sym (ap (λ (x : Station). x.site.plugged) inner);
       inner = ap (λ (x : Station). has_inner j x) inner ∙ none_inner j b.members ∙ sym (ap (λ (x : Station). not (is_empty x.members)) is ∙ ap not e);

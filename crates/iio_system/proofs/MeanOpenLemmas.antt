@@ -22,7 +22,7 @@ use Rattle.iio_device.specs.Site.{is_empty, no_driver}
 use Rattle.iiod_session.specs.declared.iio.No.{No}
 use Rattle.iiod_session.specs.declared.iio.No.TheVariants.{Errno as NoErrno, Mem as NoMem}
 use Rattle.iio_core.specs.Attached.{has_no_place}
-use Rattle.iio_core.specs.Calls.{all_joined, closed, has_no_number, inner_gone, is_inner_of, joined, left, newcomer, open_of, open_refusals, Outcome, unless_made}
+use Rattle.iio_core.specs.Calls.{all_joined, machine_after_close, has_no_number, inner_gone, is_inner_of, station_after_join, station_after_leave, newcomer, open_of, open_refusals, Outcome, unless_made}
 use Rattle.iio_core.specs.Front.{Front, kind_at, shape_at}
 use Rattle.iio_core.specs.Machine.{Machine, Member, Station, masks_of, station_at, station_in, attachments_of}
 use Rattle.iio_core.specs.Opening.{join_refusals, inner_host}
@@ -77,8 +77,8 @@ has_joined mask capacity shape seat st st' j =
     subst (λ (s : Seat). HasJoined s.mask s.capacity st') (sym j.0) (st, j.1, j.2)
 
 pub joined_by_seat : (mask : Mask) (capacity : ℕ) (shape : ShapeRecord) (seat : Seat) (st st' : Station) → JoinsMean mask capacity shape (Ok seat) st st'
-    → st' ≡ joined seat.mask.bits seat.capacity false None st
-joined_by_seat mask capacity shape seat st st' j = j.1 ∙ sym (ap (λ (s : Seat). joined s.mask.bits s.capacity false None st) j.0)
+    → st' ≡ station_after_join seat.mask.bits seat.capacity false None st
+joined_by_seat mask capacity shape seat st st' j = j.1 ∙ sym (ap (λ (s : Seat). station_after_join s.mask.bits s.capacity false None st) j.0)
 
 -- the scans of an averaging device's members come round never again
 pub never_cyclic : (kind : Kind) (cyclic : Bool) → is_average kind ≡ true → (cyclic && not (is_output kind)) ≡ false → cyclic ≡ false
@@ -339,7 +339,7 @@ module _ {X : Type 0} {V : X → Type 0} (drive : Plug X V → Driver) {bench : 
         ∙ ap (λ (f : Bool). first_refusal ((false, ENODEV) ∷ (false, EBUSY) ∷ join_refusals false false f)) goes ∙ further_goes)))
         (ap (λ (x : Seat). Ok x.number) (sym j.0), ap (λ (m : Machine). Some m) told)
       where
-        told : told_by (set ds k d') ≡ all_joined front k (joined mask.bits capacity false None) machine
+        told : told_by (set ds k d') ≡ all_joined front k (station_after_join mask.bits capacity false None) machine
         told =
             ap at_stations
             (map-set (any_station drive) ds k d'
@@ -347,8 +347,8 @@ module _ {X : Type 0} {V : X → Type 0} (drive : Plug X V → Driver) {bench : 
             (get_there machine.stations k base (any_station drive d') b (base_apart p.mean) below)))
             ∙ mean_joined front k base mean.window kind_here kind_base apart_base machine st b (any_station drive d') b here
             below
-            (joined mask.bits capacity false None) j.1
-            (sym (ap (λ (t : Bool). cond t b (joined (full_mask (shape_at front base)) 1 false (Some k) b)) inner_here))
+            (station_after_join mask.bits capacity false None) j.1
+            (sym (ap (λ (t : Bool). cond t b (station_after_join (full_mask (shape_at front base)) 1 false (Some k) b)) inner_here))
     told_further mask capacity d' (Err x) plugged goes j =
         subst (λ (y : No). Answers (open_of front machine k mask.bits capacity false) machine (Err y)
         (Some (told_by (set ds k d')))) (sym j.0)
@@ -358,17 +358,17 @@ module _ {X : Type 0} {V : X → Type 0} (drive : Plug X V → Driver) {bench : 
 
   -- the devices after both have joined
   module _ (none : is_empty st.members ≡ true) (mask : Mask) (capacity : ℕ) where
-    told_first : (d' e' : AnyDevice X V) → any_station drive d' ≡ joined mask.bits capacity false None st
-        → any_station drive e' ≡ joined (full_mask (shape_at front base)) 1 false (Some k) b
-        → told_by (set (set ds k d') base e') ≡ all_joined front k (joined mask.bits capacity false None) machine
+    told_first : (d' e' : AnyDevice X V) → any_station drive d' ≡ station_after_join mask.bits capacity false None st
+        → any_station drive e' ≡ station_after_join (full_mask (shape_at front base)) 1 false (Some k) b
+        → told_by (set (set ds k d') base e') ≡ all_joined front k (station_after_join mask.bits capacity false None) machine
     told_first d' e' j is =
         ap at_stations
         (map-set (any_station drive) (set ds k d') base e'
         ∙ ap (λ (sts : List Station). set sts base (any_station drive e')) (map-set (any_station drive) ds k d'))
         ∙ mean_joined front k base mean.window kind_here kind_base apart_base machine st b (any_station drive d') (any_station drive e')
         here below
-        (joined mask.bits capacity false None) j
-        (is ∙ sym (ap (λ (t : Bool). cond t b (joined (full_mask (shape_at front base)) 1 false (Some k) b)) (own_inner.inner ∙ ap not none)))
+        (station_after_join mask.bits capacity false None) j
+        (is ∙ sym (ap (λ (t : Bool). cond t b (station_after_join (full_mask (shape_at front base)) 1 false (Some k) b)) (own_inner.inner ∙ ap not none)))
 
   -- ---- the base as it is told
 
@@ -456,7 +456,8 @@ module _ {X : Type 0} {V : X → Type 0} (drive : Plug X V → Driver) {bench : 
         → first_refusal (mean_list (not st.site.plugged) (is_none b.site.trigger) (is_without_union (shape_at front base) [] whole_mask)
         (is_empty b.members) (has_no_place front (attachments_of machine.stations) b.site.trigger) (has_no_number st) (has_no_number b)) ≡ r
         → (mask capacity : ℕ)
-        → open_of front machine k mask capacity false ≡ unless_made (all_joined front k (joined mask capacity false None)) machine (unless_refused st.next r)
+        → open_of front machine k mask capacity false
+        ≡ unless_made (all_joined front k (station_after_join mask capacity false None)) machine (unless_refused st.next r)
     first_by r is mask capacity =
         open_mean front k base mean.window kind_here kind_base apart_base machine mask capacity false st b r here
         below
@@ -485,7 +486,7 @@ module _ {X : Type 0} {V : X → Type 0} (drive : Plug X V → Driver) {bench : 
 
       pub told_first_goes : (mask : Mask) (capacity : ℕ) (d' e' : AnyDevice X V) (seat : Seat) (shape : ShapeRecord) → has_no_number st ≡ false
           → JoinsMean mask capacity shape (Ok seat) st (any_station drive d')
-          → any_station drive e' ≡ joined full 1 false (Some k) b
+          → any_station drive e' ≡ station_after_join full 1 false (Some k) b
           → Answers (open_of front machine k mask.bits capacity false) machine (number_of seen_of (Ok seat))
           (Some (told_by (set (set ds k d') base e')))
       told_first_goes mask capacity d' e' seat shape goes j is =
@@ -497,8 +498,8 @@ module _ {X : Type 0} {V : X → Type 0} (drive : Plug X V → Driver) {bench : 
           mask.bits capacity)
           (ap (λ (x : Seat). Ok x.number) (sym j.0), ap (λ (m : Machine). Some m) (told_first none mask capacity d' e' j.1 whole_join))
         where
-          whole_join : any_station drive e' ≡ joined whole_mask 1 false (Some k) b
-          whole_join = is ∙ ap (λ (m : ℕ). joined m 1 false (Some k) b) whole
+          whole_join : any_station drive e' ≡ station_after_join whole_mask 1 false (Some k) b
+          whole_join = is ∙ ap (λ (m : ℕ). station_after_join m 1 false (Some k) b) whole
 
   -- ---- seats
 
@@ -635,7 +636,7 @@ module _ {X : Type 0} {V : X → Type 0} (drive : Plug X V → Driver) {bench : 
     trigger_there : slice_get states t ≡ Some s
     trigger_there = slice_get_read states (length states) t s refl hosts.1 read
 
-    sound_first : (d' e' : AnyDevice X V) (s' : State) → KeepsHead d d' → any_station drive e' ≡ joined full.bits 1 false (Some k) b
+    sound_first : (d' e' : AnyDevice X V) (s' : State) → KeepsHead d d' → any_station drive e' ≡ station_after_join full.bits 1 false (Some k) b
         → s' ≡ place_taken (number_by e) b s → Stand (set states t s') (set (set ds k d') base e')
     sound_first d' e' s' keeps joins taken =
         sound_both t d' e' s'
@@ -646,8 +647,8 @@ module _ {X : Type 0} {V : X → Type 0} (drive : Plug X V → Driver) {bench : 
 
     averaged_first : (mask : Mask) (capacity : ℕ) (d' e' : AnyDevice X V) → KeepsHead d d' → KeepsHead e e'
         → full.bits ≡ full_mask (shape_at front base)
-        → any_station drive d' ≡ joined mask.bits capacity false None st
-        → any_station drive e' ≡ joined full.bits 1 false (Some k) b
+        → any_station drive d' ≡ station_after_join mask.bits capacity false None st
+        → any_station drive e' ≡ station_after_join full.bits 1 false (Some k) b
         → AreAveraged (set (set ds k d') base e')
     averaged_first mask capacity d' e' keeps keeps' whole is joins =
         averaged_both d' e' keeps keeps'
@@ -655,7 +656,7 @@ module _ {X : Type 0} {V : X → Type 0} (drive : Plug X V → Driver) {bench : 
         (ap (λ (x : Station). x.site.trigger) joins ∙ attached_trigger (is_empty b.members) b.site ∙ on_base)
         (subst (λ (n : ℕ). t < n) (as_many triggers states bench.sound.places) hosts.1))
         (has_first k mask.bits capacity (any_front e).shape st b (any_station drive d') (any_station drive e') own_inner is
-        (joins ∙ ap (λ (m : ℕ). joined m 1 false (Some k) b) (whole ∙ ap full_mask shape_base)))
+        (joins ∙ ap (λ (m : ℕ). station_after_join m 1 false (Some k) b) (whole ∙ ap full_mask shape_base)))
         (ap (λ (x : Station). x.site.plugged) joins ∙ attached_plugged (is_empty b.members) b.site)
         (ap (λ (x : Station). x.captures) joins)
         (λ i other. ap (λ (x : Station). has_inner i x) joins
@@ -670,8 +671,8 @@ module _ {X : Type 0} {V : X → Type 0} (drive : Plug X V → Driver) {bench : 
 
     pub holds_first : (mask : Mask) (capacity : ℕ) (d' e' : AnyDevice X V) (s' : State) → KeepsHead d d' → KeepsHead e e'
         → full.bits ≡ full_mask (shape_at front base)
-        → any_station drive d' ≡ joined mask.bits capacity false None st
-        → any_station drive e' ≡ joined full.bits 1 false (Some k) b
+        → any_station drive d' ≡ station_after_join mask.bits capacity false None st
+        → any_station drive e' ≡ station_after_join full.bits 1 false (Some k) b
         → s' ≡ place_taken (number_by e) b s
         → Holds bench (set states t s') (set (set ds k d') base e')
     holds_first mask capacity d' e' s' keeps keeps' whole is joins taken = record {
@@ -685,7 +686,7 @@ module _ {X : Type 0} {V : X → Type 0} (drive : Plug X V → Driver) {bench : 
         (again : x ≡ get_or (set (set ds k d') base e') k x)
         (keeps : KeepsHead d d') (keeps' : KeepsHead e e') (keeps'' : KeepsHead x d'')
         (joins : JoinsMean mask capacity (any_front d).shape (Ok seat) st (any_station drive d')) (same : any_station drive e' ≡ b)
-        (undoes : (before : Station) → any_station drive x ≡ joined seat.mask.bits seat.capacity false None before → any_station drive d'' ≡ before)
+        (undoes : (before : Station) → any_station drive x ≡ station_after_join seat.mask.bits seat.capacity false None before → any_station drive d'' ≡ before)
         (still : s' ≡ s) where
       abbrev undone_devices : List (AnyDevice X V)
       undone_devices = set (set (set ds k d') base e') k d''
@@ -737,9 +738,10 @@ module _ {X : Type 0} {V : X → Type 0} (drive : Plug X V → Driver) {bench : 
 
   -- whether one is left, as it is asked of device x, which is the averaging device
   pub asked_left : (n : ℕ) (d' x : AnyDevice X V) (has c : Bool) → k < length (map any_front ds) → x ≡ get_or (set ds k d') k x
-      → has ≡ not (is_empty (any_station drive x).members) → any_station drive d' ≡ left n st → has ≡ c → is_empty (left n st).members ≡ not c
+      → has ≡ not (is_empty (any_station drive x).members) → any_station drive d' ≡ station_after_leave n st → has ≡ c
+      → is_empty (station_after_leave n st).members ≡ not c
   asked_left n d' x has c known read asked is answer =
-      by (is_empty (left n st).members) c
+      by (is_empty (station_after_leave n st).members) c
       (sym answer ∙ asked ∙ ap (λ (y : AnyDevice X V). not (is_empty (any_station drive y).members)) (mean_once d' x known read)
       ∙ ap (λ (y : Station). not (is_empty y.members)) is)
     where
@@ -753,21 +755,21 @@ module _ {X : Type 0} {V : X → Type 0} (drive : Plug X V → Driver) {bench : 
       subst (λ (n : ℕ). t < n) (sym (as_many triggers states bench.sound.places)) (hosted_within (length triggers) t b (sym on) base_hosted)
 
   -- the base keeps its inner member where there is a member still
-  inner_needed : (n : ℕ) → is_empty (left n st).members ≡ false → b ≡ cond (is_empty (left n st).members) (inner_gone k b) b
+  inner_needed : (n : ℕ) → is_empty (station_after_leave n st).members ≡ false → b ≡ cond (is_empty (station_after_leave n st).members) (inner_gone k b) b
   inner_needed n some = sym (ap (λ (c : Bool). cond c (inner_gone k b) b) some)
 
   -- and has none where it is on no trigger
-  inner_none : (n : ℕ) → b.site.trigger ≡ None → b ≡ cond (is_empty (left n st).members) (inner_gone k b) b
-  inner_none n none = by (is_empty (left n st).members)
+  inner_none : (n : ℕ) → b.site.trigger ≡ None → b ≡ cond (is_empty (station_after_leave n st).members) (inner_gone k b) b
+  inner_none n none = by (is_empty (station_after_leave n st).members)
     where
       by : (c : Bool) → b ≡ cond c (inner_gone k b) b
       by true = sym (gone_none k b (hosted_none (length triggers) b none base_hosted))
       by false = refl
 
   -- what is told then
-  told_both : (n : ℕ) (d' e' : AnyDevice X V) → any_station drive d' ≡ left n st
-      → any_station drive e' ≡ cond (is_empty (left n st).members) (inner_gone k b) b
-      → Some (told_by (set (set ds k d') base e')) ≡ Some (closed front machine k n)
+  told_both : (n : ℕ) (d' e' : AnyDevice X V) → any_station drive d' ≡ station_after_leave n st
+      → any_station drive e' ≡ cond (is_empty (station_after_leave n st).members) (inner_gone k b) b
+      → Some (told_by (set (set ds k d') base e')) ≡ Some (machine_after_close front machine k n)
   told_both n d' e' is gone =
       ap (λ (m : Machine). Some m)
       (ap at_stations (seen d' e')
@@ -775,31 +777,32 @@ module _ {X : Type 0} {V : X → Type 0} (drive : Plug X V → Driver) {bench : 
       here below n is gone)
 
   -- one leaves, and the base stays as it is
-  module _ (n : ℕ) (d' : AnyDevice X V) (is : any_station drive d' ≡ left n st) where
-    holds_beside : KeepsHead d d' → b ≡ cond (is_empty (left n st).members) (inner_gone k b) b → Holds bench states (set ds k d')
+  module _ (n : ℕ) (d' : AnyDevice X V) (is : any_station drive d' ≡ station_after_leave n st) where
+    holds_beside : KeepsHead d d' → b ≡ cond (is_empty (station_after_leave n st).members) (inner_gone k b) b → Holds bench states (set ds k d')
     holds_beside keeps same = holds_alone d' keeps (has_left k n st b (any_station drive d') b own_inner is same)
 
-    told_beside : b ≡ cond (is_empty (left n st).members) (inner_gone k b) b → Some (told_by (set ds k d')) ≡ Some (closed front machine k n)
+    told_beside : b ≡ cond (is_empty (station_after_leave n st).members) (inner_gone k b) b
+        → Some (told_by (set ds k d')) ≡ Some (machine_after_close front machine k n)
     told_beside same = ap (λ (xs : List (AnyDevice X V)). Some (told_by xs)) (sym (alone d')) ∙ told_both n d' e is same
 
-    pub holds_left : KeepsHead d d' → is_empty (left n st).members ≡ false → Holds bench states (set ds k d')
+    pub holds_left : KeepsHead d d' → is_empty (station_after_leave n st).members ≡ false → Holds bench states (set ds k d')
     holds_left keeps some = holds_beside keeps (inner_needed n some)
 
-    pub told_left : is_empty (left n st).members ≡ false → Some (told_by (set ds k d')) ≡ Some (closed front machine k n)
+    pub told_left : is_empty (station_after_leave n st).members ≡ false → Some (told_by (set ds k d')) ≡ Some (machine_after_close front machine k n)
     told_left some = told_beside (inner_needed n some)
 
     pub holds_off : KeepsHead d d' → b.site.trigger ≡ None → Holds bench states (set ds k d')
     holds_off keeps none = holds_beside keeps (inner_none n none)
 
-    pub told_off : b.site.trigger ≡ None → Some (told_by (set ds k d')) ≡ Some (closed front machine k n)
+    pub told_off : b.site.trigger ≡ None → Some (told_by (set ds k d')) ≡ Some (machine_after_close front machine k n)
     told_off none = told_beside (inner_none n none)
 
     -- the last one takes the inner member with it, by trigger t
-    module _ (e' : AnyDevice X V) (none : is_empty (left n st).members ≡ true) (gone : any_station drive e' ≡ inner_gone k b) where
-      whole : any_station drive e' ≡ cond (is_empty (left n st).members) (inner_gone k b) b
+    module _ (e' : AnyDevice X V) (none : is_empty (station_after_leave n st).members ≡ true) (gone : any_station drive e' ≡ inner_gone k b) where
+      whole : any_station drive e' ≡ cond (is_empty (station_after_leave n st).members) (inner_gone k b) b
       whole = gone ∙ sym (ap (λ (c : Bool). cond c (inner_gone k b) b) none)
 
-      pub told_gone : Some (told_by (set (set ds k d') base e')) ≡ Some (closed front machine k n)
+      pub told_gone : Some (told_by (set (set ds k d') base e')) ≡ Some (machine_after_close front machine k n)
       told_gone = told_both n d' e' is whole
 
       pub holds_gone : (t : ℕ) (s s' : State) → slice_get states t ≡ Some s → b.site.trigger ≡ Some t → t < length states

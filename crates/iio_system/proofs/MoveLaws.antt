@@ -14,7 +14,7 @@ use Rattle.iio_device.specs.declared.handling.Sensed.{Sensed as Look}
 use Rattle.iio_device.specs.declared.handling.Sensed.TheVariants as sense
 use Rattle.iio_device.specs.declared.plug.Plug.{Plug}
 use Rattle.iio_device.specs.Site.{at_place}
-use Rattle.iiod_session.specs.Desk.{DeskRecord}
+use Rattle.iiod_session.specs.Client.{ClientRecord}
 use Rattle.iio_core.specs.Front.{Front, device_name, kind_at, shape_at, trigger_name}
 use Rattle.iio_core.specs.Machine.{Machine, Member, Station, is_plugged, no_station, station_at}
 use Rattle.iiod_session.specs.Seat.{SeatRecord}
@@ -25,12 +25,12 @@ use Rattle.iio_history.specs.Fold.{newcomers}
 use Rattle.iio_history.specs.Told.{Line, Told, registry_of}
 use Rattle.iio_history.specs.Machine.{line_after, new_line, step}
 use Rattle.iio_history.specs.Transcript.{Sense, SetClock, Unplug, event_text, printed}
-use Rattle.iio_history.specs.Bench.{Every, IsBench, IsDeskOf, IsStep, front_of, is_in, machine_of, names_of}
+use Rattle.iio_history.specs.Bench.{Every, IsBench, IsClientOf, IsStep, front_of, is_in, machine_of, names_of}
 use Rattle.iio_history.specs.BenchLaw.{IsOthers}
 use Rattle.iio_history.specs.BenchMoves.{IsMove, entry_word, moved_text, next_bytes}
 use Rattle.iio_history.proofs.BenchKept.{bench_kept}
 use Rattle.iio_history.proofs.BenchMoves.{clock_is, handling_is, look_is, moves_print, poll_is, unplugging_is}
-use Rattle.iio_history.proofs.BenchOthers.{desks_are_kept}
+use Rattle.iio_history.proofs.BenchOthers.{clients_are_kept}
 use Rattle.iio_system.specs.declared.bench.Bench.{Bench}
 use Rattle.iio_system.specs.declared.connection.Connection.{Connection}
 use Rattle.iio_system.specs.declared.seat.Seat.{Seat}
@@ -81,22 +81,23 @@ same_line s r (Heard name item) l is = absurd is
 same_line s r (Dropped name) l is = absurd is
 same_line s r e l is = record { who = refl; ended = refl; begun = refl }
 
-desks_stay : (s : Setup) (m : Told) (e : Event) (ls : List Line) → IsOfBench e → Every (λ (l : Line). is_in (names_of m) l.user.who ≡ true) ls
-    → Every (λ (l : Line). (desk : DeskRecord) → IsDeskOf m l.user.who desk → IsDeskOf (step s m e) l.user.who desk) ls
-desks_stay s m e [] is there = tt
-desks_stay s m e (l ∷ ls) is there = (λ desk d. desks_are_kept s m e l.user.who desk (is_others l.user.who e is) there.0 d, desks_stay s m e ls is there.1)
+clients_stay : (s : Setup) (m : Told) (e : Event) (ls : List Line) → IsOfBench e → Every (λ (l : Line). is_in (names_of m) l.user.who ≡ true) ls
+    → Every (λ (l : Line). (client : ClientRecord) → IsClientOf m l.user.who client → IsClientOf (step s m e) l.user.who client) ls
+clients_stay s m e [] is there = tt
+clients_stay s m e (l ∷ ls) is there =
+    (λ client d. clients_are_kept s m e l.user.who client (is_others l.user.who e is) there.0 d, clients_stay s m e ls is there.1)
 
 module _ {S : Type 0} (seen : S → SeatRecord) where
   -- one step of all lines
   all_move : (front : Front) (m m' : Told) (f : Line → Line) (ls : List Line) (cs : List (Connection S)) → ((l : Line) → SameLine l (f l))
-      → Every (λ (l : Line). (desk : DeskRecord) → IsDeskOf m l.user.who desk → IsDeskOf m' l.user.who desk) ls
+      → Every (λ (l : Line). (client : ClientRecord) → IsClientOf m l.user.who client → IsClientOf m' l.user.who client) ls
       → AreLines seen front m ls cs → AreLines seen front m' (map f ls) cs
-  all_move front m m' f [] [] same desks are = tt
-  all_move front m m' f [] (c ∷ cs) same desks are = absurd are
-  all_move front m m' f (l ∷ ls) [] same desks are = absurd are
-  all_move front m m' f (l ∷ ls) (c ∷ cs) same desks are = (
-    record { name = are.0.name ∙ sym (same l).who; served = served_moves seen front m m' l (f l) c.session (same l) desks.0 are.0.served },
-    all_move front m m' f ls cs same desks.1 are.1,
+  all_move front m m' f [] [] same clients are = tt
+  all_move front m m' f [] (c ∷ cs) same clients are = absurd are
+  all_move front m m' f (l ∷ ls) [] same clients are = absurd are
+  all_move front m m' f (l ∷ ls) (c ∷ cs) same clients are = (
+    record { name = are.0.name ∙ sym (same l).who; served = served_moves seen front m m' l (f l) c.session (same l) clients.0 are.0.served },
+    all_move front m m' f ls cs same clients.1 are.1,
   )
 
   pub lines_move : (s : Setup) (m : Told) (front : Front) (e : Event) (cs : List (Connection S)) → IsOfBench e → AreLines seen front m m.lines cs
@@ -108,7 +109,7 @@ module _ {S : Type 0} (seen : S → SeatRecord) where
       ∙ append-nil (map (line_after s (registry_of m) e) m.lines) in
       subst (λ (ls : List Line). AreLines seen front (step s m e) ls cs) (sym lines)
       (all_move front m (step s m e) (line_after s (registry_of m) e) m.lines cs (λ l. same_line s (registry_of m) e l is)
-      (desks_stay s m e m.lines is (every_line_there m)) are)
+      (clients_stay s m e m.lines is (every_line_there m)) are)
 
 -- ---- lists
 

@@ -3,7 +3,7 @@ use Rattle.std.proofs.Common.{◌≡◌, ℕ, suc, ◌||◌, Bool, true, false, 
 use Rattle.std.specs.Str.{bytes_eq}
 use Rattle.iiod_grammar.specs.Stream.{InLine, items_from, scanner_after}
 use Rattle.iiod_session.specs.declared.manner.Manner.TheVariants.{Script}
-use Rattle.iiod_session.specs.Desk.{DeskRecord, desk_of}
+use Rattle.iiod_session.specs.Client.{ClientRecord, client_of}
 use Rattle.iio_core.specs.Front.{Front}
 use Rattle.iio_core.specs.Machine.{Machine}
 use Rattle.iiod_session.specs.Seat.{SeatRecord}
@@ -14,16 +14,16 @@ use Rattle.iio_history.specs.Fold.{new_user}
 use Rattle.iio_history.specs.Told.{Line, Told, registry_of, user_of}
 use Rattle.iio_history.specs.Machine.{line_after, new_line, step}
 use Rattle.iio_history.specs.Transcript.{begun_by, line_named}
-use Rattle.iio_history.specs.Bench.{Every, IsDeskOf, is_in, name_of}
-use Rattle.iio_history.specs.BenchLaw.{CanJoinMore, new_desk}
+use Rattle.iio_history.specs.Bench.{Every, IsClientOf, is_in, name_of}
+use Rattle.iio_history.specs.BenchLaw.{CanJoinMore, new_client}
 use Rattle.iio_history.proofs.BenchKept.{arrived_is_there, bench_kept, room_after}
 use Rattle.iio_history.proofs.BenchLists.{name_itself}
-use Rattle.iio_history.proofs.BenchOthers.{arrival_is_nothing, new_is_desk}
+use Rattle.iio_history.proofs.BenchOthers.{arrival_is_nothing, new_is_client}
 use Rattle.iio_system.specs.declared.connection.Connection.{Connection}
 use Rattle.iio_system.specs.Connection.{IsHearing}
 use Rattle.iio_system.specs.System.{AreLines, Stands}
 use Rattle.iio_system.proofs.FedLaws.{HasArrived, user_of_line}
-use Rattle.iio_system.proofs.LineLaws.{OthersAre, desks_kept, every_line_there, other_arrived, others_are, others_move}
+use Rattle.iio_system.proofs.LineLaws.{OthersAre, clients_kept, every_line_there, other_arrived, others_are, others_move}
 
 -- nobody of that name is there
 pub none_in : (name : List ℕ) (ls : List Line) → line_named name ls ≡ None → is_in (map name_of ls) name ≡ false
@@ -92,7 +92,7 @@ module _ {S : Type 0} (seen : S → SeatRecord) where
             (others_more front (step s m (Arrived name bytes)) name (map f m.lines) cs x c same (name_itself name)
             (others_move seen front m (step s m (Arrived name bytes)) name f m.lines cs (λ l. refl)
             (λ l apart. other_arrived s (registry_of m) name bytes l apart)
-            (desks_kept s m (Arrived name bytes) name m.lines (λ l apart. tt) (every_line_there m)) (others_are seen front m name m.lines cs stands.lines)));
+            (clients_kept s m (Arrived name bytes) name m.lines (λ l apart. tt) (every_line_there m)) (others_are seen front m name m.lines cs stands.lines)));
       }
 
   length_lines : (front : Front) (m : Told) (ls : List Line) (cs : List (Connection S)) → AreLines seen front m ls cs → length cs ≡ length ls
@@ -101,9 +101,9 @@ module _ {S : Type 0} (seen : S → SeatRecord) where
   length_lines front m (l ∷ ls) [] are = absurd are
   length_lines front m (l ∷ ls) (c ∷ cs) are = ap (λ (n : ℕ). suc n) (length_lines front m ls cs are.1)
 
-  -- a new session has a new desk
-  fresh_desk : (who : ℕ) (x : SessionRecord S) → IsFresh who Script x → desk_of seen x.desk ≡ new_desk who
-  fresh_desk who x fresh = rw (fresh.number, fresh.seats, fresh.buffers, fresh.holdings) refl
+  -- a new session has a new client
+  fresh_client : (who : ℕ) (x : SessionRecord S) → IsFresh who Script x → client_of seen x.client ≡ new_client who
+  fresh_client who x fresh = rw (fresh.number, fresh.seats, fresh.buffers, fresh.holdings) refl
 
   pub new_hearing : (s : Setup) (m : Told) (front : Front) (told : Option Machine) (cs : List (Connection S)) (name bytes : List ℕ) (x : SessionRecord S)
       → Stands seen s m front told cs → line_named name m.lines ≡ None → IsFresh (length cs) Script x
@@ -117,10 +117,10 @@ module _ {S : Type 0} (seen : S → SeatRecord) where
     session = record {
       manner = fresh.served;
       stream = fresh.stream;
-      desk =
-          subst (λ (k : DeskRecord). IsDeskOf (step s m (Arrived name bytes)) name k)
-          (sym (fresh_desk (length cs) x fresh ∙ ap (λ (n : ℕ). new_desk n) (length_lines front m m.lines cs stands.lines)))
-          (new_is_desk s m name bytes stands.bench (none_in name m.lines none));
+      client =
+          subst (λ (k : ClientRecord). IsClientOf (step s m (Arrived name bytes)) name k)
+          (sym (fresh_client (length cs) x fresh ∙ ap (λ (n : ℕ). new_client n) (length_lines front m m.lines cs stands.lines)))
+          (new_is_client s m name bytes stands.bench (none_in name m.lines none));
     };
     room = room_after s m (Arrived name bytes) (length (items_from (InLine []) bytes)) room;
   }

@@ -36,7 +36,7 @@ use Rattle.iio_core.specs.Front.{Front, kind_at, shape_at}
 use Rattle.iio_desc.specs.Description.{DeviceHead}
 use Rattle.iio_desc.specs.Kind.{Kind, Input, Output, Average, is_average}
 use Rattle.iio_core.specs.Machine.{Machine, Member, Station, is_seat_of, no_station, station_at, station_in, with_station, attachment_of, masks_of}
-use Rattle.iio_core.specs.Calls.{closed, inner_gone, is_inner_of, joined, left, newcomer, open_of, open_refusals, trigger_by, trigger_of as trigger_told_of, unless}
+use Rattle.iio_core.specs.Calls.{machine_after_close, inner_gone, is_inner_of, station_after_join, station_after_leave, newcomer, open_of, open_refusals, trigger_by, trigger_of as trigger_told_of, unless}
 use Rattle.iiod_session.specs.Seat.{Answers, IsNew, MayOpen, number_by as number_of}
 use Rattle.iio_core.specs.Devices.{queue_waits}
 use Rattle.iio_core.proofs.DeviceLaws.{left_is as plain_left}
@@ -89,7 +89,7 @@ leaves_keep n (Some q) v v' s s' j = keeps_along v _ v' (record { device = recor
 leaves_keep n None v v' s s' j = keeps_along v _ v' (record { device = record { name = refl; number = refl; shape = refl }; captures = refl }) j.1
 
 pub left_is : (n : ℕ) (r : Option Queue) (v v' : DeviceView Queue) (s s' : State) → LeavesDevice (λ (q : Queue). q.lost) n r v v' s s'
-    → station_of v' ≡ left n (station_of v)
+    → station_of v' ≡ station_after_leave n (station_of v)
 left_is n r v v' s s' j = sym (plain_left (λ (q : Queue). q.lost) (λ q. q.capacity) queue_waits n r v v' s s' j).1
 
 or_not : (b : Bool) → (b || not b) ≡ true
@@ -198,9 +198,9 @@ none_filtered p [] e = refl
 none_filtered p (m ∷ ms) e = absurd (cc)
 
 -- nobody leaves a device without a member
-left_none : (n : ℕ) (st : Station) → st.members ≡ [] → left n st ≡ st
+left_none : (n : ℕ) (st : Station) → st.members ≡ [] → station_after_leave n st ≡ st
 left_none n st none =
-    let left_by : left n st ≡ (let x : Station = record st { members = [] } in x) = rw none refl in
+    let left_by : station_after_leave n st ≡ (let x : Station = record st { members = [] } in x) = rw none refl in
     left_by ∙ ap (λ (ms : List Member). (let x : Station = record st { members = ms } in x)) (sym none)
 
 -- and no inner member leaves there
@@ -221,7 +221,8 @@ module _ (triggers : List TriggerDesc) (states : List State) (sts : List Station
   same_bench : st' ≡ st → s' ≡ s → IsBench triggers (set states t s') (set sts k st')
   same_bench e same = bench_stays triggers states sts k t st st' s s' bench at there (stands_same st st' e).inner.place same
 
-  joined_by : (mask capacity : ℕ) (cyclic : Bool) (inner : Option ℕ) (b : Bool) → is_empty st.members ≡ b → st' ≡ joined mask capacity cyclic inner st
+  joined_by : (mask capacity : ℕ) (cyclic : Bool) (inner : Option ℕ) (b : Bool) → is_empty st.members ≡ b
+      → st' ≡ station_after_join mask capacity cyclic inner st
       → s' ≡ cond b (record s { attached = with_place k (st.site.attachment + 1) s.attached }) s → IsBench triggers (set states t s') (set sts k st')
   joined_by mask capacity cyclic inner true e is after =
       bench_attached triggers states sts k t st st' s s' bench at there (st.site.attachment + 1) inside e
@@ -253,7 +254,7 @@ module _ (triggers : List TriggerDesc) (states : List State) (sts : List Station
       bench_stays triggers states sts k t st st' s s' bench at there
       (members_kept st st' some some' (ap (λ (x : Site ℕ). x.trigger) site) (ap (λ (x : Site ℕ). x.attachment) site)) after
 
-  pub bench_left : (n : ℕ) → st' ≡ left n st → s' ≡ place_left k st st' s → IsBench triggers (set states t s') (set sts k st')
+  pub bench_left : (n : ℕ) → st' ≡ station_after_leave n st → s' ≡ place_left k st st' s → IsBench triggers (set states t s') (set sts k st')
   bench_left n is after =
       gone_by (is_empty st.members) (is_empty st'.members) refl refl
       (λ none. ap (λ (x : Station). is_empty x.members) is ∙ none_filtered (λ (x : Member). not (is_seat_of n x)) st.members none)
@@ -427,7 +428,7 @@ module _ {X : Type 0} {V : X → Type 0} (drive : Plug X V → Driver) where
         → first_refusal (any_refusals (lacks_place (number_by d) states (any_station drive d).site.trigger) (any_front d).kind (any_front d).shape
         (any_station drive d) mask) ≡ r
         → open_of (fronts_by any_front context triggers ds) (machine_by (any_station drive) clock ts ds) k mask capacity cyclic
-        ≡ unless (joined mask capacity cyclic None) k (machine_by (any_station drive) clock ts ds) (unless_refused (any_station drive d).next r)
+        ≡ unless (station_after_join mask capacity cyclic None) k (machine_by (any_station drive) clock ts ds) (unless_refused (any_station drive d).next r)
     opens ts mask r plain e =
         open_alone (fronts_by any_front context triggers ds) k (ap is_average (kind_is any_front context triggers ds k d at) ∙ plain)
         (machine_by (any_station drive) clock ts ds) mask capacity cyclic (any_station drive d) (any_front d).shape
@@ -448,7 +449,7 @@ module _ {X : Type 0} {V : X → Type 0} (drive : Plug X V → Driver) where
     open_joins ts mask t d' s s' (Ok seat) plain hosts j =
         rw (opens ts mask.bits None plain hosts.2) (
           ap (λ (x : Seat). Ok x.number) (sym j.0),
-          ap (λ (m : Machine). Some m) (told_changed (any_station drive) clock ts ds k d d' at (joined mask.bits capacity cyclic None) j.1),
+          ap (λ (m : Machine). Some m) (told_changed (any_station drive) clock ts ds k d d' at (station_after_join mask.bits capacity cyclic None) j.1),
         )
     open_joins ts mask t d' s s' (Err x) plain hosts j =
         subst (λ (y : No). Answers (open_of (fronts_by any_front context triggers ds) (machine_by (any_station drive) clock ts ds) k mask.bits capacity cyclic)
@@ -493,7 +494,7 @@ module _ {X : Type 0} {V : X → Type 0} (drive : Plug X V → Driver) where
         (map_at (any_station drive) ds k d at) there own within mask capacity cyclic inner (any_front d).shape r
         (subst (λ (n : ℕ). JoinsAny mask capacity cyclic inner n (any_front d).shape r (any_station drive d) (any_station drive d') s s') (numbered k d at) j))
 
-    pub sound_leaves : (n : ℕ) → any_station drive d' ≡ left n (any_station drive d)
+    pub sound_leaves : (n : ℕ) → any_station drive d' ≡ station_after_leave n (any_station drive d)
         → s' ≡ place_left (number_by d) (any_station drive d) (any_station drive d') s
         → IsBench triggers (set states t s') (stations_by (λ p. no_driver) (set ds k d'))
     sound_leaves n is after =
@@ -549,10 +550,11 @@ module _ {X : Type 0} {V : X → Type 0} (drive : Plug X V → Driver) where
         (averaged_as (λ p. no_driver) drive triggers first (map any_front ds) ds averaged)
         (map_at (any_station drive) ds k d at) (stands_same (any_station drive d) (any_station drive d') j.1))
 
-    pub averaged_leaves : (n : ℕ) → any_station drive d' ≡ left n (any_station drive d)
+    pub averaged_leaves : (n : ℕ) → any_station drive d' ≡ station_after_leave n (any_station drive d)
         → IsAveraged triggers first (map any_front (set ds k d')) (stations_by (λ p. no_driver) (set ds k d'))
     averaged_leaves n is =
-        by_base triggers first ds k d d' averaged at plain keeps (hosted_is t triggers (any_station drive d') (ap (λ (x : Station). x.site.trigger) is ∙ own) within)
+        by_base triggers first ds k d d' averaged at plain keeps
+        (hosted_is t triggers (any_station drive d') (ap (λ (x : Station). x.site.trigger) is ∙ own) within)
         (record {
           plugged = ap (λ (x : Station). x.site.plugged) is;
           inner = λ i. ap (λ (x : Station). has_inner i x) is ∙ inner_left n i (any_station drive d).members;
@@ -562,32 +564,32 @@ module _ {X : Type 0} {V : X → Type 0} (drive : Plug X V → Driver) where
   -- ---- CLOSE
   module _ (context : List ℕ) (triggers : List TriggerDesc) (ds : List (AnyDevice X V)) (clock : ℤ) (ts : List Trigger) (k : ℕ) (d : AnyDevice X V)
       (at : slice_get ds k ≡ Some d) (plain : is_average (any_front d).kind ≡ false) (n : ℕ) where
-    closed_is : closed (fronts_by any_front context triggers ds) (machine_by (any_station drive) clock ts ds) k n
-        ≡ with_station (left n) k (machine_by (any_station drive) clock ts ds)
+    closed_is : machine_after_close (fronts_by any_front context triggers ds) (machine_by (any_station drive) clock ts ds) k n
+        ≡ with_station (station_after_leave n) k (machine_by (any_station drive) clock ts ds)
     closed_is =
         closed_alone (fronts_by any_front context triggers ds) k (ap is_average (kind_is any_front context triggers ds k d at) ∙ plain)
         (machine_by (any_station drive) clock ts ds) n
 
-    pub told_leaves : (d' : AnyDevice X V) → any_station drive d' ≡ left n (any_station drive d)
+    pub told_leaves : (d' : AnyDevice X V) → any_station drive d' ≡ station_after_leave n (any_station drive d)
         → Some (machine_by (any_station drive) clock ts (set ds k d'))
-        ≡ Some (closed (fronts_by any_front context triggers ds) (machine_by (any_station drive) clock ts ds) k n)
-    told_leaves d' is = ap (λ (m : Machine). Some m) (told_changed (any_station drive) clock ts ds k d d' at (left n) is ∙ sym closed_is)
+        ≡ Some (machine_after_close (fronts_by any_front context triggers ds) (machine_by (any_station drive) clock ts ds) k n)
+    told_leaves d' is = ap (λ (m : Machine). Some m) (told_changed (any_station drive) clock ts ds k d d' at (station_after_leave n) is ∙ sym closed_is)
 
     told_stays : is_empty (any_station drive d).members ≡ true
         → Some (machine_by (any_station drive) clock ts ds)
-        ≡ Some (closed (fronts_by any_front context triggers ds) (machine_by (any_station drive) clock ts ds) k n)
+        ≡ Some (machine_after_close (fronts_by any_front context triggers ds) (machine_by (any_station drive) clock ts ds) k n)
     unfolding with_station
     told_stays e =
         ap (λ (m : Machine). Some m)
         (ap (λ (sts : List Station). (let m : Machine = record { clock = clock; triggers = ts; stations = sts } in m))
-        (sym (at_place_same (map (any_station drive) ds) k (any_station drive d) (left n) (map_at (any_station drive) ds k d at)
+        (sym (at_place_same (map (any_station drive) ds) k (any_station drive d) (station_after_leave n) (map_at (any_station drive) ds k d at)
         (left_none n (any_station drive d) (empty_list (any_station drive d).members e))))
         ∙ sym closed_is)
 
     pub told_none : (first : ℕ) → IsAveraged (length triggers) first (map any_front ds) (stations_by (λ p. no_driver) ds)
         → None ≡ (any_station drive d).site.trigger
         → Some (machine_by (any_station drive) clock ts ds)
-        ≡ Some (closed (fronts_by any_front context triggers ds) (machine_by (any_station drive) clock ts ds) k n)
+        ≡ Some (machine_after_close (fronts_by any_front context triggers ds) (machine_by (any_station drive) clock ts ds) k n)
     told_none first averaged own =
         told_stays (hosted_none (length triggers) (any_station drive d) (sym own) (hosted_at (length triggers) first ds averaged k d at plain))
 

@@ -21,7 +21,7 @@ use Rattle.iio_device.specs.Site.{is_empty}
 use Rattle.iiod_session.specs.declared.iio.No.{No}
 use Rattle.iiod_session.specs.declared.iio.No.TheVariants.{Errno as NoErrno}
 use Rattle.iio_core.specs.Trigger.{Trigger}
-use Rattle.iio_core.specs.Calls.{is_inner_of, remask_of, remask_refusals, remasked, with_mask}
+use Rattle.iio_core.specs.Calls.{is_inner_of, remask_of, remask_refusals, station_after_remask, with_mask}
 use Rattle.iio_core.specs.Machine.{Member, MemberId, Station, is_seat_of, member_in, queue_of, scans_in}
 use Rattle.iio_core.specs.Faults.{remask_errno}
 use Rattle.iiod_session.specs.No.{remask_no}
@@ -60,9 +60,9 @@ remasked_inner n mask scans j x = by (is_seat_of n x)
     by true = refl
     by false = refl
 
-pub remasked_stands : (n mask scans : ℕ) (st : Station) → KeepsStanding st (remasked n mask scans st)
+pub remasked_stands : (n mask scans : ℕ) (st : Station) → KeepsStanding st (station_after_remask n mask scans st)
 remasked_stands n mask scans st =
-    standing st (remasked n mask scans st) refl refl refl (empty_map (with_mask n mask scans) st.members)
+    standing st (station_after_remask n mask scans st) refl refl refl (empty_map (with_mask n mask scans) st.members)
     (λ j. inner_mapped j (with_mask n mask scans) (remasked_inner n mask scans j) st.members) refl
 
 -- ---- refusals
@@ -72,14 +72,15 @@ module _ (id : MemberId) (mask : Mask) (scans : ℕ) (v v' : DeviceView Queue) w
   answer = remask_answer v.standing.shape (station_of v) id mask.bits
 
   refused_by : (e : Errno) → answer ≡ Err e → station_of v' ≡ station_of v
-      → Acts (remasked id.number mask.bits scans) answer (Err (NoErrno e)) (station_of v) (station_of v')
+      → Acts (station_after_remask id.number mask.bits scans) answer (Err (NoErrno e)) (station_of v) (station_of v')
   refused_by e is same = rw is (refl, same)
 
-  pub gone : v.site.plugged ≡ false → v' ≡ v → Acts (remasked id.number mask.bits scans) answer (Err (NoErrno ENODEV)) (station_of v) (station_of v')
+  pub gone : v.site.plugged ≡ false → v' ≡ v
+      → Acts (station_after_remask id.number mask.bits scans) answer (Err (NoErrno ENODEV)) (station_of v) (station_of v')
   gone e same = refused_by ENODEV (rw e refl) (ap station_of same)
 
   pub dead : v.site.plugged ≡ true → has_member id v.standing.members ≡ false → v' ≡ v
-      → Acts (remasked id.number mask.bits scans) answer (Err (NoErrno EBADF)) (station_of v) (station_of v')
+      → Acts (station_after_remask id.number mask.bits scans) answer (Err (NoErrno EBADF)) (station_of v) (station_of v')
   dead e none same =
       let absent : is_none (member_in id (map member_of v.standing.members)) ≡ true =
       none_by (member_in id (map member_of v.standing.members)) (told_absent (λ (x : Member). true) false id v.standing.members none) in
@@ -105,9 +106,9 @@ module _ (id : MemberId) (mask : Mask) (scans : ℕ) (v v' : DeviceView Queue) w
 
   pub faulty : (f : RemaskFault) (said : No) → is_bad_mask v.standing.shape mask.bits ≡ false → Knows
       → Err f ≡ unless_refused (tt {0}) (first_refusal (remask_faults v id.number mask.bits)) → said ≡ remask_no f → v' ≡ v
-      → Acts (remasked id.number mask.bits scans) answer (Err said) (station_of v) (station_of v')
+      → Acts (station_after_remask id.number mask.bits scans) answer (Err said) (station_of v) (station_of v')
   faulty f said good knows e is same =
-      subst (λ (x : No). Acts (remasked id.number mask.bits scans) answer (Err x) (station_of v) (station_of v')) (sym is)
+      subst (λ (x : No). Acts (station_after_remask id.number mask.bits scans) answer (Err x) (station_of v) (station_of v')) (sym is)
       (by f (refusals (Some f) good knows (stated (first_refusal (remask_faults v id.number mask.bits)) f e)))
     where
       stated : (o : Option RemaskFault) (f : RemaskFault) → Err f ≡ unless_refused (tt {0}) o → o ≡ Some f
@@ -115,7 +116,7 @@ module _ (id : MemberId) (mask : Mask) (scans : ℕ) (v v' : DeviceView Queue) w
       stated (Some x) f e = let is : f ≡ x = cc in ap (λ (y : RemaskFault). Some y) (sym is)
 
       by : (f : RemaskFault) → first_refusal (remask_refusals v.standing.shape (station_of v) id mask.bits) ≡ remask_errno f
-          → Acts (remasked id.number mask.bits scans) answer (Err (remask_no f)) (station_of v) (station_of v')
+          → Acts (station_after_remask id.number mask.bits scans) answer (Err (remask_no f)) (station_of v) (station_of v')
       by fault.Gone r = refused_by _ (ap (λ (o : Option Errno). unless_refused (length (scans_in id (station_of v).members)) o) r) (ap station_of same)
       by fault.NotLive r = refused_by _ (ap (λ (o : Option Errno). unless_refused (length (scans_in id (station_of v).members)) o) r) (ap station_of same)
       by fault.BadMask r = refused_by _ (ap (λ (o : Option Errno). unless_refused (length (scans_in id (station_of v).members)) o) r) (ap station_of same)
@@ -125,16 +126,17 @@ module _ (id : MemberId) (mask : Mask) (scans : ℕ) (v v' : DeviceView Queue) w
   -- it is done
   pub done : (tail before : Queue) (n : ℕ) → is_bad_mask v.standing.shape mask.bits ≡ false → Knows → tail.scans ≡ [] → tail.lost ≡ 0 → tail.capacity ≡ scans
       → n ≡ length before.scans
-      → RemasksDevice lost_of id.number mask tail (Ok before) v v' → Acts (remasked id.number mask.bits scans) answer (Ok n) (station_of v) (station_of v')
+      → RemasksDevice lost_of id.number mask tail (Ok before) v v'
+      → Acts (station_after_remask id.number mask.bits scans) answer (Ok n) (station_of v) (station_of v')
   done tail before n good knows none unlost bounded is j =
       let passed : answer ≡ Ok (length (scans_in id (station_of v).members))
       = ap (λ (o : Option Errno). unless_refused (length (scans_in id (station_of v).members)) o) (refusals None good knows j.0) in
       let waited : scans_in id (station_of v).members ≡ before.scans = waited_is lost_of bound_of queue_waits id before v.standing.members knows j.1 in
-      let after : remasked id.number mask.bits tail.capacity (station_of v) ≡ station_of v'
+      let after : station_after_remask id.number mask.bits tail.capacity (station_of v) ≡ station_of v'
       = remasked_is lost_of bound_of queue_waits id mask tail before v v' j (record { none = none; unlost = unlost }) in
       rw passed (
         ap (λ (q : List (List ℕ)). (let r : Result ℕ Errno = Ok (length q) in r)) waited ∙ ap (λ (k : ℕ). (let r : Result ℕ Errno = Ok k in r)) (sym is),
-        sym after ∙ ap (λ (k : ℕ). remasked id.number mask.bits k (station_of v)) bounded,
+        sym after ∙ ap (λ (k : ℕ). station_after_remask id.number mask.bits k (station_of v)) bounded,
       )
 
 -- ---- the bench
@@ -142,11 +144,12 @@ module _ (id : MemberId) (mask : Mask) (scans : ℕ) (v v' : DeviceView Queue) w
 module _ {X : Type 0} {V : X → Type 0} (drive : Plug X V → Driver) (context : List ℕ) (triggers : List TriggerDesc) (ds : List (AnyDevice X V)) (clock : ℤ)
     (k : ℕ) (d d' : AnyDevice X V)
     (at : slice_get ds k ≡ Some d) (id : MemberId) (mask scans : ℕ) (r : Result ℕ No)
-    (acts : Acts (remasked id.number mask scans) (remask_answer (any_front d).shape (any_station drive d) id mask) r (any_station drive d)
+    (acts : Acts (station_after_remask id.number mask scans) (remask_answer (any_front d).shape (any_station drive d) id mask) r (any_station drive d)
     (any_station drive d')) where
   pub remask_kept : KeepsStanding (any_station drive d) (any_station drive d')
   remask_kept =
-      acts_stand (remasked id.number mask scans) (any_station drive d) (any_station drive d') (remask_answer (any_front d).shape (any_station drive d) id mask)
+      acts_stand (station_after_remask id.number mask scans) (any_station drive d) (any_station drive d')
+      (remask_answer (any_front d).shape (any_station drive d) id mask)
       r (λ x e. remasked_stands id.number mask scans (any_station drive d)) acts
 
   pub told_remask : (ts : List Trigger)
@@ -155,4 +158,5 @@ module _ {X : Type 0} {V : X → Type 0} (drive : Plug X V → Driver) (context 
   unfolding remask_of queue_of
   told_remask ts =
       rw (shape_is any_front context triggers ds k d at)
-      (told_acts (any_station drive) clock ts ds k d d' at (remasked id.number mask scans) (λ st. remask_answer (any_front d).shape st id mask) r acts)
+      (told_acts (any_station drive) clock ts ds k d d' at (station_after_remask id.number mask scans) (λ st. remask_answer (any_front d).shape st id mask) r
+      acts)

@@ -18,7 +18,7 @@ use Rattle.iio_worlds.specs.Stance.{Opens, item_meets, items_meet, may_part, ope
 use Rattle.iio_system.specs.declared.connection.Connection.{Connection}
 use Rattle.iio_system.specs.declared.guard.Guard.{Guard}
 use Rattle.iio_system.specs.declared.seat.Seat.{Seat}
-use Rattle.iio_system.specs.Guard.{MeetsBeside, TellsAll, Watches, connections_of, desk_by, desk_named, desks_besides, guards, item_by, opens_at}
+use Rattle.iio_system.specs.Guard.{MeetsBeside, TellsAll, Watches, connections_of, client_by, client_named, clients_besides, guards, item_by, opens_at}
 use Rattle.iio_system.specs.Seat.{seen_of}
 
 -- ---- another connection's
@@ -148,7 +148,7 @@ told_all front (item ∷ items) x y told =
 -- a guard that was told a feed tells whether it keeps to the rules
 pub beside_meets : (name bytes : List ℕ) (front : Front) (machine : Option Machine) (session : Option (SessionRecord Seat)) (watched : List ℕ)
     (others : List (Connection Seat)) (x y : Guard)
-    → x.meets ≡ true → x.mine ≡ bytes_eq name watched → x.watched.now ≡ watched → desk_by seen_of x.own ≡ desk_named seen_of watched others
+    → x.meets ≡ true → x.mine ≡ bytes_eq name watched → x.watched.now ≡ watched → client_by seen_of x.own ≡ client_named seen_of watched others
     → connections_of x.others ≡ others
     → Watches seen_of guards name bytes front machine session x y
     → MeetsBeside seen_of watched name bytes front machine session others y.meets
@@ -158,8 +158,8 @@ beside_meets name bytes front machine (Some spoken) watched others x y first min
     ap (λ (g : Guard). g.meets) (told_all front items x y (told s n begun hearing))
     ∙ ap (λ (b : Bool). b && items_meet (opens_at front x) x.mine items) first
     ∙ ap (λ (b : Bool). items_meet (opens_at front x) b items) mine
-    ∙ ap (λ desk. items_meet (opens_by front desk (desks_besides seen_of x.watched.now (connections_of x.others))) (bytes_eq name watched) items) own
-    ∙ ap (λ (w : List ℕ). items_meet (opens_by front (desk_named seen_of watched others) (desks_besides seen_of w (connections_of x.others)))
+    ∙ ap (λ client. items_meet (opens_by front client (clients_besides seen_of x.watched.now (connections_of x.others))) (bytes_eq name watched) items) own
+    ∙ ap (λ (w : List ℕ). items_meet (opens_by front (client_named seen_of watched others) (clients_besides seen_of w (connections_of x.others)))
     (bytes_eq name watched) items) named
-    ∙ ap (λ (cs : List (Connection Seat)). items_meet (opens_by front (desk_named seen_of watched others) (desks_besides seen_of watched cs))
+    ∙ ap (λ (cs : List (Connection Seat)). items_meet (opens_by front (client_named seen_of watched others) (clients_besides seen_of watched cs))
     (bytes_eq name watched) items) beside

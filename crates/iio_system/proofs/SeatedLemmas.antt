@@ -14,7 +14,7 @@ use Rattle.iio_derive.specs.declared.members.Membership.{Membership}
 use Rattle.iio_derive.specs.Average.{AverageRecord, Joins, Leaves, has_member}
 use Rattle.iio_derive.specs.Members.{member_at}
 use Rattle.iio_derive.specs.Window.{Window, no_window}
-use Rattle.iio_core.specs.Calls.{joined, left, window_left}
+use Rattle.iio_core.specs.Calls.{station_after_join, station_after_leave, window_left}
 use Rattle.iio_core.specs.Machine.{Member, Station, is_seat_of, lost_by, without}
 use Rattle.iio_system.specs.declared.mean_device.MeanSeat.{MeanSeat}
 use Rattle.iio_system.specs.Faults.{HasJoined, IsAnew}
@@ -61,7 +61,7 @@ attached_told : (a : AverageRecord) (plugged : Bool) (starts next captures : ℕ
     (mask capacity : ℕ)
     → told_with a plugged (attachment_with seats starts) (next + 1) captures totals
     (map (mean_member slots) seats ++ record { number = next; mask = mask; capacity = capacity; scans = []; lost = 0; cyclic = false; inner = None } ∷ [])
-    ≡ joined mask capacity false None (told_with a plugged starts next captures totals (map (mean_member slots) seats))
+    ≡ station_after_join mask capacity false None (told_with a plugged starts next captures totals (map (mean_member slots) seats))
 attached_told a plugged starts next captures totals slots [] mask capacity = refl
 attached_told a plugged starts next captures totals slots (s ∷ ss) mask capacity = refl
 
@@ -116,7 +116,7 @@ module _ (a a' : AverageRecord) (mask : Mask) (capacity slot captures next start
 
   pub joined_told : (plugged : Bool) (totals : Totals)
       → told_with a' plugged (attachment_with seats starts) (next + 1) captures totals (map (mean_member a'.seats) (seats ++ new_seat ∷ []))
-      ≡ joined mask.bits capacity false None (told_with a plugged starts next captures totals (map (mean_member a.seats) seats))
+      ≡ station_after_join mask.bits capacity false None (told_with a plugged starts next captures totals (map (mean_member a.seats) seats))
   joined_told plugged totals =
       ap (λ (x : AverageRecord). told_with x plugged (attachment_with seats starts) (next + 1) captures totals
       (map (mean_member a'.seats) (seats ++ new_seat ∷ []))) joins.2
@@ -275,7 +275,7 @@ module _ (a a' : AverageRecord) (b : Bool) (number slot captures next starts : �
   pub gone_told : (plugged : Bool) (totals totals' : Totals) (lost : ℕ)
       → lost ≡ unwrap_or (option_map (λ (m : Membership). m.queue.lost) (member_at slot a.seats)) 0 → totals' ≡ with_lost lost totals
       → told_with a' plugged starts next captures totals' (map (mean_member a'.seats) (seats_without number seats))
-      ≡ left number (told_with a plugged starts next captures totals (map (mean_member a.seats) seats))
+      ≡ station_after_leave number (told_with a plugged starts next captures totals (map (mean_member a.seats) seats))
   gone_told plugged totals totals' lost lost_of is =
       left_with a a' slot captures next next starts starts seats (seats_without number seats) leaves_left sound others_left kept_left apart_left once_left
       there_left begun_left plugged totals'
@@ -326,7 +326,7 @@ stays_by (x ∷ xs) w = refl
 
 pub nobody_left : (a : AverageRecord) (plugged : Bool) (number starts next captures : ℕ) (totals : Totals) (seats : List MeanSeat) → slot_by number seats ≡ None
     → told_with a plugged starts next captures totals (map (mean_member a.seats) seats)
-    ≡ left number (told_with a plugged starts next captures totals (map (mean_member a.seats) seats))
+    ≡ station_after_leave number (told_with a plugged starts next captures totals (map (mean_member a.seats) seats))
 nobody_left a plugged number starts next captures totals seats none =
     rw (none_lost number a.seats seats none, none_without number a.seats seats none)
     (ap (λ (w : Window). (let st : Station = record (told_with a plugged starts next captures totals (map (mean_member a.seats) seats)) { window = w } in st))
@@ -355,7 +355,7 @@ back st = record st {
 less_one : (n : ℕ) → n + 1 - 1 ≡ n
 less_one n = omega arith
 
-back_joined : (mask capacity : ℕ) (st : Station) → back (joined mask capacity false None st) ≡ st
+back_joined : (mask capacity : ℕ) (st : Station) → back (station_after_join mask capacity false None st) ≡ st
 back_joined mask capacity st =
     rw (
       less_one st.next,
@@ -490,7 +490,8 @@ module _ (a a' : AverageRecord) (b : Bool) (mask : Mask) (capacity captures next
       by false = refl
 
   pub undone_told : (before : Station)
-      → told_with a plugged starts next captures totals (map (mean_member a.seats) (init ++ last ∷ [])) ≡ joined mask.bits capacity false None before
+      → told_with a plugged starts next captures totals (map (mean_member a.seats) (init ++ last ∷ []))
+      ≡ station_after_join mask.bits capacity false None before
       → told_with a' plugged (cond (is_empty init) (starts - 1) starts) (next - 1) captures totals (map (mean_member a'.seats) init) ≡ before
   undone_told before e =
       left_with a a' last.slot captures next (next - 1) starts (cond (is_empty init) (starts - 1) starts) (init ++ last ∷ []) init went sound others_by kept_by

@@ -144,7 +144,7 @@ module _ {D : Type 0} (f : D → Station) (clock : ℤ) (ts : List Trigger) (ds 
   told_take id Gone scan t = (queue_is f clock ts ds k d at id ∙ t.0, plugged_is f clock ts ds k d at ∙ t.1, some_same t.2)
 
   -- takes of many scans, by a seat that tells nothing
-  pub told_take_scans : (s : SeatRecord) (most : ℕ) (took : Took) (before after : List ℕ) → s.tale ≡ None
+  pub told_take_scans : (s : SeatRecord) (most : ℕ) (took : Took) (before after : List ℕ) → s.trace ≡ None
       → TakesScansAt (seat_id s) most took before after (f d) (f d')
       → TakesScans k most (Some (machine_by f clock ts ds)) (Some (machine_by f clock ts (set ds k d'))) s s before after took
   told_take_scans s most Scan before after untold t =

@@ -10,7 +10,7 @@ use Rattle.iio_trigger.specs.declared.Polled.TheVariants.{Accepted, Missed}
 use Rattle.iio_trigger.specs.Trigger.{Handed, Polls, State, after_poll, due_of, entries_at, is_waiting, missed_after, poll_made, with_in_hand, without_entry as without_entry_of}
 use Rattle.iio_core.specs.Attached.{entries_from}
 use Rattle.iio_core.specs.Machine.{Station, attachments_of}
-use Rattle.iio_core.specs.Trigger.{polled_by, handled, Trigger, entry_of, poll_answer}
+use Rattle.iio_core.specs.Trigger.{polled_by, trigger_after_handling, Trigger, entry_of, poll_answer}
 use Rattle.iio_system.specs.Places.{IsTrigger, handed_of, has_in_hand, trigger_of}
 use Rattle.iio_system.proofs.ListLemmas.{filter_map_is}
 use Rattle.iio_system.proofs.PlaceLemmas.{entries_of_places}
@@ -189,7 +189,7 @@ done_off dev h r s s1 s2 due after found taken =
     ∙ ap (λ (out : List Entry). (let x : State = record s { outstanding = out } in x)) (taken_off dev s.outstanding)
 
 -- it is told so
-pub off_told : (dev : ℕ) (s s' : State) → s' ≡ without dev s → trigger_of s' ≡ handled dev (trigger_of s)
+pub off_told : (dev : ℕ) (s s' : State) → s' ≡ without dev s → trigger_of s' ≡ trigger_after_handling dev (trigger_of s)
 off_told dev s s' e =
     ap trigger_of e ∙ ap (λ (entries : List Handed). (let x : Trigger = record { entries = entries; missed = s.missed } in x))
     (sym (filter_map_is handed_of (λ (e : Entry). not (e.dev == dev)) (λ (e : Handed). not (e.dev == dev)) (λ e. refl) s.outstanding))

@@ -19,7 +19,7 @@ module _ {W : Type 0} (makes : Front → Option Machine → ℕ → Item → W �
       → TellsAll makes front items a.watch b.watch
   tells_run a b [] [] first r = ap (λ (x : Scene W). x.watch) r
   tells_run a b (item ∷ items) (reply ∷ replies) first r =
-      (r.0.watch, a.state.told, a.state.desk.who, rw first at r.1.tells, tells_run r.0 b items replies r.1.next r.2)
+      (r.0.watch, a.state.told, a.state.client.who, rw first at r.1.tells, tells_run r.0 b items replies r.1.next r.2)
   tells_run a b [] (reply ∷ replies) first r = absurd r
   tells_run a b (item ∷ items) [] first r = absurd r
 
@@ -39,14 +39,14 @@ module _ {W : Type 0} (makes : Front → Option Machine → ℕ → Item → W �
 
 module _ {S : Type 0} (seen : S → SeatRecord) {W : Type 0} (makes : Front → Option Machine → ℕ → Item → W → W → Type 0) where
   pub watches : (front : Front) (told told' : Option Machine) (x x' : SessionRecord S) (w v : W) (name bytes before after : List ℕ) (going : Going)
-      → Hears makes x.manner front (scene_of seen told x.desk w (waits_in x.stream.items)) (scan_on x.stream bytes) before after
-      (scene_of seen told' x'.desk v (waits_in x'.stream.items)) x'.stream going
+      → Hears makes x.manner front (scene_of seen told x.client w (waits_in x.stream.items)) (scan_on x.stream bytes) before after
+      (scene_of seen told' x'.client v (waits_in x'.stream.items)) x'.stream going
       → (going ≡ On → x'.stream.items ≡ []) → Watches seen makes name bytes front told (Some x) w v
   watches front told told' x x' w v name bytes before after going hears whole s n begun h =
-      let script : Hears makes Script front (scene_of seen told x.desk w false) (scan_on (no_item begun) bytes) before after
-      (scene_of seen told' x'.desk v (waits_in x'.stream.items)) x'.stream going =
+      let script : Hears makes Script front (scene_of seen told x.client w false) (scan_on (no_item begun) bytes) before after
+      (scene_of seen told' x'.client v (waits_in x'.stream.items)) x'.stream going =
       rw (h.session.manner, h.session.stream) at hears in
-      tells_all makes front (scene_of seen told x.desk w false) (scene_of seen told' x'.desk v (waits_in x'.stream.items)) (scan_on (no_item begun) bytes)
+      tells_all makes front (scene_of seen told x.client w false) (scene_of seen told' x'.client v (waits_in x'.stream.items)) (scan_on (no_item begun) bytes)
       x'.stream before after going whole refl script
 
   pub watches_as : (front : Front) (told : Option Machine) (name bytes : List ℕ) (x : SessionRecord S) (old : Option (SessionRecord S)) (w v : W) → old ≡ Some x

@@ -2,7 +2,7 @@
 use Rattle.std.specs.Prelude.{◌≡◌, ℕ, true, List, ◌++◌, length, Option, Some}
 use Rattle.iiod_grammar.specs.Stream.{Scanner, items_from, no_item, scanner_after}
 use Rattle.iiod_session.specs.declared.manner.Manner.TheVariants.{Script}
-use Rattle.iiod_session.specs.Desk.{desk_of}
+use Rattle.iiod_session.specs.Client.{client_of}
 use Rattle.iio_core.specs.Front.{Front}
 use Rattle.iio_core.specs.Machine.{Machine}
 use Rattle.iiod_session.specs.Seat.{SeatRecord}
@@ -10,7 +10,7 @@ use Rattle.iiod_session.specs.Session.{SessionRecord}
 use Rattle.iio_history.specs.Registry.{Setup}
 use Rattle.iio_history.specs.Told.{Told}
 use Rattle.iio_history.specs.Played.{steps, texts}
-use Rattle.iio_history.specs.Bench.{Every, IsBench, IsDeskOf, front_of, is_in, machine_of, names_of}
+use Rattle.iio_history.specs.Bench.{Every, IsBench, IsClientOf, front_of, is_in, machine_of, names_of}
 use Rattle.iio_history.specs.BenchLaw.{CanJoinMore, heard}
 
 module _ {S : Type 0} (seen : S → SeatRecord) where
@@ -18,7 +18,7 @@ module _ {S : Type 0} (seen : S → SeatRecord) where
   pub record IsSessionOf (m : Told) (name : List ℕ) (begun : Scanner) (x : SessionRecord S) : Type 0 where
     pub manner : x.manner ≡ Script
     pub stream : x.stream ≡ no_item begun
-    pub desk : IsDeskOf m name (desk_of seen x.desk)
+    pub client : IsClientOf m name (client_of seen x.client)
 
   -- the devices and the connection's session as they stand, where bytes of it have arrived: it is there, and numbers last
   pub record IsHearing (s : Setup) (m : Told) (front : Front) (told : Option Machine) (name : List ℕ) (begun : Scanner) (bytes : List ℕ) (x : SessionRecord S) :

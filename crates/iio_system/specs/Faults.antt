@@ -22,7 +22,7 @@ use Rattle.std.specs.List.{list_any}
 use Rattle.iio_desc.specs.Description.{DeviceHead}
 use Rattle.iio_desc.specs.Kind.{Kind, is_input, is_output}
 use Rattle.iio_derive.specs.Window.{full_mask, no_window}
-use Rattle.iio_core.specs.Calls.{is_inner_of, joined}
+use Rattle.iio_core.specs.Calls.{is_inner_of, station_after_join}
 use Rattle.iio_core.specs.Machine.{Station, masks_of as masks_told}
 use Rattle.iio_core.specs.Opening.{join_refusals}
 use Rattle.iio_system.specs.declared.seat.Seat.{Seat}
@@ -85,7 +85,7 @@ abbrev pub JoinsAny : Mask → (capacity : ℕ) → (cyclic : Bool) → (inner :
     → (trigger trigger' : State) → Type 0
 JoinsAny mask capacity cyclic inner number shape (Ok seat) old new trigger trigger' =
     (seat ≡ record { number = old.next; mask = mask; size = scan_size shape mask.bits; capacity = capacity })
-    × (new ≡ joined mask.bits capacity cyclic inner old)
+    × (new ≡ station_after_join mask.bits capacity cyclic inner old)
     × (trigger' ≡ place_taken number old trigger)
 JoinsAny mask capacity cyclic inner number shape (Err refusal) old new trigger trigger' = (refusal ≡ NoMem) × (new ≡ old) × (trigger' ≡ trigger)
 
@@ -107,13 +107,13 @@ IsAnew st = is_empty st.members ≡ true → st.window ≡ no_window
 abbrev pub JoinsMean : Mask → (capacity : ℕ) → ShapeRecord → Result Seat No → (old new : Station) → Type 0
 JoinsMean mask capacity shape (Ok seat) old new =
     (seat ≡ record { number = old.next; mask = mask; size = scan_size shape mask.bits; capacity = capacity })
-    × (new ≡ joined mask.bits capacity false None old)
+    × (new ≡ station_after_join mask.bits capacity false None old)
     × IsAnew old
 JoinsMean mask capacity shape (Err refusal) old new = (refusal ≡ NoMem) × (new ≡ old)
 
 -- a device was such that a member of that mask and capacity has joined it since
 abbrev pub HasJoined : Mask → (capacity : ℕ) → Station → Type 0
-HasJoined mask capacity st = (before : Station) × (st ≡ joined mask.bits capacity false None before) × IsAnew before
+HasJoined mask capacity st = (before : Station) × (st ≡ station_after_join mask.bits capacity false None before) × IsAnew before
 
 -- the mask of all channels is served beside the members of an input device exactly where it is served alone
 abbrev pub IsServedAlone : Kind → ShapeRecord → Station → (mask : ℕ) → Type 0

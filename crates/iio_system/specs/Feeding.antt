@@ -3,7 +3,7 @@ use Rattle.std.specs.Prelude.{◌≡◌, ℕ, All, Bool, true, false, List, [], 
 use Rattle.iio_text.specs.Escape.{quoted}
 use Rattle.iiod_grammar.specs.Stream.{AtEnd, Scanner, items_from, scanner_after}
 use Rattle.iiod_session.specs.Acts.{left_machine}
-use Rattle.iiod_session.specs.Desk.{IsDesk, desk_of}
+use Rattle.iiod_session.specs.Client.{IsClient, client_of}
 use Rattle.iio_core.specs.Front.{Front}
 use Rattle.iio_core.specs.Machine.{Machine}
 use Rattle.iiod_session.specs.Seat.{SeatRecord}
@@ -29,7 +29,7 @@ feed_lines s n name begun bytes =
 module _ {S : Type 0} (seen : S → SeatRecord) where
   -- what a connection's session holds is owned
   abbrev pub IsOwning : Front → Option (SessionRecord S) → Type 0
-  IsOwning front session = IfSome session (λ x. IsDesk seen front x.desk)
+  IsOwning front session = IfSome session (λ x. IsClient seen front x.client)
 
   -- and what all of them hold
   abbrev pub AreOwning : Front → List (Connection S) → Type 0
@@ -38,7 +38,7 @@ module _ {S : Type 0} (seen : S → SeatRecord) where
   -- the devices once it is lost, where it has a session
   abbrev pub left_by : Front → Machine → Option (SessionRecord S) → Machine
   left_by front m None = m
-  left_by front m (Some x) = left_machine front m (desk_of seen x.desk)
+  left_by front m (Some x) = left_machine front m (client_of seen x.client)
 
   -- a connection that hasn't ended was fed: it is left without a session where it has ended then
   pub record HasFed (s : Setup) (n : Told) (told : Option Machine) (name : List ℕ) (begun : Scanner) (bytes : List ℕ) (before after : List ℕ)

@@ -1,4 +1,4 @@
--- What is known while a connection is fed of what the others have open, by the desks of their sessions; and whether what it
+-- What is known while a connection is fed of what the others have open, by the clients of their sessions; and whether what it
 -- says keeps to the rules of bystanders.
 use Rattle.std.specs.Prelude.{◌≡◌, ℕ, ◌&&◌, nat_lt, Bool, true, List, [], ◌∷◌, ◌++◌, Option, Some, None, option_map, Ok, if◌then◌else◌}
 use Rattle.std.specs.Borrow.{Bor}
@@ -8,7 +8,7 @@ use Rattle.iiod_grammar.specs.declared.lines.TheConstants.{MAX_PAYLOAD}
 use Rattle.iiod_grammar.specs.Command.{Command, Exit, Write, WriteBuf}
 use Rattle.iiod_grammar.specs.Stream.{Item, Said, Written, Streamed, End, Scanner, items_from}
 use Rattle.iio_desc.specs.Kind.{is_input}
-use Rattle.iiod_session.specs.Desk.{DeskRecord, desk_of}
+use Rattle.iiod_session.specs.Client.{ClientRecord, client_of}
 use Rattle.iio_core.specs.Front.{Front, kind_at}
 use Rattle.iio_core.specs.Machine.{Machine}
 use Rattle.iiod_session.specs.Seat.{SeatRecord}
@@ -42,23 +42,23 @@ module _ {S : Type 0} (seen : S → SeatRecord) where
   Watches makes name bytes front told (Some x) w v =
       (s : Setup) (n : Told) (begun : Scanner) → IsHearing seen s n front told name begun bytes x → TellsAll makes front (items_from begun bytes) w v
 
-  -- a connection that has ended has no desk
-  abbrev pub with_desk : Option (SessionRecord S) → List DeskRecord → List DeskRecord
-  with_desk None desks = desks
-  with_desk (Some x) desks = desk_of seen x.desk ∷ desks
+  -- a connection that has ended has no client
+  abbrev pub with_client : Option (SessionRecord S) → List ClientRecord → List ClientRecord
+  with_client None clients = clients
+  with_client (Some x) clients = client_of seen x.client ∷ clients
 
-  -- the desks of these connections but of those of that name
-  abbrev pub desks_besides : List ℕ → List (Connection S) → List DeskRecord
-  desks_besides name [] = []
-  desks_besides name (c ∷ cs) = if bytes_eq c.name name then desks_besides name cs else with_desk c.session (desks_besides name cs)
+  -- the clients of these connections but of those of that name
+  abbrev pub clients_besides : List ℕ → List (Connection S) → List ClientRecord
+  clients_besides name [] = []
+  clients_besides name (c ∷ cs) = if bytes_eq c.name name then clients_besides name cs else with_client c.session (clients_besides name cs)
 
-  -- the desk of the first one of that name
-  abbrev pub desk_named : List ℕ → List (Connection S) → Option DeskRecord
-  desk_named name [] = None
-  desk_named name (c ∷ cs) = if bytes_eq c.name name then option_map (λ (x : SessionRecord S). desk_of seen x.desk) c.session else desk_named name cs
+  -- the client of the first one of that name
+  abbrev pub client_named : List ℕ → List (Connection S) → Option ClientRecord
+  client_named name [] = None
+  client_named name (c ∷ cs) = if bytes_eq c.name name then option_map (λ (x : SessionRecord S). client_of seen x.client) c.session else client_named name cs
 
-  abbrev pub desk_by : Option (Bor (SessionRecord S)) → Option DeskRecord
-  desk_by own = option_map (λ (x : Bor (SessionRecord S)). desk_of seen x.now.desk) own
+  abbrev pub client_by : Option (Bor (SessionRecord S)) → Option ClientRecord
+  client_by own = option_map (λ (x : Bor (SessionRecord S)). client_of seen x.now.client) own
 
   -- whether a feed keeps to the rules, where these are the others: one that has ended says nothing
   abbrev pub MeetsBeside : (watched name bytes : List ℕ) → Front → (told : Option Machine) → Option (SessionRecord S) → (others : List (Connection S)) → Bool
@@ -66,7 +66,7 @@ module _ {S : Type 0} (seen : S → SeatRecord) where
   MeetsBeside watched name bytes front told None others meets = meets ≡ true
   MeetsBeside watched name bytes front told (Some x) others meets =
       (s : Setup) (n : Told) (begun : Scanner) → IsHearing seen s n front told name begun bytes x
-      → meets ≡ items_meet (opens_by front (desk_named watched others) (desks_besides watched others)) (bytes_eq name watched) (items_from begun bytes)
+      → meets ≡ items_meet (opens_by front (client_named watched others) (clients_besides watched others)) (bytes_eq name watched) (items_from begun bytes)
 
 -- the item that a command is told of, where a payload is left out
 abbrev pub item_by : Command → Item
@@ -79,13 +79,13 @@ item_by said = Said (Ok said)
 abbrev pub connections_of : Others → List (Connection Seat)
 connections_of x = x.before.now ++ x.after.now
 
--- whether a connection with that desk has device k open, and it is an input device
-abbrev pub own_input : Front → Option DeskRecord → (k : ℕ) → Bool
+-- whether a connection with that client has device k open, and it is an input device
+abbrev pub own_input : Front → Option ClientRecord → (k : ℕ) → Bool
 own_input front own k = is_input (kind_at front k) && own_has own k
 
 -- what a guard knows to be open
 abbrev pub opens_at : Front → Guard → Opens
-opens_at front x = opens_by front (desk_by seen_of x.own) (desks_besides seen_of x.watched.now (connections_of x.others))
+opens_at front x = opens_by front (client_by seen_of x.own) (clients_besides seen_of x.watched.now (connections_of x.others))
 
 -- a guard once it was told an item
 abbrev pub guards : Front → Option Machine → (who : ℕ) → Item → Guard → Guard → Type 0

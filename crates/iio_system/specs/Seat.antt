@@ -4,4 +4,4 @@ use Rattle.iiod_session.specs.Seat.{SeatRecord}
 use Rattle.iio_system.specs.declared.seat.Seat.{Seat}
 
 abbrev pub seen_of : Seat → SeatRecord
-seen_of s = record { number = s.number; mask = s.mask.bits; size = s.size; capacity = s.capacity; tale = None }
+seen_of s = record { number = s.number; mask = s.mask.bits; size = s.size; capacity = s.capacity; trace = None }

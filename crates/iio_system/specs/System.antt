@@ -1,19 +1,19 @@
 -- The core over the told state: its devices by numbers, its connections line by line.
 use Rattle.std.specs.Prelude.{◌≡◌, ◌≢◌, true, false, List, [], ◌∷◌, Option, Some, None}
 use Rattle.iiod_grammar.specs.Stream.{AtEnd}
-use Rattle.iiod_session.specs.Desk.{DeskRecord, IsDesk}
+use Rattle.iiod_session.specs.Client.{ClientRecord, IsClient}
 use Rattle.iio_core.specs.Front.{Front}
 use Rattle.iio_core.specs.Machine.{Machine}
 use Rattle.iiod_session.specs.Seat.{SeatRecord}
 use Rattle.iiod_session.specs.Session.{SessionRecord}
 use Rattle.iio_history.specs.Registry.{Setup}
 use Rattle.iio_history.specs.Told.{Line, Told}
-use Rattle.iio_history.specs.Bench.{IsBench, IsDeskOf, front_of, machine_of}
+use Rattle.iio_history.specs.Bench.{IsBench, IsClientOf, front_of, machine_of}
 use Rattle.iio_system.specs.declared.connection.Connection.{Connection}
 use Rattle.iio_system.specs.Connection.{IsSessionOf}
 
-abbrev pub IsBare : DeskRecord → Type 0
-IsBare desk = (desk.seats ≡ []) × (desk.holdings ≡ [])
+abbrev pub IsBare : ClientRecord → Type 0
+IsBare client = (client.seats ≡ []) × (client.holdings ≡ [])
 
 module _ {S : Type 0} (seen : S → SeatRecord) where
   -- the session of a connection that hasn't ended
@@ -21,14 +21,14 @@ module _ {S : Type 0} (seen : S → SeatRecord) where
     pub live : l.user.ended ≡ false
     pub begun : l.begun ≢ AtEnd
     pub session : IsSessionOf seen m l.user.who l.begun x
-    pub desk : IsDesk seen front x.desk
+    pub client : IsClient seen front x.client
 
   -- one that has ended has nothing at the devices any more
   pub record IsGone (m : Told) (l : Line) : Type 0 where
     pub ended : l.user.ended ≡ true
-    pub desk : DeskRecord
-    pub bare : IsBare desk
-    pub has : IsDeskOf m l.user.who desk
+    pub client : ClientRecord
+    pub bare : IsBare client
+    pub has : IsClientOf m l.user.who client
 
   -- and no session
   abbrev pub IsServed : Front → Told → Line → Option (SessionRecord S) → Type 0

@@ -17,7 +17,7 @@ ghost use Rattle.iio_trigger.specs.Trigger.{without_entry};
 ghost use Rattle.iio_device.specs.Device.{has_no_place};
 ghost use Rattle.iio_device.specs.Site.{is_empty, site_written, with_monitor, unplugged};
 ghost use Rattle.iiod_session.specs.declared.iio.No.TheVariants.{Mem};
-ghost use Rattle.iio_core.specs.Calls.{ev_open_answer, ev_read_answer, has_no_number, holds_events, inner_gone, is_inner_of, joined, left, remasked, trigger_answer, write_scans_at, writes};
+ghost use Rattle.iio_core.specs.Calls.{ev_open_answer, ev_read_answer, has_no_number, holds_events, inner_gone, is_inner_of, station_after_join, station_after_leave, station_after_remask, trigger_answer, write_scans_at, writes};
 ghost use Rattle.iio_core.specs.Machine.{Station, scans_in, with_site};
 ghost use Rattle.iio_core.specs.Moves.{Capture, kind_sensed, look_made};
 ghost use Rattle.iio_core.specs.Trigger.{entry_of};
@@ -236,7 +236,7 @@ impl AnyDevice {
     /// The member of that number leaves by the device's trigger; an inner one is nobody's.
     pub(crate) fn leave(&mut self, number: u64, trigger: &mut Trigger)
         requires own { is_average (any_front self.old).kind ≡ false }
-        ensures station { any_station ⟦<Plug as Sensor>⟧.driver self.new ≡ left number (any_station ⟦<Plug as Sensor>⟧.driver self.old) }
+        ensures station { any_station ⟦<Plug as Sensor>⟧.driver self.new ≡ station_after_leave number (any_station ⟦<Plug as Sensor>⟧.driver self.old) }
         ensures trigger { trigger.new
             ≡ place_left (number_by self.old) (any_station ⟦<Plug as Sensor>⟧.driver self.old) (any_station ⟦<Plug as Sensor>⟧.driver self.new) trigger.old }
         ensures keeps { KeepsFront self.old self.new }
@@ -294,7 +294,8 @@ impl AnyDevice {
     pub(crate) fn undo_join(&mut self, seat: Seat)
         requires average { is_average (any_front self.old).kind ≡ true }
         requires joined { HasJoined seat.mask seat.capacity (any_station ⟦<Plug as Sensor>⟧.driver self.old) }
-        ensures station { (before : Station) → any_station ⟦<Plug as Sensor>⟧.driver self.old ≡ joined seat.mask.bits seat.capacity false None before
+        ensures station { (before : Station)
+            → any_station ⟦<Plug as Sensor>⟧.driver self.old ≡ station_after_join seat.mask.bits seat.capacity false None before
             → any_station ⟦<Plug as Sensor>⟧.driver self.new ≡ before }
         ensures keeps { KeepsFront self.old self.new }
     {
@@ -307,7 +308,7 @@ impl AnyDevice {
     /// The member of that number leaves an averaging device.
     pub(crate) fn leave_mean(&mut self, number: u64)
         requires { is_average (any_front self.old).kind ≡ true }
-        ensures station { any_station ⟦<Plug as Sensor>⟧.driver self.new ≡ left number (any_station ⟦<Plug as Sensor>⟧.driver self.old) }
+        ensures station { any_station ⟦<Plug as Sensor>⟧.driver self.new ≡ station_after_leave number (any_station ⟦<Plug as Sensor>⟧.driver self.old) }
         ensures keeps { KeepsFront self.old self.new }
     {
         match self {
@@ -348,7 +349,7 @@ impl AnyDevice {
         requires some { 1 ≤ seat.now.capacity }
         requires bytes { 1 ≤ size }
         requires fits { seat.now.capacity * size ≤ MAX_BYTES }
-        ensures acts { Acts (remasked seat.now.number mask.bits seat.now.capacity)
+        ensures acts { Acts (station_after_remask seat.now.number mask.bits seat.now.capacity)
             (remask_answer (any_front self.old).shape (any_station ⟦<Plug as Sensor>⟧.driver self.old) (id_of seat.now.number seat.now.mask) mask.bits)
             result (any_station ⟦<Plug as Sensor>⟧.driver self.old) (any_station ⟦<Plug as Sensor>⟧.driver self.new) }
         ensures keeps { KeepsFront self.old self.new }

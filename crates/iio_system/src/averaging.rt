@@ -6,7 +6,7 @@ ghost use Rattle.iio_layout.specs.Active.{has_data};
 ghost use Rattle.iio_layout.specs.Layout.{scan_size};
 ghost use Rattle.iio_layout.specs.Shape.{count_of};
 ghost use Rattle.iio_derive.specs.Window.{full_mask};
-ghost use Rattle.iio_core.specs.Calls.{has_no_number, joined, left};
+ghost use Rattle.iio_core.specs.Calls.{has_no_number, station_after_join, station_after_leave};
 ghost use Rattle.iio_core.specs.Machine.{Station, scans_in, with_site};
 ghost use Rattle.iio_core.specs.Moves.{Capture, kind_sensed, look_made};
 ghost use Rattle.iio_device.specs.Site.{unplugged};
@@ -150,7 +150,8 @@ impl MeanDevice {
     /// Undoes the joining of the member of that seat, which was the last call.
     pub(crate) fn undo(&mut self, seat: Seat)
         requires { HasJoined seat.mask seat.capacity (mean_station self.old) }
-        ensures station { (before : Station) → mean_station self.old ≡ joined seat.mask.bits seat.capacity false None before → mean_station self.new ≡ before }
+        ensures station { (before : Station) → mean_station self.old ≡ station_after_join seat.mask.bits seat.capacity false None before
+            → mean_station self.new ≡ before }
         ensures keeps { KeepsMean self.old self.new }
     {
         let Some(last) = self.seats.pop() else {
@@ -163,7 +164,7 @@ impl MeanDevice {
 
     /// The member of that number leaves; what waits is gone with it.
     pub(crate) fn leave(&mut self, number: u64)
-        ensures station { mean_station self.new ≡ left number (mean_station self.old) }
+        ensures station { mean_station self.new ≡ station_after_leave number (mean_station self.old) }
         ensures keeps { KeepsMean self.old self.new }
     {
         let Some(slot) = slot_by(&self.seats, number) else {

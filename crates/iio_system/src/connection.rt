@@ -3,7 +3,7 @@
 ghost use Rattle.std.specs.Prelude.{◌≡◌, ◌↔◌, ◌++◌, ℕ, List, IfOk, IsTrue, None, OnOk, Some, position};
 ghost use Rattle.std.specs.Str.{bytes_eq};
 ghost use Rattle.iiod_grammar.specs.Stream.{AtEnd, Scanner, no_item};
-ghost use Rattle.iiod_session.specs.Desk.{IsDesk};
+ghost use Rattle.iiod_session.specs.Client.{IsClient};
 ghost use Rattle.iio_history.specs.Registry.{Setup};
 ghost use Rattle.iio_history.specs.Told.{Told};
 ghost use Rattle.iio_history.specs.Transcript.{closed_line};
@@ -33,9 +33,9 @@ fn hear<I: Iio, W: Watch<I>>(
     bytes: &[u8],
     answers: &mut Vec<u8>,
 ) -> Result<bool, Mem>
-    requires { IsDesk I.seen (I.front (I.kept iio.old)) session.old.desk }
+    requires { IsClient I.seen (I.front (I.kept iio.old)) session.old.client }
     ensures kept { I.kept iio.new ≡ I.kept iio.old }
-    ensures desk { IsDesk I.seen (I.front (I.kept iio.new)) session.new.desk }
+    ensures client { IsClient I.seen (I.front (I.kept iio.new)) session.new.client }
     ensures heard { IfOk result (λ ended. (s : Setup) (m : Told) (name : List ℕ) (begun : Scanner)
         → IsHearing I.seen s m (I.front (I.kept iio.old)) (I.told iio.old) name begun bytes.now session.old
         → HasHeard I.seen s m (I.told iio.new) name begun bytes.now answers.old.items answers.new.items session.new) }
@@ -74,7 +74,7 @@ where
     requires { IsOwning I.seen (I.front (I.kept iio.old)) connection.old.session }
     ensures kept { I.kept iio.new ≡ I.kept iio.old }
     ensures name { connection.new.name ≡ connection.old.name }
-    ensures desk { IsOwning I.seen (I.front (I.kept iio.new)) connection.new.session }
+    ensures client { IsOwning I.seen (I.front (I.kept iio.new)) connection.new.session }
     ensures fed { OnOk result (Feeds I.seen connection.old.name bytes.now (I.front (I.kept iio.old)) (I.told iio.old) (I.told iio.new)
         out.old.items out.new.items connection.old.session connection.new.session) }
     ensures watches { OnOk result (Watches I.seen W.makes connection.old.name bytes.now (I.front (I.kept iio.old)) (I.told iio.old)

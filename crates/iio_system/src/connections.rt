@@ -6,7 +6,7 @@ ghost use Rattle.iio_history.specs.Script.{max_names};
 ghost use Rattle.iio_history.specs.Transcript.{Drop, Feed};
 ghost use Rattle.iio_system.specs.Bench.{front_of, kept_of, machine_of};
 ghost use Rattle.iiod_session.specs.Acts.{left_machine};
-ghost use Rattle.iiod_session.specs.Desk.{IsDesk, desk_of};
+ghost use Rattle.iiod_session.specs.Client.{IsClient, client_of};
 ghost use Rattle.iio_system.specs.Feeding.{AreOwning, Feeds, IsOwning, left_by};
 ghost use Rattle.iio_system.specs.Guard.{MeetsBeside};
 ghost use Rattle.iio_system.specs.Standing.{IsNew, Makes, MakesFeed, Meets, MeetsFeed, has_room, name_by, names_with};
@@ -134,7 +134,7 @@ fn feed_beside(
     requires { IsOwning seen_of (front_of bench.old) connection.old.session }
     ensures kept { kept_of bench.new ≡ kept_of bench.old }
     ensures name { connection.new.name ≡ connection.old.name }
-    ensures desk { IsOwning seen_of (front_of bench.new) connection.new.session }
+    ensures client { IsOwning seen_of (front_of bench.new) connection.new.session }
     ensures fed { OnOk result (Feeds seen_of connection.old.name bytes.now (front_of bench.old) (Some (machine_of ⟦<Plug as Sensor>⟧.driver bench.old))
         (Some (machine_of ⟦<Plug as Sensor>⟧.driver bench.new)) out.old.items out.new.items connection.old.session connection.new.session) }
     ensures meets { IfOk result (MeetsBeside seen_of watched.now connection.old.name bytes.now (front_of bench.old)
@@ -236,10 +236,10 @@ pub(crate) fn feed_guarded(
 
 // Closes a session's seats, and ends its holdings of events.
 fn leave(bench: &mut Bench, session: Session<Seat>)
-    requires { IsDesk seen_of (front_of bench.old) session.desk }
+    requires { IsClient seen_of (front_of bench.old) session.client }
     ensures kept { kept_of bench.new ≡ kept_of bench.old }
     ensures told { machine_of ⟦<Plug as Sensor>⟧.driver bench.new
-        ≡ left_machine (front_of bench.old) (machine_of ⟦<Plug as Sensor>⟧.driver bench.old) (desk_of seen_of session.desk) }
+        ≡ left_machine (front_of bench.old) (machine_of ⟦<Plug as Sensor>⟧.driver bench.old) (client_of seen_of session.client) }
 {
     session.end(bench);
 }

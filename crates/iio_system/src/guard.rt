@@ -5,13 +5,13 @@ ghost use Rattle.std.specs.Str.{bytes_eq};
 ghost use Rattle.iio_desc.specs.Kind.{is_input};
 ghost use Rattle.iiod_grammar.specs.Stream.{Item, Said};
 ghost use Rattle.iiod_grammar.specs.View.{command_view};
-ghost use Rattle.iiod_session.specs.Desk.{DeskRecord};
+ghost use Rattle.iiod_session.specs.Client.{ClientRecord};
 ghost use Rattle.iio_core.specs.Front.{find_device, kind_at};
 ghost use Rattle.iiod_session.specs.Watch.{IsSeen};
 ghost use Rattle.iio_worlds.specs.Bystanders.{may_say};
 ghost use Rattle.iio_worlds.specs.Stance.{by_number, item_meets, may_part, none_seated, one_seated, opens_by, own_has};
 ghost use Rattle.iio_system.specs.Bench.{front_of};
-ghost use Rattle.iio_system.specs.Guard.{connections_of, desk_by, desk_named, desks_besides, item_by, opens_at, own_input};
+ghost use Rattle.iio_system.specs.Guard.{connections_of, client_by, client_named, clients_besides, item_by, opens_at, own_input};
 ghost use Rattle.iio_system.specs.Seat.{seen_of};
 
 use crate::bench::Bench;
@@ -35,7 +35,7 @@ pub(crate) struct Guard<'a> {
 
 // Whether a connection has the device of that number open.
 fn own_holds(own: Option<&Session<Seat>>, dev: u32) -> bool
-    ensures { result ≡ own_has (desk_by seen_of own.entry) dev }
+    ensures { result ≡ own_has (client_by seen_of own.entry) dev }
 {
     match own {
         None => false,
@@ -53,7 +53,7 @@ fn is_input(bench: &Bench, dev: u32) -> bool
 
 // Whether it has the input device of that name open.
 fn own_has(bench: &Bench, own: Option<&Session<Seat>>, device: &[u8]) -> bool
-    ensures { result ≡ by_number (find_device (front_of bench.now) device.now) (own_input (front_of bench.now) (desk_by seen_of own.entry)) }
+    ensures { result ≡ by_number (find_device (front_of bench.now) device.now) (own_input (front_of bench.now) (client_by seen_of own.entry)) }
 {
     match bench.find(device) {
         None => false,
@@ -63,7 +63,7 @@ fn own_has(bench: &Bench, own: Option<&Session<Seat>>, device: &[u8]) -> bool
 
 // Whether one of these has the device of that name open.
 fn one_has(bench: &Bench, others: &Others<'_>, watched: &[u8], device: &[u8]) -> bool
-    ensures { result ≡ by_number (find_device (front_of bench.now) device.now) (one_seated (desks_besides seen_of watched.now (connections_of others.now))) }
+    ensures { result ≡ by_number (find_device (front_of bench.now) device.now) (one_seated (clients_besides seen_of watched.now (connections_of others.now))) }
 {
     match bench.find(device) {
         None => false,
@@ -73,14 +73,14 @@ fn one_has(bench: &Bench, others: &Others<'_>, watched: &[u8], device: &[u8]) ->
 
 /// Whether the watched connection may do this: it may end where none of the others has a device open.
 pub(crate) fn may_end(others: &Others<'_>, watched: &[u8], ends: bool) -> bool
-    ensures { result ≡ (not ends || none_seated (desks_besides seen_of watched.now (connections_of others.now))) }
+    ensures { result ≡ (not ends || none_seated (clients_besides seen_of watched.now (connections_of others.now))) }
 {
     !ends || others.none_holds(watched)
 }
 
 // Whether another connection may say this command.
 fn may_ask(bench: &Bench, own: Option<&Session<Seat>>, command: &Command<'_>) -> bool
-    ensures { result ≡ may_say (λ device. by_number (find_device (front_of bench.now) device) (own_input (front_of bench.now) (desk_by seen_of own.entry)))
+    ensures { result ≡ may_say (λ device. by_number (find_device (front_of bench.now) device) (own_input (front_of bench.now) (client_by seen_of own.entry)))
         (Said (Ok (command_view command.now))) }
 {
     match *command {
@@ -108,7 +108,7 @@ fn may_ask(bench: &Bench, own: Option<&Session<Seat>>, command: &Command<'_>) ->
 // Whether another connection may say this.
 fn may_say(bench: &Bench, own: Option<&Session<Seat>>, item: &Seen<'_>) -> bool
     ensures { (x : Item) → IsSeen x item.now
-        → result ≡ may_say (λ device. by_number (find_device (front_of bench.now) device) (own_input (front_of bench.now) (desk_by seen_of own.entry))) x }
+        → result ≡ may_say (λ device. by_number (find_device (front_of bench.now) device) (own_input (front_of bench.now) (client_by seen_of own.entry))) x }
 {
     match *item {
         Seen::Refused | Seen::TooLong => true,
@@ -118,8 +118,8 @@ fn may_say(bench: &Bench, own: Option<&Session<Seat>>, item: &Seen<'_>) -> bool
 
 // Whether the watched connection itself may say this command.
 fn may_leave(bench: &Bench, others: &Others<'_>, watched: &[u8], command: &Command<'_>) -> bool
-    ensures { (own : Option DeskRecord)
-        → result ≡ may_part (opens_by (front_of bench.now) own (desks_besides seen_of watched.now (connections_of others.now)))
+    ensures { (own : Option ClientRecord)
+        → result ≡ may_part (opens_by (front_of bench.now) own (clients_besides seen_of watched.now (connections_of others.now)))
         (item_by (command_view command.now)) }
 {
     match *command {
@@ -147,8 +147,8 @@ fn may_leave(bench: &Bench, others: &Others<'_>, watched: &[u8], command: &Comma
 
 // Whether the watched connection itself may say this.
 fn may_part(bench: &Bench, others: &Others<'_>, watched: &[u8], item: &Seen<'_>) -> bool
-    ensures { (own : Option DeskRecord) (x : Item) → IsSeen x item.now
-        → result ≡ may_part (opens_by (front_of bench.now) own (desks_besides seen_of watched.now (connections_of others.now))) x }
+    ensures { (own : Option ClientRecord) (x : Item) → IsSeen x item.now
+        → result ≡ may_part (opens_by (front_of bench.now) own (clients_besides seen_of watched.now (connections_of others.now))) x }
 {
     match *item {
         Seen::Refused => true,
@@ -164,7 +164,7 @@ impl<'a> Guard<'a> {
         ensures meets { result.meets ≡ true }
         ensures mine { result.mine ≡ bytes_eq name.now watched.now }
         ensures watched { result.watched.now ≡ watched.now }
-        ensures own { desk_by seen_of result.own ≡ desk_named seen_of watched.now (connections_of others.entry) }
+        ensures own { client_by seen_of result.own ≡ client_named seen_of watched.now (connections_of others.entry) }
         ensures others { result.others ≡ others.entry }
     {
         Guard {

@@ -15,7 +15,7 @@ ghost use Rattle.iio_layout.specs.Shape.{count_of};
 ghost use Rattle.iio_device.specs.Device.{has_no_place};
 ghost use Rattle.iio_device.specs.Site.{site_written, with_monitor, unplugged};
 ghost use Rattle.iiod_session.specs.declared.iio.No.TheVariants.{Mem};
-ghost use Rattle.iio_core.specs.Calls.{ev_open_answer, ev_read_answer, holds_events, inner_gone, is_inner_of, left, remasked, trigger_answer};
+ghost use Rattle.iio_core.specs.Calls.{ev_open_answer, ev_read_answer, holds_events, inner_gone, is_inner_of, station_after_leave, station_after_remask, trigger_answer};
 ghost use Rattle.iio_core.specs.Machine.{scans_in, with_site};
 ghost use Rattle.iio_system.specs.Acting.{Acts, KeepsCaptures, Reads, TakesAt, TakesScansAt, id_of, lost_in};
 ghost use Rattle.iio_system.specs.Faults.{HostsAny, IsServedAlone, JoinsAny, MayHaveInner, any_refusals};
@@ -219,7 +219,7 @@ impl InDevice {
 
     /// The member of that number leaves by the device's trigger; an inner one is nobody's.
     pub(crate) fn leave(&mut self, number: u64, trigger: &mut Trigger)
-        ensures station { in_station ⟦<Plug as Sensor>⟧.driver self.new ≡ left number (in_station ⟦<Plug as Sensor>⟧.driver self.old) }
+        ensures station { in_station ⟦<Plug as Sensor>⟧.driver self.new ≡ station_after_leave number (in_station ⟦<Plug as Sensor>⟧.driver self.old) }
         ensures trigger { trigger.new
             ≡ place_left self.old.device.core.number (in_station ⟦<Plug as Sensor>⟧.driver self.old) (in_station ⟦<Plug as Sensor>⟧.driver self.new) trigger.old }
         ensures keeps { KeepsInCaptures self.old self.new }
@@ -266,7 +266,7 @@ impl InDevice {
         requires some { 1 ≤ seat.now.capacity }
         requires bytes { 1 ≤ size }
         requires fits { seat.now.capacity * size ≤ MAX_BYTES }
-        ensures acts { Acts (remasked seat.now.number mask.bits seat.now.capacity)
+        ensures acts { Acts (station_after_remask seat.now.number mask.bits seat.now.capacity)
             (remask_answer self.old.device.core.roster.shape (in_station ⟦<Plug as Sensor>⟧.driver self.old) (id_of seat.now.number seat.now.mask) mask.bits)
             result (in_station ⟦<Plug as Sensor>⟧.driver self.old) (in_station ⟦<Plug as Sensor>⟧.driver self.new) }
         ensures keeps { KeepsInCaptures self.old self.new }

@@ -8,7 +8,7 @@ ghost use Rattle.iio_kfifo.specs.declared.limits.TheConstants.{MAX_BYTES};
 ghost use Rattle.iio_layout.specs.Active.{has_data};
 ghost use Rattle.iio_layout.specs.Layout.{scan_size};
 ghost use Rattle.iio_layout.specs.Shape.{count_of};
-ghost use Rattle.iio_core.specs.Calls.{closed, open_of};
+ghost use Rattle.iio_core.specs.Calls.{machine_after_close, open_of};
 ghost use Rattle.iio_core.specs.Front.{kind_at, shape_at};
 ghost use Rattle.iio_core.specs.Machine.{station_at};
 ghost use Rattle.iiod_session.specs.Seat.{Answers, IsNew, MayOpen, number_by};
@@ -90,7 +90,7 @@ fn close_plain(bench: &mut Bench, dev: u32, number: u64)
     requires own { is_average (kind_at (front_of bench.old) dev) ≡ false }
     ensures kept { kept_of bench.new ≡ kept_of bench.old }
     ensures told { Some (machine_of ⟦<Plug as Sensor>⟧.driver bench.new)
-        ≡ Some (closed (front_of bench.old) (machine_of ⟦<Plug as Sensor>⟧.driver bench.old) dev number) }
+        ≡ Some (machine_after_close (front_of bench.old) (machine_of ⟦<Plug as Sensor>⟧.driver bench.old) dev number) }
 {
     let at = dev as usize;
     match bench.devices[at].trigger() {
@@ -200,7 +200,7 @@ fn close_mean(bench: &mut Bench, dev: u32, base: u32, number: u64)
     requires over { base_of (kind_at (front_of bench.old) dev) ≡ Some base }
     ensures kept { kept_of bench.new ≡ kept_of bench.old }
     ensures told { Some (machine_of ⟦<Plug as Sensor>⟧.driver bench.new)
-        ≡ Some (closed (front_of bench.old) (machine_of ⟦<Plug as Sensor>⟧.driver bench.old) dev number) }
+        ≡ Some (machine_after_close (front_of bench.old) (machine_of ⟦<Plug as Sensor>⟧.driver bench.old) dev number) }
 {
     let at = dev as usize;
     bench.devices[at].leave_mean(number);
@@ -252,7 +252,7 @@ pub(crate) fn close_any(bench: &mut Bench, dev: u32, number: u64)
     requires { dev < length (front_of bench.old).devices }
     ensures kept { kept_of bench.new ≡ kept_of bench.old }
     ensures told { Some (machine_of ⟦<Plug as Sensor>⟧.driver bench.new)
-        ≡ Some (closed (front_of bench.old) (machine_of ⟦<Plug as Sensor>⟧.driver bench.old) dev number) }
+        ≡ Some (machine_after_close (front_of bench.old) (machine_of ⟦<Plug as Sensor>⟧.driver bench.old) dev number) }
 {
     match bench.devices[dev as usize].base() {
         None => close_plain(bench, dev, number),

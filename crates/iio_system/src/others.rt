@@ -2,7 +2,7 @@
 
 ghost use Rattle.std.specs.Prelude.{◌≡◌, ◌∷◌, [], option_copied};
 ghost use Rattle.iio_worlds.specs.Stance.{none_seated, one_seated};
-ghost use Rattle.iio_system.specs.Guard.{connection_named, connections_of, desk_by, desk_named, desks_besides};
+ghost use Rattle.iio_system.specs.Guard.{connection_named, connections_of, client_by, client_named, clients_besides};
 ghost use Rattle.iio_system.specs.Seat.{seen_of};
 
 use crate::connection::Connection;
@@ -30,7 +30,7 @@ fn named<'a>(connections: &'a [Connection<Seat>], name: &[u8]) -> Option<&'a Con
 
 // Whether a connection of another name has the device of that number open.
 fn other_holds(connection: &Connection<Seat>, watched: &[u8], dev: u32) -> bool
-    ensures { result ≡ one_seated (desks_besides seen_of watched.now (connection.now ∷ [])) dev }
+    ensures { result ≡ one_seated (clients_besides seen_of watched.now (connection.now ∷ [])) dev }
 {
     if connection.name.is(watched) {
         return false;
@@ -43,7 +43,7 @@ fn other_holds(connection: &Connection<Seat>, watched: &[u8], dev: u32) -> bool
 
 // Whether one of these has.
 fn one_holds(connections: &[Connection<Seat>], watched: &[u8], dev: u32) -> bool
-    ensures { result ≡ one_seated (desks_besides seen_of watched.now connections.now) dev }
+    ensures { result ≡ one_seated (clients_besides seen_of watched.now connections.now) dev }
 {
     for connection in connections {
         if other_holds(connection, watched, dev) {
@@ -55,7 +55,7 @@ fn one_holds(connections: &[Connection<Seat>], watched: &[u8], dev: u32) -> bool
 
 // Whether a connection of another name has no device open.
 fn other_holds_nothing(connection: &Connection<Seat>, watched: &[u8]) -> bool
-    ensures { result ≡ none_seated (desks_besides seen_of watched.now (connection.now ∷ [])) }
+    ensures { result ≡ none_seated (clients_besides seen_of watched.now (connection.now ∷ [])) }
 {
     if connection.name.is(watched) {
         return true;
@@ -68,7 +68,7 @@ fn other_holds_nothing(connection: &Connection<Seat>, watched: &[u8]) -> bool
 
 // Whether none of these has, but for those of that name.
 fn none_holds(connections: &[Connection<Seat>], watched: &[u8]) -> bool
-    ensures { result ≡ none_seated (desks_besides seen_of watched.now connections.now) }
+    ensures { result ≡ none_seated (clients_besides seen_of watched.now connections.now) }
 {
     for connection in connections {
         if !other_holds_nothing(connection, watched) {
@@ -101,7 +101,7 @@ impl<'a> Others<'a> {
 
     /// The session of the one of that name.
     pub(crate) fn session_of(&self, name: &[u8]) -> Option<&'a Session<Seat>>
-        ensures { desk_by seen_of result ≡ desk_named seen_of name.now (connections_of self.now) }
+        ensures { client_by seen_of result ≡ client_named seen_of name.now (connections_of self.now) }
     {
         match self.named(name) {
             None => None,
@@ -111,14 +111,14 @@ impl<'a> Others<'a> {
 
     /// Whether one of another name has the device of that number open.
     pub(crate) fn one_holds(&self, watched: &[u8], dev: u32) -> bool
-        ensures { result ≡ one_seated (desks_besides seen_of watched.now (connections_of self.now)) dev }
+        ensures { result ≡ one_seated (clients_besides seen_of watched.now (connections_of self.now)) dev }
     {
         one_holds(self.before, watched, dev) || one_holds(self.after, watched, dev)
     }
 
     /// Whether none of another name has a device open.
     pub(crate) fn none_holds(&self, watched: &[u8]) -> bool
-        ensures { result ≡ none_seated (desks_besides seen_of watched.now (connections_of self.now)) }
+        ensures { result ≡ none_seated (clients_besides seen_of watched.now (connections_of self.now)) }
     {
         none_holds(self.before, watched) && none_holds(self.after, watched)
     }

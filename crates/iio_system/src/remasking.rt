@@ -5,7 +5,7 @@ ghost use Rattle.iio_kfifo.specs.declared.limits.TheConstants.{MAX_BYTES};
 ghost use Rattle.iio_layout.specs.Active.{has_data};
 ghost use Rattle.iio_layout.specs.Layout.{scan_size};
 ghost use Rattle.iio_layout.specs.Shape.{count_of};
-ghost use Rattle.iio_core.specs.Calls.{remasked};
+ghost use Rattle.iio_core.specs.Calls.{station_after_remask};
 ghost use Rattle.iio_system.specs.Acting.{Acts, KeepsCaptures, has_member, id_of};
 ghost use Rattle.iio_system.specs.Remasking.{remask_answer};
 ghost use Rattle.iio_system.specs.Station.{station_by, view_by};
@@ -34,7 +34,7 @@ fn exchange(
     requires some { 1 ≤ seat.now.capacity }
     requires bytes { 1 ≤ size }
     requires fits { seat.now.capacity * size ≤ MAX_BYTES }
-    ensures acts { Acts (remasked seat.now.number mask.bits seat.now.capacity)
+    ensures acts { Acts (station_after_remask seat.now.number mask.bits seat.now.capacity)
         (remask_answer device.old.core.roster.shape (station_by ⟦<Plug as Sensor>⟧.driver device.old) (id_of seat.now.number seat.now.mask) mask.bits)
         result (station_by ⟦<Plug as Sensor>⟧.driver device.old) (station_by ⟦<Plug as Sensor>⟧.driver device.new) }
     ensures keeps { KeepsCaptures (view_by ⟦<Plug as Sensor>⟧.driver device.old) (view_by ⟦<Plug as Sensor>⟧.driver device.new) }
@@ -69,7 +69,7 @@ pub(crate) fn remask(
     requires some { 1 ≤ seat.now.capacity }
     requires bytes { 1 ≤ size }
     requires fits { seat.now.capacity * size ≤ MAX_BYTES }
-    ensures acts { Acts (remasked seat.now.number mask.bits seat.now.capacity)
+    ensures acts { Acts (station_after_remask seat.now.number mask.bits seat.now.capacity)
         (remask_answer device.old.core.roster.shape (station_by ⟦<Plug as Sensor>⟧.driver device.old) (id_of seat.now.number seat.now.mask) mask.bits)
         result (station_by ⟦<Plug as Sensor>⟧.driver device.old) (station_by ⟦<Plug as Sensor>⟧.driver device.new) }
     ensures keeps { KeepsCaptures (view_by ⟦<Plug as Sensor>⟧.driver device.old) (view_by ⟦<Plug as Sensor>⟧.driver device.new) }

@@ -11,7 +11,7 @@ ghost use Rattle.iio_kfifo.specs.declared.limits.TheConstants.{MAX_BYTES};
 ghost use Rattle.iio_output.specs.Out.{WriterRecord};
 ghost use Rattle.iio_output.specs.Written.{scans_of};
 ghost use Rattle.iio_device.specs.Device.{has_no_place};
-ghost use Rattle.iio_core.specs.Calls.{left, trigger_answer, write_scans_at, writes};
+ghost use Rattle.iio_core.specs.Calls.{station_after_leave, trigger_answer, write_scans_at, writes};
 ghost use Rattle.iio_device.specs.Site.{unplugged};
 ghost use Rattle.iio_core.specs.Machine.{member_in, scans_in, with_site};
 ghost use Rattle.iio_core.specs.Moves.{entry_made, gave_answer, is_due, look_made, sensed_answer};
@@ -201,7 +201,7 @@ impl OutDevice {
 
     /// The writer of that number leaves; what waits is gone with it.
     pub(crate) fn leave(&mut self, number: u64, trigger: &mut Trigger)
-        ensures station { out_station self.new ≡ left number (out_station self.old) }
+        ensures station { out_station self.new ≡ station_after_leave number (out_station self.old) }
         ensures trigger { trigger.new ≡ place_left self.old.number (out_station self.old) (out_station self.new) trigger.old }
         ensures keeps { KeepsOut self.old self.new }
     {

@@ -10,7 +10,7 @@ pub mod TextLaws
 pub mod TwoWorldsLaws
 pub mod StartLaws
 pub mod StanceLaws
-pub mod DeskLaws
+pub mod ClientLaws
 pub mod SoloLaws
 pub mod BothLaws
 pub mod KeptLaws

@@ -60,11 +60,11 @@ beside_without = refl
 abbrev parting : List Step
 parting = a (codes "OPEN a 1 00000001") ∷ b (codes "OPEN a 1 00000001") ∷ a (codes "CLOSE a") ∷ fire 1 ∷ []
 
-parting_differs : (first_offence one A [] parting ≡ Some 2)
+ending_differs : (first_offence one A [] parting ≡ Some 2)
     × (transcript_kept one A [] parting ≡ codes "A \"0\\n\"\nA \"0\\n\"\npoll t0 accepted 1\nhandle t0 a captured\n")
     × (transcript one [] (without_others A parting) ≡ codes "A \"0\\n\"\nA \"0\\n\"\npoll t0 accepted 0\n")
 unfolding digits
-parting_differs = (refl, refl, refl)
+ending_differs = (refl, refl, refl)
 
 -- A is lost beside B
 abbrev losing : List Step

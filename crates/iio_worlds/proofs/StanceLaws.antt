@@ -8,7 +8,7 @@ use Rattle.iio_trigger.specs.Trigger.{Handed}
 use Rattle.iio_desc.specs.Description.{find_device}
 use Rattle.iiod_grammar.specs.Command.{Open, Close, Read, ReadBuf, GetTrig, SetBuffers, Remask}
 use Rattle.iiod_grammar.specs.Stream.{Item, Said, End, items_from}
-use Rattle.iiod_session.specs.Desk.{DeskRecord}
+use Rattle.iiod_session.specs.Client.{ClientRecord}
 use Rattle.iio_history.specs.Who.{Who, Conn, Inner, same}
 use Rattle.iio_history.specs.Event.{Event, Arrived, Heard, Dropped, Polled, Handled, Sensed, Clock, Unplugged}
 use Rattle.iio_history.specs.Registry.{Setup, Member, Device, Registry, is_at, is_member, has_ended}
@@ -16,9 +16,9 @@ use Rattle.iio_history.specs.Fold.{device_after, registry_after}
 use Rattle.iio_history.specs.Told.{Seat, Station, Told, device_of, member_of_seat, registry_of, told}
 use Rattle.iio_history.specs.Reply.{seat_of}
 use Rattle.iio_history.specs.Transcript.{Step, Feed, Fire, Poll, Handle, Sense, SetClock, Drop, Unplug, and_then, begun_by, poll_entries, with_step}
-use Rattle.iio_history.specs.Bench.{Every, IsBench, IsDeskOf, IsSeat, IsStation, IsThere, bare_by, is_in, names_of, seat_in}
+use Rattle.iio_history.specs.Bench.{Every, IsBench, IsClientOf, IsSeat, IsStation, IsThere, bare_by, is_in, names_of, seat_in}
 use Rattle.iio_history.proofs.ToldLaws.{registry_is}
-use Rattle.iio_worlds.specs.Bystanders.{mine, has_other, has_open, is_modest, others_are_modest, is_parting, is_unparted, all_from, is_bystander, may_say, only_bystanders, meets_by, all_meet_by}
+use Rattle.iio_worlds.specs.Bystanders.{mine, has_other, has_open, is_neutral, others_are_neutral, ends_membership, is_unparted, all_from, is_bystander, may_say, only_bystanders, meets_by, all_meet_by}
 use Rattle.iio_worlds.specs.Stance.{Stance, has_input, has_others, stance_of, opens_of, is_so_at, is_so, none_so, may_part, item_meets, items_meet, step_meets, has_seat, one_has}
 use Rattle.iio_worlds.proofs.TwoWorldsLaws.{all_meet}
 use Rattle.iio_worlds.proofs.StartLaws.{quiet_all, all_met, is_met, heard, each_kept, open_by, open_at_is, all_unparted, start_decides}
@@ -103,11 +103,11 @@ pub stance_decides : (s : Setup) (r : Registry) (a name : List ℕ) (item : Item
 stance_decides s r a name item = by_speaker (bytes_eq name a) refl
   where
     by_speaker : (b : Bool) → bytes_eq name a ≡ b → meets_by s r a name item ≡ item_meets (opens_of s.desc (stance_of a r)) b item
-    by_speaker true is = ap (λ b. (b || is_modest s r a item) && all_from (is_met s a (Heard name item)) 0 r.devices) is ∙ own_part s a name item r is
+    by_speaker true is = ap (λ b. (b || is_neutral s r a item) && all_from (is_met s a (Heard name item)) 0 r.devices) is ∙ own_part s a name item r is
     by_speaker false is =
-        ap (λ b. (bytes_eq name a || is_modest s r a item) && b) (all_unparted s a name item 0 r.devices is)
-        ∙ and_true (bytes_eq name a || is_modest s r a item)
-        ∙ ap (λ b. b || is_modest s r a item) is
+        ap (λ b. (bytes_eq name a || is_neutral s r a item) && b) (all_unparted s a name item 0 r.devices is)
+        ∙ and_true (bytes_eq name a || is_neutral s r a item)
+        ∙ ap (λ b. b || is_neutral s r a item) is
         ∙ say_same (has_open s r a) (is_so s.desc (map (has_input a) r.devices)) item (open_is s r a)
 
 items_decided : (s : Setup) (r : Registry) (a name : List ℕ) (items : List Item)
@@ -120,21 +120,22 @@ items_decided s r a name (item ∷ items) =
 -- ---- events that meet the rules whoever has what open
 
 pub record IsPlain (s : Setup) (a : List ℕ) (e : Event) : Type 0 where
-  pub modest : (r : Registry) → others_are_modest s r a e ≡ true
-  pub parts : (k : ℕ) → is_parting s a e k ≡ false
+  pub neutral : (r : Registry) → others_are_neutral s r a e ≡ true
+  pub parts : (k : ℕ) → ends_membership s a e k ≡ false
 
 AllPlain : Setup → List ℕ → List Event → Type 0
 AllPlain s a [] = Unit {0}
 AllPlain s a (e ∷ es) = IsPlain s a e × AllPlain s a es
 
-unparted : (s : Setup) (a : List ℕ) (e : Event) (k : ℕ) (ds : List Device) → ((j : ℕ) → is_parting s a e j ≡ false) → all_from (is_unparted s a e) k ds ≡ true
+unparted : (s : Setup) (a : List ℕ) (e : Event) (k : ℕ) (ds : List Device) → ((j : ℕ) → ends_membership s a e j ≡ false)
+    → all_from (is_unparted s a e) k ds ≡ true
 unparted s a e k [] none = refl
 unparted s a e k (d ∷ ds) none =
     ap (λ b. not (b && is_member (Conn a) d.members && has_other (Conn a) d.members) && all_from (is_unparted s a e) (suc k) ds) (none k)
     ∙ unparted s a e (suc k) ds none
 
 plain_meets : (s : Setup) (r : Registry) (a : List ℕ) (e : Event) → IsPlain s a e → is_bystander s r a e ≡ true
-plain_meets s r a e is = ap (λ b. b && all_from (is_unparted s a e) 0 r.devices) (is.modest r) ∙ unparted s a e 0 r.devices is.parts
+plain_meets s r a e is = ap (λ b. b && all_from (is_unparted s a e) 0 r.devices) (is.neutral r) ∙ unparted s a e 0 r.devices is.parts
 
 plain_next : (s : Setup) (a : List ℕ) (h : List Event) (e : Event) → IsPlain s a e → only_bystanders s a h ≡ true → only_bystanders s a (e ∷ h) ≡ true
 plain_next s a h e is only = and_from (is_bystander s (registry_after s h) a e) (only_bystanders s a h) (plain_meets s (registry_after s h) a e is) only
@@ -147,7 +148,7 @@ plain_all s a (e ∷ es) h are only = plain_all s a es (e ∷ h) are.1 (plain_ne
 handled_plain : (s : Setup) (a : List ℕ) (trigger : ℕ) (es : List Handed) → AllPlain s a (map (λ (e : Handed). Handled trigger e.dev) es)
 unfolding AllPlain
 handled_plain s a trigger [] = tt
-handled_plain s a trigger (e ∷ es) = (record { modest = λ r. refl; parts = λ k. refl }, handled_plain s a trigger es)
+handled_plain s a trigger (e ∷ es) = (record { neutral = λ r. refl; parts = λ k. refl }, handled_plain s a trigger es)
 
 -- ---- a step
 
@@ -173,7 +174,7 @@ feed_decides s a h name bytes only = by_end (has_ended name (registry_of (told s
     live : only_bystanders s a (and_then (Arrived name bytes ∷ h) (heard name items))
         ≡ items_meet (opens_of s.desc (stance_of a (registry_of (told s h)))) (bytes_eq name a) items
     live =
-        start_decides s a name items (Arrived name bytes ∷ h) (plain_next s a h (Arrived name bytes) (record { modest = λ r. refl; parts = λ k. refl }) only)
+        start_decides s a name items (Arrived name bytes ∷ h) (plain_next s a h (Arrived name bytes) (record { neutral = λ r. refl; parts = λ k. refl }) only)
         ∙ items_decided s (registry_after s (Arrived name bytes ∷ h)) a name items
         ∙ ap (λ (x : Stance). items_meet (opens_of s.desc x) (bytes_eq name a) items) (stance_arrived s a h name bytes ∙ stance_is)
 
@@ -203,14 +204,14 @@ step_decides s a h (Feed name bytes) only = feed_decides s a h name bytes only
 step_decides s a h (Drop name) only = drop_decides s a h name only
 step_decides s a h (Fire trigger moment) only =
     plain_all s a (Polled trigger moment ∷ map (λ (e : Handed). Handled trigger e.dev) (poll_entries (told s h) trigger moment)) h
-    (record { modest = λ r. refl; parts = λ k. refl }, handled_plain s a trigger (poll_entries (told s h) trigger moment)) only
-step_decides s a h (Poll trigger moment) only = plain_next s a h (Polled trigger moment) (record { modest = λ r. refl; parts = λ k. refl }) only
-step_decides s a h (Handle trigger device) only = plain_next s a h (Handled trigger device) (record { modest = λ r. refl; parts = λ k. refl }) only
-step_decides s a h (Sense device moment) only = plain_next s a h (Sensed device moment) (record { modest = λ r. refl; parts = λ k. refl }) only
-step_decides s a h (SetClock moment) only = plain_next s a h (Clock moment) (record { modest = λ r. refl; parts = λ k. refl }) only
-step_decides s a h (Unplug device) only = plain_next s a h (Unplugged device) (record { modest = λ r. refl; parts = λ k. refl }) only
+    (record { neutral = λ r. refl; parts = λ k. refl }, handled_plain s a trigger (poll_entries (told s h) trigger moment)) only
+step_decides s a h (Poll trigger moment) only = plain_next s a h (Polled trigger moment) (record { neutral = λ r. refl; parts = λ k. refl }) only
+step_decides s a h (Handle trigger device) only = plain_next s a h (Handled trigger device) (record { neutral = λ r. refl; parts = λ k. refl }) only
+step_decides s a h (Sense device moment) only = plain_next s a h (Sensed device moment) (record { neutral = λ r. refl; parts = λ k. refl }) only
+step_decides s a h (SetClock moment) only = plain_next s a h (Clock moment) (record { neutral = λ r. refl; parts = λ k. refl }) only
+step_decides s a h (Unplug device) only = plain_next s a h (Unplugged device) (record { neutral = λ r. refl; parts = λ k. refl }) only
 
--- ---- by the desks
+-- ---- by the clients
 
 is_some_map : {A B : Type 0} (f : A → B) (o : Option A) → is_some (option_map f o) ≡ is_some o
 is_some_map f None = refl
@@ -225,9 +226,9 @@ seated w (x ∷ xs) = by_test (same w x.member.who) (seated w xs)
     by_test true rest = refl
     by_test false rest = rest
 
-pub seats_tell : (m : Told) (name : List ℕ) (desk : DeskRecord) (k : ℕ) (st : Station) → IsDeskOf m name desk → slice_get m.stations k ≡ Some st
-    → is_member (Conn name) (device_of st).members ≡ has_seat k desk
-seats_tell m name desk k st is here =
+pub seats_tell : (m : Told) (name : List ℕ) (client : ClientRecord) (k : ℕ) (st : Station) → IsClientOf m name client → slice_get m.stations k ≡ Some st
+    → is_member (Conn name) (device_of st).members ≡ has_seat k client
+seats_tell m name client k st is here =
     seated (Conn name) st.seats
     ∙ sym (is_some_map (bare_by k) (seat_of (Conn name) st.seats))
     ∙ ap (λ o. is_some (seat_in k (Conn name) o)) (sym here)

@@ -17,7 +17,7 @@ use Rattle.iio_history.specs.Act.{Act, Nothing, Writing, inner_member, inner_joi
 use Rattle.iio_history.specs.Fold.{members_after, device_after, registry_after, registry_next}
 use Rattle.iio_history.specs.Transcript.{and_then}
 use Rattle.iio_history.proofs.WhoLaws.{same_self, same_is, same_sym}
-use Rattle.iio_worlds.specs.Bystanders.{mine, has_open_at, has_open, is_modest, others_are_modest, is_parting, has_other, is_unparted, all_from, is_bystander, only_bystanders, meets_by, all_meet_by}
+use Rattle.iio_worlds.specs.Bystanders.{mine, has_open_at, has_open, is_neutral, others_are_neutral, ends_membership, has_other, is_unparted, all_from, is_bystander, only_bystanders, meets_by, all_meet_by}
 use Rattle.iio_worlds.proofs.Alone.{get_map, Led}
 use Rattle.iio_worlds.proofs.OwnLaws.{member_left, member_masked, other_joined, other_masked}
 use Rattle.iio_desc.specs.Kind.{is_input, is_output, is_over}
@@ -59,7 +59,7 @@ quiet_all s a (e ∷ h) only = by_who (speaks a e) refl (quiet_all s a h only.1)
 -- ---- then the second rule asks for another member alone
 
 abbrev pub is_met : Setup → List ℕ → Event → ℕ → Device → Bool
-is_met s a e k d = not (is_parting s a e k && has_other (Conn a) d.members)
+is_met s a e k d = not (ends_membership s a e k && has_other (Conn a) d.members)
 
 met_by : (w : Who) (p m : Bool) (ms : List Member) → Led w ms → is_member w ms ≡ m → not (p && m && has_other w ms) ≡ not (p && has_other w ms)
 met_by w false m ms led is = refl
@@ -71,13 +71,13 @@ pub all_met : (s : Setup) (a : List ℕ) (e : Event) (k : ℕ) (ds : List Device
 all_met s a e k [] even = refl
 all_met s a e k (d ∷ ds) even =
     ap (λ b. b && all_from (is_unparted s a e) (suc k) ds)
-    (met_by (Conn a) (is_parting s a e k) (is_member (Conn a) d.members) d.members (even 0 d refl).led refl)
+    (met_by (Conn a) (ends_membership s a e k) (is_member (Conn a) d.members) d.members (even 0 d refl).led refl)
     ∙ ap (λ b. is_met s a e k d && b) (all_met s a e (suc k) ds (λ j x here. even (suc j) x here))
 
 by_start : (s : Setup) (a name : List ℕ) (item : Item) (h : List Event) → OnlyBystanders s a h
     → is_bystander s (registry_after s h) a (Heard name item) ≡ meets_by s (registry_after s h) a name item
 by_start s a name item h only =
-    ap (λ b. others_are_modest s (registry_after s h) a (Heard name item) && b)
+    ap (λ b. others_are_neutral s (registry_after s h) a (Heard name item) && b)
     (all_met s a (Heard name item) 0 (registry_after s h).devices (quiet_all s a h only).0)
 
 -- ---- an item joins or parts nobody but its speaker
@@ -277,28 +277,28 @@ open_same : (s : Setup) (r q : Registry) (a device : List ℕ) → map (asked_of
     → has_open s r a device ≡ has_open s q a device
 open_same s r q a device alike = open_by_same r q a (find_device s.desc device) alike
 
-modest_same : (s : Setup) (r q : Registry) (a : List ℕ) (item : Item) → map (asked_of a) r.devices ≡ map (asked_of a) q.devices
-    → is_modest s r a item ≡ is_modest s q a item
-modest_same s r q a (Said (Ok (Open device samples text cyclic))) alike = open_same s r q a device alike
-modest_same s r q a (Said (Ok (Close device))) alike = open_same s r q a device alike
-modest_same s r q a (Said (Ok (ReadBuf device bytes))) alike = open_same s r q a device alike
-modest_same s r q a (Said (Ok (Read device place attribute))) alike = open_same s r q a device alike
-modest_same s r q a (Said (Ok (GetTrig device))) alike = open_same s r q a device alike
-modest_same s r q a (Said (Ok (SetBuffers device n))) alike = open_same s r q a device alike
-modest_same s r q a (Said (Ok (Remask device text))) alike = open_same s r q a device alike
-modest_same s r q a item alike = refl
+neutral_same : (s : Setup) (r q : Registry) (a : List ℕ) (item : Item) → map (asked_of a) r.devices ≡ map (asked_of a) q.devices
+    → is_neutral s r a item ≡ is_neutral s q a item
+neutral_same s r q a (Said (Ok (Open device samples text cyclic))) alike = open_same s r q a device alike
+neutral_same s r q a (Said (Ok (Close device))) alike = open_same s r q a device alike
+neutral_same s r q a (Said (Ok (ReadBuf device bytes))) alike = open_same s r q a device alike
+neutral_same s r q a (Said (Ok (Read device place attribute))) alike = open_same s r q a device alike
+neutral_same s r q a (Said (Ok (GetTrig device))) alike = open_same s r q a device alike
+neutral_same s r q a (Said (Ok (SetBuffers device n))) alike = open_same s r q a device alike
+neutral_same s r q a (Said (Ok (Remask device text))) alike = open_same s r q a device alike
+neutral_same s r q a item alike = refl
 
 met_is : (s : Setup) (a : List ℕ) (e : Event) (k : ℕ) (ds : List Device)
-    → all_from (is_met s a e) k ds ≡ all_from (λ j b. not (is_parting s a e j && b)) k (map (others_of a) ds)
+    → all_from (is_met s a e) k ds ≡ all_from (λ j b. not (ends_membership s a e j && b)) k (map (others_of a) ds)
 met_is s a e k [] = refl
 met_is s a e k (d ∷ ds) = ap (λ b. is_met s a e k d && b) (met_is s a e (suc k) ds)
 
 met_same : (s : Setup) (r q : Registry) (a : List ℕ) (e : Event) → map (others_of a) r.devices ≡ map (others_of a) q.devices
     → all_from (is_met s a e) 0 r.devices ≡ all_from (is_met s a e) 0 q.devices
-met_same s r q a e alike = met_is s a e 0 r.devices ∙ ap (all_from (λ j b. not (is_parting s a e j && b)) 0) alike ∙ sym (met_is s a e 0 q.devices)
+met_same s r q a e alike = met_is s a e 0 r.devices ∙ ap (all_from (λ j b. not (ends_membership s a e j && b)) 0) alike ∙ sym (met_is s a e 0 q.devices)
 
 -- another's item parts nothing
-never_parts : (s : Setup) (a name : List ℕ) (item : Item) (k : ℕ) → bytes_eq name a ≡ false → is_parting s a (Heard name item) k ≡ false
+never_parts : (s : Setup) (a name : List ℕ) (item : Item) (k : ℕ) → bytes_eq name a ≡ false → ends_membership s a (Heard name item) k ≡ false
 never_parts s a name (Said (Ok (Close device))) k apart = ap (λ b. b && is_named s device k) apart
 never_parts s a name (Said (Ok (Remask device text))) k apart = ap (λ b. b && is_named s device k) apart
 never_parts s a name (End refusal) k apart = apart
@@ -322,11 +322,11 @@ AreSame a name r q =
 meets_same : (s : Setup) (a name : List ℕ) (item : Item) (r q : Registry) (t : Bool) → bytes_eq name a ≡ t → AreSame a name r q
     → meets_by s r a name item ≡ meets_by s q a name item
 meets_same s a name item r q true is alike =
-    ap (λ b. (b || is_modest s r a item) && all_from (is_met s a (Heard name item)) 0 r.devices) is ∙ met_same s r q a (Heard name item) (alike.1 is)
-    ∙ ap (λ b. (b || is_modest s q a item) && all_from (is_met s a (Heard name item)) 0 q.devices) (sym is)
+    ap (λ b. (b || is_neutral s r a item) && all_from (is_met s a (Heard name item)) 0 r.devices) is ∙ met_same s r q a (Heard name item) (alike.1 is)
+    ∙ ap (λ b. (b || is_neutral s q a item) && all_from (is_met s a (Heard name item)) 0 q.devices) (sym is)
 meets_same s a name item r q false is alike =
-    ap (λ b. (bytes_eq name a || b) && all_from (is_met s a (Heard name item)) 0 r.devices) (modest_same s r q a item (alike.0 is))
-    ∙ ap (λ b. (bytes_eq name a || is_modest s q a item) && b) (all_unparted s a name item 0 r.devices is ∙ sym (all_unparted s a name item 0 q.devices is))
+    ap (λ b. (bytes_eq name a || b) && all_from (is_met s a (Heard name item)) 0 r.devices) (neutral_same s r q a item (alike.0 is))
+    ∙ ap (λ b. (bytes_eq name a || is_neutral s q a item) && b) (all_unparted s a name item 0 r.devices is ∙ sym (all_unparted s a name item 0 q.devices is))
 
 still_same : (s : Setup) (a name : List ℕ) (item : Item) (r q : Registry) → AreSame a name r q → AreSame a name (registry_next s r (Heard name item)) q
 still_same s a name item r q alike = (

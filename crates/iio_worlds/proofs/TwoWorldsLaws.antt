@@ -14,7 +14,7 @@ use Rattle.iio_history.specs.Transcript.{Step, Feed, Fire, Poll, Handle, Sense, 
 use Rattle.iio_history.proofs.ToldLaws.{registry_is, step_is_told}
 use Rattle.iio_text.specs.Escape.{quoted}
 use Rattle.iio_trigger.specs.Trigger.{Handed}
-use Rattle.iio_worlds.specs.Bystanders.{is_bystander, only_bystanders, others_are_modest}
+use Rattle.iio_worlds.specs.Bystanders.{is_bystander, only_bystanders, others_are_neutral}
 use Rattle.iio_worlds.specs.Worlds.{is_others, without_others, transcript_kept, first_offence}
 use Rattle.iio_worlds.proofs.Alone.{own}
 use Rattle.iio_worlds.proofs.ActLaws.{AllEven, IsOwn}
@@ -76,7 +76,7 @@ alike_foreign s a h g e is only alike =
       quiet_foreign s a (registry_after s h) e is met.0 alike.0,
       alike.1,
       ap (own a) (step_is_told s h e)
-          ∙ step_kept s a (told s h) e is (of_told s h (λ r. others_are_modest s r a e ≡ true) met.0) (of_told s h (λ r. AllEven (Conn a) r.devices) alike.0.0)
+          ∙ step_kept s a (told s h) e is (of_told s h (λ r. others_are_neutral s r a e ≡ true) met.0) (of_told s h (λ r. AllEven (Conn a) r.devices) alike.0.0)
           (of_told s h (λ r. AllFree (Conn a) r.devices) alike.0.1) ∙ alike.2,
     )
 

@@ -41,21 +41,21 @@ may_say is_so (Said (Ok (Remask device text))) = is_so device
 may_say is_so item = false
 
 -- beside `a` it may name the devices of which `a` is a member
-abbrev pub is_modest : Setup → Registry → List ℕ → Item → Bool
-is_modest s r a item = may_say (has_open s r a) item
+abbrev pub is_neutral : Setup → Registry → List ℕ → Item → Bool
+is_neutral s r a item = may_say (has_open s r a) item
 
 -- the first rule
-abbrev pub others_are_modest : Setup → Registry → List ℕ → Event → Bool
-others_are_modest s r a (Heard name item) = bytes_eq name a || is_modest s r a item
-others_are_modest s r a e = true
+abbrev pub others_are_neutral : Setup → Registry → List ℕ → Event → Bool
+others_are_neutral s r a (Heard name item) = bytes_eq name a || is_neutral s r a item
+others_are_neutral s r a e = true
 
 -- whether the event ends what `a` has of device k, or remasks it
-abbrev pub is_parting : Setup → List ℕ → Event → ℕ → Bool
-is_parting s a (Heard name (Said (Ok (Close device)))) k = bytes_eq name a && is_named s device k
-is_parting s a (Heard name (Said (Ok (Remask device text)))) k = bytes_eq name a && is_named s device k
-is_parting s a (Heard name (End refusal)) k = bytes_eq name a
-is_parting s a (Dropped name) k = bytes_eq name a
-is_parting s a e k = false
+abbrev pub ends_membership : Setup → List ℕ → Event → ℕ → Bool
+ends_membership s a (Heard name (Said (Ok (Close device)))) k = bytes_eq name a && is_named s device k
+ends_membership s a (Heard name (Said (Ok (Remask device text)))) k = bytes_eq name a && is_named s device k
+ends_membership s a (Heard name (End refusal)) k = bytes_eq name a
+ends_membership s a (Dropped name) k = bytes_eq name a
+ends_membership s a e k = false
 
 -- whether a membership is the connection's, or nobody's
 abbrev pub mine : Who → Who → Bool
@@ -69,7 +69,7 @@ has_other who (m ∷ ms) = not (mine who m.who) || has_other who ms
 
 -- the second rule at device k: a membership of `a` isn't parted from another's
 abbrev pub is_unparted : Setup → List ℕ → Event → ℕ → Device → Bool
-is_unparted s a e k d = not (is_parting s a e k && is_member (Conn a) d.members && has_other (Conn a) d.members)
+is_unparted s a e k d = not (ends_membership s a e k && is_member (Conn a) d.members && has_other (Conn a) d.members)
 
 -- what holds at each place of a list; `k` is the first one's
 abbrev pub all_from : {A : Type 0} → (ℕ → A → Bool) → ℕ → List A → Bool
@@ -78,7 +78,7 @@ all_from f k (x ∷ xs) = f k x && all_from f (suc k) xs
 
 -- whether the event meets both rules
 abbrev pub is_bystander : Setup → Registry → List ℕ → Event → Bool
-is_bystander s r a e = others_are_modest s r a e && all_from (is_unparted s a e) 0 r.devices
+is_bystander s r a e = others_are_neutral s r a e && all_from (is_unparted s a e) 0 r.devices
 
 -- whether each event of a history does, with what stands before it
 abbrev pub only_bystanders : Setup → List ℕ → List Event → Bool
@@ -90,8 +90,8 @@ only_bystanders s a (e ∷ h) = is_bystander s (registry_after s h) a e && only_
 -- whether an item meets both rules by what was open then: for the second it is enough whether another was a member
 abbrev pub meets_by : Setup → Registry → List ℕ → List ℕ → Item → Bool
 meets_by s r a name item =
-    others_are_modest s r a (Heard name item)
-    && all_from (λ k d. not (is_parting s a (Heard name item) k && has_other (Conn a) d.members)) 0 r.devices
+    others_are_neutral s r a (Heard name item)
+    && all_from (λ k d. not (ends_membership s a (Heard name item) k && has_other (Conn a) d.members)) 0 r.devices
 
 abbrev pub all_meet_by : Setup → Registry → List ℕ → List ℕ → List Item → Bool
 all_meet_by s r a name [] = true

@@ -5,7 +5,7 @@ use Rattle.iiod_grammar.specs.Command.{Close, Remask}
 use Rattle.iiod_grammar.specs.Stream.{Item, Said, End, items_from}
 use Rattle.iio_desc.specs.Description.{Description, find_device}
 use Rattle.iio_desc.specs.Kind.{is_input}
-use Rattle.iiod_session.specs.Desk.{DeskRecord}
+use Rattle.iiod_session.specs.Client.{ClientRecord}
 use Rattle.iio_core.specs.Front.{Front}
 use Rattle.iio_core.specs.Front as front_spec
 use Rattle.iio_device.specs.Site.{is_empty}
@@ -14,7 +14,7 @@ use Rattle.iio_history.specs.Event.{Event}
 use Rattle.iio_history.specs.Registry.{Setup, Device, Registry, is_member, has_ended}
 use Rattle.iio_history.specs.Told.{Station, Told, device_of, registry_of, told}
 use Rattle.iio_history.specs.Transcript.{Step, Feed, Drop, begun_by, with_step}
-use Rattle.iio_history.specs.Bench.{Every, IsBench, IsDeskOf, front_of, is_in, names_of, seat_at}
+use Rattle.iio_history.specs.Bench.{Every, IsBench, IsClientOf, front_of, is_in, names_of, seat_at}
 use Rattle.iio_worlds.specs.Bystanders.{has_other, may_say, meets_by, only_bystanders}
 
 -- device by device: whether the connection has it open, and it is neither an output nor an averaging device; and whether
@@ -94,16 +94,16 @@ abbrev pub StepDecides : Type 0
 StepDecides =
     (s : Setup) (a : List ℕ) (h : List Event) (t : Step) → only_bystanders s a h ≡ true → only_bystanders s a (with_step s h t) ≡ step_meets s a (told s h) t
 
--- ---- the stance by the desks
+-- ---- the stance by the clients
 
-abbrev pub has_seat : ℕ → DeskRecord → Bool
-has_seat k desk = is_some (seat_at k desk.seats)
+abbrev pub has_seat : ℕ → ClientRecord → Bool
+has_seat k client = is_some (seat_at k client.seats)
 
 -- who has a seat at a device has it open
 abbrev pub SeatsTell : Type 0
 SeatsTell =
-    (m : Told) (name : List ℕ) (desk : DeskRecord) (k : ℕ) (st : Station) → IsDeskOf m name desk → slice_get m.stations k ≡ Some st
-    → is_member (Conn name) (device_of st).members ≡ has_seat k desk
+    (m : Told) (name : List ℕ) (client : ClientRecord) (k : ℕ) (st : Station) → IsClientOf m name client → slice_get m.stations k ≡ Some st
+    → is_member (Conn name) (device_of st).members ≡ has_seat k client
 
 -- whether one of these names but `a` has the device open
 abbrev pub one_has : List ℕ → List (List ℕ) → Device → Bool
@@ -117,38 +117,39 @@ OthersAreThere =
     → has_others a (device_of st) ≡ one_has a (names_of m) (device_of st)
 
 -- by the seats of the connection, where it is there, and of the others that are there: what a session sees is enough
-abbrev pub own_has : Option DeskRecord → ℕ → Bool
+abbrev pub own_has : Option ClientRecord → ℕ → Bool
 own_has None k = false
-own_has (Some desk) k = has_seat k desk
+own_has (Some client) k = has_seat k client
 
-abbrev pub one_seated : List DeskRecord → ℕ → Bool
+abbrev pub one_seated : List ClientRecord → ℕ → Bool
 one_seated [] k = false
-one_seated (desk ∷ desks) k = has_seat k desk || one_seated desks k
+one_seated (client ∷ clients) k = has_seat k client || one_seated clients k
 
-abbrev pub none_seated : List DeskRecord → Bool
+abbrev pub none_seated : List ClientRecord → Bool
 none_seated [] = true
-none_seated (desk ∷ desks) = is_empty desk.seats && none_seated desks
+none_seated (client ∷ clients) = is_empty client.seats && none_seated clients
 
 abbrev pub by_number : Option ℕ → (ℕ → Bool) → Bool
 by_number o f = elim o [ None ↦ false | Some k ↦ f k ]
 
-abbrev pub opens_by : Front → Option DeskRecord → List DeskRecord → Opens
+abbrev pub opens_by : Front → Option ClientRecord → List ClientRecord → Opens
 opens_by front own others = record {
   own = λ device. by_number (front_spec.find_device front device) (λ k. is_input (front_spec.kind_at front k) && own_has own k);
   others = λ device. by_number (front_spec.find_device front device) (one_seated others);
   none = none_seated others;
 }
 
--- the desks of the connections of these names but `a`
-abbrev pub desks_but : (desks : List ℕ → DeskRecord) → List ℕ → List (List ℕ) → List DeskRecord
-desks_but desks a [] = []
-desks_but desks a (name ∷ names) = if bytes_eq name a then desks_but desks a names else desks name ∷ desks_but desks a names
+-- the clients of the connections of these names but `a`
+abbrev pub clients_but : (clients : List ℕ → ClientRecord) → List ℕ → List (List ℕ) → List ClientRecord
+clients_but clients a [] = []
+clients_but clients a (name ∷ names) = if bytes_eq name a then clients_but clients a names else clients name ∷ clients_but clients a names
 
-abbrev pub desk_there : (desks : List ℕ → DeskRecord) → List ℕ → List (List ℕ) → Option DeskRecord
-desk_there desks a names = if is_in names a then Some (desks a) else None
+abbrev pub client_there : (clients : List ℕ → ClientRecord) → List ℕ → List (List ℕ) → Option ClientRecord
+client_there clients a names = if is_in names a then Some (clients a) else None
 
--- what a step is by the desks is what it is by the told state
-abbrev pub DesksDecide : Type 0
-DesksDecide =
-    (s : Setup) (m : Told) (a : List ℕ) (desks : List ℕ → DeskRecord) (t : Step) → IsBench s m → Every (λ name. IsDeskOf m name (desks name)) (names_of m)
-    → step_meets s a m t ≡ step_meets_by (opens_by (front_of s) (desk_there desks a (names_of m)) (desks_but desks a (names_of m))) a m t
+-- what a step is by the clients is what it is by the told state
+abbrev pub ClientsDecide : Type 0
+ClientsDecide =
+    (s : Setup) (m : Told) (a : List ℕ) (clients : List ℕ → ClientRecord) (t : Step) → IsBench s m
+    → Every (λ name. IsClientOf m name (clients name)) (names_of m)
+    → step_meets s a m t ≡ step_meets_by (opens_by (front_of s) (client_there clients a (names_of m)) (clients_but clients a (names_of m))) a m t

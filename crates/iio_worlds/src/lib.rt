@@ -2,7 +2,7 @@
 #![tactic(auto)]
 
 ghost use Rattle.iio_worlds.specs.Worlds.{TwoWorlds, OffenceIs, StartDecides};
-ghost use Rattle.iio_worlds.specs.Stance.{StanceDecides, StepDecides, SeatsTell, OthersAreThere, DesksDecide};
+ghost use Rattle.iio_worlds.specs.Stance.{StanceDecides, StepDecides, SeatsTell, OthersAreThere, ClientsDecide};
 ghost use Rattle.iio_worlds.specs.Solo.{SoloIsTwice, RunKeeps, OffenceLineIs, BadLineIsFirst, WorldsAreAlike, OffenderIsRefused};
 ghost use Rattle.iio_worlds.specs.KeptOn.{KeptGoesOn};
 ghost use Rattle.iio_worlds.specs.OwnLines.{OwnLinesPlay};
@@ -20,7 +20,7 @@ pub fn stance_law()
     ensures step { StepDecides }
     ensures seats { SeatsTell }
     ensures others { OthersAreThere }
-    ensures desks { DesksDecide }
+    ensures clients { ClientsDecide }
 {}
 
 /// Both texts of a connection's worlds are what one run keeps. A line that is refused comes before any step against the

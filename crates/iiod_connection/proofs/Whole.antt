@@ -12,9 +12,9 @@ use Rattle.iiod_session.specs.declared.manner.Going.TheVariants as going
 use Rattle.iiod_session.specs.declared.manner.Manner.TheVariants.{Server}
 use Rattle.iio_core.specs.Front.{Front}
 use Rattle.iiod_session.specs.Acts.{left_machine}
-use Rattle.iiod_session.specs.declared.desk.BuffersCount.{BuffersCount}
-use Rattle.iiod_session.specs.declared.desk.Held.{Held}
-use Rattle.iiod_session.specs.Desk.{seats_of, tales_of}
+use Rattle.iiod_session.specs.declared.client.BuffersCount.{BuffersCount}
+use Rattle.iiod_session.specs.declared.client.Held.{Held}
+use Rattle.iiod_session.specs.Client.{seats_of, traces_of}
 use Rattle.iio_core.specs.Machine.{Machine}
 use Rattle.iiod_session.specs.Run.{Stands, State}
 use Rattle.iiod_session.specs.Seat.{SeatRecord}
@@ -135,7 +135,7 @@ nothing_heard front a left written = record {
 }
 
 pub closed_by : (front : Front) (end : SessionEnd) (c b : Place) (told : Option Machine) → IsLast end c b
-    → IfSome b.state.told (λ m. told ≡ Some (left_machine front m b.state.desk)) → IsClosed front end c told
+    → IfSome b.state.told (λ m. told ≡ Some (left_machine front m b.state.client)) → IsClosed front end c told
 closed_by front Eof c b told last s = subst (λ (p : Place). IsClosed front Eof p told) (sym last) s
 closed_by front Ended c b told last s = subst (λ (p : Place). IsClosed front Ended p told) (sym last) s
 closed_by front LinkFault c b told last s = subst (λ (p : Place). IsClosed front LinkFault p told) (sym last) s
@@ -146,12 +146,13 @@ pub is_first_place : {S : Type 0} (seen : S → SeatRecord) (told : Option Machi
     → place_of seen told s ≡ first_place who told
 is_first_place {S} seen told who s f =
     let mk : ℕ → List (Held S) → List BuffersCount → List ℕ → Scanned → Place = λ w held counts holdings stream. record {
-      state = record { told = told; desk = record { who = w; seats = seats_of seen held; buffers = counts; holdings = holdings }; tales = tales_of seen held };
+      state =
+          record { told = told; client = record { who = w; seats = seats_of seen held; buffers = counts; holdings = holdings }; traces = traces_of seen held };
       stream = stream;
     } in
-    ap (λ w. mk w s.desk.held.items s.desk.buffers.items s.desk.holdings.items s.stream) f.number
-    ∙ ap (λ h. mk who h s.desk.buffers.items s.desk.holdings.items s.stream) f.seats
-    ∙ ap (λ h. mk who [] h s.desk.holdings.items s.stream) f.buffers
+    ap (λ w. mk w s.client.held.items s.client.buffers.items s.client.holdings.items s.stream) f.number
+    ∙ ap (λ h. mk who h s.client.buffers.items s.client.holdings.items s.stream) f.seats
+    ∙ ap (λ h. mk who [] h s.client.holdings.items s.stream) f.buffers
     ∙ ap (λ h. mk who [] [] h s.stream) f.holdings
     ∙ ap (λ h. mk who [] [] [] h) f.stream
 

@@ -18,7 +18,7 @@ pub record FindsNothing (front : Front) (a b : State) : Type 0 where
   pub dev : ℕ
   pub item : Item
   pub read : IsReadOf front dev item
-  pub served : Serves front a.told a.desk a.tales item (Refusal EAGAIN) b.told b.desk b.tales
+  pub served : Serves front a.told a.client a.traces item (Refusal EAGAIN) b.told b.client b.traces
 
 -- these items, each with its answer, in n runs; between two of them a READBUF may have been tried
 abbrev pub Runs : ℕ → Front → State → List Item → List Reply → State → Type 0

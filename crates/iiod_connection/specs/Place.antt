@@ -13,11 +13,11 @@ pub record Place : Type 0 where
 
 -- the place of a session
 abbrev pub place_of : {S : Type 0} → (S → SeatRecord) → Option Machine → SessionRecord S → Place
-place_of seen told s = record { state = state_of seen told s.desk; stream = s.stream }
+place_of seen told s = record { state = state_of seen told s.client; stream = s.stream }
 
 -- the place of a connection of which nothing was heard yet: it has nothing of the devices
 abbrev pub first_place : ℕ → Option Machine → Place
 first_place who told = record {
-  state = record { told = told; desk = record { who = who; seats = []; buffers = []; holdings = [] }; tales = [] };
+  state = record { told = told; client = record { who = who; seats = []; buffers = []; holdings = [] }; traces = [] };
   stream = no_item (InLine []);
 }

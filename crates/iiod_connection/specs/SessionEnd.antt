@@ -47,7 +47,7 @@ pub record Ends (Says : List ℕ → List ℕ → Place → Type 0) (end : Sessi
 -- had isn't told
 abbrev pub IsClosed : Front → SessionEnd → Place → Option Machine → Type 0
 IsClosed front Memory b told = Unit {0}
-IsClosed front end b told = IfSome b.state.told (λ m. told ≡ Some (left_machine front m b.state.desk))
+IsClosed front end b told = IfSome b.state.told (λ m. told ≡ Some (left_machine front m b.state.client))
 
 -- a connection from its first byte to its end
 abbrev pub IsServed : Front → (who : ℕ) → (told : Option Machine) → (left written : Option (List ℕ)) → SessionEnd

@@ -1,7 +1,7 @@
 //! A connection served over a link.
 
 ghost use Rattle.std.specs.Prelude.{◌≡◌, ◌<◌, ◌≤◌, ◌+◌, ◌++◌, drop, [], length, Some, IfSome, IfOk, OnOk};
-ghost use Rattle.iiod_session.specs.Desk.{IsDesk};
+ghost use Rattle.iiod_session.specs.Client.{IsClient};
 ghost use Rattle.iiod_session.specs.Run.{state_of};
 ghost use Rattle.iiod_session.specs.declared.manner.Manner.TheVariants.{Server};
 ghost use Rattle.iiod_connection.specs.Parts.{PartsAreShort, part_length};
@@ -30,10 +30,10 @@ fn feed_and_send<L: Link, B: Bells>(
     out: &mut Vec<u8>,
 ) -> Result<Going, SessionEnd>
     requires manner { session.old.manner ≡ Server }
-    requires desk { IsDesk B.seen (B.front (B.kept iio.old)) session.old.desk }
+    requires client { IsClient B.seen (B.front (B.kept iio.old)) session.old.client }
     ensures manner { session.new.manner ≡ Server }
     ensures kept { B.kept iio.new ≡ B.kept iio.old }
-    ensures desk { IsDesk B.seen (B.front (B.kept iio.new)) session.new.desk }
+    ensures client { IsClient B.seen (B.front (B.kept iio.new)) session.new.client }
     ensures left { L.left link.new ≡ L.left link.old }
     ensures faults { Faults result (L.faults link.old) (L.faults link.new) }
     ensures sends { SendsOnce (B.front (B.kept iio.old)) (place_of B.seen (B.told iio.old) session.old) bytes.now (L.written link.old)
@@ -109,12 +109,12 @@ fn settle<L: Link, B: Bells, R: Wait>(
     going: Going,
 ) -> Result<(), SessionEnd>
     requires manner { session.old.manner ≡ Server }
-    requires desk { IsDesk B.seen (B.front (B.kept iio.old)) session.old.desk }
+    requires client { IsClient B.seen (B.front (B.kept iio.old)) session.old.client }
     requires look { IfSome carried.old.look (λ l. l.dev < length (B.front (B.kept iio.old)).devices) }
     requires stands { StandsBy (B.front (B.kept iio.old)) going (place_of B.seen (B.told iio.old) session.old) }
     ensures manner { session.new.manner ≡ Server }
     ensures kept { B.kept iio.new ≡ B.kept iio.old }
-    ensures desk { IsDesk B.seen (B.front (B.kept iio.new)) session.new.desk }
+    ensures client { IsClient B.seen (B.front (B.kept iio.new)) session.new.client }
     ensures look { IfSome carried.new.look (λ l. l.dev < length (B.front (B.kept iio.new)).devices) }
     ensures left { L.left link.new ≡ L.left link.old }
     ensures faults { Faults result (L.faults link.old) (L.faults link.new) }
@@ -146,11 +146,11 @@ fn hear<L: Link, B: Bells, R: Wait>(
     carried: &mut Carried,
 ) -> Result<(), SessionEnd>
     requires manner { session.old.manner ≡ Server }
-    requires desk { IsDesk B.seen (B.front (B.kept iio.old)) session.old.desk }
+    requires client { IsClient B.seen (B.front (B.kept iio.old)) session.old.client }
     requires look { IfSome carried.old.look (λ l. l.dev < length (B.front (B.kept iio.old)).devices) }
     ensures manner { session.new.manner ≡ Server }
     ensures kept { B.kept iio.new ≡ B.kept iio.old }
-    ensures desk { IsDesk B.seen (B.front (B.kept iio.new)) session.new.desk }
+    ensures client { IsClient B.seen (B.front (B.kept iio.new)) session.new.client }
     ensures look { IfSome carried.new.look (λ l. l.dev < length (B.front (B.kept iio.new)).devices) }
     ensures left { L.left link.new ≡ L.left link.old }
     ensures faults { Faults result (L.faults link.old) (L.faults link.new) }
@@ -191,12 +191,12 @@ fn turn<L: Link, B: Bells, R: Wait>(
     carried: &mut Carried,
 ) -> Result<(), SessionEnd>
     requires manner { session.old.manner ≡ Server }
-    requires desk { IsDesk B.seen (B.front (B.kept iio.old)) session.old.desk }
+    requires client { IsClient B.seen (B.front (B.kept iio.old)) session.old.client }
     requires look { IfSome carried.old.look (λ l. l.dev < length (B.front (B.kept iio.old)).devices) }
     requires settled { session.old.stream.items ≡ [] }
     ensures manner { session.new.manner ≡ Server }
     ensures kept { B.kept iio.new ≡ B.kept iio.old }
-    ensures desk { IsDesk B.seen (B.front (B.kept iio.new)) session.new.desk }
+    ensures client { IsClient B.seen (B.front (B.kept iio.new)) session.new.client }
     ensures look { IfSome carried.new.look (λ l. l.dev < length (B.front (B.kept iio.new)).devices) }
     ensures left { L.left link.new ≡ L.left link.old }
     ensures faults { Faults result (L.faults link.old) (L.faults link.new) }
@@ -223,10 +223,10 @@ fn talk<L: Link, B: Bells, G: Gate, R: Wait>(
     gate: &G,
 ) -> SessionEnd
     requires manner { session.old.manner ≡ Server }
-    requires desk { IsDesk B.seen (B.front (B.kept iio.old)) session.old.desk }
+    requires client { IsClient B.seen (B.front (B.kept iio.old)) session.old.client }
     requires settled { session.old.stream.items ≡ [] }
     ensures kept { B.kept iio.new ≡ B.kept iio.old }
-    ensures desk { IsDesk B.seen (B.front (B.kept iio.new)) session.new.desk }
+    ensures client { IsClient B.seen (B.front (B.kept iio.new)) session.new.client }
     ensures faults { EndFaults result (L.faults link.old) (L.faults link.new) }
     ensures served { (b : Place)
         × Ends (Talks (B.front (B.kept iio.old)) (place_of B.seen (B.told iio.old) session.old)) result

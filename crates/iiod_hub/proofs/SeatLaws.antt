@@ -4,7 +4,7 @@ use Rattle.std.specs.Prelude.{MatchBool}
 use Rattle.std.specs.List.{flat_map}
 use Rattle.iiod_reply.specs.Reply.{joined_scans}
 use Rattle.iiod_session.specs.Reading.{ReadSome}
-use Rattle.iiod_session.specs.Seat.{SeatRecord, Tale, after_nothing, after_scans}
+use Rattle.iiod_session.specs.Seat.{SeatRecord, Trace, after_nothing, after_scans}
 use Rattle.iio_kfifo.specs.declared.view.Reading.{Reading}
 use Rattle.iio_kfifo.specs.declared.view.Sent.{Sent}
 use Rattle.iio_kfifo.specs.Ends.{AsksClosed, AsksOpen, ReaderEnd, TakesScans}
@@ -50,14 +50,14 @@ some_read b want count r q r' before after a t more =
       short = λ h. let s = t.short h in (omega (arith, s.0, k.looks), s.1);
     }
 
--- ---- tales
+-- ---- traces
 
-abbrev tale_of : HubSeat → Tale
-tale_of s = record { given = received_of s.reader; empties = s.empties; gone = s.gone }
+abbrev trace_of : HubSeat → Trace
+trace_of s = record { given = received_of s.reader; empties = s.empties; gone = s.gone }
 
 pub mid_is : (s : HubSeat) (r : ReaderEnd) (scans : List (List ℕ)) → size_of r ≡ size_of s.reader → received_of r ≡ received_of s.reader ++ scans
     → seen_of (record s { reader = r })
-    ≡ record (seen_of s) { tale = Some (after_scans scans (record { given = received_of s.reader; empties = s.empties; gone = s.gone })) }
+    ≡ record (seen_of s) { trace = Some (after_scans scans (record { given = received_of s.reader; empties = s.empties; gone = s.gone })) }
 mid_is s r scans e d =
     ap (λ (n : ℕ). at n (received_of r)) e ∙ ap (λ (xs : List (List ℕ)). at (size_of s.reader) xs) d
   where
@@ -68,35 +68,35 @@ mid_is s r scans e d =
           mask = s.mask.bits;
           size = n;
           capacity = s.capacity;
-          tale =
+          trace =
               Some (record { given = xs; empties = s.empties; gone = s.gone });
         }
 
-pub full : (dev most : ℕ) (s s' : SeatRecord) (t : Tale) (scans : List (List ℕ)) → s.tale ≡ Some t → s' ≡ record s { tale = Some (after_scans scans t) }
+pub full : (dev most : ℕ) (s s' : SeatRecord) (t : Trace) (scans : List (List ℕ)) → s.trace ≡ Some t → s' ≡ record s { trace = Some (after_scans scans t) }
     → length scans ≡ most → 1 ≤ most → ReadSome dev most None None s s' scans
 full dev most s s' t scans own is many some =
-    let after : s'.tale ≡ Some (after_scans scans t) = ap (λ (x : SeatRecord). x.tale) is in
+    let after : s'.trace ≡ Some (after_scans scans t) = ap (λ (x : SeatRecord). x.trace) is in
     record {
       reads = record {
         some = omega (arith, many, some);
         most = omega (arith, many);
-        grown = inl (many, after ∙ ap (λ (o : Option Tale). option_map (after_scans scans) o) (sym own));
+        grown = inl (many, after ∙ ap (λ (o : Option Trace). option_map (after_scans scans) o) (sym own));
       };
-      same = is ∙ ap (λ (o : Option Tale). (let x : SeatRecord = record s { tale = o } in x)) (sym after);
+      same = is ∙ ap (λ (o : Option Trace). (let x : SeatRecord = record s { trace = o } in x)) (sym after);
       from = tt;
     }
 
-pub short : (dev most : ℕ) (gone : Bool) (s m s' : SeatRecord) (t : Tale) (scans : List (List ℕ)) → s.tale ≡ Some t
-    → m ≡ record s { tale = Some (after_scans scans t) } → s' ≡ record m { tale = option_map (after_nothing gone) m.tale }
+pub short : (dev most : ℕ) (gone : Bool) (s m s' : SeatRecord) (t : Trace) (scans : List (List ℕ)) → s.trace ≡ Some t
+    → m ≡ record s { trace = Some (after_scans scans t) } → s' ≡ record m { trace = option_map (after_nothing gone) m.trace }
     → 0 < length scans → length scans ≤ most → ReadSome dev most None None s s' scans
 short dev most gone s m s' t scans own is nothing some few =
-    let mid : m.tale ≡ option_map (after_scans scans) s.tale =
-    ap (λ (x : SeatRecord). x.tale) is ∙ ap (λ (o : Option Tale). option_map (after_scans scans) o) (sym own) in
-    let after : s'.tale ≡ option_map (after_nothing gone) (option_map (after_scans scans) s.tale) =
-    ap (λ (x : SeatRecord). x.tale) nothing ∙ ap (λ (o : Option Tale). option_map (after_nothing gone) o) mid in
+    let mid : m.trace ≡ option_map (after_scans scans) s.trace =
+    ap (λ (x : SeatRecord). x.trace) is ∙ ap (λ (o : Option Trace). option_map (after_scans scans) o) (sym own) in
+    let after : s'.trace ≡ option_map (after_nothing gone) (option_map (after_scans scans) s.trace) =
+    ap (λ (x : SeatRecord). x.trace) nothing ∙ ap (λ (o : Option Trace). option_map (after_nothing gone) o) mid in
     record {
       reads = record { some = some; most = few; grown = inr (gone, after) };
-      same = nothing ∙ ap (λ (x : SeatRecord). (let y : SeatRecord = record x { tale = option_map (after_nothing gone) m.tale } in y)) is
-          ∙ ap (λ (o : Option Tale). (let x : SeatRecord = record s { tale = o } in x)) (sym (ap (λ (x : SeatRecord). x.tale) nothing));
+      same = nothing ∙ ap (λ (x : SeatRecord). (let y : SeatRecord = record x { trace = option_map (after_nothing gone) m.trace } in y)) is
+          ∙ ap (λ (o : Option Trace). (let x : SeatRecord = record s { trace = o } in x)) (sym (ap (λ (x : SeatRecord). x.trace) nothing));
       from = tt;
     }

@@ -27,7 +27,7 @@ seen_of s = record {
   mask = s.mask.bits;
   size = size_of s.reader;
   capacity = s.capacity;
-  tale = Some (record { given = received_of s.reader; empties = s.empties; gone = s.gone });
+  trace = Some (record { given = received_of s.reader; empties = s.empties; gone = s.gone });
 }
 
 -- whether the last take of a read found nothing: fewer scans came than were wanted

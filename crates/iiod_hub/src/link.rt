@@ -177,7 +177,7 @@ impl<B: Bank> Iio for HubLink<B> {
         requires owned { IsOfDevice (B.front self.old.bank) dev (seen_of seat.old) }
         requires size { length out.old ≡ size_of seat.old.reader }
         ensures kept { B.front self.new.bank ≡ B.front self.old.bank }
-        ensures seat { seen_of seat.new ≡ record (seen_of seat.old) { tale = option_map (after_take result out.new) (seen_of seat.old).tale } }
+        ensures seat { seen_of seat.new ≡ record (seen_of seat.old) { trace = option_map (after_take result out.new) (seen_of seat.old).trace } }
         ensures empty { result ≡ Took.Empty → SawOpen seat.new.reader }
         ensures gone { result ≡ Took.Gone → SawClosed seat.new.reader }
         ensures bank { B.told self.new.bank ≡ B.told self.old.bank }

@@ -40,7 +40,7 @@ pub struct HubSeat {
 impl HubSeat {
     // A take found nothing.
     fn nothing(&mut self, gone: bool) -> Took
-        ensures seen { seen_of self.new ≡ record (seen_of self.old) { tale = option_map (after_nothing gone) (seen_of self.old).tale } }
+        ensures seen { seen_of self.new ≡ record (seen_of self.old) { trace = option_map (after_nothing gone) (seen_of self.old).trace } }
         ensures took { result ≡ (if gone then Gone else Empty) }
         ensures reader { self.new.reader ≡ self.old.reader }
         ensures dev { self.new.dev ≡ self.old.dev }
@@ -70,7 +70,7 @@ impl HubSeat {
     /// ring not closed, `Gone` only where one showed it closed.
     pub fn take(&mut self, out: &mut [u8]) -> Took
         requires { length out.old ≡ size_of self.old.reader }
-        ensures seen { seen_of self.new ≡ record (seen_of self.old) { tale = option_map (after_take result out.new) (seen_of self.old).tale } }
+        ensures seen { seen_of self.new ≡ record (seen_of self.old) { trace = option_map (after_take result out.new) (seen_of self.old).trace } }
         ensures empty { result ≡ Took.Empty → SawOpen self.new.reader }
         ensures gone { result ≡ Took.Gone → SawClosed self.new.reader }
         ensures dev { self.new.dev ≡ self.old.dev }

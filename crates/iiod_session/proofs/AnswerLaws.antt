@@ -17,160 +17,163 @@ use Rattle.iiod_session.specs.declared.manner.Manner.{Manner}
 use Rattle.iiod_session.specs.declared.manner.Performed.TheVariants.{Done}
 use Rattle.iiod_session.specs.Acts.{Acts, act, help_reply, only, version_reply, zero_reply}
 use Rattle.iiod_session.specs.Answers.{Fits, IsEvent, IsLong, IsText, IsTrigger, Prints, ServesBy, answer_by, reply_of}
-use Rattle.iiod_session.specs.Desk.{DeskRecord}
+use Rattle.iiod_session.specs.Client.{ClientRecord}
 use Rattle.iio_core.specs.Front.{Front, find_device}
 use Rattle.iio_core.specs.Machine.{Machine}
 use Rattle.iiod_session.specs.Moves.{AnswersAlone, AnswersAs, Moves, Serves}
 use Rattle.iiod_session.specs.Performs.{Comes, IsAllowed, IsAnswerOf, IsWhole, Performs, reply_by}
-use Rattle.iiod_session.specs.Seat.{Tale}
+use Rattle.iiod_session.specs.Seat.{Trace}
 use Rattle.iiod_session.specs.Session.{IsAtOnce}
 use Rattle.iiod_session.specs.Targets.{written_by}
 use Rattle.iiod_session.proofs.ServeLaws.{all_comes, allowed, short_at, short_seat}
 
 -- ---- items that change nothing
 
-only_comes : (m : Machine) (desk : DeskRecord) (reply : Reply) → IsWhole reply → Comes m desk (only reply m desk) reply (Some m) desk
-only_comes m desk NoMemory w = absurd w
-only_comes m desk Nothing w = (m, refl, refl)
-only_comes m desk (Number n) w = (m, refl, refl)
-only_comes m desk (Refusal e) w = (m, refl, refl)
-only_comes m desk (Line t) w = (m, refl, refl)
-only_comes m desk (Value t) w = (m, refl, refl)
-only_comes m desk (Raw t) w = (m, refl, refl)
-only_comes m desk (Block a b c d) w = (m, refl, refl)
+only_comes : (m : Machine) (client : ClientRecord) (reply : Reply) → IsWhole reply → Comes m client (only reply m client) reply (Some m) client
+only_comes m client NoMemory w = absurd w
+only_comes m client Nothing w = (m, refl, refl)
+only_comes m client (Number n) w = (m, refl, refl)
+only_comes m client (Refusal e) w = (m, refl, refl)
+only_comes m client (Line t) w = (m, refl, refl)
+only_comes m client (Value t) w = (m, refl, refl)
+only_comes m client (Raw t) w = (m, refl, refl)
+only_comes m client (Block a b c d) w = (m, refl, refl)
 
-pub serves_only : (front : Front) (told : Option Machine) (desk : DeskRecord) (tales : List (Option Tale)) (item : Item) (reply : Reply) → IsWhole reply
-    → AnswersAlone front desk item reply → AnswersAs front item reply
-    → ((m : Machine) → act front m desk item ≡ only reply m desk) → Moves front desk tales item reply desk tales
-    → Serves front told desk tales item reply told desk tales
-serves_only front told desk tales item reply w alone formed is moves =
-    record { alone = alone; formed = formed; exact = all_comes front told told desk desk item (λ m. only reply m desk) reply is (by told); moves = moves }
+pub serves_only : (front : Front) (told : Option Machine) (client : ClientRecord) (traces : List (Option Trace)) (item : Item) (reply : Reply) → IsWhole reply
+    → AnswersAlone front client item reply → AnswersAs front item reply
+    → ((m : Machine) → act front m client item ≡ only reply m client) → Moves front client traces item reply client traces
+    → Serves front told client traces item reply told client traces
+serves_only front told client traces item reply w alone formed is moves =
+    record { alone = alone; formed = formed; exact = all_comes front told told client client item (λ m. only reply m client) reply is (by told); moves = moves }
   where
-    by : (told : Option Machine) → IfSome told (λ m. Comes m desk (only reply m desk) reply told desk)
+    by : (told : Option Machine) → IfSome told (λ m. Comes m client (only reply m client) reply told client)
     by None = tt
-    by (Some m) = only_comes m desk reply w
+    by (Some m) = only_comes m client reply w
 
 -- want of memory, before which nothing had changed
-pub serves_short : (front : Front) (told : Option Machine) (desk : DeskRecord) (tales : List (Option Tale)) (item : Item)
-    → AnswersAlone front desk item NoMemory → Moves front desk tales item NoMemory desk tales
-    → Serves front told desk tales item NoMemory told desk tales
-serves_short front told desk tales item alone moves = record { alone = alone; formed = tt; exact = by told; moves = moves }
+pub serves_short : (front : Front) (told : Option Machine) (client : ClientRecord) (traces : List (Option Trace)) (item : Item)
+    → AnswersAlone front client item NoMemory → Moves front client traces item NoMemory client traces
+    → Serves front told client traces item NoMemory told client traces
+serves_short front told client traces item alone moves = record { alone = alone; formed = tt; exact = by told; moves = moves }
   where
-    by : (told : Option Machine) → IfSome told (λ m. Acts front m desk item NoMemory told desk)
+    by : (told : Option Machine) → IfSome told (λ m. Acts front m client item NoMemory told client)
     by None = tt
     by (Some m) = (refl, refl)
 
 -- ---- HELP, VERSION, PRINT and TIMEOUT
 
-help_is : (front : Front) (m : Machine) (desk : DeskRecord) → act front m desk (Said (Ok Help)) ≡ only help_reply m desk
+help_is : (front : Front) (m : Machine) (client : ClientRecord) → act front m client (Said (Ok Help)) ≡ only help_reply m client
 unfolding act
-help_is front m desk = refl
+help_is front m client = refl
 
-version_is : (front : Front) (m : Machine) (desk : DeskRecord) → act front m desk (Said (Ok Version)) ≡ only version_reply m desk
+version_is : (front : Front) (m : Machine) (client : ClientRecord) → act front m client (Said (Ok Version)) ≡ only version_reply m client
 unfolding act
-version_is front m desk = refl
+version_is front m client = refl
 
-print_is : (front : Front) (m : Machine) (desk : DeskRecord) → act front m desk (Said (Ok Print)) ≡ only (Value front.context) m desk
+print_is : (front : Front) (m : Machine) (client : ClientRecord) → act front m client (Said (Ok Print)) ≡ only (Value front.context) m client
 unfolding act
-print_is front m desk = refl
+print_is front m client = refl
 
-timeout_is : (front : Front) (m : Machine) (desk : DeskRecord) (n : ℕ) → act front m desk (Said (Ok (Timeout n))) ≡ only zero_reply m desk
+timeout_is : (front : Front) (m : Machine) (client : ClientRecord) (n : ℕ) → act front m client (Said (Ok (Timeout n))) ≡ only zero_reply m client
 unfolding act
-timeout_is front m desk n = refl
+timeout_is front m client n = refl
 
-pub help_serves : (front : Front) (told : Option Machine) (desk : DeskRecord) (tales : List (Option Tale))
-    → ServesBy front told desk tales (Said (Ok Help)) (Ok answer.Help) told desk tales
-help_serves front told desk tales = record {
-  served = serves_only front told desk tales (Said (Ok Help)) help_reply tt (inl refl) tt (λ m. help_is front m desk) (refl, refl);
-  short = λ long. serves_short front told desk tales (Said (Ok Help)) (inr refl) (refl, refl);
+pub help_serves : (front : Front) (told : Option Machine) (client : ClientRecord) (traces : List (Option Trace))
+    → ServesBy front told client traces (Said (Ok Help)) (Ok answer.Help) told client traces
+help_serves front told client traces = record {
+  served = serves_only front told client traces (Said (Ok Help)) help_reply tt (inl refl) tt (λ m. help_is front m client) (refl, refl);
+  short = λ long. serves_short front told client traces (Said (Ok Help)) (inr refl) (refl, refl);
 }
 
-pub version_serves : (front : Front) (told : Option Machine) (desk : DeskRecord) (tales : List (Option Tale))
-    → ServesBy front told desk tales (Said (Ok Version)) (Ok answer.Version) told desk tales
-version_serves front told desk tales = record {
-  served = serves_only front told desk tales (Said (Ok Version)) version_reply tt (inl refl) tt (λ m. version_is front m desk) (refl, refl);
-  short = λ long. serves_short front told desk tales (Said (Ok Version)) (inr refl) (refl, refl);
+pub version_serves : (front : Front) (told : Option Machine) (client : ClientRecord) (traces : List (Option Trace))
+    → ServesBy front told client traces (Said (Ok Version)) (Ok answer.Version) told client traces
+version_serves front told client traces = record {
+  served = serves_only front told client traces (Said (Ok Version)) version_reply tt (inl refl) tt (λ m. version_is front m client) (refl, refl);
+  short = λ long. serves_short front told client traces (Said (Ok Version)) (inr refl) (refl, refl);
 }
 
-pub print_serves : (front : Front) (told : Option Machine) (desk : DeskRecord) (tales : List (Option Tale))
-    → ServesBy front told desk tales (Said (Ok Print)) (Ok answer.Context) told desk tales
-print_serves front told desk tales = record {
-  served = serves_only front told desk tales (Said (Ok Print)) (Value front.context) tt (inl refl) tt (λ m. print_is front m desk) (refl, refl);
-  short = λ long. serves_short front told desk tales (Said (Ok Print)) (inr refl) (refl, refl);
+pub print_serves : (front : Front) (told : Option Machine) (client : ClientRecord) (traces : List (Option Trace))
+    → ServesBy front told client traces (Said (Ok Print)) (Ok answer.Context) told client traces
+print_serves front told client traces = record {
+  served = serves_only front told client traces (Said (Ok Print)) (Value front.context) tt (inl refl) tt (λ m. print_is front m client) (refl, refl);
+  short = λ long. serves_short front told client traces (Said (Ok Print)) (inr refl) (refl, refl);
 }
 
-pub timeout_serves : (front : Front) (told : Option Machine) (desk : DeskRecord) (tales : List (Option Tale)) (n : ℕ)
-    → ServesBy front told desk tales (Said (Ok (Timeout n))) (Ok (answer.Number 0)) told desk tales
-timeout_serves front told desk tales n = record {
-  served = serves_only front told desk tales (Said (Ok (Timeout n))) zero_reply tt (inl refl) tt (λ m. timeout_is front m desk n) (refl, refl);
+pub timeout_serves : (front : Front) (told : Option Machine) (client : ClientRecord) (traces : List (Option Trace)) (n : ℕ)
+    → ServesBy front told client traces (Said (Ok (Timeout n))) (Ok (answer.Number 0)) told client traces
+timeout_serves front told client traces n = record {
+  served = serves_only front told client traces (Said (Ok (Timeout n))) zero_reply tt (inl refl) tt (λ m. timeout_is front m client n) (refl, refl);
   short = λ long. absurd long;
 }
 
 -- ---- a line that is no command
 
-empty_is : (front : Front) (m : Machine) (desk : DeskRecord) → act front m desk (Said (Err Empty)) ≡ only Nothing m desk
+empty_is : (front : Front) (m : Machine) (client : ClientRecord) → act front m client (Said (Err Empty)) ≡ only Nothing m client
 unfolding act
-empty_is front m desk = refl
+empty_is front m client = refl
 
-pub empty_performs : (manner : Manner) (front : Front) (told : Option Machine) (desk : DeskRecord) (tales : List (Option Tale)) (before : List ℕ)
-    → Performs manner front told told desk tales (Said (Err Empty)) desk tales before before Done
-empty_performs manner front told desk tales before = (
+pub empty_performs : (manner : Manner) (front : Front) (told : Option Machine) (client : ClientRecord) (traces : List (Option Trace)) (before : List ℕ)
+    → Performs manner front told told client traces (Said (Err Empty)) client traces before before Done
+empty_performs manner front told client traces before = (
   Nothing,
   sym (append-nil before),
   allowed manner Nothing tt,
   tt,
-  serves_only front told desk tales (Said (Err Empty)) Nothing tt refl tt (λ m. empty_is front m desk) (refl, refl),
+  serves_only front told client traces (Said (Err Empty)) Nothing tt refl tt (λ m. empty_is front m client) (refl, refl),
 )
 
-refused_is : (front : Front) (m : Machine) (desk : DeskRecord) (why : Refused) → why ≢ Empty → act front m desk (Said (Err why)) ≡ only (Refusal EINVAL) m desk
+refused_is : (front : Front) (m : Machine) (client : ClientRecord) (why : Refused) → why ≢ Empty
+    → act front m client (Said (Err why)) ≡ only (Refusal EINVAL) m client
 unfolding act
-refused_is front m desk Empty some = absurd (some refl)
-refused_is front m desk Unknown some = refl
-refused_is front m desk Shape some = refl
-refused_is front m desk BadNumber some = refl
+refused_is front m client Empty some = absurd (some refl)
+refused_is front m client Unknown some = refl
+refused_is front m client Shape some = refl
+refused_is front m client BadNumber some = refl
 
-refused_alone : (front : Front) (desk : DeskRecord) (why : Refused) → why ≢ Empty → AnswersAlone front desk (Said (Err why)) (Refusal EINVAL)
-refused_alone front desk Empty some = absurd (some refl)
-refused_alone front desk Unknown some = inl refl
-refused_alone front desk Shape some = inl refl
-refused_alone front desk BadNumber some = inl refl
+refused_alone : (front : Front) (client : ClientRecord) (why : Refused) → why ≢ Empty → AnswersAlone front client (Said (Err why)) (Refusal EINVAL)
+refused_alone front client Empty some = absurd (some refl)
+refused_alone front client Unknown some = inl refl
+refused_alone front client Shape some = inl refl
+refused_alone front client BadNumber some = inl refl
 
 pub has_word : (why : Refused) → (why ≡ Unknown) ⊎ ((why ≡ Shape) ⊎ (why ≡ BadNumber)) → why ≢ Empty
 has_word why (inl u) e = absurd (cc)
 has_word why (inr (inl s)) e = absurd (cc)
 has_word why (inr (inr n)) e = absurd (cc)
 
-pub serves_refused : (front : Front) (told : Option Machine) (desk : DeskRecord) (tales : List (Option Tale)) (why : Refused) → why ≢ Empty
-    → Serves front told desk tales (Said (Err why)) (Refusal EINVAL) told desk tales
-serves_refused front told desk tales why some =
-    serves_only front told desk tales (Said (Err why)) (Refusal EINVAL) tt (refused_alone front desk why some) tt (λ m. refused_is front m desk why some)
+pub serves_refused : (front : Front) (told : Option Machine) (client : ClientRecord) (traces : List (Option Trace)) (why : Refused) → why ≢ Empty
+    → Serves front told client traces (Said (Err why)) (Refusal EINVAL) told client traces
+serves_refused front told client traces why some =
+    serves_only front told client traces (Said (Err why)) (Refusal EINVAL) tt (refused_alone front client why some) tt (λ m. refused_is front m client why some)
     (refl, refl)
 
 -- ---- what a command at a device is answered
 
 -- 0
-pub by_zero : (front : Front) (told told' : Option Machine) (desk desk' : DeskRecord) (tales tales' : List (Option Tale)) (item : Item) (r : Result ⊤ No)
-    → Serves front told desk tales item (reply_by r) told' desk' tales' → ServesBy front told desk tales item (answer_by 0 r) told' desk' tales'
-by_zero front told told' desk desk' tales tales' item (Ok done) s = record { served = s; short = λ long. absurd long }
-by_zero front told told' desk desk' tales tales' item (Err why) s = record { served = s; short = λ long. absurd long }
+pub by_zero : (front : Front) (told told' : Option Machine) (client client' : ClientRecord) (traces traces' : List (Option Trace)) (item : Item)
+    (r : Result ⊤ No)
+    → Serves front told client traces item (reply_by r) told' client' traces' → ServesBy front told client traces item (answer_by 0 r) told' client' traces'
+by_zero front told told' client client' traces traces' item (Ok done) s = record { served = s; short = λ long. absurd long }
+by_zero front told told' client client' traces traces' item (Err why) s = record { served = s; short = λ long. absurd long }
 
 -- the number of a payload's bytes
-pub by_count : (front : Front) (told told' : Option Machine) (desk desk' : DeskRecord) (tales tales' : List (Option Tale)) (item : Item) (n : ℕ)
+pub by_count : (front : Front) (told told' : Option Machine) (client client' : ClientRecord) (traces traces' : List (Option Trace)) (item : Item) (n : ℕ)
     (r : Result ⊤ No)
-    → Serves front told desk tales item (written_by n r) told' desk' tales' → ServesBy front told desk tales item (answer_by n r) told' desk' tales'
-by_count front told told' desk desk' tales tales' item n (Ok done) s = record { served = s; short = λ long. absurd long }
-by_count front told told' desk desk' tales tales' item n (Err (NoErrno e)) s = record { served = s; short = λ long. absurd long }
-by_count front told told' desk desk' tales tales' item n (Err NoMem) s = record { served = s; short = λ long. absurd long }
+    → Serves front told client traces item (written_by n r) told' client' traces' → ServesBy front told client traces item (answer_by n r) told' client' traces'
+by_count front told told' client client' traces traces' item n (Ok done) s = record { served = s; short = λ long. absurd long }
+by_count front told told' client client' traces traces' item n (Err (NoErrno e)) s = record { served = s; short = λ long. absurd long }
+by_count front told told' client client' traces traces' item n (Err NoMem) s = record { served = s; short = λ long. absurd long }
 
 -- a refusal
-pub by_no : (front : Front) (told told' : Option Machine) (desk desk' : DeskRecord) (tales tales' : List (Option Tale)) (item : Item) (why : No)
-    → Serves front told desk tales item (reply_by (Err why)) told' desk' tales' → ServesBy front told desk tales item (Err why) told' desk' tales'
-by_no front told told' desk desk' tales tales' item why s = record { served = s; short = λ long. absurd long }
+pub by_no : (front : Front) (told told' : Option Machine) (client client' : ClientRecord) (traces traces' : List (Option Trace)) (item : Item) (why : No)
+    → Serves front told client traces item (reply_by (Err why)) told' client' traces' → ServesBy front told client traces item (Err why) told' client' traces'
+by_no front told told' client client' traces traces' item why s = record { served = s; short = λ long. absurd long }
 
 -- the number of the bytes that were taken
-pub by_taken : (front : Front) (told told' : Option Machine) (desk desk' : DeskRecord) (tales tales' : List (Option Tale)) (item : Item) (n : ℕ)
-    → Serves front told desk tales item (Number (pos n)) told' desk' tales' → ServesBy front told desk tales item (Ok (answer.Number n)) told' desk' tales'
-by_taken front told told' desk desk' tales tales' item n s = record { served = s; short = λ long. absurd long }
+pub by_taken : (front : Front) (told told' : Option Machine) (client client' : ClientRecord) (traces traces' : List (Option Trace)) (item : Item) (n : ℕ)
+    → Serves front told client traces item (Number (pos n)) told' client' traces'
+    → ServesBy front told client traces item (Ok (answer.Number n)) told' client' traces'
+by_taken front told told' client client' traces traces' item n s = record { served = s; short = λ long. absurd long }
 
 -- the value of an attribute
 not_text : (r : Result Answer No) → IsText r → IsLong r → ⊥
@@ -180,10 +183,11 @@ not_text (Ok answer.Context) t long = t
 not_text (Ok (answer.Trigger k)) t long = t
 not_text r t long = long
 
-pub by_text : (front : Front) (told told' : Option Machine) (desk desk' : DeskRecord) (tales tales' : List (Option Tale)) (item : Item) (r : Result Answer No)
+pub by_text : (front : Front) (told told' : Option Machine) (client client' : ClientRecord) (traces traces' : List (Option Trace)) (item : Item)
+    (r : Result Answer No)
     → IsText r
-    → Serves front told desk tales item (reply_of front r) told' desk' tales' → ServesBy front told desk tales item r told' desk' tales'
-by_text front told told' desk desk' tales tales' item r t s = record { served = s; short = λ long. absurd (not_text r t long) }
+    → Serves front told client traces item (reply_of front r) told' client' traces' → ServesBy front told client traces item r told' client' traces'
+by_text front told told' client client' traces traces' item r t s = record { served = s; short = λ long. absurd (not_text r t long) }
 
 pub text_fits : (r : Result Answer No) → IsText r → Fits r
 text_fits (Ok (answer.Fixed digits)) t = t
@@ -212,10 +216,11 @@ not_event (Ok answer.Context) t long = t
 not_event (Ok (answer.Trigger k)) t long = t
 not_event r t long = long
 
-pub by_event : (front : Front) (told told' : Option Machine) (desk desk' : DeskRecord) (tales tales' : List (Option Tale)) (item : Item) (r : Result Answer No)
+pub by_event : (front : Front) (told told' : Option Machine) (client client' : ClientRecord) (traces traces' : List (Option Trace)) (item : Item)
+    (r : Result Answer No)
     → IsEvent r
-    → Serves front told desk tales item (reply_of front r) told' desk' tales' → ServesBy front told desk tales item r told' desk' tales'
-by_event front told told' desk desk' tales tales' item r t s = record { served = s; short = λ long. absurd (not_event r t long) }
+    → Serves front told client traces item (reply_of front r) told' client' traces' → ServesBy front told client traces item r told' client' traces'
+by_event front told told' client client' traces traces' item r t s = record { served = s; short = λ long. absurd (not_event r t long) }
 
 pub event_fits : (r : Result Answer No) → IsEvent r → Fits r
 event_fits (Ok (answer.Fixed digits)) t = absurd t
@@ -297,24 +302,24 @@ prints_short manner front a before mid after (Err mem) long m t x = tt
 
 -- ---- an item with its answer
 
-pub performed : (manner : Manner) (front : Front) (told told' : Option Machine) (desk : DeskRecord) (tales : List (Option Tale)) (item : Item)
-    (desk' : DeskRecord) (tales' : List (Option Tale)) (before after : List ℕ) (r : Result Answer No)
-    → ((reply : Reply) → IsAnswerOf item manner reply) → ServesBy front told desk tales item r told' desk' tales' → Prints manner front r before after
-    → Performs manner front told told' desk tales item desk' tales' before after Done
-performed manner front told told' desk tales item desk' tales' before after r any s p = (p.reply, p.text, p.allowed, any p.reply, by p.reply p.is)
+pub performed : (manner : Manner) (front : Front) (told told' : Option Machine) (client : ClientRecord) (traces : List (Option Trace)) (item : Item)
+    (client' : ClientRecord) (traces' : List (Option Trace)) (before after : List ℕ) (r : Result Answer No)
+    → ((reply : Reply) → IsAnswerOf item manner reply) → ServesBy front told client traces item r told' client' traces' → Prints manner front r before after
+    → Performs manner front told told' client traces item client' traces' before after Done
+performed manner front told told' client traces item client' traces' before after r any s p = (p.reply, p.text, p.allowed, any p.reply, by p.reply p.is)
   where
-    by : (reply : Reply) → (reply ≡ reply_of front r) ⊎ ((reply ≡ NoMemory) × IsLong r) → Serves front told desk tales item reply told' desk' tales'
+    by : (reply : Reply) → (reply ≡ reply_of front r) ⊎ ((reply ≡ NoMemory) × IsLong r) → Serves front told client traces item reply told' client' traces'
     by reply (inl e) = rw e s.served
     by reply (inr e) = rw e.0 (s.short e.1)
 
-pub performs : (manner : Manner) (front : Front) (told told' : Option Machine) (desk : DeskRecord) (tales : List (Option Tale)) (item : Item)
-    (desk' : DeskRecord) (tales' : List (Option Tale)) (before after : List ℕ) (r : Result Answer No) (printed : Result ⊤ Mem)
-    → ((reply : Reply) → IsAnswerOf item manner reply) → ServesBy front told desk tales item r told' desk' tales'
+pub performs : (manner : Manner) (front : Front) (told told' : Option Machine) (client : ClientRecord) (traces : List (Option Trace)) (item : Item)
+    (client' : ClientRecord) (traces' : List (Option Trace)) (before after : List ℕ) (r : Result Answer No) (printed : Result ⊤ Mem)
+    → ((reply : Reply) → IsAnswerOf item manner reply) → ServesBy front told client traces item r told' client' traces'
     → OnOk printed (Prints manner front r before after)
-    → OnOk printed (Performs manner front told told' desk tales item desk' tales' before after Done)
-performs manner front told told' desk tales item desk' tales' before after r (Ok done) any s p =
-    performed manner front told told' desk tales item desk' tales' before after r any s p
-performs manner front told told' desk tales item desk' tales' before after r (Err mem) any s p = tt
+    → OnOk printed (Performs manner front told told' client traces item client' traces' before after Done)
+performs manner front told told' client traces item client' traces' before after r (Ok done) any s p =
+    performed manner front told told' client traces item client' traces' before after r any s p
+performs manner front told told' client traces item client' traces' before after r (Err mem) any s p = tt
 
 -- a command that is answered at once doesn't wait
 pub at_once_answer : (manner : Manner) (said : Result Command Refused) → IsAtOnce said → (reply : Reply) → IsAnswerOf (Said said) manner reply
@@ -323,37 +328,37 @@ at_once_answer manner said once reply = tt
 
 -- ---- want of memory, before anything is done
 
-short_at_once : (front : Front) (desk : DeskRecord) (tales : List (Option Tale)) (command : Command) → IsAtOnce (Ok command)
-    → AnswersAlone front desk (Said (Ok command)) NoMemory × Moves front desk tales (Said (Ok command)) NoMemory desk tales
-short_at_once front desk tales Exit once = absurd once
-short_at_once front desk tales (Write device target count) once = absurd once
-short_at_once front desk tales (WriteBuf device count) once = absurd once
-short_at_once front desk tales (ReadBuf device asked) once = absurd once
-short_at_once front desk tales Help once = (inr refl, (refl, refl))
-short_at_once front desk tales Version once = (inr refl, (refl, refl))
-short_at_once front desk tales Print once = (inr refl, (refl, refl))
-short_at_once front desk tales (Timeout n) once = (inr refl, (refl, refl))
-short_at_once front desk tales (Open device samples text cyclic) once = (short_at (find_device front device), (refl, refl))
-short_at_once front desk tales (Close device) once = (short_seat desk.seats (find_device front device), (refl, refl))
-short_at_once front desk tales (Read device place name) once = (short_at (find_device front device), (refl, refl))
-short_at_once front desk tales (GetTrig device) once = (short_at (find_device front device), (refl, refl))
-short_at_once front desk tales (SetTrig device name) once = (short_at (find_device front device), (refl, refl))
-short_at_once front desk tales (SetBuffers device n) once = (short_at (find_device front device), (refl, refl))
-short_at_once front desk tales (Remask device text) once = (short_at (find_device front device), (refl, refl))
-short_at_once front desk tales (EvOpen device) once = (short_at (find_device front device), (refl, refl))
-short_at_once front desk tales (EvRead device) once = (short_at (find_device front device), (refl, refl))
-short_at_once front desk tales (EvClose device) once = (short_at (find_device front device), (refl, refl))
+short_at_once : (front : Front) (client : ClientRecord) (traces : List (Option Trace)) (command : Command) → IsAtOnce (Ok command)
+    → AnswersAlone front client (Said (Ok command)) NoMemory × Moves front client traces (Said (Ok command)) NoMemory client traces
+short_at_once front client traces Exit once = absurd once
+short_at_once front client traces (Write device target count) once = absurd once
+short_at_once front client traces (WriteBuf device count) once = absurd once
+short_at_once front client traces (ReadBuf device asked) once = absurd once
+short_at_once front client traces Help once = (inr refl, (refl, refl))
+short_at_once front client traces Version once = (inr refl, (refl, refl))
+short_at_once front client traces Print once = (inr refl, (refl, refl))
+short_at_once front client traces (Timeout n) once = (inr refl, (refl, refl))
+short_at_once front client traces (Open device samples text cyclic) once = (short_at (find_device front device), (refl, refl))
+short_at_once front client traces (Close device) once = (short_seat client.seats (find_device front device), (refl, refl))
+short_at_once front client traces (Read device place name) once = (short_at (find_device front device), (refl, refl))
+short_at_once front client traces (GetTrig device) once = (short_at (find_device front device), (refl, refl))
+short_at_once front client traces (SetTrig device name) once = (short_at (find_device front device), (refl, refl))
+short_at_once front client traces (SetBuffers device n) once = (short_at (find_device front device), (refl, refl))
+short_at_once front client traces (Remask device text) once = (short_at (find_device front device), (refl, refl))
+short_at_once front client traces (EvOpen device) once = (short_at (find_device front device), (refl, refl))
+short_at_once front client traces (EvRead device) once = (short_at (find_device front device), (refl, refl))
+short_at_once front client traces (EvClose device) once = (short_at (find_device front device), (refl, refl))
 
-pub performs_short : (manner : Manner) (front : Front) (told : Option Machine) (desk : DeskRecord) (tales : List (Option Tale)) (command : Command)
+pub performs_short : (manner : Manner) (front : Front) (told : Option Machine) (client : ClientRecord) (traces : List (Option Trace)) (command : Command)
     (before after : List ℕ) (r : Result ⊤ Mem) → IsAtOnce (Ok command)
     → OnOk r (after ≡ before ++ text_of NoMemory) → OnOk r (IsAllowed manner NoMemory)
-    → OnOk r (Performs manner front told told desk tales (Said (Ok command)) desk tales before after Done)
-performs_short manner front told desk tales command before after (Ok done) once t a =
-    let short = short_at_once front desk tales command once in
-    (NoMemory, t, a, at_once_answer manner (Ok command) once NoMemory, serves_short front told desk tales (Said (Ok command)) short.0 short.1)
-performs_short manner front told desk tales command before after (Err mem) once t a = tt
+    → OnOk r (Performs manner front told told client traces (Said (Ok command)) client traces before after Done)
+performs_short manner front told client traces command before after (Ok done) once t a =
+    let short = short_at_once front client traces command once in
+    (NoMemory, t, a, at_once_answer manner (Ok command) once NoMemory, serves_short front told client traces (Said (Ok command)) short.0 short.1)
+performs_short manner front told client traces command before after (Err mem) once t a = tt
 
-pub short_written : (front : Front) (desk : DeskRecord) (device : List ℕ) (target : Option Target) (payload : List ℕ)
-    → AnswersAlone front desk (Written device target payload) NoMemory
-short_written front desk device None payload = inr refl
-short_written front desk device (Some target) payload = short_at (find_device front device)
+pub short_written : (front : Front) (client : ClientRecord) (device : List ℕ) (target : Option Target) (payload : List ℕ)
+    → AnswersAlone front client (Written device target payload) NoMemory
+short_written front client device None payload = inr refl
+short_written front client device (Some target) payload = short_at (find_device front device)

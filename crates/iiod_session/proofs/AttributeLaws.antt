@@ -21,18 +21,18 @@ use Rattle.iio_device.specs.Site.{is_empty}
 use Rattle.iiod_grammar.specs.Command.{Place, Read, Target}
 use Rattle.iiod_grammar.specs.Stream.{Said, Written}
 use Rattle.iiod_reply.specs.Reply.{Reply, Refusal, Value, NoMemory}
-use Rattle.iiod_session.specs.declared.desk.Held.{Held}
+use Rattle.iiod_session.specs.declared.client.Held.{Held}
 use Rattle.iiod_session.specs.declared.iio.No.{No}
 use Rattle.iiod_session.specs.declared.iio.No.TheVariants.{Errno as NoErrno, Mem as NoMem}
 use Rattle.iiod_session.specs.Acts.{Acted, act, at_device, only, refused, read_attribute_at, read_buffer_attribute, read_buffer_attribute_at, read_device_attribute, read_named, write_assignment, write_attribute_at, written}
 use Rattle.iiod_session.specs.Attributes.{Assignment, Named, buffer_number, found, is_of_buffer, write_found}
 use Rattle.iio_core.specs.Calls.{raw_answer, raw_by, read_attr_of, write_attr_of}
-use Rattle.iiod_session.specs.Desk.{AllHeld, DeskRecord, IsHeld, bare_of, place_of, seats_of, with_seats}
+use Rattle.iiod_session.specs.Client.{AllHeld, ClientRecord, IsHeld, bare_of, place_of, seats_of, with_seats}
 use Rattle.iio_core.specs.Front.{Front, find_device, kind_at, shape_at}
 use Rattle.iio_core.specs.Machine.{Machine, MemberId, Station, is_plugged, lost_of, queue_of, station_at}
 use Rattle.iiod_session.specs.Moves.{AnswersAs, Serves}
 use Rattle.iiod_session.specs.Performs.{Comes}
-use Rattle.iiod_session.specs.Seat.{Answers, SeatRecord, Tale, seat_id}
+use Rattle.iiod_session.specs.Seat.{Answers, SeatRecord, Trace, seat_id}
 use Rattle.iiod_session.specs.Targets.{written_by}
 use Rattle.iiod_session.proofs.HeldLaws.{id_is}
 use Rattle.iiod_session.proofs.AnswerLaws.{serves_only}
@@ -73,11 +73,11 @@ still front m dev (Some c) attr.Raw v e = not_stored (kind_at front dev) (shape_
 still front m dev (Some c) a v e = refl
 
 -- a stored number for whose digits there was no memory
-pub said_short : (front : Front) (told told' : Option Machine) (desk : DeskRecord) (dev : ℕ) (target : Named) (v : Fixed)
+pub said_short : (front : Front) (told told' : Option Machine) (client : ClientRecord) (dev : ℕ) (target : Named) (v : Fixed)
     → IfSome told (λ m. Answers (read_attr_of front m dev target.channel target.attribute) m (Ok (StoredNumber v)) told')
-    → IfSome told (λ m. Comes m desk (read_device_attribute front m desk dev target) NoMemory told' desk)
-said_short front None told' desk dev target v a = tt
-said_short front (Some m) told' desk dev target v a = (a.1 ∙ ap (λ (n : Machine). Some n) (still front m dev target.channel target.attribute v a.0), refl)
+    → IfSome told (λ m. Comes m client (read_device_attribute front m client dev target) NoMemory told' client)
+said_short front None told' client dev target v a = tt
+said_short front (Some m) told' client dev target v a = (a.1 ∙ ap (λ (n : Machine). Some n) (still front m dev target.channel target.attribute v a.0), refl)
 
 -- ---- an attribute of a buffer
 
@@ -88,7 +88,7 @@ module _ {S : Type 0} (seen : S → SeatRecord) where
   held_under front held i h l e all =
       subst (λ (x : Held S). (seen x.seat).mask ≡ x.mask.bits) (sym e) (All-get_or (IsHeld seen front) held i h l all).owned.under
 
-  pub counted : (told told' : Option Machine) (base : DeskRecord) (dev i n : ℕ) (a : Attr) (held : List (Held S)) (h : Held S)
+  pub counted : (told told' : Option Machine) (base : ClientRecord) (dev i n : ℕ) (a : Attr) (held : List (Held S)) (h : Held S)
       → place_of dev (seats_of seen held) ≡ Some i → i < length held → h ≡ slice_index_or held i h → (seen h.seat).mask ≡ h.mask.bits
       → IfSome told (λ m. n ≡ buffer_number a h.capacity (length (queue_of m h.dev (seat_id (seen h.seat)))) (lost_of m h.dev (seat_id (seen h.seat)))
       h.discarded)
@@ -97,84 +97,87 @@ module _ {S : Type 0} (seen : S → SeatRecord) where
       (read_buffer_attribute_at m (with_seats (seats_of seen held) base) a (place_of dev (seats_of seen held)))
       (Value (decimal n)) told' (with_seats (seats_of seen held) base))
   counted None told' base dev i n a held h at l e under v t = tt
-  counted (Some m) told' base dev i n a held h at l e under v t = let desk = with_seats (seats_of seen held) base in (
+  counted (Some m) told' base dev i n a held h at l e under v t = let client = with_seats (seats_of seen held) base in (
     m,
     t,
-    ap (λ p. read_buffer_attribute_at m desk a p) at
-        ∙ ap (λ s. read_buffer_attribute m desk a s) (get_is seen (bare_of seen) held i h l e)
+    ap (λ p. read_buffer_attribute_at m client a p) at
+        ∙ ap (λ s. read_buffer_attribute m client a s) (get_is seen (bare_of seen) held i h l e)
         ∙ ap (λ (id : MemberId). record
-        { reply = Value (decimal (buffer_number a h.capacity (length (queue_of m h.dev id)) (lost_of m h.dev id) h.discarded)); machine = m; desk = desk })
+        { reply = Value (decimal (buffer_number a h.capacity (length (queue_of m h.dev id)) (lost_of m h.dev id) h.discarded)); machine = m; client = client })
         (id_is (bare_of seen h) (seen h.seat) refl under)
-        ∙ ap (λ (k : ℕ). record { reply = Value (decimal k); machine = m; desk = desk }) (sym v),
+        ∙ ap (λ (k : ℕ). record { reply = Value (decimal k); machine = m; client = client }) (sym v),
   )
 
 -- ---- what the code found is what the definitions say
 
-found_is : (front : Front) (m : Machine) (desk : DeskRecord) (dev : ℕ) (place : Place) (name : Option (List ℕ)) (is_open plugged of_buffer : Bool)
+found_is : (front : Front) (m : Machine) (client : ClientRecord) (dev : ℕ) (place : Place) (name : Option (List ℕ)) (is_open plugged of_buffer : Bool)
     (shape : ShapeRecord) (w : Result Named Errno)
-    → is_open ≡ is_some (place_of dev desk.seats) → plugged ≡ is_plugged m dev → shape ≡ shape_at front dev → of_buffer ≡ is_of_buffer place name
+    → is_open ≡ is_some (place_of dev client.seats) → plugged ≡ is_plugged m dev → shape ≡ shape_at front dev → of_buffer ≡ is_of_buffer place name
     → w ≡ found (kind_at front dev) shape plugged is_open place name
-    → read_attribute_at front m desk place name dev ≡ read_named front m desk dev of_buffer w
-found_is front m desk dev place name is_open plugged of_buffer shape w e0 e1 e2 e3 e =
-    ap (λ b. read_named front m desk dev b (found (kind_at front dev) (shape_at front dev) (is_plugged m dev) (is_some (place_of dev desk.seats)) place name))
+    → read_attribute_at front m client place name dev ≡ read_named front m client dev of_buffer w
+found_is front m client dev place name is_open plugged of_buffer shape w e0 e1 e2 e3 e =
+    ap (λ b. read_named front m client dev b
+    (found (kind_at front dev) (shape_at front dev) (is_plugged m dev) (is_some (place_of dev client.seats)) place name))
     (sym e3)
-    ∙ ap (λ x. read_named front m desk dev of_buffer x) (rw (sym e0, sym e1, sym e2) (sym e))
+    ∙ ap (λ x. read_named front m client dev of_buffer x) (rw (sym e0, sym e1, sym e2) (sym e))
 
-pub reads_found : (front : Front) (told told' : Option Machine) (desk : DeskRecord) (dev : ℕ) (place : Place) (name : Option (List ℕ))
+pub reads_found : (front : Front) (told told' : Option Machine) (client : ClientRecord) (dev : ℕ) (place : Place) (name : Option (List ℕ))
     (is_open plugged of_buffer : Bool) (shape : ShapeRecord) (w : Result Named Errno) (reply : Reply)
-    → is_open ≡ is_some (place_of dev desk.seats) → IfSome told (λ m. plugged ≡ is_plugged m dev) → shape ≡ shape_at front dev
+    → is_open ≡ is_some (place_of dev client.seats) → IfSome told (λ m. plugged ≡ is_plugged m dev) → shape ≡ shape_at front dev
     → of_buffer ≡ is_of_buffer place name
     → w ≡ found (kind_at front dev) shape plugged is_open place name
-    → IfSome told (λ m. Comes m desk (read_named front m desk dev of_buffer w) reply told' desk)
-    → IfSome told (λ m. Comes m desk (read_attribute_at front m desk place name dev) reply told' desk)
-reads_found front None told' desk dev place name is_open plugged of_buffer shape w reply e0 e1 e2 e3 e c = tt
-reads_found front (Some m) told' desk dev place name is_open plugged of_buffer shape w reply e0 e1 e2 e3 e c =
-    rw (found_is front m desk dev place name is_open plugged of_buffer shape w e0 e1 e2 e3 e) c
+    → IfSome told (λ m. Comes m client (read_named front m client dev of_buffer w) reply told' client)
+    → IfSome told (λ m. Comes m client (read_attribute_at front m client place name dev) reply told' client)
+reads_found front None told' client dev place name is_open plugged of_buffer shape w reply e0 e1 e2 e3 e c = tt
+reads_found front (Some m) told' client dev place name is_open plugged of_buffer shape w reply e0 e1 e2 e3 e c =
+    rw (found_is front m client dev place name is_open plugged of_buffer shape w e0 e1 e2 e3 e) c
 
-write_is : (front : Front) (m : Machine) (desk : DeskRecord) (dev : ℕ) (place : Place) (name : Option (List ℕ)) (payload : List ℕ) (is_open plugged : Bool)
+write_is : (front : Front) (m : Machine) (client : ClientRecord) (dev : ℕ) (place : Place) (name : Option (List ℕ)) (payload : List ℕ) (is_open plugged : Bool)
     (shape : ShapeRecord) (w : Result Assignment Errno)
-    → is_open ≡ is_some (place_of dev desk.seats) → plugged ≡ is_plugged m dev → shape ≡ shape_at front dev
+    → is_open ≡ is_some (place_of dev client.seats) → plugged ≡ is_plugged m dev → shape ≡ shape_at front dev
     → w ≡ write_found (kind_at front dev) shape plugged is_open place name payload
-    → write_attribute_at front m desk place name payload dev ≡ write_assignment m desk dev (length payload) w
-write_is front m desk dev place name payload is_open plugged shape w e0 e1 e2 e =
-    ap (λ x. write_assignment m desk dev (length payload) x) (rw (sym e0, sym e1, sym e2) (sym e))
+    → write_attribute_at front m client place name payload dev ≡ write_assignment m client dev (length payload) w
+write_is front m client dev place name payload is_open plugged shape w e0 e1 e2 e =
+    ap (λ x. write_assignment m client dev (length payload) x) (rw (sym e0, sym e1, sym e2) (sym e))
 
-pub writes_found : (front : Front) (told told' : Option Machine) (desk : DeskRecord) (dev : ℕ) (place : Place) (name : Option (List ℕ)) (payload : List ℕ)
+pub writes_found : (front : Front) (told told' : Option Machine) (client : ClientRecord) (dev : ℕ) (place : Place) (name : Option (List ℕ)) (payload : List ℕ)
     (is_open plugged : Bool) (shape : ShapeRecord) (w : Result Assignment Errno) (reply : Reply)
-    → is_open ≡ is_some (place_of dev desk.seats) → IfSome told (λ m. plugged ≡ is_plugged m dev) → shape ≡ shape_at front dev
+    → is_open ≡ is_some (place_of dev client.seats) → IfSome told (λ m. plugged ≡ is_plugged m dev) → shape ≡ shape_at front dev
     → w ≡ write_found (kind_at front dev) shape plugged is_open place name payload
-    → IfSome told (λ m. Comes m desk (write_assignment m desk dev (length payload) w) reply told' desk)
-    → IfSome told (λ m. Comes m desk (write_attribute_at front m desk place name payload dev) reply told' desk)
-writes_found front None told' desk dev place name payload is_open plugged shape w reply e0 e1 e2 e c = tt
-writes_found front (Some m) told' desk dev place name payload is_open plugged shape w reply e0 e1 e2 e c =
-    rw (write_is front m desk dev place name payload is_open plugged shape w e0 e1 e2 e) c
+    → IfSome told (λ m. Comes m client (write_assignment m client dev (length payload) w) reply told' client)
+    → IfSome told (λ m. Comes m client (write_attribute_at front m client place name payload dev) reply told' client)
+writes_found front None told' client dev place name payload is_open plugged shape w reply e0 e1 e2 e c = tt
+writes_found front (Some m) told' client dev place name payload is_open plugged shape w reply e0 e1 e2 e c =
+    rw (write_is front m client dev place name payload is_open plugged shape w e0 e1 e2 e) c
 
-pub wrote : (told told' : Option Machine) (desk : DeskRecord) (dev count : ℕ) (x : Assignment) (r : Result ⊤ No)
+pub wrote : (told told' : Option Machine) (client : ClientRecord) (dev count : ℕ) (x : Assignment) (r : Result ⊤ No)
     → IfSome told (λ m. Answers (write_attr_of m dev x.target.channel x.target.attribute x.value) m r told')
-    → IfSome told (λ m. Comes m desk (write_assignment m desk dev count (Ok x)) (written_by count r) told' desk)
-wrote None told' desk dev count x r a = tt
-wrote (Some m) told' desk dev count x (Ok done) a =
-    (_, a.1, ap (λ (r : Result ⊤ Errno). written desk count (write_attr_of m dev x.target.channel x.target.attribute x.value).machine r) a.0)
-wrote (Some m) told' desk dev count x (Err (NoErrno e)) a =
-    (_, a.1, ap (λ (r : Result ⊤ Errno). written desk count (write_attr_of m dev x.target.channel x.target.attribute x.value).machine r) a.0)
-wrote (Some m) told' desk dev count x (Err NoMem) a = (a, refl)
+    → IfSome told (λ m. Comes m client (write_assignment m client dev count (Ok x)) (written_by count r) told' client)
+wrote None told' client dev count x r a = tt
+wrote (Some m) told' client dev count x (Ok done) a =
+    (_, a.1, ap (λ (r : Result ⊤ Errno). written client count (write_attr_of m dev x.target.channel x.target.attribute x.value).machine r) a.0)
+wrote (Some m) told' client dev count x (Err (NoErrno e)) a =
+    (_, a.1, ap (λ (r : Result ⊤ Errno). written client count (write_attr_of m dev x.target.channel x.target.attribute x.value).machine r) a.0)
+wrote (Some m) told' client dev count x (Err NoMem) a = (a, refl)
 
 -- ---- the commands
 
-pub serves_read_attribute : (front : Front) (told told' : Option Machine) (desk desk' : DeskRecord) (tales tales' : List (Option Tale)) (device : List ℕ)
+pub serves_read_attribute : (front : Front) (told told' : Option Machine) (client client' : ClientRecord) (traces traces' : List (Option Trace))
+    (device : List ℕ)
     (place : Place) (name : Option (List ℕ)) (dev : ℕ) (reply : Reply)
     → Some dev ≡ find_device front device
-    → IfSome told (λ m. Comes m desk (read_attribute_at front m desk place name dev) reply told' desk)
-    → desk' ≡ desk → tales' ≡ tales → AnswersAs front (Said (Ok (Read device place name))) reply
-    → Serves front told desk tales (Said (Ok (Read device place name))) reply told' desk' tales'
-serves_read_attribute front told told' desk desk' tales tales' device place name dev reply e c d t formed =
-    rw d (serves_at front told told' desk desk tales tales' (Read device place name) dev reply e (rw (sym e) tt) formed c (refl, t))
+    → IfSome told (λ m. Comes m client (read_attribute_at front m client place name dev) reply told' client)
+    → client' ≡ client → traces' ≡ traces → AnswersAs front (Said (Ok (Read device place name))) reply
+    → Serves front told client traces (Said (Ok (Read device place name))) reply told' client' traces'
+serves_read_attribute front told told' client client' traces traces' device place name dev reply e c d t formed =
+    rw d (serves_at front told told' client client traces traces' (Read device place name) dev reply e (rw (sym e) tt) formed c (refl, t))
 
-written_is : (front : Front) (m : Machine) (desk : DeskRecord) (device : List ℕ) (place : Place) (name : Option (List ℕ)) (payload : List ℕ) (o : Option ℕ)
+written_is : (front : Front) (m : Machine) (client : ClientRecord) (device : List ℕ) (place : Place) (name : Option (List ℕ)) (payload : List ℕ) (o : Option ℕ)
     → o ≡ find_device front device
-    → act front m desk (Written device (Some (place, name)) payload) ≡ at_device m desk (λ dev. write_attribute_at front m desk place name payload dev) o
+    → act front m client (Written device (Some (place, name)) payload) ≡ at_device m client (λ dev. write_attribute_at front m client place name payload dev) o
 unfolding act
-written_is front m desk device place name payload o e = ap (λ x. at_device m desk (λ dev. write_attribute_at front m desk place name payload dev) x) (sym e)
+written_is front m client device place name payload o e =
+    ap (λ x. at_device m client (λ dev. write_attribute_at front m client place name payload dev) x) (sym e)
 
 written_formed : (front : Front) (device : List ℕ) (target : Target) (payload : List ℕ) (r : Result ⊤ No)
     → AnswersAs front (Written device (Some target) payload) (written_by (length payload) r)
@@ -182,78 +185,79 @@ written_formed front device target payload (Ok done) = refl
 written_formed front device target payload (Err (NoErrno e)) = tt
 written_formed front device target payload (Err NoMem) = tt
 
-pub serves_write_attribute : (front : Front) (told told' : Option Machine) (desk : DeskRecord) (tales : List (Option Tale)) (device : List ℕ) (place : Place)
+pub serves_write_attribute : (front : Front) (told told' : Option Machine) (client : ClientRecord) (traces : List (Option Trace)) (device : List ℕ)
+    (place : Place)
     (name : Option (List ℕ)) (payload : List ℕ) (dev : ℕ) (r : Result ⊤ No)
     → Some dev ≡ find_device front device
-    → IfSome told (λ m. Comes m desk (write_attribute_at front m desk place name payload dev) (written_by (length payload) r) told' desk)
-    → Serves front told desk tales (Written device (Some (place, name)) payload) (written_by (length payload) r) told' desk tales
-serves_write_attribute front told told' desk tales device place name payload dev r e c = record {
+    → IfSome told (λ m. Comes m client (write_attribute_at front m client place name payload dev) (written_by (length payload) r) told' client)
+    → Serves front told client traces (Written device (Some (place, name)) payload) (written_by (length payload) r) told' client traces
+serves_write_attribute front told told' client traces device place name payload dev r e c = record {
   alone = rw (sym e) tt;
   formed = written_formed front device (place, name) payload r;
   exact =
-      all_comes front told told' desk desk _ (λ m. write_attribute_at front m desk place name payload dev) (written_by (length payload) r)
-      (λ m. written_is front m desk device place name payload (Some dev) e) c;
+      all_comes front told told' client client _ (λ m. write_attribute_at front m client place name payload dev) (written_by (length payload) r)
+      (λ m. written_is front m client device place name payload (Some dev) e) c;
   moves = (refl, refl);
 }
 
 -- at a device that isn't there
-pub serves_unwritten : (front : Front) (told : Option Machine) (desk : DeskRecord) (tales : List (Option Tale)) (device : List ℕ) (place : Place)
+pub serves_unwritten : (front : Front) (told : Option Machine) (client : ClientRecord) (traces : List (Option Trace)) (device : List ℕ) (place : Place)
     (name : Option (List ℕ)) (payload : List ℕ) → None ≡ find_device front device
-    → Serves front told desk tales (Written device (Some (place, name)) payload) (Refusal ENODEV) told desk tales
-serves_unwritten front told desk tales device place name payload e =
+    → Serves front told client traces (Written device (Some (place, name)) payload) (Refusal ENODEV) told client traces
+serves_unwritten front told client traces device place name payload e =
     record {
       alone = rw (sym e) (inl refl);
       formed = tt;
       exact =
-          all_refused front told desk _ ENODEV (λ m. written_is front m desk device place name payload None e);
+          all_refused front told client _ ENODEV (λ m. written_is front m client device place name payload None e);
       moves = (refl, refl);
     }
 
 -- a WRITE whose words name nothing
-nameless_is : (front : Front) (m : Machine) (desk : DeskRecord) (device payload : List ℕ)
-    → act front m desk (Written device None payload) ≡ only (Refusal EINVAL) m desk
+nameless_is : (front : Front) (m : Machine) (client : ClientRecord) (device payload : List ℕ)
+    → act front m client (Written device None payload) ≡ only (Refusal EINVAL) m client
 unfolding act
-nameless_is front m desk device payload = refl
+nameless_is front m client device payload = refl
 
-pub serves_nameless : (front : Front) (told : Option Machine) (desk : DeskRecord) (tales : List (Option Tale)) (device payload : List ℕ)
-    → Serves front told desk tales (Written device None payload) (Refusal EINVAL) told desk tales
-serves_nameless front told desk tales device payload =
-    serves_only front told desk tales _ (Refusal EINVAL) tt (inl refl) tt (λ m. nameless_is front m desk device payload) (refl, refl)
+pub serves_nameless : (front : Front) (told : Option Machine) (client : ClientRecord) (traces : List (Option Trace)) (device payload : List ℕ)
+    → Serves front told client traces (Written device None payload) (Refusal EINVAL) told client traces
+serves_nameless front told client traces device payload =
+    serves_only front told client traces _ (Refusal EINVAL) tt (inl refl) tt (λ m. nameless_is front m client device payload) (refl, refl)
 
 -- ---- refusals
 
-unchanged : (told : Option Machine) (desk : DeskRecord) (e : Errno) (o : Machine → Acted) → ((m : Machine) → o m ≡ refused e m desk)
-    → IfSome told (λ m. Comes m desk (o m) (Refusal e) told desk)
-unchanged None desk e o is = tt
-unchanged (Some m) desk e o is = (m, refl, is m)
+unchanged : (told : Option Machine) (client : ClientRecord) (e : Errno) (o : Machine → Acted) → ((m : Machine) → o m ≡ refused e m client)
+    → IfSome told (λ m. Comes m client (o m) (Refusal e) told client)
+unchanged None client e o is = tt
+unchanged (Some m) client e o is = (m, refl, is m)
 
-pub reads_refused : (front : Front) (told : Option Machine) (desk : DeskRecord) (dev : ℕ) (place : Place) (name : Option (List ℕ)) (is_open plugged : Bool)
+pub reads_refused : (front : Front) (told : Option Machine) (client : ClientRecord) (dev : ℕ) (place : Place) (name : Option (List ℕ)) (is_open plugged : Bool)
     (shape : ShapeRecord) (errno : Errno)
-    → is_open ≡ is_some (place_of dev desk.seats) → IfSome told (λ m. plugged ≡ is_plugged m dev) → shape ≡ shape_at front dev
+    → is_open ≡ is_some (place_of dev client.seats) → IfSome told (λ m. plugged ≡ is_plugged m dev) → shape ≡ shape_at front dev
     → Err errno ≡ found (kind_at front dev) shape plugged is_open place name
-    → IfSome told (λ m. Comes m desk (read_attribute_at front m desk place name dev) (Refusal errno) told desk)
-reads_refused front told desk dev place name is_open plugged shape errno e0 e1 e2 e =
-    reads_found front told told desk dev place name is_open plugged (is_of_buffer place name) shape (Err errno) (Refusal errno) e0 e1 e2 refl e
-    (unchanged told desk errno (λ m. read_named front m desk dev (is_of_buffer place name) (Err errno)) (λ m. refl))
+    → IfSome told (λ m. Comes m client (read_attribute_at front m client place name dev) (Refusal errno) told client)
+reads_refused front told client dev place name is_open plugged shape errno e0 e1 e2 e =
+    reads_found front told told client dev place name is_open plugged (is_of_buffer place name) shape (Err errno) (Refusal errno) e0 e1 e2 refl e
+    (unchanged told client errno (λ m. read_named front m client dev (is_of_buffer place name) (Err errno)) (λ m. refl))
 
-pub writes_refused : (front : Front) (told : Option Machine) (desk : DeskRecord) (dev : ℕ) (place : Place) (name : Option (List ℕ)) (payload : List ℕ)
+pub writes_refused : (front : Front) (told : Option Machine) (client : ClientRecord) (dev : ℕ) (place : Place) (name : Option (List ℕ)) (payload : List ℕ)
     (is_open plugged : Bool) (shape : ShapeRecord) (errno : Errno)
-    → is_open ≡ is_some (place_of dev desk.seats) → IfSome told (λ m. plugged ≡ is_plugged m dev) → shape ≡ shape_at front dev
+    → is_open ≡ is_some (place_of dev client.seats) → IfSome told (λ m. plugged ≡ is_plugged m dev) → shape ≡ shape_at front dev
     → Err errno ≡ write_found (kind_at front dev) shape plugged is_open place name payload
-    → IfSome told (λ m. Comes m desk (write_attribute_at front m desk place name payload dev) (Refusal errno) told desk)
-writes_refused front told desk dev place name payload is_open plugged shape errno e0 e1 e2 e =
-    writes_found front told told desk dev place name payload is_open plugged shape (Err errno) (Refusal errno) e0 e1 e2 e
-    (unchanged told desk errno (λ m. write_assignment m desk dev (length payload) (Err errno)) (λ m. refl))
+    → IfSome told (λ m. Comes m client (write_attribute_at front m client place name payload dev) (Refusal errno) told client)
+writes_refused front told client dev place name payload is_open plugged shape errno e0 e1 e2 e =
+    writes_found front told told client dev place name payload is_open plugged shape (Err errno) (Refusal errno) e0 e1 e2 e
+    (unchanged told client errno (λ m. write_assignment m client dev (length payload) (Err errno)) (λ m. refl))
 
-pub writes : (front : Front) (told told' : Option Machine) (desk : DeskRecord) (dev : ℕ) (place : Place) (name : Option (List ℕ)) (payload : List ℕ)
+pub writes : (front : Front) (told told' : Option Machine) (client : ClientRecord) (dev : ℕ) (place : Place) (name : Option (List ℕ)) (payload : List ℕ)
     (is_open plugged : Bool) (shape : ShapeRecord) (x : Assignment) (r : Result ⊤ No)
-    → is_open ≡ is_some (place_of dev desk.seats) → IfSome told (λ m. plugged ≡ is_plugged m dev) → shape ≡ shape_at front dev
+    → is_open ≡ is_some (place_of dev client.seats) → IfSome told (λ m. plugged ≡ is_plugged m dev) → shape ≡ shape_at front dev
     → Ok x ≡ write_found (kind_at front dev) shape plugged is_open place name payload
     → IfSome told (λ m. Answers (write_attr_of m dev x.target.channel x.target.attribute x.value) m r told')
-    → IfSome told (λ m. Comes m desk (write_attribute_at front m desk place name payload dev) (written_by (length payload) r) told' desk)
-writes front told told' desk dev place name payload is_open plugged shape x r e0 e1 e2 e a =
-    writes_found front told told' desk dev place name payload is_open plugged shape (Ok x) (written_by (length payload) r) e0 e1 e2 e
-    (wrote told told' desk dev (length payload) x r a)
+    → IfSome told (λ m. Comes m client (write_attribute_at front m client place name payload dev) (written_by (length payload) r) told' client)
+writes front told told' client dev place name payload is_open plugged shape x r e0 e1 e2 e a =
+    writes_found front told told' client dev place name payload is_open plugged shape (Ok x) (written_by (length payload) r) e0 e1 e2 e
+    (wrote told told' client dev (length payload) x r a)
 
 -- ---- how long a value's text is
 

@@ -9,10 +9,10 @@ use Rattle.iiod_session.specs.declared.manner.Going.{Going}
 use Rattle.iiod_session.specs.declared.manner.Going.TheVariants.{On, Waits, Ended}
 use Rattle.iiod_session.specs.declared.manner.Manner.{Manner}
 use Rattle.iio_text.specs.declared.errors.Errno.TheVariants.{EAGAIN}
-use Rattle.iiod_session.specs.Desk.{Bare}
+use Rattle.iiod_session.specs.Client.{Bare}
 use Rattle.iio_core.specs.Front.{Front}
 use Rattle.iiod_session.specs.Given.{GivenIs}
-use Rattle.iiod_session.specs.Seat.{Tale}
+use Rattle.iiod_session.specs.Seat.{Trace}
 use Rattle.iiod_session.specs.Run.{State, Carries, CarriesBy, FedBy, Feeds, RunBy, Stands, StandsBy}
 use Rattle.iiod_session.proofs.GivenLaws.{AreSeated, gives, run_gives, waiting_gives}
 use Rattle.iiod_session.proofs.StreamLaws.{scan_end}
@@ -69,21 +69,22 @@ module _ {S : Type 0} {Answered : S → Item → Reply → S → Type 0} where
   }
 
 -- what the seats gave follows from the answers
-given_then : (manner : Manner) (front : Front) (items : List Item) (replies : List Reply) (seats : List Bare) (tales : List (Option Tale)) (a b : State)
+given_then : (manner : Manner) (front : Front) (items : List Item) (replies : List Reply) (seats : List Bare) (traces : List (Option Trace)) (a b : State)
     (left : Scanned) (going : Going)
-    → Stands manner front a left b going → AreSeated a.desk.seats a.tales
-    → GivenIs front items replies seats tales a.desk.seats a.tales → GivenIs front items replies seats tales b.desk.seats b.tales
-given_then manner front items replies seats tales a b left On s seated g = rw s.0 g
-given_then manner front items replies seats tales a b left (Waits dev) s seated g =
-    waiting_gives front items replies seats tales a b s.item EAGAIN s.served.moves seated g
-given_then manner front items replies seats tales a b left Ended s seated g = rw s.0 g
+    → Stands manner front a left b going → AreSeated a.client.seats a.traces
+    → GivenIs front items replies seats traces a.client.seats a.traces → GivenIs front items replies seats traces b.client.seats b.traces
+given_then manner front items replies seats traces a b left On s seated g = rw s.0 g
+given_then manner front items replies seats traces a b left (Waits dev) s seated g =
+    waiting_gives front items replies seats traces a b s.item EAGAIN s.served.moves seated g
+given_then manner front items replies seats traces a b left Ended s seated g = rw s.0 g
 
 -- a feed, with what its seats gave
-pub feeds_given : (manner : Manner) (front : Front) (a b : State) (all left : Scanned) (before after : List ℕ) (going : Going) → AreSeated a.desk.seats a.tales
+pub feeds_given : (manner : Manner) (front : Front) (a b : State) (all left : Scanned) (before after : List ℕ) (going : Going)
+    → AreSeated a.client.seats a.traces
     → Carries manner front a all before after b left going → Feeds manner front a all before after b left going
 feeds_given manner front a b all left before after going seated c = record {
   carried = c;
-  given = given_then manner front c.fed.items c.fed.replies a.desk.seats a.tales c.mid b left going c.stands
+  given = given_then manner front c.fed.items c.fed.replies a.client.seats a.traces c.mid b left going c.stands
       (run_gives manner front a c.mid c.fed.items c.fed.replies c.fed.run seated).0 (gives manner front a c.mid c.fed.items c.fed.replies c.fed.run seated);
 }
 

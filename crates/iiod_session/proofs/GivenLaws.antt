@@ -13,13 +13,13 @@ use Rattle.iiod_grammar.specs.Stream.{Item, Said, End}
 use Rattle.iiod_reply.specs.Reply.{Reply, Number, Refusal, Block, NoMemory}
 use Rattle.iiod_session.specs.declared.manner.Manner.{Manner}
 use Rattle.iiod_session.specs.Acts.{zero_reply}
-use Rattle.iiod_session.specs.Desk.{Bare, DeskRecord, are_apart, bare_remasked, has_seat, place_of}
+use Rattle.iiod_session.specs.Client.{Bare, ClientRecord, are_apart, bare_remasked, has_seat, place_of}
 use Rattle.iio_core.specs.Front.{Front, find_device, kind_at, size_at}
-use Rattle.iiod_session.specs.Given.{GivenIs, given_after, given_by, given_in, is_named, tale_at}
+use Rattle.iiod_session.specs.Given.{GivenIs, given_after, given_by, given_in, is_named, trace_at}
 use Rattle.iiod_session.specs.Moves.{Moves, ReadMoves, ReadsAs, ReadsAt, ReadsBy, ReadsFrom}
 use Rattle.iiod_session.specs.Reading.{Reads}
 use Rattle.iiod_session.specs.Run.{State, Run}
-use Rattle.iiod_session.specs.Seat.{Tale, after_nothing, after_scans, first_tale}
+use Rattle.iiod_session.specs.Seat.{Trace, after_nothing, after_scans, first_trace}
 
 -- no two seats are at one device
 abbrev pub AreApart : List Bare → Type 0
@@ -38,10 +38,10 @@ pub are_apart_by : (seats : List Bare) → AreApart seats → are_apart seats �
 are_apart_by [] a = refl
 are_apart_by (s ∷ ss) a = rw a.0 (are_apart_by ss a.1)
 
--- ... and each has its tale
-pub record AreSeated (seats : List Bare) (tales : List (Option Tale)) : Type 0 where
+-- ... and each has its trace
+pub record AreSeated (seats : List Bare) (traces : List (Option Trace)) : Type 0 where
   pub apart : AreApart seats
-  pub told : length tales ≡ length seats
+  pub told : length traces ≡ length seats
 
 -- ---- the first seat at a device
 
@@ -101,24 +101,26 @@ placed_at dev seats i s at here = first_is dev seats i s (place_first dev seats 
 
 -- ---- a seat more
 
-tale_last : (dev : ℕ) (seats : List Bare) (tales : List (Option Tale)) (s : Bare) (t : Option Tale) → length tales ≡ length seats → has_seat dev seats ≡ false
-    → tale_at dev (seats ++ s ∷ []) (tales ++ t ∷ []) ≡ (if s.dev == dev then t else None)
-tale_last dev [] [] s t l h = refl
-tale_last dev [] (y ∷ ys) s t l h = absurd (omega arith)
-tale_last dev (x ∷ xs) [] s t l h = absurd (omega arith)
-tale_last dev (x ∷ xs) (y ∷ ys) s t l h = by (λ none. tale_last dev xs ys s t (omega arith) none) (x.dev == dev) refl
+trace_last : (dev : ℕ) (seats : List Bare) (traces : List (Option Trace)) (s : Bare) (t : Option Trace) → length traces ≡ length seats
+    → has_seat dev seats ≡ false
+    → trace_at dev (seats ++ s ∷ []) (traces ++ t ∷ []) ≡ (if s.dev == dev then t else None)
+trace_last dev [] [] s t l h = refl
+trace_last dev [] (y ∷ ys) s t l h = absurd (omega arith)
+trace_last dev (x ∷ xs) [] s t l h = absurd (omega arith)
+trace_last dev (x ∷ xs) (y ∷ ys) s t l h = by (λ none. trace_last dev xs ys s t (omega arith) none) (x.dev == dev) refl
   where
-    by : (has_seat dev xs ≡ false → tale_at dev (xs ++ s ∷ []) (ys ++ t ∷ []) ≡ (if s.dev == dev then t else None)) → (b : Bool) → (x.dev == dev) ≡ b
-        → tale_at dev ((x ∷ xs) ++ s ∷ []) ((y ∷ ys) ++ t ∷ []) ≡ (if s.dev == dev then t else None)
+    by : (has_seat dev xs ≡ false → trace_at dev (xs ++ s ∷ []) (ys ++ t ∷ []) ≡ (if s.dev == dev then t else None)) → (b : Bool) → (x.dev == dev) ≡ b
+        → trace_at dev ((x ∷ xs) ++ s ∷ []) ((y ∷ ys) ++ t ∷ []) ≡ (if s.dev == dev then t else None)
     by rest true e = let n : true ≡ false = rw e at h in cc
     by rest false e = rw e (rest (rw e at h))
 
-tale_before : (dev : ℕ) (seats : List Bare) (tales : List (Option Tale)) (s : Bare) (t : Option Tale) → length tales ≡ length seats → (s.dev == dev) ≡ false
-    → tale_at dev (seats ++ s ∷ []) (tales ++ t ∷ []) ≡ tale_at dev seats tales
-tale_before dev [] [] s t l n = rw n refl
-tale_before dev [] (y ∷ ys) s t l n = absurd (omega arith)
-tale_before dev (x ∷ xs) [] s t l n = absurd (omega arith)
-tale_before dev (x ∷ xs) (y ∷ ys) s t l n = ap (λ z. if x.dev == dev then y else z) (tale_before dev xs ys s t (omega arith) n)
+trace_before : (dev : ℕ) (seats : List Bare) (traces : List (Option Trace)) (s : Bare) (t : Option Trace) → length traces ≡ length seats
+    → (s.dev == dev) ≡ false
+    → trace_at dev (seats ++ s ∷ []) (traces ++ t ∷ []) ≡ trace_at dev seats traces
+trace_before dev [] [] s t l n = rw n refl
+trace_before dev [] (y ∷ ys) s t l n = absurd (omega arith)
+trace_before dev (x ∷ xs) [] s t l n = absurd (omega arith)
+trace_before dev (x ∷ xs) (y ∷ ys) s t l n = ap (λ z. if x.dev == dev then y else z) (trace_before dev xs ys s t (omega arith) n)
 
 has_last : (dev : ℕ) (seats : List Bare) (s : Bare) → has_seat dev seats ≡ false → (s.dev == dev) ≡ false → has_seat dev (seats ++ s ∷ []) ≡ false
 has_last dev [] s h n = rw n refl
@@ -141,41 +143,41 @@ apart_last (x ∷ xs) s a h = by (λ none. apart_last xs s a.1 none) (x.dev == s
 
 -- ---- a seat less
 
-no_tale : (dev : ℕ) (seats : List Bare) (tales : List (Option Tale)) → has_seat dev seats ≡ false → tale_at dev seats tales ≡ None
-no_tale dev [] tales h = refl
-no_tale dev (x ∷ xs) [] h = refl
-no_tale dev (x ∷ xs) (y ∷ ys) h = by (λ none. no_tale dev xs ys none) (x.dev == dev) refl
+no_trace : (dev : ℕ) (seats : List Bare) (traces : List (Option Trace)) → has_seat dev seats ≡ false → trace_at dev seats traces ≡ None
+no_trace dev [] traces h = refl
+no_trace dev (x ∷ xs) [] h = refl
+no_trace dev (x ∷ xs) (y ∷ ys) h = by (λ none. no_trace dev xs ys none) (x.dev == dev) refl
   where
-    by : (has_seat dev xs ≡ false → tale_at dev xs ys ≡ None) → (b : Bool) → (x.dev == dev) ≡ b → tale_at dev (x ∷ xs) (y ∷ ys) ≡ None
+    by : (has_seat dev xs ≡ false → trace_at dev xs ys ≡ None) → (b : Bool) → (x.dev == dev) ≡ b → trace_at dev (x ∷ xs) (y ∷ ys) ≡ None
     by rest true e = let c : true ≡ false = rw e at h in cc
     by rest false e = rw e (rest (rw e at h))
 
 same_test : (a b c : ℕ) → (a == b) ≡ true → (a == c) ≡ (b == c)
 same_test a b c e = ap (λ n. n == c) (eqb-true a b e)
 
-tale_gone : (k dev i : ℕ) (seats : List Bare) (tales : List (Option Tale)) → IsFirst k seats i → AreApart seats → (k == dev) ≡ true
-    → tale_at dev (remove seats i) (remove tales i) ≡ None
-tale_gone k dev i [] tales f a e = absurd f
-tale_gone k dev zero (x ∷ xs) [] f a e = none_left xs
+trace_gone : (k dev i : ℕ) (seats : List Bare) (traces : List (Option Trace)) → IsFirst k seats i → AreApart seats → (k == dev) ≡ true
+    → trace_at dev (remove seats i) (remove traces i) ≡ None
+trace_gone k dev i [] traces f a e = absurd f
+trace_gone k dev zero (x ∷ xs) [] f a e = none_left xs
   where
-    none_left : (xs : List Bare) → tale_at dev xs [] ≡ None
+    none_left : (xs : List Bare) → trace_at dev xs [] ≡ None
     none_left [] = refl
     none_left (y ∷ ys) = refl
-tale_gone k dev zero (x ∷ xs) (y ∷ ys) f a e = no_tale dev xs ys (ap (λ n. has_seat n xs) (sym (eqb-true k dev e) ∙ sym (eqb-true x.dev k f)) ∙ a.0)
-tale_gone k dev (suc i) (x ∷ xs) [] f a e = refl
-tale_gone k dev (suc i) (x ∷ xs) (y ∷ ys) f a e = rw (ap (λ n. x.dev == n) (sym (eqb-true k dev e)) ∙ f.0) (tale_gone k dev i xs ys f.1 a.1 e)
+trace_gone k dev zero (x ∷ xs) (y ∷ ys) f a e = no_trace dev xs ys (ap (λ n. has_seat n xs) (sym (eqb-true k dev e) ∙ sym (eqb-true x.dev k f)) ∙ a.0)
+trace_gone k dev (suc i) (x ∷ xs) [] f a e = refl
+trace_gone k dev (suc i) (x ∷ xs) (y ∷ ys) f a e = rw (ap (λ n. x.dev == n) (sym (eqb-true k dev e)) ∙ f.0) (trace_gone k dev i xs ys f.1 a.1 e)
 
-tale_kept : (k dev i : ℕ) (seats : List Bare) (tales : List (Option Tale)) → IsFirst k seats i → (k == dev) ≡ false
-    → tale_at dev (remove seats i) (remove tales i) ≡ tale_at dev seats tales
-tale_kept k dev i [] tales f e = absurd f
-tale_kept k dev zero (x ∷ xs) [] f e = none_left xs
+trace_kept : (k dev i : ℕ) (seats : List Bare) (traces : List (Option Trace)) → IsFirst k seats i → (k == dev) ≡ false
+    → trace_at dev (remove seats i) (remove traces i) ≡ trace_at dev seats traces
+trace_kept k dev i [] traces f e = absurd f
+trace_kept k dev zero (x ∷ xs) [] f e = none_left xs
   where
-    none_left : (xs : List Bare) → tale_at dev xs [] ≡ None
+    none_left : (xs : List Bare) → trace_at dev xs [] ≡ None
     none_left [] = refl
     none_left (y ∷ ys) = refl
-tale_kept k dev zero (x ∷ xs) (y ∷ ys) f e = rw (same_test x.dev k dev f ∙ e) refl
-tale_kept k dev (suc i) (x ∷ xs) [] f e = refl
-tale_kept k dev (suc i) (x ∷ xs) (y ∷ ys) f e = ap (λ z. if x.dev == dev then y else z) (tale_kept k dev i xs ys f.1 e)
+trace_kept k dev zero (x ∷ xs) (y ∷ ys) f e = rw (same_test x.dev k dev f ∙ e) refl
+trace_kept k dev (suc i) (x ∷ xs) [] f e = refl
+trace_kept k dev (suc i) (x ∷ xs) (y ∷ ys) f e = ap (λ z. if x.dev == dev then y else z) (trace_kept k dev i xs ys f.1 e)
 
 has_kept : (dev i : ℕ) (seats : List Bare) → has_seat dev seats ≡ false → has_seat dev (remove seats i) ≡ false
 has_kept dev i [] h = by i
@@ -197,10 +199,10 @@ apart_kept (suc i) [] a = tt
 apart_kept zero (x ∷ xs) a = a.1
 apart_kept (suc i) (x ∷ xs) a = (has_kept x.dev i xs a.0, apart_kept i xs a.1)
 
-length_kept : (i : ℕ) (seats : List Bare) (tales : List (Option Tale)) → length tales ≡ length seats → length (remove tales i) ≡ length (remove seats i)
+length_kept : (i : ℕ) (seats : List Bare) (traces : List (Option Trace)) → length traces ≡ length seats → length (remove traces i) ≡ length (remove seats i)
 length_kept i [] [] l = by i
   where
-    by : (i : ℕ) → length (remove (let none : List (Option Tale) = [] in none) i) ≡ length (remove (let none : List Bare = [] in none) i)
+    by : (i : ℕ) → length (remove (let none : List (Option Trace) = [] in none) i) ≡ length (remove (let none : List Bare = [] in none) i)
     by zero = refl
     by (suc i) = refl
 length_kept i [] (y ∷ ys) l = absurd (omega arith)
@@ -210,82 +212,83 @@ length_kept (suc i) (x ∷ xs) (y ∷ ys) l = let more : length (remove ys i) �
 
 -- ---- a seat that is read
 
-tale_set : (k dev i : ℕ) (seats : List Bare) (tales : List (Option Tale)) (tale tale' : Option Tale) → IsFirst k seats i → slice_get tales i ≡ Some tale
+trace_set : (k dev i : ℕ) (seats : List Bare) (traces : List (Option Trace)) (trace trace' : Option Trace) → IsFirst k seats i → slice_get traces i ≡ Some trace
     → (k == dev) ≡ true
-    → (tale_at dev seats tales ≡ tale) × (tale_at dev seats (slice_set tales i tale') ≡ tale')
-tale_set k dev i [] tales tale tale' f g e = absurd f
-tale_set k dev zero (x ∷ xs) [] tale tale' f g e = cc
-tale_set k dev (suc i) (x ∷ xs) [] tale tale' f g e = cc
-tale_set k dev zero (x ∷ xs) (y ∷ ys) tale tale' f g e = let here : (x.dev == dev) ≡ true = same_test x.dev k dev f ∙ e in (rw here (cc), rw here refl)
-tale_set k dev (suc i) (x ∷ xs) (y ∷ ys) tale tale' f g e =
+    → (trace_at dev seats traces ≡ trace) × (trace_at dev seats (slice_set traces i trace') ≡ trace')
+trace_set k dev i [] traces trace trace' f g e = absurd f
+trace_set k dev zero (x ∷ xs) [] trace trace' f g e = cc
+trace_set k dev (suc i) (x ∷ xs) [] trace trace' f g e = cc
+trace_set k dev zero (x ∷ xs) (y ∷ ys) trace trace' f g e = let here : (x.dev == dev) ≡ true = same_test x.dev k dev f ∙ e in (rw here (cc), rw here refl)
+trace_set k dev (suc i) (x ∷ xs) (y ∷ ys) trace trace' f g e =
     let here : (x.dev == dev) ≡ false = ap (λ n. x.dev == n) (sym (eqb-true k dev e)) ∙ f.0 in
-    let more = tale_set k dev i xs ys tale tale' f.1 g e in (rw here more.0, rw here more.1)
+    let more = trace_set k dev i xs ys trace trace' f.1 g e in (rw here more.0, rw here more.1)
 
-tale_other : (k dev i : ℕ) (seats : List Bare) (tales : List (Option Tale)) (tale' : Option Tale) → IsFirst k seats i → (k == dev) ≡ false
-    → tale_at dev seats (slice_set tales i tale') ≡ tale_at dev seats tales
-tale_other k dev i [] tales tale' f e = absurd f
-tale_other k dev zero (x ∷ xs) [] tale' f e = refl
-tale_other k dev (suc i) (x ∷ xs) [] tale' f e = refl
-tale_other k dev zero (x ∷ xs) (y ∷ ys) tale' f e = rw (same_test x.dev k dev f ∙ e) refl
-tale_other k dev (suc i) (x ∷ xs) (y ∷ ys) tale' f e = ap (λ z. if x.dev == dev then y else z) (tale_other k dev i xs ys tale' f.1 e)
+trace_other : (k dev i : ℕ) (seats : List Bare) (traces : List (Option Trace)) (trace' : Option Trace) → IsFirst k seats i → (k == dev) ≡ false
+    → trace_at dev seats (slice_set traces i trace') ≡ trace_at dev seats traces
+trace_other k dev i [] traces trace' f e = absurd f
+trace_other k dev zero (x ∷ xs) [] trace' f e = refl
+trace_other k dev (suc i) (x ∷ xs) [] trace' f e = refl
+trace_other k dev zero (x ∷ xs) (y ∷ ys) trace' f e = rw (same_test x.dev k dev f ∙ e) refl
+trace_other k dev (suc i) (x ∷ xs) (y ∷ ys) trace' f e = ap (λ z. if x.dev == dev then y else z) (trace_other k dev i xs ys trace' f.1 e)
 
 -- ---- one item
 
 -- what stands at a device is what was given of it
-abbrev pub IsTold : (given : ℕ → List (List ℕ)) → List Bare → List (Option Tale) → Type 0
-IsTold given seats tales = (dev : ℕ) (t : Tale) → tale_at dev seats tales ≡ Some t → t.given ≡ given dev
+abbrev pub IsTold : (given : ℕ → List (List ℕ)) → List Bare → List (Option Trace) → Type 0
+IsTold given seats traces = (dev : ℕ) (t : Trace) → trace_at dev seats traces ≡ Some t → t.given ≡ given dev
 
 -- an item keeps that
-abbrev Keeps : Front → Item → Reply → List Bare → List (Option Tale) → List Bare → List (Option Tale) → Type 0
-Keeps front item reply seats tales seats' tales' =
-    AreSeated seats' tales' × ((given : ℕ → List (List ℕ)) → IsTold given seats tales → IsTold (λ dev. given_by front dev item reply (given dev)) seats' tales')
+abbrev Keeps : Front → Item → Reply → List Bare → List (Option Trace) → List Bare → List (Option Trace) → Type 0
+Keeps front item reply seats traces seats' traces' =
+    AreSeated seats' traces'
+    × ((given : ℕ → List (List ℕ)) → IsTold given seats traces → IsTold (λ dev. given_by front dev item reply (given dev)) seats' traces')
 
 named_is : (front : Front) (device : List ℕ) (k dev : ℕ) → find_device front device ≡ Some k → is_named front device dev ≡ (k == dev)
 named_is front device k dev e = rw e refl
 
 -- nothing changes at the seats
-same : (front : Front) (item : Item) (reply : Reply) (seats seats' : List Bare) (tales tales' : List (Option Tale)) → seats' ≡ seats → tales' ≡ tales
-    → ((dev : ℕ) (g : List (List ℕ)) → given_by front dev item reply g ≡ g) → AreSeated seats tales → Keeps front item reply seats tales seats' tales'
-same front item reply seats seats' tales tales' s t gives a =
+same : (front : Front) (item : Item) (reply : Reply) (seats seats' : List Bare) (traces traces' : List (Option Trace)) → seats' ≡ seats → traces' ≡ traces
+    → ((dev : ℕ) (g : List (List ℕ)) → given_by front dev item reply g ≡ g) → AreSeated seats traces → Keeps front item reply seats traces seats' traces'
+same front item reply seats seats' traces traces' s t gives a =
     rw (s, t) (a, λ given is dev x e. is dev x e ∙ sym (gives dev (given dev)))
 
 -- of a seat that begins nothing was given
-none_given : (y : Option Tale) (x : Tale) → y ≡ option_map (λ (z : Tale). first_tale) y → y ≡ Some x → x.given ≡ []
+none_given : (y : Option Trace) (x : Trace) → y ≡ option_map (λ (z : Trace). first_trace) y → y ≡ Some x → x.given ≡ []
 none_given None x f e = cc
-none_given (Some y) x f e = let first : Some x ≡ Some first_tale = sym e ∙ f in let here : x ≡ first_tale = cc in ap (λ (z : Tale). z.given) here
+none_given (Some y) x f e = let first : Some x ≡ Some first_trace = sym e ∙ f in let here : x ≡ first_trace = cc in ap (λ (z : Trace). z.given) here
 
-opened : (front : Front) (device text : List ℕ) (samples : ℕ) (cyclic : Bool) (n : ℤ) (s : Bare) (t : Option Tale) (seats : List Bare)
-    (tales : List (Option Tale))
-    → find_device front device ≡ Some s.dev → place_of s.dev seats ≡ None → t ≡ option_map (λ (x : Tale). first_tale) t → AreSeated seats tales
-    → Keeps front (Said (Ok (Open device samples text cyclic))) (Number n) seats tales (seats ++ s ∷ []) (tales ++ t ∷ [])
-opened front device text samples cyclic n s t seats tales named free fresh a = (
+opened : (front : Front) (device text : List ℕ) (samples : ℕ) (cyclic : Bool) (n : ℤ) (s : Bare) (t : Option Trace) (seats : List Bare)
+    (traces : List (Option Trace))
+    → find_device front device ≡ Some s.dev → place_of s.dev seats ≡ None → t ≡ option_map (λ (x : Trace). first_trace) t → AreSeated seats traces
+    → Keeps front (Said (Ok (Open device samples text cyclic))) (Number n) seats traces (seats ++ s ∷ []) (traces ++ t ∷ [])
+opened front device text samples cyclic n s t seats traces named free fresh a = (
   record {
     apart = apart_last seats s a.apart (none_has s.dev seats free);
-    told = omega (arith, length-append tales (t ∷ []), length-append seats (s ∷ []), a.told);
+    told = omega (arith, length-append traces (t ∷ []), length-append seats (s ∷ []), a.told);
   },
   λ given is dev x e. by given is dev x e (s.dev == dev) refl,
 )
   where
-    by : (given : ℕ → List (List ℕ)) → IsTold given seats tales → (dev : ℕ) (x : Tale) → tale_at dev (seats ++ s ∷ []) (tales ++ t ∷ []) ≡ Some x
+    by : (given : ℕ → List (List ℕ)) → IsTold given seats traces → (dev : ℕ) (x : Trace) → trace_at dev (seats ++ s ∷ []) (traces ++ t ∷ []) ≡ Some x
         → (b : Bool) → (s.dev == dev) ≡ b → x.given ≡ given_by front dev (Said (Ok (Open device samples text cyclic))) (Number n) (given dev)
     by given is dev x e true here =
         let free : has_seat dev seats ≡ false = ap (λ k. has_seat k seats) (sym (eqb-true s.dev dev here)) ∙ none_has s.dev seats free in
-        let last : t ≡ Some x = ap (λ (b : Bool). if b then t else None) (sym here) ∙ sym (tale_last dev seats tales s t a.told free) ∙ e in
+        let last : t ≡ Some x = ap (λ (b : Bool). if b then t else None) (sym here) ∙ sym (trace_last dev seats traces s t a.told free) ∙ e in
         rw (named, here) (none_given t x fresh last)
-    by given is dev x e false here = rw (named, here) (is dev x (sym (tale_before dev seats tales s t a.told here) ∙ e))
+    by given is dev x e false here = rw (named, here) (is dev x (sym (trace_before dev seats traces s t a.told here) ∙ e))
 
-closed : (front : Front) (device : List ℕ) (n : ℤ) (k i : ℕ) (seats : List Bare) (tales : List (Option Tale)) → place_of k seats ≡ Some i
-    → AreSeated seats tales
-    → Keeps front (Said (Ok (Close device))) (Number n) seats tales (remove seats i) (remove tales i)
-closed front device n k i seats tales at a = (
-  record { apart = apart_kept i seats a.apart; told = length_kept i seats tales a.told },
+closed : (front : Front) (device : List ℕ) (n : ℤ) (k i : ℕ) (seats : List Bare) (traces : List (Option Trace)) → place_of k seats ≡ Some i
+    → AreSeated seats traces
+    → Keeps front (Said (Ok (Close device))) (Number n) seats traces (remove seats i) (remove traces i)
+closed front device n k i seats traces at a = (
+  record { apart = apart_kept i seats a.apart; told = length_kept i seats traces a.told },
   λ given is dev x e. by given is dev x e (k == dev) refl,
 )
   where
-    by : (given : ℕ → List (List ℕ)) → IsTold given seats tales → (dev : ℕ) (x : Tale) → tale_at dev (remove seats i) (remove tales i) ≡ Some x → (b : Bool)
+    by : (given : ℕ → List (List ℕ)) → IsTold given seats traces → (dev : ℕ) (x : Trace) → trace_at dev (remove seats i) (remove traces i) ≡ Some x → (b : Bool)
         → (k == dev) ≡ b → x.given ≡ given dev
-    by given is dev x e true here = let n : None ≡ Some x = sym (tale_gone k dev i seats tales (place_first k seats i at) a.apart here) ∙ e in cc
-    by given is dev x e false here = is dev x (sym (tale_kept k dev i seats tales (place_first k seats i at) here) ∙ e)
+    by given is dev x e true here = let n : None ≡ Some x = sym (trace_gone k dev i seats traces (place_first k seats i at) a.apart here) ∙ e in cc
+    by given is dev x e false here = is dev x (sym (trace_kept k dev i seats traces (place_first k seats i at) here) ∙ e)
 
 -- ---- REMASK
 
@@ -301,87 +304,87 @@ apart_under i [] s s' here same a = cc
 apart_under zero (x ∷ xs) s s' here same a = let one : s ≡ x = cc in (ap (λ (n : ℕ). has_seat n xs) (same ∙ ap (λ (b : Bare). b.dev) one) ∙ a.0, a.1)
 apart_under (suc i) (x ∷ xs) s s' here same a = (has_under x.dev i xs s s' here same ∙ a.0, apart_under i xs s s' here same a.1)
 
-tale_under : (dev i : ℕ) (seats : List Bare) (tales : List (Option Tale)) (s s' : Bare) → slice_get seats i ≡ Some s → s'.dev ≡ s.dev
-    → tale_at dev (slice_set seats i s') tales ≡ tale_at dev seats tales
-tale_under dev i [] tales s s' here same = cc
-tale_under dev zero (x ∷ xs) [] s s' here same = refl
-tale_under dev (suc i) (x ∷ xs) [] s s' here same = refl
-tale_under dev zero (x ∷ xs) (t ∷ ts) s s' here same =
-    let one : s ≡ x = cc in ap (λ (n : ℕ). if n == dev then t else tale_at dev xs ts) (same ∙ ap (λ (b : Bare). b.dev) one)
-tale_under dev (suc i) (x ∷ xs) (t ∷ ts) s s' here same = ap (λ (z : Option Tale). if x.dev == dev then t else z) (tale_under dev i xs ts s s' here same)
+trace_under : (dev i : ℕ) (seats : List Bare) (traces : List (Option Trace)) (s s' : Bare) → slice_get seats i ≡ Some s → s'.dev ≡ s.dev
+    → trace_at dev (slice_set seats i s') traces ≡ trace_at dev seats traces
+trace_under dev i [] traces s s' here same = cc
+trace_under dev zero (x ∷ xs) [] s s' here same = refl
+trace_under dev (suc i) (x ∷ xs) [] s s' here same = refl
+trace_under dev zero (x ∷ xs) (t ∷ ts) s s' here same =
+    let one : s ≡ x = cc in ap (λ (n : ℕ). if n == dev then t else trace_at dev xs ts) (same ∙ ap (λ (b : Bare). b.dev) one)
+trace_under dev (suc i) (x ∷ xs) (t ∷ ts) s s' here same = ap (λ (z : Option Trace). if x.dev == dev then t else z) (trace_under dev i xs ts s s' here same)
 
--- the tale beside a seat
-tale_beside : (i : ℕ) (seats : List Bare) (tales : List (Option Tale)) (s : Bare) → length tales ≡ length seats → slice_get seats i ≡ Some s
-    → (t : Option Tale) × (slice_get tales i ≡ Some t)
-tale_beside i [] tales s long here = cc
-tale_beside i (x ∷ xs) [] s long here = absurd (omega (arith, long))
-tale_beside zero (x ∷ xs) (t ∷ ts) s long here = (t, refl)
-tale_beside (suc i) (x ∷ xs) (t ∷ ts) s long here = tale_beside i xs ts s (omega (arith, long)) here
+-- the trace beside a seat
+trace_beside : (i : ℕ) (seats : List Bare) (traces : List (Option Trace)) (s : Bare) → length traces ≡ length seats → slice_get seats i ≡ Some s
+    → (t : Option Trace) × (slice_get traces i ≡ Some t)
+trace_beside i [] traces s long here = cc
+trace_beside i (x ∷ xs) [] s long here = absurd (omega (arith, long))
+trace_beside zero (x ∷ xs) (t ∷ ts) s long here = (t, refl)
+trace_beside (suc i) (x ∷ xs) (t ∷ ts) s long here = trace_beside i xs ts s (omega (arith, long)) here
 
-remasked : (front : Front) (device text : List ℕ) (n : ℤ) (i : ℕ) (s s' : Bare) (t : Option Tale) (seats : List Bare) (tales : List (Option Tale))
+remasked : (front : Front) (device text : List ℕ) (n : ℤ) (i : ℕ) (s s' : Bare) (t : Option Trace) (seats : List Bare) (traces : List (Option Trace))
     → find_device front device ≡ Some s.dev → place_of s.dev seats ≡ Some i → slice_get seats i ≡ Some s → s'.dev ≡ s.dev
-    → t ≡ option_map (λ (x : Tale). first_tale) t → AreSeated seats tales
-    → Keeps front (Said (Ok (Remask device text))) (Number n) seats tales (slice_set seats i s') (slice_set tales i t)
-remasked front device text n i s s' t seats tales named at here dev_same fresh a = (
-  record { apart = apart_under i seats s s' here dev_same a.apart; told = length-set tales i t ∙ a.told ∙ sym (length-set seats i s') },
-  λ given is dev x e. by given is dev x (sym (tale_under dev i seats (slice_set tales i t) s s' here dev_same) ∙ e) (s.dev == dev) refl,
+    → t ≡ option_map (λ (x : Trace). first_trace) t → AreSeated seats traces
+    → Keeps front (Said (Ok (Remask device text))) (Number n) seats traces (slice_set seats i s') (slice_set traces i t)
+remasked front device text n i s s' t seats traces named at here dev_same fresh a = (
+  record { apart = apart_under i seats s s' here dev_same a.apart; told = length-set traces i t ∙ a.told ∙ sym (length-set seats i s') },
+  λ given is dev x e. by given is dev x (sym (trace_under dev i seats (slice_set traces i t) s s' here dev_same) ∙ e) (s.dev == dev) refl,
 )
   where
-    by : (given : ℕ → List (List ℕ)) → IsTold given seats tales → (dev : ℕ) (x : Tale) → tale_at dev seats (slice_set tales i t) ≡ Some x
+    by : (given : ℕ → List (List ℕ)) → IsTold given seats traces → (dev : ℕ) (x : Trace) → trace_at dev seats (slice_set traces i t) ≡ Some x
         → (b : Bool) → (s.dev == dev) ≡ b → x.given ≡ given_by front dev (Said (Ok (Remask device text))) (Number n) (given dev)
     by given is dev x e true own =
-        let beside = tale_beside i seats tales s a.told here in
-        let both = tale_set s.dev dev i seats tales beside.0 t (place_first s.dev seats i at) beside.1 own in
+        let beside = trace_beside i seats traces s a.told here in
+        let both = trace_set s.dev dev i seats traces beside.0 t (place_first s.dev seats i at) beside.1 own in
         rw (named, own) (none_given t x fresh (sym both.1 ∙ e))
     by given is dev x e false other =
-        rw (named, other) (is dev x (sym (tale_other s.dev dev i seats tales t (place_first s.dev seats i at) other) ∙ e))
+        rw (named, other) (is dev x (sym (trace_other s.dev dev i seats traces t (place_first s.dev seats i at) other) ∙ e))
 
 -- ---- READBUF
 
-scans_given : (scans : List (List ℕ)) (g : List (List ℕ)) (tale tale' : Option Tale) → tale' ≡ option_map (after_scans scans) tale
-    → ((x : Tale) → tale ≡ Some x → x.given ≡ g) → (x : Tale) → tale' ≡ Some x → x.given ≡ g ++ scans
-scans_given scans g None tale' f is x e = let n : None ≡ Some x = sym f ∙ e in cc
-scans_given scans g (Some y) tale' f is x e =
+scans_given : (scans : List (List ℕ)) (g : List (List ℕ)) (trace trace' : Option Trace) → trace' ≡ option_map (after_scans scans) trace
+    → ((x : Trace) → trace ≡ Some x → x.given ≡ g) → (x : Trace) → trace' ≡ Some x → x.given ≡ g ++ scans
+scans_given scans g None trace' f is x e = let n : None ≡ Some x = sym f ∙ e in cc
+scans_given scans g (Some y) trace' f is x e =
     let here : Some (after_scans scans y) ≡ Some x = sym f ∙ e in
     let now : after_scans scans y ≡ x = cc in
-    ap (λ (z : Tale). z.given) (sym now) ∙ ap (λ gs. gs ++ scans) (is y refl)
+    ap (λ (z : Trace). z.given) (sym now) ∙ ap (λ gs. gs ++ scans) (is y refl)
 
-nothing_given : (gone : Bool) (g : List (List ℕ)) (tale tale' : Option Tale) → tale' ≡ option_map (after_nothing gone) tale
-    → ((x : Tale) → tale ≡ Some x → x.given ≡ g) → (x : Tale) → tale' ≡ Some x → x.given ≡ g
-nothing_given gone g None tale' f is x e = let n : None ≡ Some x = sym f ∙ e in cc
-nothing_given gone g (Some y) tale' f is x e =
+nothing_given : (gone : Bool) (g : List (List ℕ)) (trace trace' : Option Trace) → trace' ≡ option_map (after_nothing gone) trace
+    → ((x : Trace) → trace ≡ Some x → x.given ≡ g) → (x : Trace) → trace' ≡ Some x → x.given ≡ g
+nothing_given gone g None trace' f is x e = let n : None ≡ Some x = sym f ∙ e in cc
+nothing_given gone g (Some y) trace' f is x e =
     let here : Some (after_nothing gone y) ≡ Some x = sym f ∙ e in
     let now : after_nothing gone y ≡ x = cc in
-    ap (λ (z : Tale). z.given) (sym now) ∙ is y refl
+    ap (λ (z : Trace). z.given) (sym now) ∙ is y refl
 
-block_given : (want : ℕ) (scans : List (List ℕ)) (g : List (List ℕ)) (tale tale' : Option Tale) → Reads want scans tale tale'
-    → ((x : Tale) → tale ≡ Some x → x.given ≡ g) → (x : Tale) → tale' ≡ Some x → x.given ≡ g ++ scans
-block_given want scans g tale tale' r is x e = elim r.grown [
-  | inl h ↦ scans_given scans g tale tale' h.1 is x e
-  | inr h ↦ nothing_given h.0 (g ++ scans) (option_map (after_scans scans) tale) tale' h.1
-      (scans_given scans g tale (option_map (after_scans scans) tale) refl is) x e
+block_given : (want : ℕ) (scans : List (List ℕ)) (g : List (List ℕ)) (trace trace' : Option Trace) → Reads want scans trace trace'
+    → ((x : Trace) → trace ≡ Some x → x.given ≡ g) → (x : Trace) → trace' ≡ Some x → x.given ≡ g ++ scans
+block_given want scans g trace trace' r is x e = elim r.grown [
+  | inl h ↦ scans_given scans g trace trace' h.1 is x e
+  | inr h ↦ nothing_given h.0 (g ++ scans) (option_map (after_scans scans) trace) trace' h.1
+      (scans_given scans g trace (option_map (after_scans scans) trace) refl is) x e
 ]
 
 -- at the device itself
-reads_given : (front : Front) (device : List ℕ) (bytes channels mask want asked dev : ℕ) (reply : Reply) (g : List (List ℕ)) (tale tale' : Option Tale)
+reads_given : (front : Front) (device : List ℕ) (bytes channels mask want asked dev : ℕ) (reply : Reply) (g : List (List ℕ)) (trace trace' : Option Trace)
     → is_named front device dev ≡ true
-    → ReadsAs channels mask want asked reply tale tale' → ((x : Tale) → tale ≡ Some x → x.given ≡ g) → (x : Tale) → tale' ≡ Some x
+    → ReadsAs channels mask want asked reply trace trace' → ((x : Trace) → trace ≡ Some x → x.given ≡ g) → (x : Trace) → trace' ≡ Some x
     → x.given ≡ given_by front dev (Said (Ok (ReadBuf device bytes))) reply g
-reads_given front device bytes channels mask want asked dev (Block c m scans b) g tale tale' named r is x e =
-    rw named (block_given want scans g tale tale' r.3 is x e)
-reads_given front device bytes channels mask want asked dev (Refusal EAGAIN) g tale tale' named r is x e = nothing_given false g tale tale' r is x e
-reads_given front device bytes channels mask want asked dev (Refusal ENODEV) g tale tale' named r is x e = nothing_given true g tale tale' r is x e
-reads_given front device bytes channels mask want asked dev reply g tale tale' named r is x e = absurd r
+reads_given front device bytes channels mask want asked dev (Block c m scans b) g trace trace' named r is x e =
+    rw named (block_given want scans g trace trace' r.3 is x e)
+reads_given front device bytes channels mask want asked dev (Refusal EAGAIN) g trace trace' named r is x e = nothing_given false g trace trace' r is x e
+reads_given front device bytes channels mask want asked dev (Refusal ENODEV) g trace trace' named r is x e = nothing_given true g trace trace' r is x e
+reads_given front device bytes channels mask want asked dev reply g trace trace' named r is x e = absurd r
 
-at_seat : (front : Front) (device : List ℕ) (s : Bare) (asked dev : ℕ) (reply : Reply) (g : List (List ℕ)) (tale tale' : Option Tale)
+at_seat : (front : Front) (device : List ℕ) (s : Bare) (asked dev : ℕ) (reply : Reply) (g : List (List ℕ)) (trace trace' : Option Trace)
     → is_named front device dev ≡ true
-    → ReadMoves front s asked reply tale tale' → ((x : Tale) → tale ≡ Some x → x.given ≡ g) → (x : Tale) → tale' ≡ Some x
+    → ReadMoves front s asked reply trace trace' → ((x : Trace) → trace ≡ Some x → x.given ≡ g) → (x : Trace) → trace' ≡ Some x
     → x.given ≡ given_by front dev (Said (Ok (ReadBuf device asked))) reply g
-at_seat front device s asked dev reply g tale tale' named r is x e = by (nat_lt asked (size_at front s.dev s.mask)) refl
+at_seat front device s asked dev reply g trace trace' named r is x e = by (nat_lt asked (size_at front s.dev s.mask)) refl
   where
     by : (b : Bool) → nat_lt asked (size_at front s.dev s.mask) ≡ b → x.given ≡ given_by front dev (Said (Ok (ReadBuf device asked))) reply g
-    by true less = let m : (reply ≡ zero_reply) × (tale' ≡ tale) = rw less at r in rw m.0 (is x (sym m.1 ∙ e))
-    by false less = reads_given front device asked _ _ _ asked dev reply g tale tale' named (rw less at r) is x e
+    by true less = let m : (reply ≡ zero_reply) × (trace' ≡ trace) = rw less at r in rw m.0 (is x (sym m.1 ∙ e))
+    by false less = reads_given front device asked _ _ _ asked dev reply g trace trace' named (rw less at r) is x e
 
 -- at another device
 not_named : (front : Front) (device : List ℕ) (asked dev : ℕ) (reply : Reply) (g : List (List ℕ)) → is_named front device dev ≡ false
@@ -389,107 +392,113 @@ not_named : (front : Front) (device : List ℕ) (asked dev : ℕ) (reply : Reply
 not_named front device asked dev (Block c m scans b) g n = rw n refl
 not_named front device asked dev reply g n = refl
 
-read_at : (front : Front) (device : List ℕ) (asked k i : ℕ) (reply : Reply) (seats : List Bare) (tales tales' : List (Option Tale))
+read_at : (front : Front) (device : List ℕ) (asked k i : ℕ) (reply : Reply) (seats : List Bare) (traces traces' : List (Option Trace))
     → find_device front device ≡ Some k → place_of k seats ≡ Some i
-    → ReadsAt front asked seats tales i reply tales' → AreSeated seats tales → Keeps front (Said (Ok (ReadBuf device asked))) reply seats tales seats tales'
-read_at front device asked k i reply seats tales tales' named at r a = rw r.after (
-  record { apart = a.apart; told = length-set tales i r.tale' ∙ a.told },
+    → ReadsAt front asked seats traces i reply traces' → AreSeated seats traces
+    → Keeps front (Said (Ok (ReadBuf device asked))) reply seats traces seats traces'
+read_at front device asked k i reply seats traces traces' named at r a = rw r.after (
+  record { apart = a.apart; told = length-set traces i r.trace' ∙ a.told },
   λ given is dev x e. by given is dev x e (k == dev) refl,
 )
   where
-    by : (given : ℕ → List (List ℕ)) → IsTold given seats tales → (dev : ℕ) (x : Tale) → tale_at dev seats (slice_set tales i r.tale') ≡ Some x → (b : Bool)
+    by : (given : ℕ → List (List ℕ)) → IsTold given seats traces → (dev : ℕ) (x : Trace) → trace_at dev seats (slice_set traces i r.trace') ≡ Some x
+        → (b : Bool)
         → (k == dev) ≡ b
         → x.given ≡ given_by front dev (Said (Ok (ReadBuf device asked))) reply (given dev)
     by given is dev x e true here =
-        let both = tale_set k dev i seats tales r.tale r.tale' (place_first k seats i at) r.before here in
-        at_seat front device r.s asked dev reply (given dev) r.tale r.tale' (named_is front device k dev named ∙ here) r.reads (λ y f. is dev y (both.0 ∙ f)) x
+        let both = trace_set k dev i seats traces r.trace r.trace' (place_first k seats i at) r.before here in
+        at_seat front device r.s asked dev reply (given dev) r.trace r.trace' (named_is front device k dev named ∙ here) r.reads (λ y f. is dev y (both.0 ∙ f))
+        x
         (sym both.1 ∙ e)
     by given is dev x e false here =
-        is dev x (sym (tale_other k dev i seats tales r.tale' (place_first k seats i at) here) ∙ e)
+        is dev x (sym (trace_other k dev i seats traces r.trace' (place_first k seats i at) here) ∙ e)
         ∙ sym (not_named front device asked dev reply (given dev) (named_is front device k dev named ∙ here))
 
 refusal_gives : (front : Front) (e : Errno) (device : List ℕ) (asked dev : ℕ) (g : List (List ℕ))
     → given_by front dev (Said (Ok (ReadBuf device asked))) (Refusal e) g ≡ g
 refusal_gives front e device asked dev g = refl
 
-read_by : (front : Front) (device : List ℕ) (asked k : ℕ) (place : Option ℕ) (reply : Reply) (seats : List Bare) (tales tales' : List (Option Tale))
+read_by : (front : Front) (device : List ℕ) (asked k : ℕ) (place : Option ℕ) (reply : Reply) (seats : List Bare) (traces traces' : List (Option Trace))
     → find_device front device ≡ Some k → place_of k seats ≡ place
-    → ReadsBy front asked seats tales place reply tales' → AreSeated seats tales → Keeps front (Said (Ok (ReadBuf device asked))) reply seats tales seats tales'
-read_by front device asked k None reply seats tales tales' named at r a =
-    rw r.0 (same front (Said (Ok (ReadBuf device asked))) (Refusal EBADF) seats seats tales tales' refl r.1 (refusal_gives front EBADF device asked) a)
-read_by front device asked k (Some i) reply seats tales tales' named at r a = read_at front device asked k i reply seats tales tales' named at r a
+    → ReadsBy front asked seats traces place reply traces' → AreSeated seats traces
+    → Keeps front (Said (Ok (ReadBuf device asked))) reply seats traces seats traces'
+read_by front device asked k None reply seats traces traces' named at r a =
+    rw r.0 (same front (Said (Ok (ReadBuf device asked))) (Refusal EBADF) seats seats traces traces' refl r.1 (refusal_gives front EBADF device asked) a)
+read_by front device asked k (Some i) reply seats traces traces' named at r a = read_at front device asked k i reply seats traces traces' named at r a
 
-read_from : (front : Front) (device : List ℕ) (asked : ℕ) (dev : Option ℕ) (reply : Reply) (seats : List Bare) (tales tales' : List (Option Tale))
+read_from : (front : Front) (device : List ℕ) (asked : ℕ) (dev : Option ℕ) (reply : Reply) (seats : List Bare) (traces traces' : List (Option Trace))
     → find_device front device ≡ dev
-    → ReadsFrom front asked seats tales dev reply tales' → AreSeated seats tales → Keeps front (Said (Ok (ReadBuf device asked))) reply seats tales seats tales'
-read_from front device asked None reply seats tales tales' named r a =
-    rw r.0 (same front (Said (Ok (ReadBuf device asked))) (Refusal ENODEV) seats seats tales tales' refl r.1 (refusal_gives front ENODEV device asked) a)
-read_from front device asked (Some k) reply seats tales tales' named r a = by (is_output (kind_at front k)) r
+    → ReadsFrom front asked seats traces dev reply traces' → AreSeated seats traces
+    → Keeps front (Said (Ok (ReadBuf device asked))) reply seats traces seats traces'
+read_from front device asked None reply seats traces traces' named r a =
+    rw r.0 (same front (Said (Ok (ReadBuf device asked))) (Refusal ENODEV) seats seats traces traces' refl r.1 (refusal_gives front ENODEV device asked) a)
+read_from front device asked (Some k) reply seats traces traces' named r a = by (is_output (kind_at front k)) r
   where
-    unread : (reply : Reply) → (reply ≡ Refusal ENODEV) ⊎ (reply ≡ Refusal ENOSYS) → tales' ≡ tales
-        → Keeps front (Said (Ok (ReadBuf device asked))) reply seats tales seats tales'
+    unread : (reply : Reply) → (reply ≡ Refusal ENODEV) ⊎ (reply ≡ Refusal ENOSYS) → traces' ≡ traces
+        → Keeps front (Said (Ok (ReadBuf device asked))) reply seats traces seats traces'
     unread reply (inl is) t =
-        rw is (same front (Said (Ok (ReadBuf device asked))) (Refusal ENODEV) seats seats tales tales' refl t (refusal_gives front ENODEV device asked) a)
+        rw is (same front (Said (Ok (ReadBuf device asked))) (Refusal ENODEV) seats seats traces traces' refl t (refusal_gives front ENODEV device asked) a)
     unread reply (inr is) t =
-        rw is (same front (Said (Ok (ReadBuf device asked))) (Refusal ENOSYS) seats seats tales tales' refl t (refusal_gives front ENOSYS device asked) a)
+        rw is (same front (Said (Ok (ReadBuf device asked))) (Refusal ENOSYS) seats seats traces traces' refl t (refusal_gives front ENOSYS device asked) a)
 
-    by : (b : Bool) → MatchBool b (((reply ≡ Refusal ENODEV) ⊎ (reply ≡ Refusal ENOSYS)) × (tales' ≡ tales))
-        (ReadsBy front asked seats tales (place_of k seats) reply tales')
-        → Keeps front (Said (Ok (ReadBuf device asked))) reply seats tales seats tales'
+    by : (b : Bool) → MatchBool b (((reply ≡ Refusal ENODEV) ⊎ (reply ≡ Refusal ENOSYS)) × (traces' ≡ traces))
+        (ReadsBy front asked seats traces (place_of k seats) reply traces')
+        → Keeps front (Said (Ok (ReadBuf device asked))) reply seats traces seats traces'
     by true x = unread reply x.0 x.1
-    by false x = read_by front device asked k (place_of k seats) reply seats tales tales' named refl x a
+    by false x = read_by front device asked k (place_of k seats) reply seats traces traces' named refl x a
 
 -- ---- any item
 
-seats_in : (desk desk' : DeskRecord) → desk' ≡ desk → desk'.seats ≡ desk.seats
-seats_in desk desk' e = ap (λ (d : DeskRecord). d.seats) e
+seats_in : (client client' : ClientRecord) → client' ≡ client → client'.seats ≡ client.seats
+seats_in client client' e = ap (λ (d : ClientRecord). d.seats) e
 
-moved : (front : Front) (desk desk' : DeskRecord) (tales tales' : List (Option Tale)) (item : Item) (reply : Reply) → AreSeated desk.seats tales
-    → Moves front desk tales item reply desk' tales' → Keeps front item reply desk.seats tales desk'.seats tales'
-moved front desk desk' tales tales' (Said (Ok (Open device samples text cyclic))) (Number n) a m =
-    rw (ap (λ (d : DeskRecord). d.seats) m.added, m.told) (opened front device text samples cyclic n m.s m.t desk.seats tales m.named m.free m.fresh a)
-moved front desk desk' tales tales' (Said (Ok (Close device))) (Number n) a m =
-    rw (ap (λ (d : DeskRecord). d.seats) m.gone, m.told) (closed front device n m.dev m.i desk.seats tales m.at a)
-moved front desk desk' tales tales' (Said (Ok (Remask device text))) (Number n) a m =
-    rw (ap (λ (d : DeskRecord). d.seats) m.2.under, m.2.told)
-    (remasked front device text n m.2.i m.2.s (bare_remasked m.2.mask m.2.waiting m.2.s) m.2.t desk.seats tales (m.1 ∙ ap (λ (k : ℕ). Some k) (sym m.2.its))
-    (ap (λ (k : ℕ). place_of k desk.seats) m.2.its ∙ m.2.at) m.2.here refl m.2.fresh a)
-moved front desk desk' tales tales' (Said (Ok (ReadBuf device asked))) NoMemory a m =
-    same front (Said (Ok (ReadBuf device asked))) NoMemory _ _ _ _ (seats_in desk desk' m.0) m.1 (λ dev g. refl) a
-moved front desk desk' tales tales' (Said (Ok (ReadBuf device asked))) reply a m =
-    rw (seats_in desk desk' m.0) (read_from front device asked (find_device front device) reply desk.seats tales tales' refl m.1 a)
-moved front desk desk' tales tales' (Said (Ok (SetBuffers device n))) (Number z) a m =
-    same front (Said (Ok (SetBuffers device n))) (Number z) _ _ _ _ (ap (λ (d : DeskRecord). d.seats) m.made) m.told (λ dev g. refl) a
-moved front desk desk' tales tales' (Said (Ok (EvOpen device))) (Number z) a m =
-    same front (Said (Ok (EvOpen device))) (Number z) _ _ _ _ (ap (λ (d : DeskRecord). d.seats) m.made) m.told (λ dev g. refl) a
-moved front desk desk' tales tales' (Said (Ok (EvClose device))) (Number z) a m =
-    same front (Said (Ok (EvClose device))) (Number z) _ _ _ _ (ap (λ (d : DeskRecord). d.seats) m.made) m.told (λ dev g. refl) a
-moved front desk desk' tales tales' (End error) reply a m =
-    rw (ap (λ (d : DeskRecord). d.seats) m.1, m.2) (record { apart = tt; told = refl }, λ given is dev x e. let n : None ≡ Some x = e in cc)
-moved front desk desk' tales tales' item reply a m = same front item reply _ _ _ _ (seats_in desk desk' m.0) m.1 (λ dev g. refl) a
+moved : (front : Front) (client client' : ClientRecord) (traces traces' : List (Option Trace)) (item : Item) (reply : Reply) → AreSeated client.seats traces
+    → Moves front client traces item reply client' traces' → Keeps front item reply client.seats traces client'.seats traces'
+moved front client client' traces traces' (Said (Ok (Open device samples text cyclic))) (Number n) a m =
+    rw (ap (λ (d : ClientRecord). d.seats) m.added, m.told) (opened front device text samples cyclic n m.s m.t client.seats traces m.named m.free m.fresh a)
+moved front client client' traces traces' (Said (Ok (Close device))) (Number n) a m =
+    rw (ap (λ (d : ClientRecord). d.seats) m.gone, m.told) (closed front device n m.dev m.i client.seats traces m.at a)
+moved front client client' traces traces' (Said (Ok (Remask device text))) (Number n) a m =
+    rw (ap (λ (d : ClientRecord). d.seats) m.2.under, m.2.told)
+    (remasked front device text n m.2.i m.2.s (bare_remasked m.2.mask m.2.waiting m.2.s) m.2.t client.seats traces (m.1 ∙ ap (λ (k : ℕ). Some k) (sym m.2.its))
+    (ap (λ (k : ℕ). place_of k client.seats) m.2.its ∙ m.2.at) m.2.here refl m.2.fresh a)
+moved front client client' traces traces' (Said (Ok (ReadBuf device asked))) NoMemory a m =
+    same front (Said (Ok (ReadBuf device asked))) NoMemory _ _ _ _ (seats_in client client' m.0) m.1 (λ dev g. refl) a
+moved front client client' traces traces' (Said (Ok (ReadBuf device asked))) reply a m =
+    rw (seats_in client client' m.0) (read_from front device asked (find_device front device) reply client.seats traces traces' refl m.1 a)
+moved front client client' traces traces' (Said (Ok (SetBuffers device n))) (Number z) a m =
+    same front (Said (Ok (SetBuffers device n))) (Number z) _ _ _ _ (ap (λ (d : ClientRecord). d.seats) m.made) m.told (λ dev g. refl) a
+moved front client client' traces traces' (Said (Ok (EvOpen device))) (Number z) a m =
+    same front (Said (Ok (EvOpen device))) (Number z) _ _ _ _ (ap (λ (d : ClientRecord). d.seats) m.made) m.told (λ dev g. refl) a
+moved front client client' traces traces' (Said (Ok (EvClose device))) (Number z) a m =
+    same front (Said (Ok (EvClose device))) (Number z) _ _ _ _ (ap (λ (d : ClientRecord). d.seats) m.made) m.told (λ dev g. refl) a
+moved front client client' traces traces' (End error) reply a m =
+    rw (ap (λ (d : ClientRecord). d.seats) m.1, m.2) (record { apart = tt; told = refl }, λ given is dev x e. let n : None ≡ Some x = e in cc)
+moved front client client' traces traces' item reply a m = same front item reply _ _ _ _ (seats_in client client' m.0) m.1 (λ dev g. refl) a
 
 -- ---- a whole feed
 
 pub run_gives : (manner : Manner) (front : Front) (a b : State) (items : List Item) (replies : List Reply) → Run manner front a items replies b
-    → AreSeated a.desk.seats a.tales
-    → AreSeated b.desk.seats b.tales
-    × ((given : ℕ → List (List ℕ)) → IsTold given a.desk.seats a.tales → IsTold (λ dev. given_after front dev items replies (given dev)) b.desk.seats b.tales)
+    → AreSeated a.client.seats a.traces
+    → AreSeated b.client.seats b.traces
+    × ((given : ℕ → List (List ℕ)) → IsTold given a.client.seats a.traces
+    → IsTold (λ dev. given_after front dev items replies (given dev)) b.client.seats b.traces)
 run_gives manner front a b [] [] r s = rw r (s, λ given is dev x e. is dev x e)
 run_gives manner front a b [] (y ∷ ys) r s = absurd r
 run_gives manner front a b (x ∷ xs) [] r s = absurd r
 run_gives manner front a b (x ∷ xs) (y ∷ ys) r s =
-    let one = moved front a.desk r.0.desk a.tales r.0.tales x y s r.1.served.moves in
+    let one = moved front a.client r.0.client a.traces r.0.traces x y s r.1.served.moves in
     let more = run_gives manner front r.0 b xs ys r.2 one.0 in
     (more.0, λ given is. more.1 (λ dev. given_by front dev x y (given dev)) (one.1 given is))
 
-first_told : (seats : List Bare) (tales : List (Option Tale)) → IsTold (λ dev. given_in (tale_at dev seats tales)) seats tales
-first_told seats tales dev t e = ap (λ (x : Option Tale). given_in x) (sym e)
+first_told : (seats : List Bare) (traces : List (Option Trace)) → IsTold (λ dev. given_in (trace_at dev seats traces)) seats traces
+first_told seats traces dev t e = ap (λ (x : Option Trace). given_in x) (sym e)
 
 pub gives : (manner : Manner) (front : Front) (a b : State) (items : List Item) (replies : List Reply) → Run manner front a items replies b
-    → AreSeated a.desk.seats a.tales
-    → GivenIs front items replies a.desk.seats a.tales b.desk.seats b.tales
+    → AreSeated a.client.seats a.traces
+    → GivenIs front items replies a.client.seats a.traces b.client.seats b.traces
 gives manner front a b items replies r s =
-    (run_gives manner front a b items replies r s).1 (λ dev. given_in (tale_at dev a.desk.seats a.tales)) (first_told a.desk.seats a.tales)
+    (run_gives manner front a b items replies r s).1 (λ dev. given_in (trace_at dev a.client.seats a.traces)) (first_told a.client.seats a.traces)
 
 -- a READBUF that finds nothing gives nothing
 none_gives : (front : Front) (dev : ℕ) (item : Item) (e : Errno) (g : List (List ℕ)) → given_by front dev item (Refusal e) g ≡ g
@@ -501,10 +510,11 @@ none_gives front dev item e g = by item
     by (Said (Ok (Remask device text))) = refl
     by item = refl
 
-pub waiting_gives : (front : Front) (items : List Item) (replies : List Reply) (seats : List Bare) (tales : List (Option Tale)) (a b : State) (item : Item)
+pub waiting_gives : (front : Front) (items : List Item) (replies : List Reply) (seats : List Bare) (traces : List (Option Trace)) (a b : State) (item : Item)
     (e : Errno)
-    → Moves front a.desk a.tales item (Refusal e) b.desk b.tales → AreSeated a.desk.seats a.tales
-    → GivenIs front items replies seats tales a.desk.seats a.tales → GivenIs front items replies seats tales b.desk.seats b.tales
-waiting_gives front items replies seats tales a b item e m s g dev x at =
-    (moved front a.desk b.desk a.tales b.tales item (Refusal e) s m).1 (λ k. given_after front k items replies (given_in (tale_at k seats tales))) g dev x at
+    → Moves front a.client a.traces item (Refusal e) b.client b.traces → AreSeated a.client.seats a.traces
+    → GivenIs front items replies seats traces a.client.seats a.traces → GivenIs front items replies seats traces b.client.seats b.traces
+waiting_gives front items replies seats traces a b item e m s g dev x at =
+    (moved front a.client b.client a.traces b.traces item (Refusal e) s m).1 (λ k. given_after front k items replies (given_in (trace_at k seats traces))) g dev
+    x at
     ∙ none_gives front dev item e _

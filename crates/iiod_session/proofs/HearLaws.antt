@@ -20,15 +20,15 @@ use Rattle.iiod_grammar.specs.Lines.{LinesRecord, after_piece}
 use Rattle.iiod_grammar.specs.Scans.{ScansBy, scan_on, scanner_at}
 use Rattle.iiod_grammar.specs.Stream.{Item, Said, Pending, OfWrite, OfWriteBuf, End, ItemsCutAnywhere, ScannerCutAnywhere, Scanned, AtEnd, InLine, after_line, after_said, ended_by, no_item, one_item, payload_after, payload_begun, with_payload}
 use Rattle.iiod_reply.specs.Reply.{Reply, text_of}
-use Rattle.iiod_session.specs.declared.desk.Held.{Held}
+use Rattle.iiod_session.specs.declared.client.Held.{Held}
 use Rattle.iiod_session.specs.declared.manner.Going.{Going}
 use Rattle.iiod_session.specs.declared.manner.Going.TheVariants.{On, Waits, Ended}
 use Rattle.iiod_session.specs.declared.manner.Manner.{Manner}
 use Rattle.iiod_session.specs.declared.manner.Manner.TheVariants.{Script, Server}
 use Rattle.iiod_session.specs.declared.manner.Performed.{Performed}
 use Rattle.iiod_session.specs.declared.manner.Performed.TheVariants.{Done, Waits as PerformedWaits}
-use Rattle.iiod_session.specs.Acts.{Acts, act, end_reply, left_desk, left_machine}
-use Rattle.iiod_session.specs.Desk.{DeskRecord, tales_of}
+use Rattle.iiod_session.specs.Acts.{Acts, act, end_reply, left_client, left_machine}
+use Rattle.iiod_session.specs.Client.{ClientRecord, traces_of}
 use Rattle.iio_core.specs.Front.{Front}
 use Rattle.iio_core.specs.Machine.{Machine}
 use Rattle.iiod_session.specs.Moves.{AnswersAlone, AnswersAs}
@@ -50,33 +50,34 @@ end_allowed Script (Some e) = tt
 end_allowed Server None = tt
 end_allowed Server (Some e) = tt
 
-end_alone : (front : Front) (desk : DeskRecord) (error : Option Errno) → AnswersAlone front desk (End error) (end_reply error)
-end_alone front desk None = refl
-end_alone front desk (Some e) = inl refl
+end_alone : (front : Front) (client : ClientRecord) (error : Option Errno) → AnswersAlone front client (End error) (end_reply error)
+end_alone front client None = refl
+end_alone front client (Some e) = inl refl
 
 end_formed : (front : Front) (error : Option Errno) → AnswersAs front (End error) (end_reply error)
 end_formed front None = tt
 end_formed front (Some e) = tt
 
-end_acts : (front : Front) (a b : State) (error : Option Errno) → IfSome a.told (λ m. b.told ≡ Some (left_machine front m a.desk)) → b.desk ≡ left_desk a.desk
-    → IfSome a.told (λ m. Acts front m a.desk (End error) (end_reply error) b.told b.desk)
+end_acts : (front : Front) (a b : State) (error : Option Errno) → IfSome a.told (λ m. b.told ≡ Some (left_machine front m a.client))
+    → b.client ≡ left_client a.client
+    → IfSome a.told (λ m. Acts front m a.client (End error) (end_reply error) b.told b.client)
 unfolding act
 end_acts front a b error t d = by a.told t error
   where
-    by : (told : Option Machine) → IfSome told (λ m. b.told ≡ Some (left_machine front m a.desk)) → (error : Option Errno)
-        → IfSome told (λ m. Acts front m a.desk (End error) (end_reply error) b.told b.desk)
+    by : (told : Option Machine) → IfSome told (λ m. b.told ≡ Some (left_machine front m a.client)) → (error : Option Errno)
+        → IfSome told (λ m. Acts front m a.client (End error) (end_reply error) b.told b.client)
     by None x error = tt
-    by (Some m) x None = (left_machine front m a.desk, x, rw d refl)
-    by (Some m) x (Some e) = (left_machine front m a.desk, x, rw d refl)
+    by (Some m) x None = (left_machine front m a.client, x, rw d refl)
+    by (Some m) x (Some e) = (left_machine front m a.client, x, rw d refl)
 
-none_seen : {S : Type 0} (seen : S → SeatRecord) (held : List (Held S)) → held ≡ [] → tales_of seen held ≡ []
-none_seen seen held e = ap (λ hs. tales_of seen hs) e
+none_seen : {S : Type 0} (seen : S → SeatRecord) (held : List (Held S)) → held ≡ [] → traces_of seen held ≡ []
+none_seen seen held e = ap (λ hs. traces_of seen hs) e
 
 module _ {W : Type 0} {makes : Front → Option Machine → ℕ → Item → W → W → Type 0} where
   ends : (manner : Manner) (front : Front) (a b : State) (w v : W) (error : Option Errno) (before after : List ℕ)
-      → makes front a.told a.desk.who (End error) w v
+      → makes front a.told a.client.who (End error) w v
       → after ≡ before ++ text_of (end_reply error)
-      → IfSome a.told (λ m. b.told ≡ Some (left_machine front m a.desk)) → b.desk ≡ left_desk a.desk → b.tales ≡ []
+      → IfSome a.told (λ m. b.told ≡ Some (left_machine front m a.client)) → b.client ≡ left_client a.client → b.traces ≡ []
       → Hears makes manner front (scene a w false) (ended_by error) before after (scene b v false) (no_item AtEnd) Ended
   ends manner front a b w v error before after tells text t d none =
       feeds_of manner front (scene a w false) (scene b v false) (scene b v false) (ended_by error) (no_item AtEnd) before after Ended
@@ -88,7 +89,13 @@ module _ {W : Type 0} {makes : Front → Option Machine → ℕ → Item → W �
               allowed = end_allowed manner error;
               answer = tt;
               served =
-                  record { alone = end_alone front a.desk error; formed = end_formed front error; exact = end_acts front a b error t d; moves = (refl, d, none) };
+                  record {
+                    alone = end_alone front a.client error;
+                    formed = end_formed front error;
+                    exact = end_acts front a b error t d;
+                    moves =
+                        (refl, d, none);
+                  };
             };
         next = refl;
       }))
@@ -97,12 +104,12 @@ module _ {W : Type 0} {makes : Front → Option Machine → ℕ → Item → W �
   -- the end of a connection, as `end` makes it
   pub end_feeds : {S : Type 0} (seen : S → SeatRecord) (manner : Manner) (front : Front) (a b : State) (w v : W) (held : List (Held S)) (error : Option Errno)
       (before after : List ℕ)
-      → makes front a.told a.desk.who (End error) w v
+      → makes front a.told a.client.who (End error) w v
       → after ≡ before ++ text_of (end_reply error)
-      → IfSome a.told (λ m. b.told ≡ Some (left_machine front m a.desk)) → b.desk ≡ left_desk a.desk → b.tales ≡ tales_of seen held → held ≡ []
+      → IfSome a.told (λ m. b.told ≡ Some (left_machine front m a.client)) → b.client ≡ left_client a.client → b.traces ≡ traces_of seen held → held ≡ []
       → Hears makes manner front (scene a w false) (ended_by error) before after (scene b v false) (no_item AtEnd) Ended
-  end_feeds seen manner front a b w v held error before after tells text t d tales none =
-      ends manner front a b w v error before after tells text t d (tales ∙ none_seen seen held none)
+  end_feeds seen manner front a b w v held error before after tells text t d traces none =
+      ends manner front a b w v error before after tells text t d (traces ∙ none_seen seen held none)
 
 -- a line that ends the connection
 pub ended_line : {W : Type 0} (makes : Front → Option Machine → ℕ → Item → W → W → Type 0) (manner : Manner) (front : Front) (a b : State) (w v : W)
@@ -160,7 +167,7 @@ pub plain_feeds : {W : Type 0} {makes : Front → Option Machine → ℕ → Ite
     (told : Bool) (line : List ℕ) (kept : PendingRecord) (said : Result Command Refused) (lines : LinesRecord) (before after : List ℕ) (p : Performed)
     → command_of line ≡ said → IsPlain said → lines ≡ after_piece line
     → Tells makes manner front (scene a w told) (Said said) v
-    → Performs manner front a.told b.told a.desk a.tales (Said said) b.desk b.tales before after p
+    → Performs manner front a.told b.told a.client a.traces (Said said) b.client b.traces before after p
     → Hears makes manner front (scene a w told) (after_line line) before after (scene b v (is_waiting (going_of p))) (stream_by (going_of p) lines kept)
     (going_of p)
 plain_feeds manner front a b w v told line kept said lines before after Done e plain is tells x =
@@ -198,8 +205,8 @@ no_wait front dev said once r = r
 pub at_once_feeds : {W : Type 0} {makes : Front → Option Machine → ℕ → Item → W → W → Type 0} (manner : Manner) (front : Front) (a b : State) (w v : W)
     (kept : PendingRecord) (said : Result Command Refused) (lines : LinesRecord) (before after : List ℕ) (p : Performed)
     → lines ≡ after_piece lines.piece → command_of lines.piece ≡ said → IsAtOnce said
-    → makes front a.told a.desk.who (Said said) w v
-    → Performs manner front a.told b.told a.desk a.tales (Said said) b.desk b.tales before after p
+    → makes front a.told a.client.who (Said said) w v
+    → Performs manner front a.told b.told a.client a.traces (Said said) b.client b.traces before after p
     → Hears makes manner front (scene a w false) (after_line lines.piece) before after (scene b v false) (stream_by On lines kept) On
 at_once_feeds manner front a b w v kept said lines before after Done is e once tells x =
     plain_feeds manner front a b w v false lines.piece kept said lines before after Done e (once_plain said once) is tells x
@@ -214,8 +221,8 @@ no_read front dev (OfWriteBuf device) payload r = r
 pub written_feeds : {W : Type 0} {makes : Front → Option Machine → ℕ → Item → W → W → Type 0} (manner : Manner) (front : Front) (a b : State) (w v : W)
     (lines : LinesRecord) (kept : PendingRecord) (of : Pending) (payload before after : List ℕ) (p : Performed)
     → lines ≡ after_piece lines.piece
-    → makes front a.told a.desk.who (with_payload of payload) w v
-    → Performs manner front a.told b.told a.desk a.tales (with_payload of payload) b.desk b.tales before after p
+    → makes front a.told a.client.who (with_payload of payload) w v
+    → Performs manner front a.told b.told a.client a.traces (with_payload of payload) b.client b.traces before after p
     → Hears makes manner front (scene a w false) (one_item (with_payload of payload)) before after (scene b v false) (stream_by On lines kept) On
 written_feeds manner front a b w v lines kept of payload before after Done is tells x =
     let left : stream_by On lines kept ≡ no_item (InLine []) = ap (λ (z : LinesRecord). stream_by On z kept) is in
@@ -230,7 +237,7 @@ pub said_feeds : {W : Type 0} {makes : Front → Option Machine → ℕ → Item
     (told : Bool) (kept : PendingRecord) (said : Result Command Refused) (lines : LinesRecord) (before after : List ℕ) (p : Performed)
     → lines ≡ after_piece lines.piece → command_of lines.piece ≡ said → IsPlain said
     → Tells makes manner front (scene a w told) (Said said) v
-    → Performs manner front a.told b.told a.desk a.tales (Said said) b.desk b.tales before after p
+    → Performs manner front a.told b.told a.client a.traces (Said said) b.client b.traces before after p
     → Hears makes manner front (scene a w told) (after_line lines.piece) before after (scene b v (is_waiting (going_of p))) (stream_by (going_of p) lines kept)
     (going_of p)
 said_feeds manner front a b w v told kept said lines before after p is e plain tells x =

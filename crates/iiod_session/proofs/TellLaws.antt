@@ -16,23 +16,23 @@ use Rattle.iiod_session.specs.Run.{State, IsAnswered, Run, Carries, FeedTells, T
 
 -- what one item made
 record Acting (front : Front) (a mid : State) (m : Machine) (item : Item) (reply : Reply) : Type 0 where
-  machine : mid.told ≡ Some (act front m a.desk item).machine
-  desk : mid.desk ≡ (act front m a.desk item).desk
-  answer : reply ≡ (act front m a.desk item).reply
+  machine : mid.told ≡ Some (act front m a.client item).machine
+  client : mid.client ≡ (act front m a.client item).client
+  answer : reply ≡ (act front m a.client item).reply
 
 step_tells : (front : Front) (a mid : State) (m : Machine) (item : Item) (reply : Reply) → IsAnswered Script front a item reply mid → a.told ≡ Some m
     → Acting front a mid m item reply
 step_tells front a mid m item reply one told = by reply one.allowed (rw told at one.served.exact)
   where
-    so : (reply : Reply) → (n : Machine) × (mid.told ≡ Some n) × (act front m a.desk item ≡ record { reply = reply; machine = n; desk = mid.desk })
+    so : (reply : Reply) → (n : Machine) × (mid.told ≡ Some n) × (act front m a.client item ≡ record { reply = reply; machine = n; client = mid.client })
         → Acting front a mid m item reply
     so reply x = record {
       machine = x.1 ∙ ap (λ (o : Acted). Some o.machine) (sym x.2);
-      desk = ap (λ (o : Acted). o.desk) (sym x.2);
+      client = ap (λ (o : Acted). o.client) (sym x.2);
       answer = ap (λ (o : Acted). o.reply) (sym x.2);
     }
 
-    by : (reply : Reply) → IsAllowed Script reply → Acts front m a.desk item reply mid.told mid.desk → Acting front a mid m item reply
+    by : (reply : Reply) → IsAllowed Script reply → Acts front m a.client item reply mid.told mid.client → Acting front a mid m item reply
     by NoMemory w x = absurd w
     by Nothing w x = so Nothing x
     by (Number n) w x = so (Number n) x
@@ -43,16 +43,16 @@ step_tells front a mid m item reply one told = by reply one.allowed (rw told at 
     by (Block p q r s) w x = so (Block p q r s) x
 
 run_tells : (front : Front) (a b : State) (m : Machine) (items : List Item) (replies : List Reply)
-    → Run Script front a items replies b → a.told ≡ Some m → Tells front m a.desk items (flat_map text_of replies) b
-run_tells front a b m [] [] r told = record { said = refl; machine = ap (λ (s : State). s.told) r ∙ told; after = ap (λ (s : State). s.desk) r }
+    → Run Script front a items replies b → a.told ≡ Some m → Tells front m a.client items (flat_map text_of replies) b
+run_tells front a b m [] [] r told = record { said = refl; machine = ap (λ (s : State). s.told) r ∙ told; after = ap (λ (s : State). s.client) r }
 run_tells front a b m [] (y ∷ ys) r told = absurd r
 run_tells front a b m (x ∷ xs) [] r told = absurd r
 run_tells front a b m (x ∷ xs) (y ∷ ys) r told =
     let step = step_tells front a r.0 m x y r.1 told in
-    let rest : Tells front (act front m a.desk x).machine (act front m a.desk x).desk xs (flat_map text_of ys) b =
-    rw step.desk at (run_tells front r.0 b (act front m a.desk x).machine xs ys r.2 step.machine) in
+    let rest : Tells front (act front m a.client x).machine (act front m a.client x).client xs (flat_map text_of ys) b =
+    rw step.client at (run_tells front r.0 b (act front m a.client x).machine xs ys r.2 step.machine) in
     record {
-      said = ap (λ (z : Reply). text_of z ++ flat_map text_of ys) step.answer ∙ ap (λ (zs : List ℕ). text_of (act front m a.desk x).reply ++ zs) rest.said;
+      said = ap (λ (z : Reply). text_of z ++ flat_map text_of ys) step.answer ∙ ap (λ (zs : List ℕ). text_of (act front m a.client x).reply ++ zs) rest.said;
       machine = rest.machine;
       after = rest.after;
     }

@@ -14,19 +14,19 @@ use Rattle.iiod_grammar.specs.declared.command.Refused.TheVariants.{Empty}
 use Rattle.iiod_grammar.specs.Command.{Place, Help, Version, Print, Timeout, Open, Close, Read, ReadBuf, GetTrig, SetTrig, SetBuffers, Remask, EvOpen, EvRead, EvClose}
 use Rattle.iiod_grammar.specs.Stream.{Item, Said, Written, Streamed, End}
 use Rattle.iiod_reply.specs.Reply.{Reply, Nothing, Number, Refusal, Line, Value, Raw, Block, NoMemory}
-use Rattle.iiod_session.specs.declared.desk.TheConstants.{MAX_BUFFERS}
+use Rattle.iiod_session.specs.declared.client.TheConstants.{MAX_BUFFERS}
 use Rattle.iiod_session.specs.Attributes.{Assignment, Named, buffer_number, found, is_of_buffer, text_of_value, write_found}
 use Rattle.iio_core.specs.Front.{Front, channel_count, find_device, find_trigger, kind_at, shape_at, size_at, trigger_name}
 use Rattle.iio_core.specs.Machine.{Machine, is_plugged, lost_of, queue_of, with_queue}
-use Rattle.iio_core.specs.Calls.{Outcome, closed, ev_close_of, ev_open_of, ev_read_of, open_of, read_attr_of, remask_of, set_trigger_of, trigger_of, write_attr_of, write_scans_of}
-use Rattle.iiod_session.specs.Desk.{Wanted, Bare, DeskRecord, wanted_of, mask_wanted, buffers_of, bare_id, bare_remasked, place_of, with_count, with_holding, with_seats, without_holding}
+use Rattle.iio_core.specs.Calls.{Outcome, machine_after_close, ev_close_of, ev_open_of, ev_read_of, open_of, read_attr_of, remask_of, set_trigger_of, trigger_of, write_attr_of, write_scans_of}
+use Rattle.iiod_session.specs.Client.{Wanted, Bare, ClientRecord, wanted_of, mask_wanted, buffers_of, bare_id, bare_remasked, place_of, with_count, with_holding, with_seats, without_holding}
 use Rattle.iiod_session.specs.Reading.{most_scans}
 
 -- an answer, and what stands then
 pub record Acted : Type 0 where
   pub reply : Reply
   pub machine : Machine
-  pub desk : DeskRecord
+  pub client : ClientRecord
 
 abbrev pub zero_reply : Reply
 zero_reply = Number (pos 0)
@@ -38,138 +38,140 @@ abbrev pub version_reply : Reply
 version_reply = Line (codes "0.25.iiosim0")
 
 -- an answer that changes nothing
-abbrev pub only : Reply → Machine → DeskRecord → Acted
-only reply m desk = record { reply = reply; machine = m; desk = desk }
+abbrev pub only : Reply → Machine → ClientRecord → Acted
+only reply m client = record { reply = reply; machine = m; client = client }
 
-abbrev pub refused : Errno → Machine → DeskRecord → Acted
-refused e m desk = only (Refusal e) m desk
+abbrev pub refused : Errno → Machine → ClientRecord → Acted
+refused e m client = only (Refusal e) m client
 
 -- ---- OPEN
 
 -- a seat more, where the device took the member
-abbrev pub opened : DeskRecord → ℕ → Wanted → Machine → Result ℕ Errno → Acted
-opened desk dev x m (Err e) = refused e m desk
-opened desk dev x m (Ok number) =
+abbrev pub opened : ClientRecord → ℕ → Wanted → Machine → Result ℕ Errno → Acted
+opened client dev x m (Err e) = refused e m client
+opened client dev x m (Ok number) =
     record {
       reply = zero_reply;
       machine = m;
-      desk =
-          with_seats (desk.seats ++ record { dev = dev; number = number; mask = x.mask; capacity = x.capacity; discarded = 0 } ∷ []) desk;
+      client =
+          with_seats (client.seats ++ record { dev = dev; number = number; mask = x.mask; capacity = x.capacity; discarded = 0 } ∷ []) client;
     }
 
-abbrev pub joined_at : Front → Machine → DeskRecord → ℕ → Wanted → Bool → Acted
-joined_at front m desk dev x cyclic = let o = open_of front m dev x.mask x.capacity cyclic in opened desk dev x o.machine o.answer
+abbrev pub joined_at : Front → Machine → ClientRecord → ℕ → Wanted → Bool → Acted
+joined_at front m client dev x cyclic = let o = open_of front m dev x.mask x.capacity cyclic in opened client dev x o.machine o.answer
 
-abbrev pub open_wanted : Front → Machine → DeskRecord → ℕ → Bool → Result Wanted Errno → Acted
-open_wanted front m desk dev cyclic (Err e) = refused e m desk
-open_wanted front m desk dev cyclic (Ok x) = joined_at front m desk dev x cyclic
+abbrev pub open_wanted : Front → Machine → ClientRecord → ℕ → Bool → Result Wanted Errno → Acted
+open_wanted front m client dev cyclic (Err e) = refused e m client
+open_wanted front m client dev cyclic (Ok x) = joined_at front m client dev x cyclic
 
-abbrev pub open_at : Front → Machine → DeskRecord → ℕ → ℕ → List ℕ → Bool → Acted
-open_at front m desk dev samples text cyclic =
-    open_wanted front m desk dev cyclic
-    (wanted_of (is_some (place_of dev desk.seats)) (is_plugged m dev) (kind_at front dev) (shape_at front dev) (buffers_of dev desk.buffers) samples text
+abbrev pub open_at : Front → Machine → ClientRecord → ℕ → ℕ → List ℕ → Bool → Acted
+open_at front m client dev samples text cyclic =
+    open_wanted front m client dev cyclic
+    (wanted_of (is_some (place_of dev client.seats)) (is_plugged m dev) (kind_at front dev) (shape_at front dev) (buffers_of dev client.buffers) samples text
     cyclic)
 
 -- ---- CLOSE
 
-abbrev pub close_seat : Front → Machine → DeskRecord → ℕ → Option Bare → Acted
-close_seat front m desk i None = refused EBADF m desk
-close_seat front m desk i (Some s) = record { reply = zero_reply; machine = closed front m s.dev s.number; desk = with_seats (remove desk.seats i) desk }
+abbrev pub close_seat : Front → Machine → ClientRecord → ℕ → Option Bare → Acted
+close_seat front m client i None = refused EBADF m client
+close_seat front m client i (Some s) =
+    record { reply = zero_reply; machine = machine_after_close front m s.dev s.number; client = with_seats (remove client.seats i) client }
 
-abbrev pub close_at : Front → Machine → DeskRecord → Option ℕ → Acted
-close_at front m desk None = refused EBADF m desk
-close_at front m desk (Some i) = close_seat front m desk i (slice_get desk.seats i)
+abbrev pub close_at : Front → Machine → ClientRecord → Option ℕ → Acted
+close_at front m client None = refused EBADF m client
+close_at front m client (Some i) = close_seat front m client i (slice_get client.seats i)
 
 -- ---- REMASK
 
 -- the seat in place i under its new mask
-abbrev pub remasked_seat : DeskRecord → ℕ → Bare → ℕ → Machine → Result ℕ Errno → Acted
-remasked_seat desk i s mask m (Err e) = refused e m desk
-remasked_seat desk i s mask m (Ok waiting) =
-    record { reply = zero_reply; machine = m; desk = with_seats (slice_set desk.seats i (bare_remasked mask waiting s)) desk }
+abbrev pub remasked_seat : ClientRecord → ℕ → Bare → ℕ → Machine → Result ℕ Errno → Acted
+remasked_seat client i s mask m (Err e) = refused e m client
+remasked_seat client i s mask m (Ok waiting) =
+    record { reply = zero_reply; machine = m; client = with_seats (slice_set client.seats i (bare_remasked mask waiting s)) client }
 
 -- a REMASK, by what its text asks for
-abbrev pub remask_wanted : Front → Machine → DeskRecord → ℕ → Bare → Result ℕ Errno → Acted
-remask_wanted front m desk i s (Err e) = refused e m desk
-remask_wanted front m desk i s (Ok mask) = let o = remask_of front m s.dev (bare_id s) mask s.capacity in remasked_seat desk i s mask o.machine o.answer
+abbrev pub remask_wanted : Front → Machine → ClientRecord → ℕ → Bare → Result ℕ Errno → Acted
+remask_wanted front m client i s (Err e) = refused e m client
+remask_wanted front m client i s (Ok mask) = let o = remask_of front m s.dev (bare_id s) mask s.capacity in remasked_seat client i s mask o.machine o.answer
 
 -- a REMASK at the seat in place i
-abbrev pub remask_seat : Front → Machine → DeskRecord → List ℕ → ℕ → Option Bare → Acted
-remask_seat front m desk text i None = refused EBADF m desk
-remask_seat front m desk text i (Some s) = remask_wanted front m desk i s (mask_wanted (shape_at front s.dev) s.capacity text)
+abbrev pub remask_seat : Front → Machine → ClientRecord → List ℕ → ℕ → Option Bare → Acted
+remask_seat front m client text i None = refused EBADF m client
+remask_seat front m client text i (Some s) = remask_wanted front m client i s (mask_wanted (shape_at front s.dev) s.capacity text)
 
 -- a REMASK, by the place of the connection's seat at the device
-abbrev pub remask_place : Front → Machine → DeskRecord → List ℕ → Option ℕ → Acted
-remask_place front m desk text None = refused EBADF m desk
-remask_place front m desk text (Some i) = remask_seat front m desk text i (slice_get desk.seats i)
+abbrev pub remask_place : Front → Machine → ClientRecord → List ℕ → Option ℕ → Acted
+remask_place front m client text None = refused EBADF m client
+remask_place front m client text (Some i) = remask_seat front m client text i (slice_get client.seats i)
 
 -- ---- READBUF
 
 -- the answer to a READBUF by the scans that wait, at most `want`
-abbrev pub read_scans_of : Front → Machine → DeskRecord → Bare → ℕ → ℕ → List (List ℕ) → Acted
-read_scans_of front m desk s want asked [] = refused (if is_plugged m s.dev then EAGAIN else ENODEV) m desk
-read_scans_of front m desk s want asked (x ∷ xs) = record {
+abbrev pub read_scans_of : Front → Machine → ClientRecord → Bare → ℕ → ℕ → List (List ℕ) → Acted
+read_scans_of front m client s want asked [] = refused (if is_plugged m s.dev then EAGAIN else ENODEV) m client
+read_scans_of front m client s want asked (x ∷ xs) = record {
   reply = Block (channel_count front s.dev) s.mask (x ∷ xs) asked;
   machine = with_queue m s.dev (bare_id s) (x ∷ xs) (drop want (queue_of m s.dev (bare_id s)));
-  desk = desk;
+  client = client;
 }
 
 -- nothing where less than one scan is asked for
-abbrev pub read_at_seat : Front → Machine → DeskRecord → Bare → ℕ → Acted
-read_at_seat front m desk s asked =
-    if nat_lt asked (size_at front s.dev s.mask) then only zero_reply m desk
+abbrev pub read_at_seat : Front → Machine → ClientRecord → Bare → ℕ → Acted
+read_at_seat front m client s asked =
+    if nat_lt asked (size_at front s.dev s.mask) then only zero_reply m client
     else let want = most_scans asked (size_at front s.dev s.mask) s.capacity in
-    read_scans_of front m desk s want asked (take want (queue_of m s.dev (bare_id s)))
+    read_scans_of front m client s want asked (take want (queue_of m s.dev (bare_id s)))
 
-abbrev pub read_seat : Front → Machine → DeskRecord → ℕ → Option Bare → Acted
-read_seat front m desk asked None = refused EBADF m desk
-read_seat front m desk asked (Some s) = read_at_seat front m desk s asked
+abbrev pub read_seat : Front → Machine → ClientRecord → ℕ → Option Bare → Acted
+read_seat front m client asked None = refused EBADF m client
+read_seat front m client asked (Some s) = read_at_seat front m client s asked
 
-abbrev pub read_at : Front → Machine → DeskRecord → ℕ → Option ℕ → Acted
-read_at front m desk asked None = refused EBADF m desk
-read_at front m desk asked (Some i) = read_seat front m desk asked (slice_get desk.seats i)
+abbrev pub read_at : Front → Machine → ClientRecord → ℕ → Option ℕ → Acted
+read_at front m client asked None = refused EBADF m client
+read_at front m client asked (Some i) = read_seat front m client asked (slice_get client.seats i)
 
 -- ---- what changes no seat
 
 -- an answer by 0, where a call isn't refused; it may alter what the connection has
-abbrev pub altered : (DeskRecord → DeskRecord) → DeskRecord → Machine → Result ⊤ Errno → Acted
-altered change desk m (Ok done) = record { reply = zero_reply; machine = m; desk = change desk }
-altered change desk m (Err e) = refused e m desk
+abbrev pub altered : (ClientRecord → ClientRecord) → ClientRecord → Machine → Result ⊤ Errno → Acted
+altered change client m (Ok done) = record { reply = zero_reply; machine = m; client = change client }
+altered change client m (Err e) = refused e m client
 
-abbrev pub settled : DeskRecord → Outcome ⊤ → Acted
-settled desk o = altered (λ d. d) desk o.machine o.answer
+abbrev pub settled : ClientRecord → Outcome ⊤ → Acted
+settled client o = altered (λ d. d) client o.machine o.answer
 
 -- a command that is refused where the device is unplugged
-abbrev pub if_plugged : Machine → DeskRecord → ℕ → Acted → Acted
-if_plugged m desk dev acted = if is_plugged m dev then acted else refused ENODEV m desk
+abbrev pub if_plugged : Machine → ClientRecord → ℕ → Acted → Acted
+if_plugged m client dev acted = if is_plugged m dev then acted else refused ENODEV m client
 
 -- a REMASK of a device, by its number; of an unplugged one it is refused before all else
-abbrev pub remask_at : Front → Machine → DeskRecord → List ℕ → ℕ → Acted
-remask_at front m desk text dev = if_plugged m desk dev (remask_place front m desk text (place_of dev desk.seats))
+abbrev pub remask_at : Front → Machine → ClientRecord → List ℕ → ℕ → Acted
+remask_at front m client text dev = if_plugged m client dev (remask_place front m client text (place_of dev client.seats))
 
 -- a command that devices of some kinds alone know
-abbrev pub where_known : Bool → Machine → DeskRecord → ℕ → Acted → Acted
-where_known is_known m desk dev acted = if is_known then acted else if_plugged m desk dev (refused ENOSYS m desk)
+abbrev pub where_known : Bool → Machine → ClientRecord → ℕ → Acted → Acted
+where_known is_known m client dev acted = if is_known then acted else if_plugged m client dev (refused ENOSYS m client)
 
 -- 1 to 64 buffers
 abbrev pub is_buffers_count : ℕ → Bool
 is_buffers_count n = nat_le 1 n && nat_le n MAX_BUFFERS
 
 -- READBUF of a device: an output device isn't read
-abbrev pub read_buffer_at : Front → Machine → DeskRecord → ℕ → ℕ → Acted
-read_buffer_at front m desk asked dev = where_known (not (is_output (kind_at front dev))) m desk dev (read_at front m desk asked (place_of dev desk.seats))
+abbrev pub read_buffer_at : Front → Machine → ClientRecord → ℕ → ℕ → Acted
+read_buffer_at front m client asked dev =
+    where_known (not (is_output (kind_at front dev))) m client dev (read_at front m client asked (place_of dev client.seats))
 
 -- SET
-abbrev pub set_buffers_at : Machine → DeskRecord → ℕ → ℕ → Acted
-set_buffers_at m desk n dev = if_plugged m desk dev (altered (with_count dev n) desk m (ensure (is_buffers_count n) EINVAL))
+abbrev pub set_buffers_at : Machine → ClientRecord → ℕ → ℕ → Acted
+set_buffers_at m client n dev = if_plugged m client dev (altered (with_count dev n) client m (ensure (is_buffers_count n) EINVAL))
 
 -- GETTRIG
 abbrev pub trigger_reply : Front → Option ℕ → Reply
 trigger_reply front None = zero_reply
 trigger_reply front (Some t) = Value (trigger_name front t)
 
-abbrev pub get_trigger_at : Front → Machine → DeskRecord → ℕ → Acted
-get_trigger_at front m desk dev = if_plugged m desk dev (only (trigger_reply front (trigger_of front m dev)) m desk)
+abbrev pub get_trigger_at : Front → Machine → ClientRecord → ℕ → Acted
+get_trigger_at front m client dev = if_plugged m client dev (only (trigger_reply front (trigger_of front m dev)) m client)
 
 -- SETTRIG
 abbrev pub trigger_named : Front → Option (List ℕ) → Result (Option ℕ) Errno
@@ -178,61 +180,62 @@ trigger_named front (Some name) = do
   t ← ok_or (find_trigger front name) ENOENT
   Ok (Some t)
 
-abbrev pub set_found : Machine → DeskRecord → ℕ → Result (Option ℕ) Errno → Acted
-set_found m desk dev (Ok trigger) = settled desk (set_trigger_of m dev trigger)
-set_found m desk dev (Err e) = refused e m desk
+abbrev pub set_found : Machine → ClientRecord → ℕ → Result (Option ℕ) Errno → Acted
+set_found m client dev (Ok trigger) = settled client (set_trigger_of m dev trigger)
+set_found m client dev (Err e) = refused e m client
 
-abbrev pub set_trigger_at : Front → Machine → DeskRecord → Option (List ℕ) → ℕ → Acted
-set_trigger_at front m desk name dev = if_plugged m desk dev (set_found m desk dev (trigger_named front name))
+abbrev pub set_trigger_at : Front → Machine → ClientRecord → Option (List ℕ) → ℕ → Acted
+set_trigger_at front m client name dev = if_plugged m client dev (set_found m client dev (trigger_named front name))
 
 -- WRITEBUF is answered by the number of bytes that were taken
-abbrev pub written_scans : DeskRecord → Machine → Result ℕ Errno → Acted
-written_scans desk m (Ok taken) = only (Number (pos taken)) m desk
-written_scans desk m (Err e) = refused e m desk
+abbrev pub written_scans : ClientRecord → Machine → Result ℕ Errno → Acted
+written_scans client m (Ok taken) = only (Number (pos taken)) m client
+written_scans client m (Err e) = refused e m client
 
-abbrev pub write_at_seat : Front → Machine → DeskRecord → List ℕ → Option Bare → Acted
-write_at_seat front m desk payload None = refused EBADF m desk
-write_at_seat front m desk payload (Some s) = let o = write_scans_of front m s.dev (bare_id s) payload in written_scans desk o.machine o.answer
+abbrev pub write_at_seat : Front → Machine → ClientRecord → List ℕ → Option Bare → Acted
+write_at_seat front m client payload None = refused EBADF m client
+write_at_seat front m client payload (Some s) = let o = write_scans_of front m s.dev (bare_id s) payload in written_scans client o.machine o.answer
 
-abbrev pub write_at_place : Front → Machine → DeskRecord → List ℕ → Option ℕ → Acted
-write_at_place front m desk payload None = refused EBADF m desk
-write_at_place front m desk payload (Some i) = write_at_seat front m desk payload (slice_get desk.seats i)
+abbrev pub write_at_place : Front → Machine → ClientRecord → List ℕ → Option ℕ → Acted
+write_at_place front m client payload None = refused EBADF m client
+write_at_place front m client payload (Some i) = write_at_seat front m client payload (slice_get client.seats i)
 
-abbrev pub write_buffer_at : Front → Machine → DeskRecord → List ℕ → ℕ → Acted
-write_buffer_at front m desk payload dev =
-    if_plugged m desk dev (if is_output (kind_at front dev) then write_at_place front m desk payload (place_of dev desk.seats) else refused ENOSYS m desk)
+abbrev pub write_buffer_at : Front → Machine → ClientRecord → List ℕ → ℕ → Acted
+write_buffer_at front m client payload dev =
+    if_plugged m client dev (if is_output (kind_at front dev) then write_at_place front m client payload (place_of dev client.seats)
+    else refused ENOSYS m client)
 
 -- EVOPEN, EVREAD and EVCLOSE
-abbrev pub ev_open_at : Machine → DeskRecord → ℕ → Acted
-ev_open_at m desk dev = let o = ev_open_of m dev desk.who in altered (with_holding dev) desk o.machine o.answer
+abbrev pub ev_open_at : Machine → ClientRecord → ℕ → Acted
+ev_open_at m client dev = let o = ev_open_of m dev client.who in altered (with_holding dev) client o.machine o.answer
 
 abbrev pub event_reply : Result (Option EventData) Errno → Reply
 event_reply (Ok None) = Refusal EAGAIN
 event_reply (Ok (Some event)) = Raw (event_bytes event)
 event_reply (Err e) = Refusal e
 
-abbrev pub ev_read_at : Machine → DeskRecord → ℕ → Acted
-ev_read_at m desk dev = let o = ev_read_of m dev desk.who in record { reply = event_reply o.answer; machine = o.machine; desk = desk }
+abbrev pub ev_read_at : Machine → ClientRecord → ℕ → Acted
+ev_read_at m client dev = let o = ev_read_of m dev client.who in record { reply = event_reply o.answer; machine = o.machine; client = client }
 
-abbrev pub ev_close_at : Machine → DeskRecord → ℕ → Acted
-ev_close_at m desk dev = if_plugged m desk dev (let o = ev_close_of m dev desk.who in altered (without_holding dev) desk o.machine o.answer)
+abbrev pub ev_close_at : Machine → ClientRecord → ℕ → Acted
+ev_close_at m client dev = if_plugged m client dev (let o = ev_close_of m dev client.who in altered (without_holding dev) client o.machine o.answer)
 
 -- ---- the same at devices of all kinds
 
-abbrev pub remask_known : Front → Machine → DeskRecord → List ℕ → ℕ → Acted
-remask_known front m desk text dev = where_known (is_input (kind_at front dev)) m desk dev (remask_at front m desk text dev)
+abbrev pub remask_known : Front → Machine → ClientRecord → List ℕ → ℕ → Acted
+remask_known front m client text dev = where_known (is_input (kind_at front dev)) m client dev (remask_at front m client text dev)
 
-abbrev pub set_trigger_known : Front → Machine → DeskRecord → Option (List ℕ) → ℕ → Acted
-set_trigger_known front m desk name dev = where_known (not (is_average (kind_at front dev))) m desk dev (set_trigger_at front m desk name dev)
+abbrev pub set_trigger_known : Front → Machine → ClientRecord → Option (List ℕ) → ℕ → Acted
+set_trigger_known front m client name dev = where_known (not (is_average (kind_at front dev))) m client dev (set_trigger_at front m client name dev)
 
-abbrev pub ev_open_known : Front → Machine → DeskRecord → ℕ → Acted
-ev_open_known front m desk dev = where_known (is_input (kind_at front dev)) m desk dev (ev_open_at m desk dev)
+abbrev pub ev_open_known : Front → Machine → ClientRecord → ℕ → Acted
+ev_open_known front m client dev = where_known (is_input (kind_at front dev)) m client dev (ev_open_at m client dev)
 
-abbrev pub ev_read_known : Front → Machine → DeskRecord → ℕ → Acted
-ev_read_known front m desk dev = where_known (is_input (kind_at front dev)) m desk dev (ev_read_at m desk dev)
+abbrev pub ev_read_known : Front → Machine → ClientRecord → ℕ → Acted
+ev_read_known front m client dev = where_known (is_input (kind_at front dev)) m client dev (ev_read_at m client dev)
 
-abbrev pub ev_close_known : Front → Machine → DeskRecord → ℕ → Acted
-ev_close_known front m desk dev = where_known (is_input (kind_at front dev)) m desk dev (ev_close_at m desk dev)
+abbrev pub ev_close_known : Front → Machine → ClientRecord → ℕ → Acted
+ev_close_known front m client dev = where_known (is_input (kind_at front dev)) m client dev (ev_close_at m client dev)
 
 -- ---- READ and WRITE
 
@@ -240,108 +243,109 @@ ev_close_known front m desk dev = where_known (is_input (kind_at front dev)) m d
 abbrev pub buffer_text : Machine → Attr → Bare → List ℕ
 buffer_text m a s = decimal (buffer_number a s.capacity (length (queue_of m s.dev (bare_id s))) (lost_of m s.dev (bare_id s)) s.discarded)
 
-abbrev pub read_buffer_attribute : Machine → DeskRecord → Attr → Option Bare → Acted
-read_buffer_attribute m desk a None = refused EBADF m desk
-read_buffer_attribute m desk a (Some s) = only (Value (buffer_text m a s)) m desk
+abbrev pub read_buffer_attribute : Machine → ClientRecord → Attr → Option Bare → Acted
+read_buffer_attribute m client a None = refused EBADF m client
+read_buffer_attribute m client a (Some s) = only (Value (buffer_text m a s)) m client
 
 -- the attribute of a buffer of the connection, by the seat's place
-abbrev pub read_buffer_attribute_at : Machine → DeskRecord → Attr → Option ℕ → Acted
-read_buffer_attribute_at m desk a None = refused EBADF m desk
-read_buffer_attribute_at m desk a (Some i) = read_buffer_attribute m desk a (slice_get desk.seats i)
+abbrev pub read_buffer_attribute_at : Machine → ClientRecord → Attr → Option ℕ → Acted
+read_buffer_attribute_at m client a None = refused EBADF m client
+read_buffer_attribute_at m client a (Some i) = read_buffer_attribute m client a (slice_get client.seats i)
 
 -- an attribute of the device, or of a channel
 abbrev pub value_reply : Result AttrValue Errno → Reply
 value_reply (Ok v) = Value (text_of_value v)
 value_reply (Err e) = Refusal e
 
-abbrev pub read_device_attribute : Front → Machine → DeskRecord → ℕ → Named → Acted
-read_device_attribute front m desk dev target =
-    let o = read_attr_of front m dev target.channel target.attribute in record { reply = value_reply o.answer; machine = o.machine; desk = desk }
+abbrev pub read_device_attribute : Front → Machine → ClientRecord → ℕ → Named → Acted
+read_device_attribute front m client dev target =
+    let o = read_attr_of front m dev target.channel target.attribute in record { reply = value_reply o.answer; machine = o.machine; client = client }
 
-abbrev pub read_named : Front → Machine → DeskRecord → ℕ → (of_buffer : Bool) → Result Named Errno → Acted
-read_named front m desk dev of_buffer (Err e) = refused e m desk
-read_named front m desk dev true (Ok target) = read_buffer_attribute_at m desk target.attribute (place_of dev desk.seats)
-read_named front m desk dev false (Ok target) = read_device_attribute front m desk dev target
+abbrev pub read_named : Front → Machine → ClientRecord → ℕ → (of_buffer : Bool) → Result Named Errno → Acted
+read_named front m client dev of_buffer (Err e) = refused e m client
+read_named front m client dev true (Ok target) = read_buffer_attribute_at m client target.attribute (place_of dev client.seats)
+read_named front m client dev false (Ok target) = read_device_attribute front m client dev target
 
-abbrev pub read_attribute_at : Front → Machine → DeskRecord → Place → Option (List ℕ) → ℕ → Acted
-read_attribute_at front m desk place name dev =
-    read_named front m desk dev (is_of_buffer place name)
-    (found (kind_at front dev) (shape_at front dev) (is_plugged m dev) (is_some (place_of dev desk.seats)) place name)
+abbrev pub read_attribute_at : Front → Machine → ClientRecord → Place → Option (List ℕ) → ℕ → Acted
+read_attribute_at front m client place name dev =
+    read_named front m client dev (is_of_buffer place name)
+    (found (kind_at front dev) (shape_at front dev) (is_plugged m dev) (is_some (place_of dev client.seats)) place name)
 
 -- a WRITE is answered by the number of the payload's bytes
-abbrev pub written : DeskRecord → (count : ℕ) → Machine → Result ⊤ Errno → Acted
-written desk count m (Ok done) = only (Number (pos count)) m desk
-written desk count m (Err e) = refused e m desk
+abbrev pub written : ClientRecord → (count : ℕ) → Machine → Result ⊤ Errno → Acted
+written client count m (Ok done) = only (Number (pos count)) m client
+written client count m (Err e) = refused e m client
 
-abbrev pub write_assignment : Machine → DeskRecord → ℕ → (count : ℕ) → Result Assignment Errno → Acted
-write_assignment m desk dev count (Err e) = refused e m desk
-write_assignment m desk dev count (Ok x) = let o = write_attr_of m dev x.target.channel x.target.attribute x.value in written desk count o.machine o.answer
+abbrev pub write_assignment : Machine → ClientRecord → ℕ → (count : ℕ) → Result Assignment Errno → Acted
+write_assignment m client dev count (Err e) = refused e m client
+write_assignment m client dev count (Ok x) = let o = write_attr_of m dev x.target.channel x.target.attribute x.value in written client count o.machine o.answer
 
-abbrev pub write_attribute_at : Front → Machine → DeskRecord → Place → Option (List ℕ) → (payload : List ℕ) → ℕ → Acted
-write_attribute_at front m desk place name payload dev =
-    write_assignment m desk dev (length payload)
-    (write_found (kind_at front dev) (shape_at front dev) (is_plugged m dev) (is_some (place_of dev desk.seats)) place name payload)
+abbrev pub write_attribute_at : Front → Machine → ClientRecord → Place → Option (List ℕ) → (payload : List ℕ) → ℕ → Acted
+write_attribute_at front m client place name payload dev =
+    write_assignment m client dev (length payload)
+    (write_found (kind_at front dev) (shape_at front dev) (is_plugged m dev) (is_some (place_of dev client.seats)) place name payload)
 
 -- ---- the end of a connection
 
 -- the state once all seats are closed, and all holdings of events have ended, the last one first
 abbrev pub all_closed : Front → Machine → List Bare → Machine
 all_closed front m [] = m
-all_closed front m (s ∷ ss) = closed front (all_closed front m ss) s.dev s.number
+all_closed front m (s ∷ ss) = machine_after_close front (all_closed front m ss) s.dev s.number
 
 abbrev pub all_released : Machine → ℕ → List ℕ → Machine
 all_released m who [] = m
 all_released m who (dev ∷ devs) = (ev_close_of (all_released m who devs) dev who).machine
 
-abbrev pub left_machine : Front → Machine → DeskRecord → Machine
-left_machine front m desk = all_released (all_closed front m desk.seats) desk.who desk.holdings
+abbrev pub left_machine : Front → Machine → ClientRecord → Machine
+left_machine front m client = all_released (all_closed front m client.seats) client.who client.holdings
 
-abbrev pub left_desk : DeskRecord → DeskRecord
-left_desk desk = record desk { seats = []; holdings = [] }
+abbrev pub left_client : ClientRecord → ClientRecord
+left_client client = record client { seats = []; holdings = [] }
 
 -- the end of a stream: every seat and every holding ends. A broken limit is answered by its error, EXIT by nothing
 abbrev pub end_reply : Option Errno → Reply
 end_reply None = Nothing
 end_reply (Some e) = Refusal e
 
-abbrev pub ended : Front → Machine → DeskRecord → Option Errno → Acted
-ended front m desk error = record { reply = end_reply error; machine = left_machine front m desk; desk = left_desk desk }
+abbrev pub ended : Front → Machine → ClientRecord → Option Errno → Acted
+ended front m client error = record { reply = end_reply error; machine = left_machine front m client; client = left_client client }
 
 -- ---- items
 
 -- a command that names a device
-abbrev pub at_device : Machine → DeskRecord → (ℕ → Acted) → Option ℕ → Acted
-at_device m desk on None = refused ENODEV m desk
-at_device m desk on (Some dev) = on dev
+abbrev pub at_device : Machine → ClientRecord → (ℕ → Acted) → Option ℕ → Acted
+at_device m client on None = refused ENODEV m client
+at_device m client on (Some dev) = on dev
 
 -- what an item is answered, and what stands then
-unfoldable pub act : Front → Machine → DeskRecord → Item → Acted
-act front m desk (Said (Ok (Open device samples text cyclic))) =
-    at_device m desk (λ dev. open_at front m desk dev samples text cyclic) (find_device front device)
-act front m desk (Said (Ok (Close device))) = at_device m desk (λ dev. close_at front m desk (place_of dev desk.seats)) (find_device front device)
-act front m desk (Said (Ok (ReadBuf device asked))) = at_device m desk (read_buffer_at front m desk asked) (find_device front device)
-act front m desk (Said (Ok Help)) = only help_reply m desk
-act front m desk (Said (Ok Version)) = only version_reply m desk
-act front m desk (Said (Ok Print)) = only (Value front.context) m desk
-act front m desk (Said (Ok (Timeout milliseconds))) = only zero_reply m desk
-act front m desk (Said (Ok (Read device place name))) = at_device m desk (λ dev. read_attribute_at front m desk place name dev) (find_device front device)
-act front m desk (Written device None payload) = refused EINVAL m desk
-act front m desk (Written device (Some target) payload) =
-    at_device m desk (λ dev. write_attribute_at front m desk target.0 target.1 payload dev) (find_device front device)
-act front m desk (Streamed device payload) = at_device m desk (write_buffer_at front m desk payload) (find_device front device)
-act front m desk (Said (Ok (GetTrig device))) = at_device m desk (get_trigger_at front m desk) (find_device front device)
-act front m desk (Said (Ok (SetTrig device name))) = at_device m desk (set_trigger_known front m desk name) (find_device front device)
-act front m desk (Said (Ok (SetBuffers device n))) = at_device m desk (set_buffers_at m desk n) (find_device front device)
-act front m desk (Said (Ok (Remask device text))) = at_device m desk (remask_known front m desk text) (find_device front device)
-act front m desk (Said (Ok (EvOpen device))) = at_device m desk (ev_open_known front m desk) (find_device front device)
-act front m desk (Said (Ok (EvRead device))) = at_device m desk (ev_read_known front m desk) (find_device front device)
-act front m desk (Said (Ok (EvClose device))) = at_device m desk (ev_close_known front m desk) (find_device front device)
-act front m desk (Said (Err Empty)) = only Nothing m desk
-act front m desk (Said (Err why)) = refused EINVAL m desk
-act front m desk (End error) = ended front m desk error
-act front m desk item = only Nothing m desk
+unfoldable pub act : Front → Machine → ClientRecord → Item → Acted
+act front m client (Said (Ok (Open device samples text cyclic))) =
+    at_device m client (λ dev. open_at front m client dev samples text cyclic) (find_device front device)
+act front m client (Said (Ok (Close device))) = at_device m client (λ dev. close_at front m client (place_of dev client.seats)) (find_device front device)
+act front m client (Said (Ok (ReadBuf device asked))) = at_device m client (read_buffer_at front m client asked) (find_device front device)
+act front m client (Said (Ok Help)) = only help_reply m client
+act front m client (Said (Ok Version)) = only version_reply m client
+act front m client (Said (Ok Print)) = only (Value front.context) m client
+act front m client (Said (Ok (Timeout milliseconds))) = only zero_reply m client
+act front m client (Said (Ok (Read device place name))) = at_device m client (λ dev. read_attribute_at front m client place name dev) (find_device front device)
+act front m client (Written device None payload) = refused EINVAL m client
+act front m client (Written device (Some target) payload) =
+    at_device m client (λ dev. write_attribute_at front m client target.0 target.1 payload dev) (find_device front device)
+act front m client (Streamed device payload) = at_device m client (write_buffer_at front m client payload) (find_device front device)
+act front m client (Said (Ok (GetTrig device))) = at_device m client (get_trigger_at front m client) (find_device front device)
+act front m client (Said (Ok (SetTrig device name))) = at_device m client (set_trigger_known front m client name) (find_device front device)
+act front m client (Said (Ok (SetBuffers device n))) = at_device m client (set_buffers_at m client n) (find_device front device)
+act front m client (Said (Ok (Remask device text))) = at_device m client (remask_known front m client text) (find_device front device)
+act front m client (Said (Ok (EvOpen device))) = at_device m client (ev_open_known front m client) (find_device front device)
+act front m client (Said (Ok (EvRead device))) = at_device m client (ev_read_known front m client) (find_device front device)
+act front m client (Said (Ok (EvClose device))) = at_device m client (ev_close_known front m client) (find_device front device)
+act front m client (Said (Err Empty)) = only Nothing m client
+act front m client (Said (Err why)) = refused EINVAL m client
+act front m client (End error) = ended front m client error
+act front m client item = only Nothing m client
 
 -- ... or want of memory, which changes nothing
-abbrev pub Acts : Front → Machine → DeskRecord → Item → Reply → Option Machine → DeskRecord → Type 0
-Acts front m desk item NoMemory told desk' = (told ≡ Some m) × (desk' ≡ desk)
-Acts front m desk item reply told desk' = (n : Machine) × (told ≡ Some n) × (act front m desk item ≡ record { reply = reply; machine = n; desk = desk' })
+abbrev pub Acts : Front → Machine → ClientRecord → Item → Reply → Option Machine → ClientRecord → Type 0
+Acts front m client item NoMemory told client' = (told ≡ Some m) × (client' ≡ client)
+Acts front m client item reply told client' =
+    (n : Machine) × (told ≡ Some n) × (act front m client item ≡ record { reply = reply; machine = n; client = client' })

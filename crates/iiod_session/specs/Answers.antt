@@ -11,12 +11,12 @@ use Rattle.iiod_session.specs.declared.answers.Answer.TheVariants as answer
 use Rattle.iiod_session.specs.declared.iio.No.{No}
 use Rattle.iiod_session.specs.declared.manner.Manner.{Manner}
 use Rattle.iiod_session.specs.Acts.{help_reply, version_reply}
-use Rattle.iiod_session.specs.Desk.{DeskRecord}
+use Rattle.iiod_session.specs.Client.{ClientRecord}
 use Rattle.iio_core.specs.Front.{Front, find_device, trigger_name}
 use Rattle.iio_core.specs.Machine.{Machine}
 use Rattle.iiod_session.specs.Moves.{Serves}
 use Rattle.iiod_session.specs.Performs.{IsAllowed, reply_by}
-use Rattle.iiod_session.specs.Seat.{Tale}
+use Rattle.iiod_session.specs.Seat.{Trace}
 
 -- ---- answers
 
@@ -91,10 +91,10 @@ IsAt front dev command = ⊥
 -- ---- items
 
 -- an item and its answer
-pub record ServesBy (front : Front) (told : Option Machine) (desk : DeskRecord) (tales : List (Option Tale)) (item : Item) (r : Result Answer No)
-    (told' : Option Machine) (desk' : DeskRecord) (tales' : List (Option Tale)) : Type 0 where
-  pub served : Serves front told desk tales item (reply_of front r) told' desk' tales'
-  pub short : IsLong r → Serves front told desk tales item NoMemory told' desk' tales'
+pub record ServesBy (front : Front) (told : Option Machine) (client : ClientRecord) (traces : List (Option Trace)) (item : Item) (r : Result Answer No)
+    (told' : Option Machine) (client' : ClientRecord) (traces' : List (Option Trace)) : Type 0 where
+  pub served : Serves front told client traces item (reply_of front r) told' client' traces'
+  pub short : IsLong r → Serves front told client traces item NoMemory told' client' traces'
 
 -- the answer was printed, or want of memory in the place of a long one
 pub record Prints (manner : Manner) (front : Front) (r : Result Answer No) (before after : List ℕ) : Type 0 where

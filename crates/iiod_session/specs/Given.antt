@@ -4,9 +4,9 @@ use Rattle.std.specs.Option.{option_map_or}
 use Rattle.iiod_grammar.specs.Command.{Open, ReadBuf, Remask}
 use Rattle.iiod_grammar.specs.Stream.{Item, Said}
 use Rattle.iiod_reply.specs.Reply.{Reply, Number, Block}
-use Rattle.iiod_session.specs.Desk.{Bare}
+use Rattle.iiod_session.specs.Client.{Bare}
 use Rattle.iio_core.specs.Front.{Front, find_device}
-use Rattle.iiod_session.specs.Seat.{Tale}
+use Rattle.iiod_session.specs.Seat.{Trace}
 
 -- whether the device of that number has the name
 abbrev pub is_named : Front → List ℕ → ℕ → Bool
@@ -25,20 +25,21 @@ abbrev pub given_after : Front → ℕ → List Item → List Reply → List (Li
 given_after front dev (item ∷ items) (reply ∷ replies) given = given_after front dev items replies (given_by front dev item reply given)
 given_after front dev items replies given = given
 
--- ---- seats and their tales
+-- ---- seats and their traces
 
 -- what the seat at a device tells
-abbrev pub tale_at : ℕ → List Bare → List (Option Tale) → Option Tale
-tale_at dev (s ∷ ss) (t ∷ ts) = if s.dev == dev then t else tale_at dev ss ts
-tale_at dev seats tales = None
+abbrev pub trace_at : ℕ → List Bare → List (Option Trace) → Option Trace
+trace_at dev (s ∷ ss) (t ∷ ts) = if s.dev == dev then t else trace_at dev ss ts
+trace_at dev seats traces = None
 
 -- the scans that it gave; none where there is no seat
-abbrev pub given_in : Option Tale → List (List ℕ)
+abbrev pub given_in : Option Trace → List (List ℕ)
 given_in None = []
 given_in (Some t) = t.given
 
 -- for each device whose seat tells: the scans that it gave are those before and those of the answers
-abbrev pub GivenIs : Front → List Item → List Reply → (seats : List Bare) → (tales : List (Option Tale)) → (seats' : List Bare) → (tales' : List (Option Tale))
+abbrev pub GivenIs : Front → List Item → List Reply → (seats : List Bare) → (traces : List (Option Trace)) → (seats' : List Bare)
+    → (traces' : List (Option Trace))
     → Type 0
-GivenIs front items replies seats tales seats' tales' = (dev : ℕ) (t : Tale) → tale_at dev seats' tales' ≡ Some t
-    → t.given ≡ given_after front dev items replies (given_in (tale_at dev seats tales))
+GivenIs front items replies seats traces seats' traces' = (dev : ℕ) (t : Trace) → trace_at dev seats' traces' ≡ Some t
+    → t.given ≡ given_after front dev items replies (given_in (trace_at dev seats traces))

@@ -4,7 +4,7 @@ pub mod Target
 pub mod Attributes
 pub mod Seat
 pub mod Reading
-pub mod Desk
+pub mod Client
 pub mod Acts
 pub mod Moves
 pub mod Performs

@@ -10,113 +10,117 @@ use Rattle.iiod_grammar.specs.declared.command.Refused.TheVariants.{Empty}
 use Rattle.iiod_grammar.specs.Command.{Help, Exit, Version, Print, Timeout, Open, Close, Read, Write, ReadBuf, WriteBuf, GetTrig, SetTrig, SetBuffers, Remask, EvOpen, EvRead, EvClose}
 use Rattle.iiod_grammar.specs.Stream.{Item, Said, Written, Streamed, End}
 use Rattle.iiod_reply.specs.Reply.{Reply, Nothing, Number, Refusal, Value, Raw, Block, NoMemory}
-use Rattle.iiod_session.specs.Acts.{Acts, end_reply, help_reply, left_desk, trigger_reply, version_reply, zero_reply}
+use Rattle.iiod_session.specs.Acts.{Acts, end_reply, help_reply, left_client, trigger_reply, version_reply, zero_reply}
 use Rattle.iio_core.specs.Front.{Front, channel_count, find_device, kind_at, shape_at, size_at}
 use Rattle.iio_core.specs.Machine.{Machine}
-use Rattle.iiod_session.specs.Seat.{Tale, after_nothing, first_tale}
-use Rattle.iiod_session.specs.Desk.{Bare, DeskRecord, IsWanted, bare_remasked, buffers_of, place_of, with_count, with_holding, with_seats, without_holding}
+use Rattle.iiod_session.specs.Seat.{Trace, after_nothing, first_trace}
+use Rattle.iiod_session.specs.Client.{Bare, ClientRecord, IsWanted, bare_remasked, buffers_of, place_of, with_count, with_holding, with_seats, without_holding}
 use Rattle.iiod_session.specs.Reading.{Reads, most_scans}
 
--- what a READBUF's answer says of the tale of its seat: its scans are those by which the tale grew
-abbrev pub ReadsAs : (channels mask want asked : ℕ) → Reply → Option Tale → Option Tale → Type 0
-ReadsAs channels mask want asked (Block channels' mask' scans asked') tale tale' =
-    (channels' ≡ channels) × (mask' ≡ mask) × (asked' ≡ asked) × Reads want scans tale tale'
-ReadsAs channels mask want asked (Refusal EAGAIN) tale tale' = tale' ≡ option_map (after_nothing false) tale
-ReadsAs channels mask want asked (Refusal ENODEV) tale tale' = tale' ≡ option_map (after_nothing true) tale
-ReadsAs channels mask want asked reply tale tale' = ⊥
+-- what a READBUF's answer says of the trace of its seat: its scans are those by which the trace grew
+abbrev pub ReadsAs : (channels mask want asked : ℕ) → Reply → Option Trace → Option Trace → Type 0
+ReadsAs channels mask want asked (Block channels' mask' scans asked') trace trace' =
+    (channels' ≡ channels) × (mask' ≡ mask) × (asked' ≡ asked) × Reads want scans trace trace'
+ReadsAs channels mask want asked (Refusal EAGAIN) trace trace' = trace' ≡ option_map (after_nothing false) trace
+ReadsAs channels mask want asked (Refusal ENODEV) trace trace' = trace' ≡ option_map (after_nothing true) trace
+ReadsAs channels mask want asked reply trace trace' = ⊥
 
 -- what a READBUF makes of a seat of the connection
-abbrev pub ReadMoves : Front → Bare → ℕ → Reply → Option Tale → Option Tale → Type 0
-ReadMoves front s asked reply tale tale' = MatchBool (nat_lt asked (size_at front s.dev s.mask))
-    ((reply ≡ zero_reply) × (tale' ≡ tale))
-    (ReadsAs (channel_count front s.dev) s.mask (most_scans asked (size_at front s.dev s.mask) s.capacity) asked reply tale tale')
+abbrev pub ReadMoves : Front → Bare → ℕ → Reply → Option Trace → Option Trace → Type 0
+ReadMoves front s asked reply trace trace' = MatchBool (nat_lt asked (size_at front s.dev s.mask))
+    ((reply ≡ zero_reply) × (trace' ≡ trace))
+    (ReadsAs (channel_count front s.dev) s.mask (most_scans asked (size_at front s.dev s.mask) s.capacity) asked reply trace trace')
 
 -- at the seat in place i
-pub record ReadsAt (front : Front) (asked : ℕ) (seats : List Bare) (tales : List (Option Tale)) (i : ℕ) (reply : Reply) (tales' : List (Option Tale)) : Type
+pub record ReadsAt (front : Front) (asked : ℕ) (seats : List Bare) (traces : List (Option Trace)) (i : ℕ) (reply : Reply) (traces' : List (Option Trace)) : Type
     0 where
   pub s : Bare
   pub at : slice_get seats i ≡ Some s
-  pub tale : Option Tale
-  pub before : slice_get tales i ≡ Some tale
-  pub tale' : Option Tale
-  pub after : tales' ≡ slice_set tales i tale'
-  pub reads : ReadMoves front s asked reply tale tale'
+  pub trace : Option Trace
+  pub before : slice_get traces i ≡ Some trace
+  pub trace' : Option Trace
+  pub after : traces' ≡ slice_set traces i trace'
+  pub reads : ReadMoves front s asked reply trace trace'
 
-abbrev pub ReadsBy : Front → ℕ → List Bare → List (Option Tale) → Option ℕ → Reply → List (Option Tale) → Type 0
-ReadsBy front asked seats tales None reply tales' = (reply ≡ Refusal EBADF) × (tales' ≡ tales)
-ReadsBy front asked seats tales (Some i) reply tales' = ReadsAt front asked seats tales i reply tales'
+abbrev pub ReadsBy : Front → ℕ → List Bare → List (Option Trace) → Option ℕ → Reply → List (Option Trace) → Type 0
+ReadsBy front asked seats traces None reply traces' = (reply ≡ Refusal EBADF) × (traces' ≡ traces)
+ReadsBy front asked seats traces (Some i) reply traces' = ReadsAt front asked seats traces i reply traces'
 
-abbrev pub ReadsFrom : Front → ℕ → List Bare → List (Option Tale) → Option ℕ → Reply → List (Option Tale) → Type 0
-ReadsFrom front asked seats tales None reply tales' = (reply ≡ Refusal ENODEV) × (tales' ≡ tales)
-ReadsFrom front asked seats tales (Some dev) reply tales' = MatchBool (is_output (kind_at front dev))
-    (((reply ≡ Refusal ENODEV) ⊎ (reply ≡ Refusal ENOSYS)) × (tales' ≡ tales))
-    (ReadsBy front asked seats tales (place_of dev seats) reply tales')
+abbrev pub ReadsFrom : Front → ℕ → List Bare → List (Option Trace) → Option ℕ → Reply → List (Option Trace) → Type 0
+ReadsFrom front asked seats traces None reply traces' = (reply ≡ Refusal ENODEV) × (traces' ≡ traces)
+ReadsFrom front asked seats traces (Some dev) reply traces' = MatchBool (is_output (kind_at front dev))
+    (((reply ≡ Refusal ENODEV) ⊎ (reply ≡ Refusal ENOSYS)) × (traces' ≡ traces))
+    (ReadsBy front asked seats traces (place_of dev seats) reply traces')
 
 -- a seat more at a device where there was none, under the mask of the OPEN's text, of a capacity that is its samples times the
 -- buffers count of the device. Nothing was taken of it yet
-pub record Joins (front : Front) (device : List ℕ) (samples : ℕ) (text : List ℕ) (cyclic : Bool) (desk : DeskRecord) (tales : List (Option Tale))
-    (desk' : DeskRecord) (tales' : List (Option Tale)) : Type 0 where
+pub record Joins (front : Front) (device : List ℕ) (samples : ℕ) (text : List ℕ) (cyclic : Bool) (client : ClientRecord) (traces : List (Option Trace))
+    (client' : ClientRecord) (traces' : List (Option Trace)) : Type 0 where
   pub s : Bare
-  pub t : Option Tale
+  pub t : Option Trace
   pub named : find_device front device ≡ Some s.dev
-  pub free : place_of s.dev desk.seats ≡ None
-  pub wanted : IsWanted (kind_at front s.dev) (shape_at front s.dev) (buffers_of s.dev desk.buffers) samples text cyclic
+  pub free : place_of s.dev client.seats ≡ None
+  pub wanted : IsWanted (kind_at front s.dev) (shape_at front s.dev) (buffers_of s.dev client.buffers) samples text cyclic
       (record { mask = s.mask; capacity = s.capacity })
-  pub added : desk' ≡ with_seats (desk.seats ++ s ∷ []) desk
-  pub told : tales' ≡ tales ++ t ∷ []
-  pub fresh : t ≡ option_map (λ (x : Tale). first_tale) t
+  pub added : client' ≡ with_seats (client.seats ++ s ∷ []) client
+  pub told : traces' ≡ traces ++ t ∷ []
+  pub fresh : t ≡ option_map (λ (x : Trace). first_trace) t
 
 -- a seat less
-pub record Leaves (front : Front) (device : List ℕ) (desk : DeskRecord) (tales : List (Option Tale)) (desk' : DeskRecord) (tales' : List (Option Tale)) : Type
+pub record Leaves (front : Front) (device : List ℕ) (client : ClientRecord) (traces : List (Option Trace)) (client' : ClientRecord)
+    (traces' : List (Option Trace)) : Type
     0 where
   pub dev : ℕ
   pub i : ℕ
   pub named : find_device front device ≡ Some dev
-  pub at : place_of dev desk.seats ≡ Some i
-  pub gone : desk' ≡ with_seats (remove desk.seats i) desk
-  pub told : tales' ≡ remove tales i
+  pub at : place_of dev client.seats ≡ Some i
+  pub gone : client' ≡ with_seats (remove client.seats i) client
+  pub told : traces' ≡ remove traces i
 
 -- a seat of the device under another mask, that of the REMASK's text, with its capacity as it was; what it tells begins anew
-pub record RemasksAt (front : Front) (dev : ℕ) (text : List ℕ) (desk : DeskRecord) (tales : List (Option Tale)) (desk' : DeskRecord)
-    (tales' : List (Option Tale)) : Type 0 where
+pub record RemasksAt (front : Front) (dev : ℕ) (text : List ℕ) (client : ClientRecord) (traces : List (Option Trace)) (client' : ClientRecord)
+    (traces' : List (Option Trace)) : Type 0 where
   pub s : Bare
   pub i : ℕ
   pub mask : ℕ
   pub waiting : ℕ
-  pub t : Option Tale
+  pub t : Option Trace
   pub its : s.dev ≡ dev
-  pub at : place_of dev desk.seats ≡ Some i
-  pub here : slice_get desk.seats i ≡ Some s
+  pub at : place_of dev client.seats ≡ Some i
+  pub here : slice_get client.seats i ≡ Some s
   pub wanted : mask_of text (count_of (shape_at front dev)) ≡ Some mask
-  pub under : desk' ≡ with_seats (slice_set desk.seats i (bare_remasked mask waiting s)) desk
-  pub told : tales' ≡ slice_set tales i t
-  pub fresh : t ≡ option_map (λ (x : Tale). first_tale) t
+  pub under : client' ≡ with_seats (slice_set client.seats i (bare_remasked mask waiting s)) client
+  pub told : traces' ≡ slice_set traces i t
+  pub fresh : t ≡ option_map (λ (x : Trace). first_trace) t
 
 -- the same at the device of that name
-abbrev pub Remasks : Front → (device text : List ℕ) → DeskRecord → List (Option Tale) → DeskRecord → List (Option Tale) → Type 0
-Remasks front device text desk tales desk' tales' = (dev : ℕ) × (find_device front device ≡ Some dev) × RemasksAt front dev text desk tales desk' tales'
+abbrev pub Remasks : Front → (device text : List ℕ) → ClientRecord → List (Option Trace) → ClientRecord → List (Option Trace) → Type 0
+Remasks front device text client traces client' traces' =
+    (dev : ℕ) × (find_device front device ≡ Some dev) × RemasksAt front dev text client traces client' traces'
 
 -- what the connection has besides is altered
-pub record Alters (front : Front) (device : List ℕ) (change : ℕ → DeskRecord → DeskRecord) (desk : DeskRecord) (tales : List (Option Tale)) (desk' : DeskRecord)
-    (tales' : List (Option Tale)) : Type 0 where
+pub record Alters (front : Front) (device : List ℕ) (change : ℕ → ClientRecord → ClientRecord) (client : ClientRecord) (traces : List (Option Trace))
+    (client' : ClientRecord) (traces' : List (Option Trace)) : Type 0 where
   pub dev : ℕ
   pub named : find_device front device ≡ Some dev
-  pub made : desk' ≡ change dev desk
-  pub told : tales' ≡ tales
+  pub made : client' ≡ change dev client
+  pub told : traces' ≡ traces
 
--- what an item and its answer make of what the connection has: a refusal, and want of memory, change nothing but a seat's tale
-abbrev pub Moves : Front → DeskRecord → List (Option Tale) → Item → Reply → DeskRecord → List (Option Tale) → Type 0
-Moves front desk tales (Said (Ok (Open device samples text cyclic))) (Number n) desk' tales' = Joins front device samples text cyclic desk tales desk' tales'
-Moves front desk tales (Said (Ok (Close device))) (Number n) desk' tales' = Leaves front device desk tales desk' tales'
-Moves front desk tales (Said (Ok (Remask device text))) (Number n) desk' tales' = Remasks front device text desk tales desk' tales'
-Moves front desk tales (Said (Ok (ReadBuf device asked))) NoMemory desk' tales' = (desk' ≡ desk) × (tales' ≡ tales)
-Moves front desk tales (Said (Ok (ReadBuf device asked))) reply desk' tales' =
-    (desk' ≡ desk) × ReadsFrom front asked desk.seats tales (find_device front device) reply tales'
-Moves front desk tales (Said (Ok (SetBuffers device n))) (Number z) desk' tales' = Alters front device (λ dev. with_count dev n) desk tales desk' tales'
-Moves front desk tales (Said (Ok (EvOpen device))) (Number z) desk' tales' = Alters front device with_holding desk tales desk' tales'
-Moves front desk tales (Said (Ok (EvClose device))) (Number z) desk' tales' = Alters front device without_holding desk tales desk' tales'
-Moves front desk tales (End error) reply desk' tales' = (reply ≡ end_reply error) × (desk' ≡ left_desk desk) × (tales' ≡ [])
-Moves front desk tales item reply desk' tales' = (desk' ≡ desk) × (tales' ≡ tales)
+-- what an item and its answer make of what the connection has: a refusal, and want of memory, change nothing but a seat's trace
+abbrev pub Moves : Front → ClientRecord → List (Option Trace) → Item → Reply → ClientRecord → List (Option Trace) → Type 0
+Moves front client traces (Said (Ok (Open device samples text cyclic))) (Number n) client' traces' =
+    Joins front device samples text cyclic client traces client' traces'
+Moves front client traces (Said (Ok (Close device))) (Number n) client' traces' = Leaves front device client traces client' traces'
+Moves front client traces (Said (Ok (Remask device text))) (Number n) client' traces' = Remasks front device text client traces client' traces'
+Moves front client traces (Said (Ok (ReadBuf device asked))) NoMemory client' traces' = (client' ≡ client) × (traces' ≡ traces)
+Moves front client traces (Said (Ok (ReadBuf device asked))) reply client' traces' =
+    (client' ≡ client) × ReadsFrom front asked client.seats traces (find_device front device) reply traces'
+Moves front client traces (Said (Ok (SetBuffers device n))) (Number z) client' traces' =
+    Alters front device (λ dev. with_count dev n) client traces client' traces'
+Moves front client traces (Said (Ok (EvOpen device))) (Number z) client' traces' = Alters front device with_holding client traces client' traces'
+Moves front client traces (Said (Ok (EvClose device))) (Number z) client' traces' = Alters front device without_holding client traces client' traces'
+Moves front client traces (End error) reply client' traces' = (reply ≡ end_reply error) × (client' ≡ left_client client) × (traces' ≡ [])
+Moves front client traces item reply client' traces' = (client' ≡ client) × (traces' ≡ traces)
 
 -- ---- answers
 
@@ -135,36 +139,36 @@ abbrev pub of_device : Front → List ℕ → Option Reply
 of_device front device = at_known (λ dev. None) (find_device front device)
 
 -- of one that is for the connection's own seat there
-abbrev pub of_seat : Front → DeskRecord → List ℕ → Option Reply
-of_seat front desk device = at_known (λ dev. at_seat (place_of dev desk.seats)) (find_device front device)
+abbrev pub of_seat : Front → ClientRecord → List ℕ → Option Reply
+of_seat front client device = at_known (λ dev. at_seat (place_of dev client.seats)) (find_device front device)
 
 -- the answer of an item that needs no device; none where a device is asked
-abbrev pub answer_alone : Front → DeskRecord → Item → Option Reply
-answer_alone front desk (Said (Ok Help)) = Some help_reply
-answer_alone front desk (Said (Ok Exit)) = Some Nothing
-answer_alone front desk (Said (Ok Version)) = Some version_reply
-answer_alone front desk (Said (Ok Print)) = Some (Value front.context)
-answer_alone front desk (Said (Ok (Timeout milliseconds))) = Some zero_reply
-answer_alone front desk (Said (Ok (Open device samples text cyclic))) = of_device front device
-answer_alone front desk (Said (Ok (Close device))) = of_seat front desk device
-answer_alone front desk (Said (Ok (Read device place name))) = of_device front device
-answer_alone front desk (Said (Ok (Write device target count))) = Some Nothing
-answer_alone front desk (Said (Ok (ReadBuf device asked))) =
-    at_known (λ dev. if is_output (kind_at front dev) then None else at_seat (place_of dev desk.seats)) (find_device front device)
-answer_alone front desk (Said (Ok (WriteBuf device count))) = Some Nothing
-answer_alone front desk (Said (Ok (GetTrig device))) = of_device front device
-answer_alone front desk (Said (Ok (SetTrig device name))) = of_device front device
-answer_alone front desk (Said (Ok (SetBuffers device n))) = of_device front device
-answer_alone front desk (Said (Ok (Remask device text))) = of_device front device
-answer_alone front desk (Said (Ok (EvOpen device))) = of_device front device
-answer_alone front desk (Said (Ok (EvRead device))) = of_device front device
-answer_alone front desk (Said (Ok (EvClose device))) = of_device front device
-answer_alone front desk (Said (Err Empty)) = Some Nothing
-answer_alone front desk (Said (Err why)) = Some (Refusal EINVAL)
-answer_alone front desk (Written device None payload) = Some (Refusal EINVAL)
-answer_alone front desk (Written device (Some target) payload) = of_device front device
-answer_alone front desk (Streamed device payload) = of_device front device
-answer_alone front desk (End error) = Some (end_reply error)
+abbrev pub answer_alone : Front → ClientRecord → Item → Option Reply
+answer_alone front client (Said (Ok Help)) = Some help_reply
+answer_alone front client (Said (Ok Exit)) = Some Nothing
+answer_alone front client (Said (Ok Version)) = Some version_reply
+answer_alone front client (Said (Ok Print)) = Some (Value front.context)
+answer_alone front client (Said (Ok (Timeout milliseconds))) = Some zero_reply
+answer_alone front client (Said (Ok (Open device samples text cyclic))) = of_device front device
+answer_alone front client (Said (Ok (Close device))) = of_seat front client device
+answer_alone front client (Said (Ok (Read device place name))) = of_device front device
+answer_alone front client (Said (Ok (Write device target count))) = Some Nothing
+answer_alone front client (Said (Ok (ReadBuf device asked))) =
+    at_known (λ dev. if is_output (kind_at front dev) then None else at_seat (place_of dev client.seats)) (find_device front device)
+answer_alone front client (Said (Ok (WriteBuf device count))) = Some Nothing
+answer_alone front client (Said (Ok (GetTrig device))) = of_device front device
+answer_alone front client (Said (Ok (SetTrig device name))) = of_device front device
+answer_alone front client (Said (Ok (SetBuffers device n))) = of_device front device
+answer_alone front client (Said (Ok (Remask device text))) = of_device front device
+answer_alone front client (Said (Ok (EvOpen device))) = of_device front device
+answer_alone front client (Said (Ok (EvRead device))) = of_device front device
+answer_alone front client (Said (Ok (EvClose device))) = of_device front device
+answer_alone front client (Said (Err Empty)) = Some Nothing
+answer_alone front client (Said (Err why)) = Some (Refusal EINVAL)
+answer_alone front client (Written device None payload) = Some (Refusal EINVAL)
+answer_alone front client (Written device (Some target) payload) = of_device front device
+answer_alone front client (Streamed device payload) = of_device front device
+answer_alone front client (End error) = Some (end_reply error)
 
 -- an answer; want of memory, where it is one
 abbrev pub IsOrShort : (answer reply : Reply) → Type 0
@@ -172,8 +176,8 @@ IsOrShort Nothing reply = reply ≡ Nothing
 IsOrShort answer reply = (reply ≡ answer) ⊎ (reply ≡ NoMemory)
 
 -- an item that needs no device has its answer over any `Iio`
-abbrev pub AnswersAlone : Front → DeskRecord → Item → Reply → Type 0
-AnswersAlone front desk item reply = IfSome (answer_alone front desk item) (λ answer. IsOrShort answer reply)
+abbrev pub AnswersAlone : Front → ClientRecord → Item → Reply → Type 0
+AnswersAlone front client item reply = IfSome (answer_alone front client item) (λ answer. IsOrShort answer reply)
 
 -- what a command at a device is answered where it isn't refused. What a READBUF is stands in `Moves`, and the others need no
 -- device
@@ -199,9 +203,9 @@ AnswersAs front item NoMemory = Unit {0}
 AnswersAs front item reply = Accepts front item reply
 
 -- one item and its answer: over any `Iio`, and over one that tells its state
-pub record Serves (front : Front) (told : Option Machine) (desk : DeskRecord) (tales : List (Option Tale)) (item : Item) (reply : Reply)
-    (told' : Option Machine) (desk' : DeskRecord) (tales' : List (Option Tale)) : Type 0 where
-  pub alone : AnswersAlone front desk item reply
+pub record Serves (front : Front) (told : Option Machine) (client : ClientRecord) (traces : List (Option Trace)) (item : Item) (reply : Reply)
+    (told' : Option Machine) (client' : ClientRecord) (traces' : List (Option Trace)) : Type 0 where
+  pub alone : AnswersAlone front client item reply
   pub formed : AnswersAs front item reply
-  pub exact : IfSome told (λ m. Acts front m desk item reply told' desk')
-  pub moves : Moves front desk tales item reply desk' tales'
+  pub exact : IfSome told (λ m. Acts front m client item reply told' client')
+  pub moves : Moves front client traces item reply client' traces'

@@ -18,8 +18,8 @@ use Rattle.iiod_session.specs.declared.manner.Performed.{Performed}
 use Rattle.iiod_session.specs.declared.manner.Performed.TheVariants.{Done, Waits}
 use Rattle.iio_core.specs.Front.{Front, find_device, kind_at, shape_at}
 use Rattle.iio_core.specs.Machine.{Machine}
-use Rattle.iiod_session.specs.Seat.{Tale, first_tale}
-use Rattle.iiod_session.specs.Desk.{Bare, DeskRecord, IsWanted, Wanted, bare_remasked, buffers_of, place_of, with_seats}
+use Rattle.iiod_session.specs.Seat.{Trace, first_trace}
+use Rattle.iiod_session.specs.Client.{Bare, ClientRecord, IsWanted, Wanted, bare_remasked, buffers_of, place_of, with_seats}
 use Rattle.iiod_session.specs.Acts.{Acted, read_at, read_at_seat, remask_seat, write_at_seat, zero_reply}
 use Rattle.iiod_session.specs.Moves.{ReadMoves, ReadsBy, RemasksAt, Serves}
 
@@ -39,9 +39,9 @@ HasRoomAfter (Ok Scan) before capacity = Unit {0}
 HasRoomAfter took before capacity = length before + SHORT_ANSWER ≤ capacity
 
 -- an outcome, or want of memory, which changes nothing
-abbrev pub Comes : Machine → DeskRecord → Acted → Reply → Option Machine → DeskRecord → Type 0
-Comes m desk acted NoMemory told desk' = (told ≡ Some m) × (desk' ≡ desk)
-Comes m desk acted reply told desk' = (n : Machine) × (told ≡ Some n) × (acted ≡ record { reply = reply; machine = n; desk = desk' })
+abbrev pub Comes : Machine → ClientRecord → Acted → Reply → Option Machine → ClientRecord → Type 0
+Comes m client acted NoMemory told client' = (told ≡ Some m) × (client' ≡ client)
+Comes m client acted reply told client' = (n : Machine) × (told ≡ Some n) × (acted ≡ record { reply = reply; machine = n; client = client' })
 
 -- an answer that isn't want of memory
 abbrev pub IsWhole : Reply → Type 0
@@ -56,51 +56,54 @@ IsFound reply = Unit {0}
 -- ---- seats
 
 -- a seat more at a device where there was none, by what its OPEN asks for
-pub record JoinsAt (dev : ℕ) (x : Wanted) (desk : DeskRecord) (tales : List (Option Tale)) (desk' : DeskRecord) (tales' : List (Option Tale)) : Type 0 where
+pub record JoinsAt (dev : ℕ) (x : Wanted) (client : ClientRecord) (traces : List (Option Trace)) (client' : ClientRecord) (traces' : List (Option Trace)) : Type
+    0 where
   pub number : ℕ
-  pub t : Option Tale
-  pub free : place_of dev desk.seats ≡ None
-  pub added : desk' ≡ with_seats (desk.seats ++ record { dev = dev; number = number; mask = x.mask; capacity = x.capacity; discarded = 0 } ∷ []) desk
-  pub told : tales' ≡ tales ++ t ∷ []
-  pub fresh : t ≡ option_map (λ (x : Tale). first_tale) t
+  pub t : Option Trace
+  pub free : place_of dev client.seats ≡ None
+  pub added : client' ≡ with_seats (client.seats ++ record { dev = dev; number = number; mask = x.mask; capacity = x.capacity; discarded = 0 } ∷ []) client
+  pub told : traces' ≡ traces ++ t ∷ []
+  pub fresh : t ≡ option_map (λ (x : Trace). first_trace) t
 
 -- ... or nothing more
-abbrev pub JoinsBy : ℕ → Wanted → DeskRecord → List (Option Tale) → Result ⊤ No → DeskRecord → List (Option Tale) → Type 0
-JoinsBy dev x desk tales (Ok done) desk' tales' = JoinsAt dev x desk tales desk' tales'
-JoinsBy dev x desk tales (Err e) desk' tales' = (desk' ≡ desk) × (tales' ≡ tales)
+abbrev pub JoinsBy : ℕ → Wanted → ClientRecord → List (Option Trace) → Result ⊤ No → ClientRecord → List (Option Trace) → Type 0
+JoinsBy dev x client traces (Ok done) client' traces' = JoinsAt dev x client traces client' traces'
+JoinsBy dev x client traces (Err e) client' traces' = (client' ≡ client) × (traces' ≡ traces)
 
 -- a seat more by an OPEN's words, or nothing more
-abbrev pub OpensBy : Front → (dev samples : ℕ) → (text : List ℕ) → (cyclic : Bool) → DeskRecord → List (Option Tale) → Result ⊤ No → DeskRecord
-    → List (Option Tale) → Type 0
-OpensBy front dev samples text cyclic desk tales (Ok done) desk' tales' =
-    (x : Wanted) × IsWanted (kind_at front dev) (shape_at front dev) (buffers_of dev desk.buffers) samples text cyclic x × JoinsAt dev x desk tales desk' tales'
-OpensBy front dev samples text cyclic desk tales (Err e) desk' tales' = (desk' ≡ desk) × (tales' ≡ tales)
+abbrev pub OpensBy : Front → (dev samples : ℕ) → (text : List ℕ) → (cyclic : Bool) → ClientRecord → List (Option Trace) → Result ⊤ No → ClientRecord
+    → List (Option Trace) → Type 0
+OpensBy front dev samples text cyclic client traces (Ok done) client' traces' =
+    (x : Wanted) × IsWanted (kind_at front dev) (shape_at front dev) (buffers_of dev client.buffers) samples text cyclic x
+    × JoinsAt dev x client traces client' traces'
+OpensBy front dev samples text cyclic client traces (Err e) client' traces' = (client' ≡ client) × (traces' ≡ traces)
 
 -- a seat less, or nothing less
-abbrev pub LeavesBy : ℕ → DeskRecord → List (Option Tale) → Result ⊤ No → DeskRecord → List (Option Tale) → Type 0
-LeavesBy dev desk tales (Ok done) desk' tales' =
-    (i : ℕ) × (place_of dev desk.seats ≡ Some i) × (desk' ≡ with_seats (remove desk.seats i) desk) × (tales' ≡ remove tales i)
-LeavesBy dev desk tales (Err e) desk' tales' = (desk' ≡ desk) × (tales' ≡ tales)
+abbrev pub LeavesBy : ℕ → ClientRecord → List (Option Trace) → Result ⊤ No → ClientRecord → List (Option Trace) → Type 0
+LeavesBy dev client traces (Ok done) client' traces' =
+    (i : ℕ) × (place_of dev client.seats ≡ Some i) × (client' ≡ with_seats (remove client.seats i) client) × (traces' ≡ remove traces i)
+LeavesBy dev client traces (Err e) client' traces' = (client' ≡ client) × (traces' ≡ traces)
 
 -- a seat under another mask, or every seat as it was
-abbrev pub RemasksBy : Front → (dev : ℕ) → (text : List ℕ) → DeskRecord → List (Option Tale) → Result ⊤ No → DeskRecord → List (Option Tale) → Type 0
-RemasksBy front dev text desk tales (Ok done) desk' tales' = RemasksAt front dev text desk tales desk' tales'
-RemasksBy front dev text desk tales (Err e) desk' tales' = (desk' ≡ desk) × (tales' ≡ tales)
+abbrev pub RemasksBy : Front → (dev : ℕ) → (text : List ℕ) → ClientRecord → List (Option Trace) → Result ⊤ No → ClientRecord → List (Option Trace) → Type 0
+RemasksBy front dev text client traces (Ok done) client' traces' = RemasksAt front dev text client traces client' traces'
+RemasksBy front dev text client traces (Err e) client' traces' = (client' ≡ client) × (traces' ≡ traces)
 
 -- the seat itself, over a told state: what a REMASK of it makes, in whatever place it stands
 abbrev pub RemaskTold : Front → List ℕ → Machine → Bare → Result ⊤ No → Option Machine → Bare → Type 0
 RemaskTold front text m s (Ok done) told s' = (n : Machine) × (told ≡ Some n)
-    × ((desk : DeskRecord) (i : ℕ) → remask_seat front m desk text i (Some s)
-    ≡ record { reply = zero_reply; machine = n; desk = with_seats (slice_set desk.seats i s') desk })
+    × ((client : ClientRecord) (i : ℕ) → remask_seat front m client text i (Some s)
+    ≡ record { reply = zero_reply; machine = n; client = with_seats (slice_set client.seats i s') client })
 RemaskTold front text m s (Err (NoErrno e)) told s' = (n : Machine) × (told ≡ Some n)
-    × ((desk : DeskRecord) (i : ℕ) → remask_seat front m desk text i (Some s) ≡ record { reply = Refusal e; machine = n; desk = desk })
+    × ((client : ClientRecord) (i : ℕ) → remask_seat front m client text i (Some s) ≡ record { reply = Refusal e; machine = n; client = client })
 RemaskTold front text m s (Err NoMem) told s' = told ≡ Some m
 
 -- ... and over any Iio
-abbrev pub RemaskMoves : Front → List ℕ → Bare → Option Tale → Result ⊤ No → Bare → Option Tale → Type 0
-RemaskMoves front text s tale (Ok done) s' tale' = (mask waiting : ℕ)
-    × (mask_of text (count_of (shape_at front s.dev)) ≡ Some mask) × (s' ≡ bare_remasked mask waiting s) × (tale' ≡ option_map (λ (x : Tale). first_tale) tale)
-RemaskMoves front text s tale (Err e) s' tale' = (s' ≡ s) × (tale' ≡ tale)
+abbrev pub RemaskMoves : Front → List ℕ → Bare → Option Trace → Result ⊤ No → Bare → Option Trace → Type 0
+RemaskMoves front text s trace (Ok done) s' trace' = (mask waiting : ℕ)
+    × (mask_of text (count_of (shape_at front s.dev)) ≡ Some mask) × (s' ≡ bare_remasked mask waiting s)
+    × (trace' ≡ option_map (λ (x : Trace). first_trace) trace)
+RemaskMoves front text s trace (Err e) s' trace' = (s' ≡ s) × (trace' ≡ trace)
 
 -- ---- WRITEBUF
 
@@ -112,46 +115,48 @@ taken_by (Err why) = reply_by (Err why)
 -- at a seat, over a told state
 abbrev pub WritesHeld : Front → (payload : List ℕ) → Option Machine → Bare → Reply → Option Machine → Type 0
 WritesHeld front payload told s reply told' =
-    IfSome told (λ m. (desk : DeskRecord) → Comes m desk (write_at_seat front m desk payload (Some s)) reply told' desk)
+    IfSome told (λ m. (client : ClientRecord) → Comes m client (write_at_seat front m client payload (Some s)) reply told' client)
 
 -- ---- READBUF
 
 -- at a seat: over a told state, and over any Iio
-pub record ReadServed (front : Front) (asked : ℕ) (told told' : Option Machine) (s : Bare) (tale tale' : Option Tale) (reply : Reply) : Type 0 where
+pub record ReadServed (front : Front) (asked : ℕ) (told told' : Option Machine) (s : Bare) (trace trace' : Option Trace) (reply : Reply) : Type 0 where
   pub exact : IfSome told (λ m. (n : Machine) × (told' ≡ Some n)
-      × ((desk : DeskRecord) → read_at_seat front m desk s asked ≡ record { reply = reply; machine = n; desk = desk }))
-  pub moves : ReadMoves front s asked reply tale tale'
+      × ((client : ClientRecord) → read_at_seat front m client s asked ≡ record { reply = reply; machine = n; client = client }))
+  pub moves : ReadMoves front s asked reply trace trace'
   pub whole : IsWhole reply
 
 -- by the first take's answer. Before memory ran out nothing had changed
-abbrev pub ReadHeld : Front → ℕ → Option Machine → Option Machine → Bare → Option Tale → Option Tale → List ℕ → List ℕ → Result Took Mem → Type 0
-ReadHeld front asked told told' s tale tale' before after (Ok Scan) =
-    (reply : Reply) × (after ≡ before ++ text_of reply) × IsFound reply × ReadServed front asked told told' s tale tale' reply
-ReadHeld front asked told told' s tale tale' before after (Ok Empty) =
-    (after ≡ before) × ReadServed front asked told told' s tale tale' (Refusal EAGAIN)
-ReadHeld front asked told told' s tale tale' before after (Ok Gone) =
-    (after ≡ before) × ReadServed front asked told told' s tale tale' (Refusal ENODEV)
-ReadHeld front asked told told' s tale tale' before after (Err mem) =
-    (after ≡ before) × (told' ≡ told) × (tale' ≡ tale)
+abbrev pub ReadHeld : Front → ℕ → Option Machine → Option Machine → Bare → Option Trace → Option Trace → List ℕ → List ℕ → Result Took Mem → Type 0
+ReadHeld front asked told told' s trace trace' before after (Ok Scan) =
+    (reply : Reply) × (after ≡ before ++ text_of reply) × IsFound reply × ReadServed front asked told told' s trace trace' reply
+ReadHeld front asked told told' s trace trace' before after (Ok Empty) =
+    (after ≡ before) × ReadServed front asked told told' s trace trace' (Refusal EAGAIN)
+ReadHeld front asked told told' s trace trace' before after (Ok Gone) =
+    (after ≡ before) × ReadServed front asked told told' s trace trace' (Refusal ENODEV)
+ReadHeld front asked told told' s trace trace' before after (Err mem) =
+    (after ≡ before) × (told' ≡ told) × (trace' ≡ trace)
 
 -- at a device
-pub record ReadServedAt (front : Front) (dev asked : ℕ) (told told' : Option Machine) (desk : DeskRecord) (tales tales' : List (Option Tale)) (reply : Reply) :
+pub record ReadServedAt (front : Front) (dev asked : ℕ) (told told' : Option Machine) (client : ClientRecord) (traces traces' : List (Option Trace))
+    (reply : Reply) :
     Type 0 where
   pub exact : IfSome told (λ m. (n : Machine) × (told' ≡ Some n)
-      × (read_at front m desk asked (place_of dev desk.seats) ≡ record { reply = reply; machine = n; desk = desk }))
-  pub moves : ReadsBy front asked desk.seats tales (place_of dev desk.seats) reply tales'
+      × (read_at front m client asked (place_of dev client.seats) ≡ record { reply = reply; machine = n; client = client }))
+  pub moves : ReadsBy front asked client.seats traces (place_of dev client.seats) reply traces'
   pub whole : IsWhole reply
 
-abbrev pub ReadAt : Front → ℕ → ℕ → Option Machine → Option Machine → DeskRecord → List (Option Tale) → List (Option Tale) → List ℕ → List ℕ → Result Took Mem
+abbrev pub ReadAt : Front → ℕ → ℕ → Option Machine → Option Machine → ClientRecord → List (Option Trace) → List (Option Trace) → List ℕ → List ℕ
+    → Result Took Mem
     → Type 0
-ReadAt front dev asked told told' desk tales tales' before after (Ok Scan) =
-    (reply : Reply) × (after ≡ before ++ text_of reply) × IsFound reply × ReadServedAt front dev asked told told' desk tales tales' reply
-ReadAt front dev asked told told' desk tales tales' before after (Ok Empty) =
-    (after ≡ before) × ReadServedAt front dev asked told told' desk tales tales' (Refusal EAGAIN)
-ReadAt front dev asked told told' desk tales tales' before after (Ok Gone) =
-    (after ≡ before) × ReadServedAt front dev asked told told' desk tales tales' (Refusal ENODEV)
-ReadAt front dev asked told told' desk tales tales' before after (Err mem) =
-    (after ≡ before) × (told' ≡ told) × (tales' ≡ tales)
+ReadAt front dev asked told told' client traces traces' before after (Ok Scan) =
+    (reply : Reply) × (after ≡ before ++ text_of reply) × IsFound reply × ReadServedAt front dev asked told told' client traces traces' reply
+ReadAt front dev asked told told' client traces traces' before after (Ok Empty) =
+    (after ≡ before) × ReadServedAt front dev asked told told' client traces traces' (Refusal EAGAIN)
+ReadAt front dev asked told told' client traces traces' before after (Ok Gone) =
+    (after ≡ before) × ReadServedAt front dev asked told told' client traces traces' (Refusal ENODEV)
+ReadAt front dev asked told told' client traces traces' before after (Err mem) =
+    (after ≡ before) × (told' ≡ told) × (traces' ≡ traces)
 
 -- ---- one item
 
@@ -171,13 +176,13 @@ IsReadOf front dev (Said (Ok (ReadBuf device asked))) = find_device front device
 IsReadOf front dev item = ⊥
 
 -- the item was answered, or it is a READBUF for which nothing waits, and is tried again
-abbrev pub Performs : Manner → Front → Option Machine → Option Machine → DeskRecord → List (Option Tale) → Item → DeskRecord → List (Option Tale) → List ℕ
+abbrev pub Performs : Manner → Front → Option Machine → Option Machine → ClientRecord → List (Option Trace) → Item → ClientRecord → List (Option Trace) → List ℕ
     → List ℕ → Performed → Type 0
-Performs manner front told told' desk tales item desk' tales' before after Done =
+Performs manner front told told' client traces item client' traces' before after Done =
     (reply : Reply) × (after ≡ before ++ text_of reply) × IsAllowed manner reply × IsAnswerOf item manner reply
-    × Serves front told desk tales item reply told' desk' tales'
-Performs manner front told told' desk tales item desk' tales' before after (Waits dev) =
-    (after ≡ before) × (manner ≡ Server) × IsReadOf front dev item × Serves front told desk tales item (Refusal EAGAIN) told' desk' tales'
+    × Serves front told client traces item reply told' client' traces'
+Performs manner front told told' client traces item client' traces' before after (Waits dev) =
+    (after ≡ before) × (manner ≡ Server) × IsReadOf front dev item × Serves front told client traces item (Refusal EAGAIN) told' client' traces'
 
 -- the rest of READBUF's answer
 abbrev pub AnswersRead : Manner → ℕ → Result Took Mem → List ℕ → List ℕ → Performed → Type 0
@@ -190,6 +195,6 @@ AnswersRead manner dev (Err mem) before after p = (after ≡ before ++ text_of N
 -- ---- commands that change no seat
 
 -- what the connection has after an answer that may alter it
-abbrev pub desk_by : (DeskRecord → DeskRecord) → DeskRecord → Result ⊤ No → DeskRecord
-desk_by change desk (Ok done) = change desk
-desk_by change desk (Err why) = desk
+abbrev pub client_by : (ClientRecord → ClientRecord) → ClientRecord → Result ⊤ No → ClientRecord
+client_by change client (Ok done) = change client
+client_by change client (Err why) = client

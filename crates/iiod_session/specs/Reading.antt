@@ -6,23 +6,23 @@ use Rattle.iiod_session.specs.declared.iio.Took.{Took}
 use Rattle.iiod_session.specs.declared.iio.Took.TheVariants.{Scan, Empty, Gone}
 use Rattle.iio_core.specs.Front.{Front, channel_count, size_at}
 use Rattle.iio_core.specs.Machine.{Machine, MemberId, is_plugged, queue_of, with_queue}
-use Rattle.iiod_session.specs.Seat.{SeatRecord, Tale, seat_id, after_scans, after_nothing}
+use Rattle.iiod_session.specs.Seat.{SeatRecord, Trace, seat_id, after_scans, after_nothing}
 
 -- how many scans a READBUF of `asked` bytes may take: those asked for, and no more than the queue holds
 abbrev pub most_scans : (asked size capacity : ℕ) → ℕ
 most_scans asked size capacity = min (asked / size) capacity
 
 -- scans of a seat as one READBUF takes them: as many as it may, or fewer and then a take that found nothing
-pub record Reads (want : ℕ) (scans : List (List ℕ)) (tale tale' : Option Tale) : Type 0 where
+pub record Reads (want : ℕ) (scans : List (List ℕ)) (trace trace' : Option Trace) : Type 0 where
   pub some : 0 < length scans
   pub most : length scans ≤ want
-  pub grown : ((length scans ≡ want) × (tale' ≡ option_map (after_scans scans) tale))
-      ⊎ ((gone : Bool) × (tale' ≡ option_map (after_nothing gone) (option_map (after_scans scans) tale)))
+  pub grown : ((length scans ≡ want) × (trace' ≡ option_map (after_scans scans) trace))
+      ⊎ ((gone : Bool) × (trace' ≡ option_map (after_nothing gone) (option_map (after_scans scans) trace)))
 
 -- these scans were read
 pub record ReadSome (dev want : ℕ) (told told' : Option Machine) (s s' : SeatRecord) (scans : List (List ℕ)) : Type 0 where
-  pub reads : Reads want scans s.tale s'.tale
-  pub same : s' ≡ record s { tale = s'.tale }
+  pub reads : Reads want scans s.trace s'.trace
+  pub same : s' ≡ record s { trace = s'.trace }
   pub from : IfSome told (λ m. (take want (queue_of m dev (seat_id s)) ≡ scans)
       × (told' ≡ Some (with_queue m dev (seat_id s) scans (drop want (queue_of m dev (seat_id s))))))
 
@@ -32,7 +32,7 @@ FoundNothing dev id plugged told told' = IfSome told (λ m. (queue_of m dev id �
 
 -- the first take found nothing
 pub record ReadNone (dev : ℕ) (gone : Bool) (told told' : Option Machine) (s s' : SeatRecord) : Type 0 where
-  pub same : s' ≡ record s { tale = option_map (after_nothing gone) s.tale }
+  pub same : s' ≡ record s { trace = option_map (after_nothing gone) s.trace }
   pub from : FoundNothing dev (seat_id s) (not gone) told told'
 
 -- at most `most` scans were taken, and their bytes stand after what stood before; or the first take found nothing

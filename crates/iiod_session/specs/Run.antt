@@ -4,38 +4,38 @@ use Rattle.std.specs.List.{flat_map}
 use Rattle.iio_text.specs.declared.errors.Errno.TheVariants.{EAGAIN}
 use Rattle.iiod_grammar.specs.Stream.{Item, Scanned, AtEnd}
 use Rattle.iiod_reply.specs.Reply.{Reply, Refusal, text_of}
-use Rattle.iiod_session.specs.declared.desk.Desk.{Desk}
+use Rattle.iiod_session.specs.declared.client.Client.{Client}
 use Rattle.iiod_session.specs.declared.manner.Going.{Going}
 use Rattle.iiod_session.specs.declared.manner.Going.TheVariants.{On, Waits, Ended}
 use Rattle.iiod_session.specs.declared.manner.Manner.{Manner}
 use Rattle.iiod_session.specs.declared.manner.Manner.TheVariants.{Script, Server}
 use Rattle.iiod_session.specs.Acts.{act}
-use Rattle.iiod_session.specs.Desk.{DeskRecord, desk_of, tales_of}
+use Rattle.iiod_session.specs.Client.{ClientRecord, client_of, traces_of}
 use Rattle.iio_core.specs.Front.{Front}
 use Rattle.iiod_session.specs.Given.{GivenIs}
 use Rattle.iio_core.specs.Machine.{Machine}
 use Rattle.iiod_session.specs.Moves.{Serves}
 use Rattle.iiod_session.specs.Performs.{IsAllowed, IsAnswerOf, IsReadOf}
-use Rattle.iiod_session.specs.Seat.{SeatRecord, Tale}
+use Rattle.iiod_session.specs.Seat.{SeatRecord, Trace}
 
--- what stands at the devices, where it is told, and what the connection has, with the tales of its seats
+-- what stands at the devices, where it is told, and what the connection has, with the traces of its seats
 pub record State : Type 0 where
   pub told : Option Machine
-  pub desk : DeskRecord
-  pub tales : List (Option Tale)
+  pub client : ClientRecord
+  pub traces : List (Option Trace)
 
-abbrev pub state_of : {S : Type 0} → (S → SeatRecord) → Option Machine → Desk S → State
-state_of seen told d = record { told = told; desk = desk_of seen d; tales = tales_of seen d.held.items }
+abbrev pub state_of : {S : Type 0} → (S → SeatRecord) → Option Machine → Client S → State
+state_of seen told d = record { told = told; client = client_of seen d; traces = traces_of seen d.held.items }
 
 -- one item and its answer
 pub record IsAnswered (manner : Manner) (front : Front) (a : State) (item : Item) (reply : Reply) (b : State) : Type 0 where
   pub allowed : IsAllowed manner reply
   pub answer : IsAnswerOf item manner reply
-  pub served : Serves front a.told a.desk a.tales item reply b.told b.desk b.tales
+  pub served : Serves front a.told a.client a.traces item reply b.told b.client b.traces
 
 -- a READBUF for which nothing waits: it isn't answered yet
 abbrev pub FindsNone : Front → State → Item → State → Type 0
-FindsNone front a item b = Serves front a.told a.desk a.tales item (Refusal EAGAIN) b.told b.desk b.tales
+FindsNone front a item b = Serves front a.told a.client a.traces item (Refusal EAGAIN) b.told b.client b.traces
 
 -- ---- items one after another, over any states: `Answered` says what an item and its answer make, `Unanswered` what a READBUF
 -- makes that waits
@@ -98,30 +98,30 @@ Carries manner front = CarriesBy (IsAnswered manner front) (FindsNone front) man
 pub record Feeds (manner : Manner) (front : Front) (a : State) (all : Scanned) (before after : List ℕ) (b : State) (left : Scanned) (going : Going) : Type
     0 where
   pub carried : Carries manner front a all before after b left going
-  pub given : GivenIs front carried.fed.items carried.fed.replies a.desk.seats a.tales b.desk.seats b.tales
+  pub given : GivenIs front carried.fed.items carried.fed.replies a.client.seats a.traces b.client.seats b.traces
 
 -- ---- in a script, over a told state: everything is determined
 
 -- what the items are answered, and what stands after them
-abbrev pub texts_of : Front → Machine → DeskRecord → List Item → List ℕ
-texts_of front m desk [] = []
-texts_of front m desk (item ∷ items) =
-    let acted = act front m desk item in text_of acted.reply ++ texts_of front acted.machine acted.desk items
+abbrev pub texts_of : Front → Machine → ClientRecord → List Item → List ℕ
+texts_of front m client [] = []
+texts_of front m client (item ∷ items) =
+    let acted = act front m client item in text_of acted.reply ++ texts_of front acted.machine acted.client items
 
-abbrev pub machine_after : Front → Machine → DeskRecord → List Item → Machine
-machine_after front m desk [] = m
-machine_after front m desk (item ∷ items) = let acted = act front m desk item in machine_after front acted.machine acted.desk items
+abbrev pub machine_after : Front → Machine → ClientRecord → List Item → Machine
+machine_after front m client [] = m
+machine_after front m client (item ∷ items) = let acted = act front m client item in machine_after front acted.machine acted.client items
 
-abbrev pub desk_after : Front → Machine → DeskRecord → List Item → DeskRecord
-desk_after front m desk [] = desk
-desk_after front m desk (item ∷ items) = let acted = act front m desk item in desk_after front acted.machine acted.desk items
+abbrev pub client_after : Front → Machine → ClientRecord → List Item → ClientRecord
+client_after front m client [] = client
+client_after front m client (item ∷ items) = let acted = act front m client item in client_after front acted.machine acted.client items
 
-pub record Tells (front : Front) (m : Machine) (desk : DeskRecord) (items : List Item) (text : List ℕ) (b : State) : Type 0 where
-  pub said : text ≡ texts_of front m desk items
-  pub machine : b.told ≡ Some (machine_after front m desk items)
-  pub after : b.desk ≡ desk_after front m desk items
+pub record Tells (front : Front) (m : Machine) (client : ClientRecord) (items : List Item) (text : List ℕ) (b : State) : Type 0 where
+  pub said : text ≡ texts_of front m client items
+  pub machine : b.told ≡ Some (machine_after front m client items)
+  pub after : b.client ≡ client_after front m client items
 
 -- what a feed of a script appends over a told state: the answer to each item
 abbrev pub FeedTells : Manner → Front → State → List Item → List ℕ → List ℕ → State → Type 0
-FeedTells Script front a items before after b = IfSome a.told (λ m. (text : List ℕ) × (after ≡ before ++ text) × Tells front m a.desk items text b)
+FeedTells Script front a items before after b = IfSome a.told (λ m. (text : List ℕ) × (after ≡ before ++ text) × Tells front m a.client items text b)
 FeedTells Server front a items before after b = Unit {0}

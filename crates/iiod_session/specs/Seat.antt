@@ -13,33 +13,33 @@ use Rattle.iio_core.specs.Calls.{Outcome}
 
 -- what a seat tells, if anything: the scans that it gave, how many of its takes found nothing, and whether the last of
 -- these found the device unplugged
-pub record Tale : Type 0 where
+pub record Trace : Type 0 where
   pub given : List (List ℕ)
   pub empties : ℕ
   pub gone : Bool
 
--- a seat: the member's number, its mask, the bytes of its scans, how many its queue holds, and its tale
+-- a seat: the member's number, its mask, the bytes of its scans, how many its queue holds, and its trace
 pub record SeatRecord : Type 0 where
   pub number : ℕ
   pub mask : ℕ
   pub size : ℕ
   pub capacity : ℕ
-  pub tale : Option Tale
+  pub trace : Option Trace
 
 -- whose queue a seat takes from
 abbrev pub seat_id : SeatRecord → MemberId
 seat_id s = record { number = s.number; mask = s.mask }
 
-abbrev pub first_tale : Tale
-first_tale = record { given = []; empties = 0; gone = false }
+abbrev pub first_trace : Trace
+first_trace = record { given = []; empties = 0; gone = false }
 
-abbrev pub after_scans : List (List ℕ) → Tale → Tale
+abbrev pub after_scans : List (List ℕ) → Trace → Trace
 after_scans scans t = record t { given = t.given ++ scans }
 
-abbrev pub after_nothing : Bool → Tale → Tale
+abbrev pub after_nothing : Bool → Trace → Trace
 after_nothing gone t = record t { empties = min (t.empties + 1) (2 ^ 64 - 1); gone = gone }
 
-abbrev pub after_take : Took → List ℕ → Tale → Tale
+abbrev pub after_take : Took → List ℕ → Trace → Trace
 after_take Scan scan t = after_scans (scan ∷ []) t
 after_take Empty scan t = after_nothing false t
 after_take Gone scan t = after_nothing true t
@@ -68,13 +68,13 @@ IsOfDevice front dev s = IsOwned front dev s.mask s.capacity s
 -- the seat of an accepted OPEN
 pub record IsNew (front : Front) (dev mask capacity : ℕ) (s : SeatRecord) : Type 0 where
   pub owned : IsOwned front dev mask capacity s
-  pub fresh : s.tale ≡ option_map (λ (t : Tale). first_tale) s.tale
+  pub fresh : s.trace ≡ option_map (λ (t : Trace). first_trace) s.trace
 
 -- the seat of a member under another mask: its number and its capacity stay, and what it tells begins anew
 pub record IsRemasked (front : Front) (dev mask : ℕ) (old new : SeatRecord) : Type 0 where
   pub number : new.number ≡ old.number
   pub owned : IsOwned front dev mask old.capacity new
-  pub fresh : new.tale ≡ option_map (λ (t : Tale). first_tale) old.tale
+  pub fresh : new.trace ≡ option_map (λ (t : Trace). first_trace) old.trace
 
 -- and where that is refused the seat is as before
 abbrev pub Remasks : {A : Type 0} → Front → (dev mask : ℕ) → Result A No → (old new : SeatRecord) → Type 0

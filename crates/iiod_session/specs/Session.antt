@@ -8,7 +8,7 @@ use Rattle.iiod_grammar.specs.Command.{Command, Exit, ReadBuf, Write, WriteBuf, 
 use Rattle.iiod_grammar.specs.Lines.{LinesRecord, after_piece}
 use Rattle.iiod_grammar.specs.Scans.{scanner_at}
 use Rattle.iiod_grammar.specs.Stream.{AtEnd, InLine, Scanned, with_payload, after_line, ended_by, no_item, one_item}
-use Rattle.iiod_session.specs.declared.desk.Desk.{Desk}
+use Rattle.iiod_session.specs.declared.client.Client.{Client}
 use Rattle.iiod_session.specs.declared.manner.Going.{Going}
 use Rattle.iiod_session.specs.declared.manner.Going.TheVariants.{On, Waits, Ended}
 use Rattle.iiod_session.specs.declared.manner.Manner.{Manner}
@@ -18,7 +18,7 @@ use Rattle.iiod_session.specs.PendingWrite.{PendingRecord, pending_of}
 -- stream stands after all bytes that came
 pub record SessionRecord (S : Type 0) : Type 0 where
   pub manner : Manner
-  pub desk : Desk S
+  pub client : Client S
   pub stream : Scanned
 
 -- ---- the stream by the session's fields
@@ -81,8 +81,8 @@ IsKept Ended lines pending left = Unit {0}
 
 pub record IsFresh {S : Type 0} (who : ℕ) (manner : Manner) (s : SessionRecord S) : Type 0 where
   pub served : s.manner ≡ manner
-  pub number : s.desk.who ≡ who
-  pub seats : s.desk.held.items ≡ []
-  pub buffers : s.desk.buffers.items ≡ []
-  pub holdings : s.desk.holdings.items ≡ []
+  pub number : s.client.who ≡ who
+  pub seats : s.client.held.items ≡ []
+  pub buffers : s.client.buffers.items ≡ []
+  pub holdings : s.client.holdings.items ≡ []
   pub stream : s.stream ≡ no_item (InLine [])

@@ -2,7 +2,7 @@
 use Rattle.std.specs.Prelude.{ℕ, Result, Ok, Err}
 use Rattle.iio_text.specs.declared.errors.Errno.{Errno}
 use Rattle.iiod_session.specs.declared.wanted.Wanted.{Wanted as CodeWanted}
-use Rattle.iiod_session.specs.Desk.{Wanted}
+use Rattle.iiod_session.specs.Client.{Wanted}
 
 abbrev pub wanted_of_code : CodeWanted → Wanted
 wanted_of_code x = record { mask = x.mask.bits; capacity = x.capacity }

@@ -6,7 +6,7 @@ use Rattle.iiod_grammar.specs.Command.{Command as SaidCommand, Exit, Write, Writ
 use Rattle.iiod_grammar.specs.Stream.{Item, Said, Written, Streamed, End, Scanned}
 use Rattle.iiod_grammar.specs.View.{command_view}
 use Rattle.iiod_reply.specs.Reply.{Reply}
-use Rattle.iiod_session.specs.declared.desk.Desk.{Desk}
+use Rattle.iiod_session.specs.declared.client.Client.{Client}
 use Rattle.iiod_session.specs.declared.manner.Going.{Going}
 use Rattle.iiod_session.specs.declared.manner.Going.TheVariants.{Waits}
 use Rattle.iiod_session.specs.declared.manner.Manner.{Manner}
@@ -42,8 +42,8 @@ pub record Scene (W : Type 0) : Type 0 where
   pub watch : W
   pub told : Bool
 
-abbrev pub scene_of : {S W : Type 0} → (S → SeatRecord) → Option Machine → Desk S → W → Bool → Scene W
-scene_of seen told desk watch waited = record { state = state_of seen told desk; watch = watch; told = waited }
+abbrev pub scene_of : {S W : Type 0} → (S → SeatRecord) → Option Machine → Client S → W → Bool → Scene W
+scene_of seen told client watch waited = record { state = state_of seen told client; watch = watch; told = waited }
 
 abbrev pub is_waiting : Going → Bool
 is_waiting (Waits dev) = true
@@ -57,7 +57,7 @@ waits_in items = false
 module _ {W : Type 0} (makes : Front → Option Machine → ℕ → Item → W → W → Type 0) (manner : Manner) (front : Front) where
   -- the watch once it was told an item
   abbrev pub Tells : Scene W → Item → W → Type 0
-  Tells a item w = MatchBool a.told (w ≡ a.watch) (makes front a.state.told a.state.desk.who item a.watch w)
+  Tells a item w = MatchBool a.told (w ≡ a.watch) (makes front a.state.told a.state.client.who item a.watch w)
 
   -- the watch is told, and the item is answered
   pub record IsHeard (a : Scene W) (item : Item) (reply : Reply) (b : Scene W) : Type 0 where

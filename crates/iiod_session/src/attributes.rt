@@ -7,7 +7,7 @@ ghost use Rattle.iiod_grammar.specs.View.{place_view, target_view};
 ghost use Rattle.iiod_session.specs.Acts.{read_attribute_at, read_buffer_attribute_at, read_device_attribute, write_attribute_at};
 ghost use Rattle.iiod_session.specs.Answers.{Fits, IsText, ServesBy, reply_of};
 ghost use Rattle.iiod_session.specs.Attributes.{buffer_number};
-ghost use Rattle.iiod_session.specs.Desk.{DeskRecord, IsDesk, IsHeld, bare_of, desk_of, place_of, tale_of, tales_of};
+ghost use Rattle.iiod_session.specs.Client.{ClientRecord, IsClient, IsHeld, bare_of, client_of, place_of, trace_of, traces_of};
 ghost use Rattle.iio_core.specs.Machine.{lost_of, queue_of};
 ghost use Rattle.iiod_session.specs.Performs.{Comes};
 ghost use Rattle.iiod_session.specs.Seat.{seat_id};
@@ -15,7 +15,7 @@ ghost use Rattle.iiod_session.specs.Target.{MayRead};
 ghost use Rattle.iiod_session.specs.Targets.{named_of_code, written_by};
 
 use crate::answers::{Answer, answered};
-use crate::desk::{Desk, Held};
+use crate::client::{Client, Held};
 use crate::iio::{Iio, No};
 use crate::kinds::kind_of;
 use crate::seats;
@@ -32,8 +32,9 @@ fn read_device<I: Iio>(alloc: Global, iio: &mut I, dev: u32, target: Named) -> R
     requires dev { dev < length (I.front (I.kept iio.old)).devices }
     requires may_read { MayRead (I.front (I.kept iio.old)) dev target.channel target.attribute }
     ensures kept { I.kept iio.new ≡ I.kept iio.old }
-    ensures told { (desk : DeskRecord) → IfSome (I.told iio.old) (λ m. Comes m desk
-        (read_device_attribute (I.front (I.kept iio.old)) m desk dev (named_of_code target)) (reply_of (I.front (I.kept iio.old)) result) (I.told iio.new) desk) }
+    ensures told { (client : ClientRecord) → IfSome (I.told iio.old) (λ m. Comes m client
+        (read_device_attribute (I.front (I.kept iio.old)) m client dev (named_of_code target)) (reply_of (I.front (I.kept iio.old)) result) (I.told iio.new)
+        client) }
     ensures text { IsText result }
 {
     match iio.read_attr(dev, target.channel, target.attribute) {
@@ -53,7 +54,7 @@ fn buffer_number<I: Iio>(iio: &mut I, h: &mut Held<I::Seat>, attribute: Attr) ->
     ensures kept { I.kept iio.new ≡ I.kept iio.old }
     ensures held { IsHeld I.seen (I.front (I.kept iio.new)) h.new }
     ensures bare { bare_of I.seen h.new ≡ bare_of I.seen h.old }
-    ensures tale { tale_of I.seen h.new ≡ tale_of I.seen h.old }
+    ensures trace { trace_of I.seen h.new ≡ trace_of I.seen h.old }
     ensures value { IfSome (I.told iio.old) (λ m. result ≡ buffer_number attribute h.old.capacity
         (length (queue_of m h.old.dev (seat_id (I.seen h.old.seat)))) (lost_of m h.old.dev (seat_id (I.seen h.old.seat))) h.old.discarded) }
     ensures told { IfSome (I.told iio.old) (λ m. I.told iio.new ≡ Some m) }
@@ -69,48 +70,48 @@ fn buffer_number<I: Iio>(iio: &mut I, h: &mut Held<I::Seat>, attribute: Attr) ->
 
 // The attribute of a buffer of the connection.
 fn read_buffer<I: Iio>(
-    desk: &mut Desk<I::Seat>,
+    client: &mut Client<I::Seat>,
     iio: &mut I,
     dev: u32,
     attribute: Attr,
 ) -> Result<Answer, No>
-    requires desk { IsDesk I.seen (I.front (I.kept iio.old)) desk.old }
+    requires client { IsClient I.seen (I.front (I.kept iio.old)) client.old }
     ensures kept { I.kept iio.new ≡ I.kept iio.old }
-    ensures desk { IsDesk I.seen (I.front (I.kept iio.new)) desk.new }
-    ensures same { desk_of I.seen desk.new ≡ desk_of I.seen desk.old }
-    ensures tales { tales_of I.seen desk.new.held.items ≡ tales_of I.seen desk.old.held.items }
-    ensures told { IfSome (I.told iio.old) (λ m. Comes m (desk_of I.seen desk.old)
-        (read_buffer_attribute_at m (desk_of I.seen desk.old) attribute (place_of dev (desk_of I.seen desk.old).seats))
-        (reply_of (I.front (I.kept iio.old)) result) (I.told iio.new) (desk_of I.seen desk.old)) }
+    ensures client { IsClient I.seen (I.front (I.kept iio.new)) client.new }
+    ensures same { client_of I.seen client.new ≡ client_of I.seen client.old }
+    ensures traces { traces_of I.seen client.new.held.items ≡ traces_of I.seen client.old.held.items }
+    ensures told { IfSome (I.told iio.old) (λ m. Comes m (client_of I.seen client.old)
+        (read_buffer_attribute_at m (client_of I.seen client.old) attribute (place_of dev (client_of I.seen client.old).seats))
+        (reply_of (I.front (I.kept iio.old)) result) (I.told iio.new) (client_of I.seen client.old)) }
     ensures text { IsText result }
 {
-    match seats::place(iio, &desk.held, dev) {
+    match seats::place(iio, &client.held, dev) {
         None => Err(No::Errno(Errno::EBADF)),
-        Some(i) => Ok(Answer::Count(buffer_number(iio, &mut desk.held[i], attribute))),
+        Some(i) => Ok(Answer::Count(buffer_number(iio, &mut client.held[i], attribute))),
     }
 }
 
 /// READ at the device of that number.
 pub(crate) fn read_attribute_at<I: Iio>(
     alloc: Global,
-    desk: &mut Desk<I::Seat>,
+    client: &mut Client<I::Seat>,
     iio: &mut I,
     dev: u32,
     place: Place<'_>,
     name: Option<&[u8]>,
 ) -> Result<Answer, No>
     requires dev { dev < length (I.front (I.kept iio.old)).devices }
-    requires desk { IsDesk I.seen (I.front (I.kept iio.old)) desk.old }
+    requires client { IsClient I.seen (I.front (I.kept iio.old)) client.old }
     ensures kept { I.kept iio.new ≡ I.kept iio.old }
-    ensures desk { IsDesk I.seen (I.front (I.kept iio.new)) desk.new }
-    ensures same { desk_of I.seen desk.new ≡ desk_of I.seen desk.old }
-    ensures tales { tales_of I.seen desk.new.held.items ≡ tales_of I.seen desk.old.held.items }
-    ensures told { IfSome (I.told iio.old) (λ m. Comes m (desk_of I.seen desk.old)
-        (read_attribute_at (I.front (I.kept iio.old)) m (desk_of I.seen desk.old) (place_view place.entry) (option_copied name.entry) dev)
-        (reply_of (I.front (I.kept iio.old)) result) (I.told iio.new) (desk_of I.seen desk.old)) }
+    ensures client { IsClient I.seen (I.front (I.kept iio.new)) client.new }
+    ensures same { client_of I.seen client.new ≡ client_of I.seen client.old }
+    ensures traces { traces_of I.seen client.new.held.items ≡ traces_of I.seen client.old.held.items }
+    ensures told { IfSome (I.told iio.old) (λ m. Comes m (client_of I.seen client.old)
+        (read_attribute_at (I.front (I.kept iio.old)) m (client_of I.seen client.old) (place_view place.entry) (option_copied name.entry) dev)
+        (reply_of (I.front (I.kept iio.old)) result) (I.told iio.new) (client_of I.seen client.old)) }
     ensures text { IsText result }
 {
-    let is_open = seats::place(iio, &desk.held, dev).is_some();
+    let is_open = seats::place(iio, &client.held, dev).is_some();
     let plugged = iio.plugged(dev);
     let of_buffer = is_of_buffer(place, name);
     let kind = kind_of(iio, dev);
@@ -118,7 +119,7 @@ pub(crate) fn read_attribute_at<I: Iio>(
         Err(errno) => Err(No::Errno(errno)),
         Ok(target) => {
             if of_buffer {
-                read_buffer(desk, iio, dev, target.attribute)
+                read_buffer(client, iio, dev, target.attribute)
             } else {
                 read_device(alloc, iio, dev, target)
             }
@@ -137,9 +138,9 @@ fn write_attribute_at<I: Iio>(
 ) -> Result<(), No>
     requires dev { dev < length (I.front (I.kept iio.old)).devices }
     ensures kept { I.kept iio.new ≡ I.kept iio.old }
-    ensures told { (desk : DeskRecord) → is_open ≡ is_some (place_of dev desk.seats) → IfSome (I.told iio.old) (λ m. Comes m desk
-        (write_attribute_at (I.front (I.kept iio.old)) m desk (place_view place.entry) (option_copied name.entry) payload.now dev)
-        (written_by (length payload.now) result) (I.told iio.new) desk) }
+    ensures told { (client : ClientRecord) → is_open ≡ is_some (place_of dev client.seats) → IfSome (I.told iio.old) (λ m. Comes m client
+        (write_attribute_at (I.front (I.kept iio.old)) m client (place_view place.entry) (option_copied name.entry) payload.now dev)
+        (written_by (length payload.now) result) (I.told iio.new) client) }
 {
     let plugged = iio.plugged(dev);
     let kind = kind_of(iio, dev);
@@ -151,7 +152,7 @@ fn write_attribute_at<I: Iio>(
 
 /// WRITE, with its whole payload. `EINVAL` comes where its words name nothing.
 pub(crate) fn write_attribute<I: Iio>(
-    desk: &Desk<I::Seat>,
+    client: &Client<I::Seat>,
     iio: &mut I,
     device: &[u8],
     target: Option<(Place<'_>, Option<&[u8]>)>,
@@ -159,16 +160,16 @@ pub(crate) fn write_attribute<I: Iio>(
 ) -> Result<Answer, No>
     ensures kept { I.kept iio.new ≡ I.kept iio.old }
     ensures fits { Fits result }
-    ensures served { ServesBy (I.front (I.kept iio.old)) (I.told iio.old) (desk_of I.seen desk.now) (tales_of I.seen desk.now.held.items)
+    ensures served { ServesBy (I.front (I.kept iio.old)) (I.told iio.old) (client_of I.seen client.now) (traces_of I.seen client.now.held.items)
         (Written device.now (option_map target_view target.entry) payload.now)
-        result (I.told iio.new) (desk_of I.seen desk.now) (tales_of I.seen desk.now.held.items) }
+        result (I.told iio.new) (client_of I.seen client.now) (traces_of I.seen client.now.held.items) }
 {
     match target {
         None => Err(No::Errno(Errno::EINVAL)),
         Some((place, name)) => match iio.find(device) {
             None => Err(No::Errno(Errno::ENODEV)),
             Some(dev) => {
-                let is_open = seats::place(iio, &desk.held, dev).is_some();
+                let is_open = seats::place(iio, &client.held, dev).is_some();
                 let written = write_attribute_at(iio, dev, is_open, place, name, payload);
                 answered(payload.len(), written)
             }

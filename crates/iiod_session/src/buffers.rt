@@ -5,13 +5,13 @@ ghost use Rattle.iiod_grammar.specs.Command.{ReadBuf};
 ghost use Rattle.iiod_grammar.specs.Stream.{Said, Streamed};
 ghost use Rattle.iiod_session.specs.Acts.{remask_known, set_buffers_at, write_buffer_at};
 ghost use Rattle.iiod_session.specs.Answers.{Fits, ServesBy};
-ghost use Rattle.iiod_session.specs.declared.desk.BuffersCount.{BuffersCount};
+ghost use Rattle.iiod_session.specs.declared.client.BuffersCount.{BuffersCount};
 ghost use Rattle.iiod_session.specs.declared.manner.Manner.{Manner};
-ghost use Rattle.iiod_session.specs.Desk.{IsDesk, desk_of, tales_of, with_count};
-ghost use Rattle.iiod_session.specs.Performs.{AnswersInRoom, AnswersRead, Comes, HasRoomAfter, Performs, RemasksBy, desk_by, reply_by, taken_by};
+ghost use Rattle.iiod_session.specs.Client.{IsClient, client_of, traces_of, with_count};
+ghost use Rattle.iiod_session.specs.Performs.{AnswersInRoom, AnswersRead, Comes, HasRoomAfter, Performs, RemasksBy, client_by, reply_by, taken_by};
 
 use crate::answers::{Answer, finish};
-use crate::desk::{BuffersCount, Desk, MAX_BUFFERS};
+use crate::client::{BuffersCount, Client, MAX_BUFFERS};
 use crate::iio::{Iio, No, Took};
 use crate::kinds::{is_input, unknown_refusal};
 use crate::manner::{Manner, Performed};
@@ -21,42 +21,42 @@ use iio_text::Errno;
 
 /// REMASK at the device of that number, of whichever kind: the mask of an input device's member alone can be exchanged.
 pub(crate) fn remask_known<I: Iio>(
-    desk: &mut Desk<I::Seat>,
+    client: &mut Client<I::Seat>,
     iio: &mut I,
     dev: u32,
     text: &[u8],
 ) -> Result<(), No>
     requires dev { dev < length (I.front (I.kept iio.old)).devices }
-    requires desk { IsDesk I.seen (I.front (I.kept iio.old)) desk.old }
+    requires client { IsClient I.seen (I.front (I.kept iio.old)) client.old }
     ensures kept { I.kept iio.new ≡ I.kept iio.old }
-    ensures desk { IsDesk I.seen (I.front (I.kept iio.new)) desk.new }
-    ensures told { IfSome (I.told iio.old) (λ m. Comes m (desk_of I.seen desk.old)
-        (remask_known (I.front (I.kept iio.old)) m (desk_of I.seen desk.old) text.now dev)
-        (reply_by result) (I.told iio.new) (desk_of I.seen desk.new)) }
-    ensures moves { RemasksBy (I.front (I.kept iio.old)) dev text.now (desk_of I.seen desk.old) (tales_of I.seen desk.old.held.items)
-        result (desk_of I.seen desk.new) (tales_of I.seen desk.new.held.items) }
+    ensures client { IsClient I.seen (I.front (I.kept iio.new)) client.new }
+    ensures told { IfSome (I.told iio.old) (λ m. Comes m (client_of I.seen client.old)
+        (remask_known (I.front (I.kept iio.old)) m (client_of I.seen client.old) text.now dev)
+        (reply_by result) (I.told iio.new) (client_of I.seen client.new)) }
+    ensures moves { RemasksBy (I.front (I.kept iio.old)) dev text.now (client_of I.seen client.old) (traces_of I.seen client.old.held.items)
+        result (client_of I.seen client.new) (traces_of I.seen client.new.held.items) }
 {
     if !is_input(iio, dev) {
         return Err(No::Errno(unknown_refusal(iio, dev)));
     }
-    remask_at(desk, iio, dev, text)
+    remask_at(client, iio, dev, text)
 }
 
 /// READBUF. Room for the whole block is taken before a scan is taken, so that want of memory loses none.
 pub(crate) fn read_buffer<I: Iio>(
     manner: Manner,
-    desk: &mut Desk<I::Seat>,
+    client: &mut Client<I::Seat>,
     iio: &mut I,
     device: &[u8],
     asked: u32,
     out: &mut Vec<u8>,
 ) -> Result<Performed, Mem>
-    requires desk { IsDesk I.seen (I.front (I.kept iio.old)) desk.old }
+    requires client { IsClient I.seen (I.front (I.kept iio.old)) client.old }
     ensures kept { I.kept iio.new ≡ I.kept iio.old }
-    ensures desk { IsDesk I.seen (I.front (I.kept iio.new)) desk.new }
+    ensures client { IsClient I.seen (I.front (I.kept iio.new)) client.new }
     ensures served { IfOk result (Performs manner (I.front (I.kept iio.old)) (I.told iio.old) (I.told iio.new)
-        (desk_of I.seen desk.old) (tales_of I.seen desk.old.held.items) (Said (Ok (ReadBuf device.now asked)))
-        (desk_of I.seen desk.new) (tales_of I.seen desk.new.held.items) out.old.items out.new.items) }
+        (client_of I.seen client.old) (traces_of I.seen client.old.held.items) (Said (Ok (ReadBuf device.now asked)))
+        (client_of I.seen client.new) (traces_of I.seen client.new.held.items) out.old.items out.new.items) }
     ensures answers { AnswersInRoom manner out.old.items (vec_capacity out.old) result }
 {
     match iio.find(device) {
@@ -66,7 +66,7 @@ pub(crate) fn read_buffer<I: Iio>(
                 let errno = unknown_refusal(iio, dev);
                 return finish(manner, No::Errno(errno), out);
             }
-            let took = read_at(desk, iio, dev, asked, out);
+            let took = read_at(client, iio, dev, asked, out);
             finish_read(manner, dev, took, out)
         }
     }
@@ -95,18 +95,18 @@ fn finish_read(
 
 /// SET at the device of that number.
 pub(crate) fn set_buffers_at<I: Iio>(
-    desk: &mut Desk<I::Seat>,
+    client: &mut Client<I::Seat>,
     iio: &I,
     dev: u32,
     count: u32,
 ) -> Result<(), No>
     requires dev { dev < length (I.front (I.kept iio.now)).devices }
-    requires desk { IsDesk I.seen (I.front (I.kept iio.now)) desk.old }
-    ensures desk { IsDesk I.seen (I.front (I.kept iio.now)) desk.new }
-    ensures told { IfSome (I.told iio.now) (λ m. Comes m (desk_of I.seen desk.old) (set_buffers_at m (desk_of I.seen desk.old) count dev)
-        (reply_by result) (I.told iio.now) (desk_of I.seen desk.new)) }
-    ensures alters { desk_of I.seen desk.new ≡ desk_by (with_count dev count) (desk_of I.seen desk.old) result }
-    ensures held { desk.new.held ≡ desk.old.held }
+    requires client { IsClient I.seen (I.front (I.kept iio.now)) client.old }
+    ensures client { IsClient I.seen (I.front (I.kept iio.now)) client.new }
+    ensures told { IfSome (I.told iio.now) (λ m. Comes m (client_of I.seen client.old) (set_buffers_at m (client_of I.seen client.old) count dev)
+        (reply_by result) (I.told iio.now) (client_of I.seen client.new)) }
+    ensures alters { client_of I.seen client.new ≡ client_by (with_count dev count) (client_of I.seen client.old) result }
+    ensures held { client.new.held ≡ client.old.held }
 {
     if !iio.plugged(dev) {
         return Err(No::Errno(Errno::ENODEV));
@@ -114,11 +114,11 @@ pub(crate) fn set_buffers_at<I: Iio>(
     if count == 0 || count > MAX_BUFFERS {
         return Err(No::Errno(Errno::EINVAL));
     }
-    if desk.buffers.reserve(1).is_err() {
+    if client.buffers.reserve(1).is_err() {
         return Err(No::Mem);
     }
-    forget_count(&mut desk.buffers, dev);
-    desk.buffers.push_reserved(BuffersCount { dev, count });
+    forget_count(&mut client.buffers, dev);
+    client.buffers.push_reserved(BuffersCount { dev, count });
     Ok(())
 }
 
@@ -133,21 +133,21 @@ fn forget_count(buffers: &mut Vec<BuffersCount>, dev: u32)
 
 // WRITEBUF at the device of that number.
 fn write_buffer_at<I: Iio>(
-    desk: &mut Desk<I::Seat>,
+    client: &mut Client<I::Seat>,
     iio: &mut I,
     dev: u32,
     payload: &[u8],
 ) -> Result<u32, No>
     requires dev { dev < length (I.front (I.kept iio.old)).devices }
-    requires desk { IsDesk I.seen (I.front (I.kept iio.old)) desk.old }
+    requires client { IsClient I.seen (I.front (I.kept iio.old)) client.old }
     ensures kept { I.kept iio.new ≡ I.kept iio.old }
-    ensures desk { IsDesk I.seen (I.front (I.kept iio.new)) desk.new }
-    ensures same { desk_of I.seen desk.new ≡ desk_of I.seen desk.old }
-    ensures tales { tales_of I.seen desk.new.held.items ≡ tales_of I.seen desk.old.held.items }
+    ensures client { IsClient I.seen (I.front (I.kept iio.new)) client.new }
+    ensures same { client_of I.seen client.new ≡ client_of I.seen client.old }
+    ensures traces { traces_of I.seen client.new.held.items ≡ traces_of I.seen client.old.held.items }
     ensures within { IfOk result (λ taken. taken ≤ length payload.now) }
-    ensures told { IfSome (I.told iio.old) (λ m. Comes m (desk_of I.seen desk.old)
-        (write_buffer_at (I.front (I.kept iio.old)) m (desk_of I.seen desk.old) payload.now dev)
-        (taken_by result) (I.told iio.new) (desk_of I.seen desk.old)) }
+    ensures told { IfSome (I.told iio.old) (λ m. Comes m (client_of I.seen client.old)
+        (write_buffer_at (I.front (I.kept iio.old)) m (client_of I.seen client.old) payload.now dev)
+        (taken_by result) (I.told iio.new) (client_of I.seen client.old)) }
 {
     if !iio.plugged(dev) {
         return Err(No::Errno(Errno::ENODEV));
@@ -155,28 +155,28 @@ fn write_buffer_at<I: Iio>(
     if !iio.is_output(dev) {
         return Err(No::Errno(Errno::ENOSYS));
     }
-    write_at(desk, iio, dev, payload)
+    write_at(client, iio, dev, payload)
 }
 
 /// WRITEBUF, with its whole payload: the number of bytes that were taken is answered. `ENODEV` comes where the device is
 /// unplugged, then `ENOSYS` where it is no output device, `EBADF` where the connection has no seat at it, and what
 /// [`Iio::write_scans`] refuses.
 pub(crate) fn write_buffer<I: Iio>(
-    desk: &mut Desk<I::Seat>,
+    client: &mut Client<I::Seat>,
     iio: &mut I,
     device: &[u8],
     payload: &[u8],
 ) -> Result<Answer, No>
-    requires desk { IsDesk I.seen (I.front (I.kept iio.old)) desk.old }
+    requires client { IsClient I.seen (I.front (I.kept iio.old)) client.old }
     ensures kept { I.kept iio.new ≡ I.kept iio.old }
-    ensures desk { IsDesk I.seen (I.front (I.kept iio.new)) desk.new }
+    ensures client { IsClient I.seen (I.front (I.kept iio.new)) client.new }
     ensures fits { Fits result }
-    ensures served { ServesBy (I.front (I.kept iio.old)) (I.told iio.old) (desk_of I.seen desk.old) (tales_of I.seen desk.old.held.items)
-        (Streamed device.now payload.now) result (I.told iio.new) (desk_of I.seen desk.new) (tales_of I.seen desk.new.held.items) }
+    ensures served { ServesBy (I.front (I.kept iio.old)) (I.told iio.old) (client_of I.seen client.old) (traces_of I.seen client.old.held.items)
+        (Streamed device.now payload.now) result (I.told iio.new) (client_of I.seen client.new) (traces_of I.seen client.new.held.items) }
 {
     match iio.find(device) {
         None => Err(No::Errno(Errno::ENODEV)),
-        Some(dev) => match write_buffer_at(desk, iio, dev, payload) {
+        Some(dev) => match write_buffer_at(client, iio, dev, payload) {
             Err(no) => Err(no),
             Ok(taken) => Ok(Answer::Number(taken as usize)),
         },

@@ -4,35 +4,35 @@ ghost use Rattle.std.specs.Prelude.{◌≡◌, ◌==◌, ◌<◌, true, length, 
 ghost use Rattle.iio_desc.specs.Kind.{is_input};
 ghost use Rattle.iiod_session.specs.Acts.{ev_close_at, ev_close_known, ev_open_at, ev_open_known, ev_read_at, ev_read_known};
 ghost use Rattle.iiod_session.specs.Answers.{IsEvent, reply_of};
-ghost use Rattle.iiod_session.specs.Desk.{IsDesk, desk_of, with_holding, without_holding};
+ghost use Rattle.iiod_session.specs.Client.{IsClient, client_of, with_holding, without_holding};
 ghost use Rattle.iio_core.specs.Front.{kind_at};
-ghost use Rattle.iiod_session.specs.Performs.{Comes, desk_by, reply_by};
+ghost use Rattle.iiod_session.specs.Performs.{Comes, client_by, reply_by};
 
 use crate::answers::Answer;
-use crate::desk::Desk;
+use crate::client::Client;
 use crate::iio::{Iio, No};
 use crate::kinds::{is_input, unknown_refusal};
 use iio_text::Errno;
 
 // EVOPEN at an input device. The room for the holding is taken first.
-fn ev_open_at<I: Iio>(desk: &mut Desk<I::Seat>, iio: &mut I, dev: u32) -> Result<(), No>
+fn ev_open_at<I: Iio>(client: &mut Client<I::Seat>, iio: &mut I, dev: u32) -> Result<(), No>
     requires dev { dev < length (I.front (I.kept iio.old)).devices }
     requires input { is_input (kind_at (I.front (I.kept iio.old)) dev) ≡ true }
-    requires desk { IsDesk I.seen (I.front (I.kept iio.old)) desk.old }
+    requires client { IsClient I.seen (I.front (I.kept iio.old)) client.old }
     ensures kept { I.kept iio.new ≡ I.kept iio.old }
-    ensures desk { IsDesk I.seen (I.front (I.kept iio.new)) desk.new }
-    ensures told { IfSome (I.told iio.old) (λ m. Comes m (desk_of I.seen desk.old) (ev_open_at m (desk_of I.seen desk.old) dev)
-        (reply_by result) (I.told iio.new) (desk_of I.seen desk.new)) }
-    ensures alters { desk_of I.seen desk.new ≡ desk_by (with_holding dev) (desk_of I.seen desk.old) result }
-    ensures held { desk.new.held ≡ desk.old.held }
+    ensures client { IsClient I.seen (I.front (I.kept iio.new)) client.new }
+    ensures told { IfSome (I.told iio.old) (λ m. Comes m (client_of I.seen client.old) (ev_open_at m (client_of I.seen client.old) dev)
+        (reply_by result) (I.told iio.new) (client_of I.seen client.new)) }
+    ensures alters { client_of I.seen client.new ≡ client_by (with_holding dev) (client_of I.seen client.old) result }
+    ensures held { client.new.held ≡ client.old.held }
 {
-    if desk.holdings.reserve(1).is_err() {
+    if client.holdings.reserve(1).is_err() {
         return Err(No::Mem);
     }
-    match iio.ev_open(dev, desk.who) {
+    match iio.ev_open(dev, client.who) {
         Err(no) => Err(no),
         Ok(()) => {
-            desk.holdings.push_reserved(dev);
+            client.holdings.push_reserved(dev);
             Ok(())
         }
     }
@@ -40,23 +40,23 @@ fn ev_open_at<I: Iio>(desk: &mut Desk<I::Seat>, iio: &mut I, dev: u32) -> Result
 
 /// EVOPEN at the device of that number, of whichever kind: input devices alone have events.
 pub(crate) fn ev_open_known<I: Iio>(
-    desk: &mut Desk<I::Seat>,
+    client: &mut Client<I::Seat>,
     iio: &mut I,
     dev: u32,
 ) -> Result<(), No>
     requires dev { dev < length (I.front (I.kept iio.old)).devices }
-    requires desk { IsDesk I.seen (I.front (I.kept iio.old)) desk.old }
+    requires client { IsClient I.seen (I.front (I.kept iio.old)) client.old }
     ensures kept { I.kept iio.new ≡ I.kept iio.old }
-    ensures desk { IsDesk I.seen (I.front (I.kept iio.new)) desk.new }
-    ensures told { IfSome (I.told iio.old) (λ m. Comes m (desk_of I.seen desk.old)
-        (ev_open_known (I.front (I.kept iio.old)) m (desk_of I.seen desk.old) dev) (reply_by result) (I.told iio.new) (desk_of I.seen desk.new)) }
-    ensures alters { desk_of I.seen desk.new ≡ desk_by (with_holding dev) (desk_of I.seen desk.old) result }
-    ensures held { desk.new.held ≡ desk.old.held }
+    ensures client { IsClient I.seen (I.front (I.kept iio.new)) client.new }
+    ensures told { IfSome (I.told iio.old) (λ m. Comes m (client_of I.seen client.old)
+        (ev_open_known (I.front (I.kept iio.old)) m (client_of I.seen client.old) dev) (reply_by result) (I.told iio.new) (client_of I.seen client.new)) }
+    ensures alters { client_of I.seen client.new ≡ client_by (with_holding dev) (client_of I.seen client.old) result }
+    ensures held { client.new.held ≡ client.old.held }
 {
     if !is_input(iio, dev) {
         return Err(No::Errno(unknown_refusal(iio, dev)));
     }
-    ev_open_at(desk, iio, dev)
+    ev_open_at(client, iio, dev)
 }
 
 // Removes a device from those whose events are held.
@@ -67,24 +67,24 @@ fn forget_holding(holdings: &mut Vec<u32>, dev: u32)
 }
 
 // EVCLOSE at an input device.
-fn ev_close_at<I: Iio>(desk: &mut Desk<I::Seat>, iio: &mut I, dev: u32) -> Result<(), No>
+fn ev_close_at<I: Iio>(client: &mut Client<I::Seat>, iio: &mut I, dev: u32) -> Result<(), No>
     requires dev { dev < length (I.front (I.kept iio.old)).devices }
     requires input { is_input (kind_at (I.front (I.kept iio.old)) dev) ≡ true }
-    requires desk { IsDesk I.seen (I.front (I.kept iio.old)) desk.old }
+    requires client { IsClient I.seen (I.front (I.kept iio.old)) client.old }
     ensures kept { I.kept iio.new ≡ I.kept iio.old }
-    ensures desk { IsDesk I.seen (I.front (I.kept iio.new)) desk.new }
-    ensures told { IfSome (I.told iio.old) (λ m. Comes m (desk_of I.seen desk.old) (ev_close_at m (desk_of I.seen desk.old) dev)
-        (reply_by result) (I.told iio.new) (desk_of I.seen desk.new)) }
-    ensures alters { desk_of I.seen desk.new ≡ desk_by (without_holding dev) (desk_of I.seen desk.old) result }
-    ensures held { desk.new.held ≡ desk.old.held }
+    ensures client { IsClient I.seen (I.front (I.kept iio.new)) client.new }
+    ensures told { IfSome (I.told iio.old) (λ m. Comes m (client_of I.seen client.old) (ev_close_at m (client_of I.seen client.old) dev)
+        (reply_by result) (I.told iio.new) (client_of I.seen client.new)) }
+    ensures alters { client_of I.seen client.new ≡ client_by (without_holding dev) (client_of I.seen client.old) result }
+    ensures held { client.new.held ≡ client.old.held }
 {
     if !iio.plugged(dev) {
         return Err(No::Errno(Errno::ENODEV));
     }
-    match iio.ev_close(dev, desk.who) {
+    match iio.ev_close(dev, client.who) {
         Err(no) => Err(no),
         Ok(()) => {
-            forget_holding(&mut desk.holdings, dev);
+            forget_holding(&mut client.holdings, dev);
             Ok(())
         }
     }
@@ -92,35 +92,35 @@ fn ev_close_at<I: Iio>(desk: &mut Desk<I::Seat>, iio: &mut I, dev: u32) -> Resul
 
 /// EVCLOSE at the device of that number, of whichever kind: input devices alone have events.
 pub(crate) fn ev_close_known<I: Iio>(
-    desk: &mut Desk<I::Seat>,
+    client: &mut Client<I::Seat>,
     iio: &mut I,
     dev: u32,
 ) -> Result<(), No>
     requires dev { dev < length (I.front (I.kept iio.old)).devices }
-    requires desk { IsDesk I.seen (I.front (I.kept iio.old)) desk.old }
+    requires client { IsClient I.seen (I.front (I.kept iio.old)) client.old }
     ensures kept { I.kept iio.new ≡ I.kept iio.old }
-    ensures desk { IsDesk I.seen (I.front (I.kept iio.new)) desk.new }
-    ensures told { IfSome (I.told iio.old) (λ m. Comes m (desk_of I.seen desk.old)
-        (ev_close_known (I.front (I.kept iio.old)) m (desk_of I.seen desk.old) dev) (reply_by result) (I.told iio.new) (desk_of I.seen desk.new)) }
-    ensures alters { desk_of I.seen desk.new ≡ desk_by (without_holding dev) (desk_of I.seen desk.old) result }
-    ensures held { desk.new.held ≡ desk.old.held }
+    ensures client { IsClient I.seen (I.front (I.kept iio.new)) client.new }
+    ensures told { IfSome (I.told iio.old) (λ m. Comes m (client_of I.seen client.old)
+        (ev_close_known (I.front (I.kept iio.old)) m (client_of I.seen client.old) dev) (reply_by result) (I.told iio.new) (client_of I.seen client.new)) }
+    ensures alters { client_of I.seen client.new ≡ client_by (without_holding dev) (client_of I.seen client.old) result }
+    ensures held { client.new.held ≡ client.old.held }
 {
     if !is_input(iio, dev) {
         return Err(No::Errno(unknown_refusal(iio, dev)));
     }
-    ev_close_at(desk, iio, dev)
+    ev_close_at(client, iio, dev)
 }
 
 // EVREAD at an input device.
-fn ev_read_at<I: Iio>(desk: &Desk<I::Seat>, iio: &mut I, dev: u32) -> Result<Answer, No>
+fn ev_read_at<I: Iio>(client: &Client<I::Seat>, iio: &mut I, dev: u32) -> Result<Answer, No>
     requires dev { dev < length (I.front (I.kept iio.old)).devices }
     requires input { is_input (kind_at (I.front (I.kept iio.old)) dev) ≡ true }
     ensures kept { I.kept iio.new ≡ I.kept iio.old }
     ensures event { IsEvent result }
-    ensures told { IfSome (I.told iio.old) (λ m. Comes m (desk_of I.seen desk.now) (ev_read_at m (desk_of I.seen desk.now) dev)
-        (reply_of (I.front (I.kept iio.old)) result) (I.told iio.new) (desk_of I.seen desk.now)) }
+    ensures told { IfSome (I.told iio.old) (λ m. Comes m (client_of I.seen client.now) (ev_read_at m (client_of I.seen client.now) dev)
+        (reply_of (I.front (I.kept iio.old)) result) (I.told iio.new) (client_of I.seen client.now)) }
 {
-    match iio.ev_read(dev, desk.who) {
+    match iio.ev_read(dev, client.who) {
         Ok(Some(event)) => Ok(Answer::Event(event)),
         Ok(None) => Err(No::Errno(Errno::EAGAIN)),
         Err(no) => Err(no),
@@ -129,19 +129,19 @@ fn ev_read_at<I: Iio>(desk: &Desk<I::Seat>, iio: &mut I, dev: u32) -> Result<Ans
 
 /// EVREAD at the device of that number, of whichever kind.
 pub(crate) fn ev_read_known<I: Iio>(
-    desk: &Desk<I::Seat>,
+    client: &Client<I::Seat>,
     iio: &mut I,
     dev: u32,
 ) -> Result<Answer, No>
     requires dev { dev < length (I.front (I.kept iio.old)).devices }
     ensures kept { I.kept iio.new ≡ I.kept iio.old }
     ensures event { IsEvent result }
-    ensures told { IfSome (I.told iio.old) (λ m. Comes m (desk_of I.seen desk.now)
-        (ev_read_known (I.front (I.kept iio.old)) m (desk_of I.seen desk.now) dev)
-        (reply_of (I.front (I.kept iio.old)) result) (I.told iio.new) (desk_of I.seen desk.now)) }
+    ensures told { IfSome (I.told iio.old) (λ m. Comes m (client_of I.seen client.now)
+        (ev_read_known (I.front (I.kept iio.old)) m (client_of I.seen client.now) dev)
+        (reply_of (I.front (I.kept iio.old)) result) (I.told iio.new) (client_of I.seen client.now)) }
 {
     if !is_input(iio, dev) {
         return Err(No::Errno(unknown_refusal(iio, dev)));
     }
-    ev_read_at(desk, iio, dev)
+    ev_read_at(client, iio, dev)
 }

@@ -8,7 +8,7 @@ ghost use Rattle.iiod_grammar.specs.Stream.{AtEnd, End, after_line, ended_by, no
 ghost use Rattle.iiod_grammar.specs.View.{command_view};
 ghost use Rattle.iiod_reply.specs.Reply.{text_of};
 ghost use Rattle.iiod_session.specs.Acts.{end_reply};
-ghost use Rattle.iiod_session.specs.Desk.{IsDesk, desk_of, tales_of};
+ghost use Rattle.iiod_session.specs.Client.{IsClient, client_of, traces_of};
 ghost use Rattle.iiod_session.specs.PendingWrite.{PendingRecord, pending_of};
 ghost use Rattle.iiod_session.specs.Performs.{Performs};
 ghost use Rattle.iiod_session.specs.Session.{IsAtOnce, IsKept, IsReady, IsWhole, piece_by, stream_by, unread_of};
@@ -19,7 +19,7 @@ ghost use Rattle.iiod_grammar.specs.declared.lines.Ready.{Ready};
 
 use crate::answers::push_refusal;
 use crate::buffers::read_buffer;
-use crate::desk::Desk;
+use crate::client::Client;
 use crate::iio::Iio;
 use crate::leave::leave;
 use crate::manner::{Going, Manner, Performed};
@@ -43,32 +43,32 @@ fn push_end(out: &mut Vec<u8>, error: Option<Errno>) -> Result<(), Mem>
 
 // The end of a connection.
 fn end<I: Iio, W: Watch<I>>(
-    desk: &mut Desk<I::Seat>,
+    client: &mut Client<I::Seat>,
     iio: &mut I,
     watch: &mut W,
     error: Option<Errno>,
     seen: &Seen<'_>,
     out: &mut Vec<u8>,
 ) -> Result<Going, Mem>
-    requires desk { IsDesk I.seen (I.front (I.kept iio.old)) desk.old }
+    requires client { IsClient I.seen (I.front (I.kept iio.old)) client.old }
     requires seen { IsSeen (End error) seen.now }
     ensures kept { I.kept iio.new ≡ I.kept iio.old }
-    ensures desk { IsDesk I.seen (I.front (I.kept iio.new)) desk.new }
+    ensures client { IsClient I.seen (I.front (I.kept iio.new)) client.new }
     ensures ended { IfOk result (λ going. going ≡ Going.Ended) }
     ensures hears { (manner : Manner)
-        → IfOk result (λ going. Hears W.makes manner (I.front (I.kept iio.old)) (scene_of I.seen (I.told iio.old) desk.old watch.old false)
-        (ended_by error) out.old.items out.new.items (scene_of I.seen (I.told iio.new) desk.new watch.new false) (no_item AtEnd) going) }
+        → IfOk result (λ going. Hears W.makes manner (I.front (I.kept iio.old)) (scene_of I.seen (I.told iio.old) client.old watch.old false)
+        (ended_by error) out.old.items out.new.items (scene_of I.seen (I.told iio.new) client.new watch.new false) (no_item AtEnd) going) }
 {
-    watch.before(iio, desk.who, seen);
+    watch.before(iio, client.who, seen);
     push_end(out, error)?;
-    leave(desk, iio);
+    leave(client, iio);
     Ok(Going::Ended)
 }
 
 // A line that is no command.
 fn hear_refused<I: Iio, W: Watch<I>>(
     manner: Manner,
-    desk: &Desk<I::Seat>,
+    client: &Client<I::Seat>,
     iio: &I,
     watch: &mut W,
     why: Refused,
@@ -77,12 +77,12 @@ fn hear_refused<I: Iio, W: Watch<I>>(
     ensures ready { (lines : LinesRecord) (pending : PendingRecord) → lines ≡ after_piece lines.piece → IfOk result (λ going. IsReady going lines pending) }
     ensures hears { (lines : LinesRecord) (pending : PendingRecord) → lines ≡ after_piece lines.piece
         → command_of lines.piece ≡ Err why
-        → IfOk result (λ going. Hears W.makes manner (I.front (I.kept iio.now)) (scene_of I.seen (I.told iio.now) desk.now watch.old false)
-        (after_line lines.piece) out.old.items out.new.items (scene_of I.seen (I.told iio.now) desk.now watch.new (is_waiting going))
+        → IfOk result (λ going. Hears W.makes manner (I.front (I.kept iio.now)) (scene_of I.seen (I.told iio.now) client.now watch.old false)
+        (after_line lines.piece) out.old.items out.new.items (scene_of I.seen (I.told iio.now) client.now watch.new (is_waiting going))
         (stream_by going lines pending) going) }
 {
-    watch.before(iio, desk.who, &Seen::Refused);
-    perform_refused(manner, desk, iio, why, out)?;
+    watch.before(iio, client.who, &Seen::Refused);
+    perform_refused(manner, client, iio, why, out)?;
     Ok(Going::On)
 }
 
@@ -90,32 +90,32 @@ fn hear_refused<I: Iio, W: Watch<I>>(
 fn hear_said<I: Iio, W: Watch<I>>(
     alloc: Global,
     manner: Manner,
-    desk: &mut Desk<I::Seat>,
+    client: &mut Client<I::Seat>,
     iio: &mut I,
     watch: &mut W,
     command: &Command<'_>,
     out: &mut Vec<u8>,
 ) -> Result<Going, Mem>
-    requires desk { IsDesk I.seen (I.front (I.kept iio.old)) desk.old }
+    requires client { IsClient I.seen (I.front (I.kept iio.old)) client.old }
     requires at_once { IsAtOnce (Ok (command_view command.now)) }
     ensures kept { I.kept iio.new ≡ I.kept iio.old }
-    ensures desk { IsDesk I.seen (I.front (I.kept iio.new)) desk.new }
+    ensures client { IsClient I.seen (I.front (I.kept iio.new)) client.new }
     ensures ready { (lines : LinesRecord) (pending : PendingRecord) → lines ≡ after_piece lines.piece → IfOk result (λ going. IsReady going lines pending) }
     ensures hears { (lines : LinesRecord) (pending : PendingRecord) → lines ≡ after_piece lines.piece
         → command_of lines.piece ≡ Ok (command_view command.now)
-        → IfOk result (λ going. Hears W.makes manner (I.front (I.kept iio.old)) (scene_of I.seen (I.told iio.old) desk.old watch.old false)
-        (after_line lines.piece) out.old.items out.new.items (scene_of I.seen (I.told iio.new) desk.new watch.new (is_waiting going))
+        → IfOk result (λ going. Hears W.makes manner (I.front (I.kept iio.old)) (scene_of I.seen (I.told iio.old) client.old watch.old false)
+        (after_line lines.piece) out.old.items out.new.items (scene_of I.seen (I.told iio.new) client.new watch.new (is_waiting going))
         (stream_by going lines pending) going) }
 {
-    watch.before(iio, desk.who, &Seen::Command(*command));
-    perform(alloc, manner, desk, iio, command, out)?;
+    watch.before(iio, client.who, &Seen::Command(*command));
+    perform(alloc, manner, client, iio, command, out)?;
     Ok(Going::On)
 }
 
 // A READBUF. What one that waits asks for is kept, and it isn't read again.
 fn hear_read<I: Iio, W: Watch<I>>(
     manner: Manner,
-    desk: &mut Desk<I::Seat>,
+    client: &mut Client<I::Seat>,
     iio: &mut I,
     watch: &mut W,
     device: &[u8],
@@ -123,23 +123,23 @@ fn hear_read<I: Iio, W: Watch<I>>(
     pending: &mut PendingWrite,
     out: &mut Vec<u8>,
 ) -> Result<Going, Mem>
-    requires desk { IsDesk I.seen (I.front (I.kept iio.old)) desk.old }
+    requires client { IsClient I.seen (I.front (I.kept iio.old)) client.old }
     ensures kept { I.kept iio.new ≡ I.kept iio.old }
-    ensures desk { IsDesk I.seen (I.front (I.kept iio.new)) desk.new }
+    ensures client { IsClient I.seen (I.front (I.kept iio.new)) client.new }
     ensures ready { (lines : LinesRecord) → lines ≡ after_piece lines.piece
         → command_of lines.piece ≡ Ok (ReadBuf device.now asked) → IfOk result (λ going. IsReady going lines pending.new) }
     ensures hears { (lines : LinesRecord) → lines ≡ after_piece lines.piece
         → command_of lines.piece ≡ Ok (ReadBuf device.now asked)
-        → IfOk result (λ going. Hears W.makes manner (I.front (I.kept iio.old)) (scene_of I.seen (I.told iio.old) desk.old watch.old false)
-        (after_line lines.piece) out.old.items out.new.items (scene_of I.seen (I.told iio.new) desk.new watch.new (is_waiting going))
+        → IfOk result (λ going. Hears W.makes manner (I.front (I.kept iio.old)) (scene_of I.seen (I.told iio.old) client.old watch.old false)
+        (after_line lines.piece) out.old.items out.new.items (scene_of I.seen (I.told iio.new) client.new watch.new (is_waiting going))
         (stream_by going lines pending.new) going) }
 {
     let command = Command::ReadBuf {
         dev: device,
         bytes: asked,
     };
-    watch.before(iio, desk.who, &Seen::Command(command));
-    match read_buffer(manner, desk, iio, device, asked, out)? {
+    watch.before(iio, client.who, &Seen::Command(command));
+    match read_buffer(manner, client, iio, device, asked, out)? {
         Performed::Done => Ok(Going::On),
         Performed::Waits(dev) => {
             pending.keep_read(device, asked)?;
@@ -151,24 +151,24 @@ fn hear_read<I: Iio, W: Watch<I>>(
 // The READBUF that waits is tried again.
 fn hear_again<I: Iio, W: Watch<I>>(
     manner: Manner,
-    desk: &mut Desk<I::Seat>,
+    client: &mut Client<I::Seat>,
     iio: &mut I,
     _watch: &W,
     pending: &PendingWrite,
     out: &mut Vec<u8>,
 ) -> Result<Going, Mem>
-    requires desk { IsDesk I.seen (I.front (I.kept iio.old)) desk.old }
+    requires client { IsClient I.seen (I.front (I.kept iio.old)) client.old }
     ensures kept { I.kept iio.new ≡ I.kept iio.old }
-    ensures desk { IsDesk I.seen (I.front (I.kept iio.new)) desk.new }
+    ensures client { IsClient I.seen (I.front (I.kept iio.new)) client.new }
     ensures ready { (lines : LinesRecord) → lines ≡ after_piece lines.piece
         → command_of lines.piece ≡ Ok (ReadBuf pending.now.device pending.now.asked) → IfOk result (λ going. IsReady going lines pending.now) }
     ensures hears { (lines : LinesRecord) → lines ≡ after_piece lines.piece
         → command_of lines.piece ≡ Ok (ReadBuf pending.now.device pending.now.asked)
-        → IfOk result (λ going. Hears W.makes manner (I.front (I.kept iio.old)) (scene_of I.seen (I.told iio.old) desk.old _watch.now true)
-        (after_line lines.piece) out.old.items out.new.items (scene_of I.seen (I.told iio.new) desk.new _watch.now (is_waiting going))
+        → IfOk result (λ going. Hears W.makes manner (I.front (I.kept iio.old)) (scene_of I.seen (I.told iio.old) client.old _watch.now true)
+        (after_line lines.piece) out.old.items out.new.items (scene_of I.seen (I.told iio.new) client.new _watch.now (is_waiting going))
         (stream_by going lines pending.now) going) }
 {
-    match read_buffer(manner, desk, iio, pending.device(), pending.asked(), out)? {
+    match read_buffer(manner, client, iio, pending.device(), pending.asked(), out)? {
         Performed::Done => Ok(Going::On),
         Performed::Waits(dev) => Ok(Going::Waits(dev)),
     }
@@ -178,7 +178,7 @@ fn hear_again<I: Iio, W: Watch<I>>(
 fn hear_line<I: Iio, W: Watch<I>>(
     alloc: Global,
     manner: Manner,
-    desk: &mut Desk<I::Seat>,
+    client: &mut Client<I::Seat>,
     iio: &mut I,
     watch: &mut W,
     lines: &mut Lines,
@@ -186,22 +186,22 @@ fn hear_line<I: Iio, W: Watch<I>>(
     out: &mut Vec<u8>,
 ) -> Result<Going, Mem>
     requires piece { lines.old ≡ after_piece lines.old.piece }
-    requires desk { IsDesk I.seen (I.front (I.kept iio.old)) desk.old }
+    requires client { IsClient I.seen (I.front (I.kept iio.old)) client.old }
     ensures kept { I.kept iio.new ≡ I.kept iio.old }
-    ensures desk { IsDesk I.seen (I.front (I.kept iio.new)) desk.new }
+    ensures client { IsClient I.seen (I.front (I.kept iio.new)) client.new }
     ensures ready { IfOk result (λ going. IsReady going lines.new pending.new) }
-    ensures hears { IfOk result (λ going. Hears W.makes manner (I.front (I.kept iio.old)) (scene_of I.seen (I.told iio.old) desk.old watch.old false)
-        (after_line lines.old.piece) out.old.items out.new.items (scene_of I.seen (I.told iio.new) desk.new watch.new (is_waiting going))
+    ensures hears { IfOk result (λ going. Hears W.makes manner (I.front (I.kept iio.old)) (scene_of I.seen (I.told iio.old) client.old watch.old false)
+        (after_line lines.old.piece) out.old.items out.new.items (scene_of I.seen (I.told iio.new) client.new watch.new (is_waiting going))
         (stream_by going lines.new pending.new) going) }
 {
     match &read_line(lines.piece()) {
-        Err(why) => hear_refused(manner, desk, iio, watch, *why, out),
+        Err(why) => hear_refused(manner, client, iio, watch, *why, out),
         Ok(command) => match command {
-            Command::Exit => end(desk, iio, watch, None, &Seen::Command(*command), out),
+            Command::Exit => end(client, iio, watch, None, &Seen::Command(*command), out),
             Command::Write { dev, target, count } => {
                 if *count > MAX_PAYLOAD {
                     let seen = Seen::Command(*command);
-                    return end(desk, iio, watch, Some(Errno::EFBIG), &seen, out);
+                    return end(client, iio, watch, Some(Errno::EFBIG), &seen, out);
                 }
                 let count = *count;
                 pending.keep(dev, *target)?;
@@ -211,7 +211,7 @@ fn hear_line<I: Iio, W: Watch<I>>(
             Command::WriteBuf { dev, bytes } => {
                 if *bytes > MAX_PAYLOAD {
                     let told = Seen::Command(*command);
-                    return end(desk, iio, watch, Some(Errno::EFBIG), &told, out);
+                    return end(client, iio, watch, Some(Errno::EFBIG), &told, out);
                 }
                 let count = *bytes;
                 pending.keep_scans(dev)?;
@@ -219,9 +219,9 @@ fn hear_line<I: Iio, W: Watch<I>>(
                 Ok(Going::On)
             }
             Command::ReadBuf { dev, bytes } => {
-                hear_read(manner, desk, iio, watch, dev, *bytes, pending, out)
+                hear_read(manner, client, iio, watch, dev, *bytes, pending, out)
             }
-            command => hear_said(alloc, manner, desk, iio, watch, command, out),
+            command => hear_said(alloc, manner, client, iio, watch, command, out),
         },
     }
 }
@@ -230,41 +230,41 @@ fn hear_line<I: Iio, W: Watch<I>>(
 fn hear_payload<I: Iio, W: Watch<I>>(
     alloc: Global,
     manner: Manner,
-    desk: &mut Desk<I::Seat>,
+    client: &mut Client<I::Seat>,
     iio: &mut I,
     watch: &mut W,
     payload: &[u8],
     pending: &PendingWrite,
     out: &mut Vec<u8>,
 ) -> Result<Performed, Mem>
-    requires desk { IsDesk I.seen (I.front (I.kept iio.old)) desk.old }
+    requires client { IsClient I.seen (I.front (I.kept iio.old)) client.old }
     ensures kept { I.kept iio.new ≡ I.kept iio.old }
-    ensures desk { IsDesk I.seen (I.front (I.kept iio.new)) desk.new }
-    ensures told { W.makes (I.front (I.kept iio.old)) (I.told iio.old) desk.old.who
+    ensures client { IsClient I.seen (I.front (I.kept iio.new)) client.new }
+    ensures told { W.makes (I.front (I.kept iio.old)) (I.told iio.old) client.old.who
         (with_payload (pending_of pending.now) payload.now) watch.old watch.new }
     ensures served { IfOk result (Performs manner (I.front (I.kept iio.old)) (I.told iio.old) (I.told iio.new)
-        (desk_of I.seen desk.old) (tales_of I.seen desk.old.held.items)
+        (client_of I.seen client.old) (traces_of I.seen client.old.held.items)
         (with_payload (pending_of pending.now) payload.now)
-        (desk_of I.seen desk.new) (tales_of I.seen desk.new.held.items) out.old.items out.new.items) }
+        (client_of I.seen client.new) (traces_of I.seen client.new.held.items) out.old.items out.new.items) }
 {
     if pending.is_scans() {
         let command = Command::WriteBuf {
             dev: pending.device(),
             bytes: count_of(payload),
         };
-        watch.before(iio, desk.who, &Seen::Command(command));
-        return perform_streamed(manner, desk, iio, pending.device(), payload, out);
+        watch.before(iio, client.who, &Seen::Command(command));
+        return perform_streamed(manner, client, iio, pending.device(), payload, out);
     }
     let command = Command::Write {
         dev: pending.device(),
         target: pending.target(),
         count: count_of(payload),
     };
-    watch.before(iio, desk.who, &Seen::Command(command));
+    watch.before(iio, client.who, &Seen::Command(command));
     perform_written(
         alloc,
         manner,
-        desk,
+        client,
         iio,
         pending.device(),
         pending.target(),
@@ -277,7 +277,7 @@ fn hear_payload<I: Iio, W: Watch<I>>(
 fn hear_piece<I: Iio, W: Watch<I>>(
     alloc: Global,
     manner: Manner,
-    desk: &mut Desk<I::Seat>,
+    client: &mut Client<I::Seat>,
     iio: &mut I,
     watch: &mut W,
     lines: &mut Lines,
@@ -286,28 +286,37 @@ fn hear_piece<I: Iio, W: Watch<I>>(
     out: &mut Vec<u8>,
 ) -> Result<Going, Mem>
     requires whole { IsWhole ready lines.old }
-    requires desk { IsDesk I.seen (I.front (I.kept iio.old)) desk.old }
+    requires client { IsClient I.seen (I.front (I.kept iio.old)) client.old }
     ensures kept { I.kept iio.new ≡ I.kept iio.old }
-    ensures desk { IsDesk I.seen (I.front (I.kept iio.new)) desk.new }
+    ensures client { IsClient I.seen (I.front (I.kept iio.new)) client.new }
     ensures ready { IfOk result (λ going. IsReady going lines.new pending.new) }
     ensures payload { ready ≡ Ready.Payload → lines.new ≡ lines.old }
-    ensures hears { IfOk result (λ going. Hears W.makes manner (I.front (I.kept iio.old)) (scene_of I.seen (I.told iio.old) desk.old watch.old false)
-        (piece_by ready lines.old pending.old) out.old.items out.new.items (scene_of I.seen (I.told iio.new) desk.new watch.new (is_waiting going))
+    ensures hears { IfOk result (λ going. Hears W.makes manner (I.front (I.kept iio.old)) (scene_of I.seen (I.told iio.old) client.old watch.old false)
+        (piece_by ready lines.old pending.old) out.old.items out.new.items (scene_of I.seen (I.told iio.new) client.new watch.new (is_waiting going))
         (stream_by going lines.new pending.new) going) }
 {
     match ready {
         Ready::More => Ok(Going::On),
         Ready::Line => {
             if lines.piece().is_empty() {
-                return hear_refused(manner, desk, iio, watch, Refused::Empty, out);
+                return hear_refused(manner, client, iio, watch, Refused::Empty, out);
             }
-            hear_line(alloc, manner, desk, iio, watch, lines, pending, out)
+            hear_line(alloc, manner, client, iio, watch, lines, pending, out)
         }
         Ready::Payload => {
-            hear_payload(alloc, manner, desk, iio, watch, lines.piece(), pending, out)?;
+            hear_payload(
+                alloc,
+                manner,
+                client,
+                iio,
+                watch,
+                lines.piece(),
+                pending,
+                out,
+            )?;
             Ok(Going::On)
         }
-        Ready::TooLong => end(desk, iio, watch, Some(Errno::E2BIG), &Seen::TooLong, out),
+        Ready::TooLong => end(client, iio, watch, Some(Errno::E2BIG), &Seen::TooLong, out),
     }
 }
 
@@ -315,7 +324,7 @@ fn hear_piece<I: Iio, W: Watch<I>>(
 fn carry_on<I: Iio, W: Watch<I>>(
     alloc: Global,
     manner: Manner,
-    desk: &mut Desk<I::Seat>,
+    client: &mut Client<I::Seat>,
     iio: &mut I,
     watch: &mut W,
     lines: &mut Lines,
@@ -324,14 +333,14 @@ fn carry_on<I: Iio, W: Watch<I>>(
     out: &mut Vec<u8>,
 ) -> Result<(usize, Going), Mem>
     requires ready { IsReady Going.On lines.old pending.old }
-    requires desk { IsDesk I.seen (I.front (I.kept iio.old)) desk.old }
+    requires client { IsClient I.seen (I.front (I.kept iio.old)) client.old }
     ensures kept { I.kept iio.new ≡ I.kept iio.old }
-    ensures desk { IsDesk I.seen (I.front (I.kept iio.new)) desk.new }
+    ensures client { IsClient I.seen (I.front (I.kept iio.new)) client.new }
     ensures within { IfOk result (λ r. r.0 ≤ length bytes.now) }
     ensures ready { IfOk result (λ r. IsReady r.1 lines.new pending.new) }
-    ensures hears { IfOk result (λ r. Hears W.makes manner (I.front (I.kept iio.old)) (scene_of I.seen (I.told iio.old) desk.old watch.old false)
+    ensures hears { IfOk result (λ r. Hears W.makes manner (I.front (I.kept iio.old)) (scene_of I.seen (I.told iio.old) client.old watch.old false)
         (scan_on (stream_by Going.On lines.old pending.old) bytes.now) out.old.items out.new.items
-        (scene_of I.seen (I.told iio.new) desk.new watch.new (is_waiting r.1))
+        (scene_of I.seen (I.told iio.new) client.new watch.new (is_waiting r.1))
         (scan_on (stream_by r.1 lines.new pending.new) (drop r.0 bytes.now)) r.1) }
     ensures all { IfOk result (λ r. r.1 ≡ Going.On → (r.0 ≡ length bytes.now) × ((stream_by Going.On lines.new pending.new).items ≡ [])) }
 {
@@ -343,7 +352,9 @@ fn carry_on<I: Iio, W: Watch<I>>(
         if let Ready::More = ready {
             return Ok((at, Going::On));
         }
-        match hear_piece(alloc, manner, desk, iio, watch, lines, pending, ready, out)? {
+        match hear_piece(
+            alloc, manner, client, iio, watch, lines, pending, ready, out,
+        )? {
             Going::On => {}
             going => return Ok((at, going)),
         }
@@ -355,7 +366,7 @@ fn carry_on<I: Iio, W: Watch<I>>(
 pub(crate) fn carry_out<I: Iio, W: Watch<I>>(
     alloc: Global,
     manner: Manner,
-    desk: &mut Desk<I::Seat>,
+    client: &mut Client<I::Seat>,
     iio: &mut I,
     watch: &mut W,
     lines: &mut Lines,
@@ -365,26 +376,30 @@ pub(crate) fn carry_out<I: Iio, W: Watch<I>>(
     out: &mut Vec<u8>,
 ) -> Result<(usize, Going), Mem>
     requires ready { IsReady going lines.old pending.old }
-    requires desk { IsDesk I.seen (I.front (I.kept iio.old)) desk.old }
+    requires client { IsClient I.seen (I.front (I.kept iio.old)) client.old }
     ensures kept { I.kept iio.new ≡ I.kept iio.old }
-    ensures desk { IsDesk I.seen (I.front (I.kept iio.new)) desk.new }
+    ensures client { IsClient I.seen (I.front (I.kept iio.new)) client.new }
     ensures within { IfOk result (λ r. r.0 ≤ length bytes.now) }
     ensures ready { IfOk result (λ r. IsReady r.1 lines.new pending.new) }
-    ensures hears { IfOk result (λ r. Hears W.makes manner (I.front (I.kept iio.old)) (scene_of I.seen (I.told iio.old) desk.old watch.old (is_waiting going))
+    ensures hears { IfOk result (λ r. Hears W.makes manner (I.front (I.kept iio.old)) (scene_of I.seen (I.told iio.old) client.old watch.old (is_waiting going))
         (scan_on (stream_by going lines.old pending.old) bytes.now) out.old.items out.new.items
-        (scene_of I.seen (I.told iio.new) desk.new watch.new (is_waiting r.1))
+        (scene_of I.seen (I.told iio.new) client.new watch.new (is_waiting r.1))
         (scan_on (stream_by r.1 lines.new pending.new) (drop r.0 bytes.now)) r.1) }
     ensures all { IfOk result (λ r. r.1 ≡ Going.On → (r.0 ≡ length bytes.now) × ((stream_by Going.On lines.new pending.new).items ≡ [])) }
 {
     match going {
-        Going::On => carry_on(alloc, manner, desk, iio, watch, lines, pending, bytes, out),
+        Going::On => carry_on(
+            alloc, manner, client, iio, watch, lines, pending, bytes, out,
+        ),
         Going::Ended => Ok((0, Going::Ended)),
-        Going::Waits(_) => match hear_again(manner, desk, iio, watch, pending, out)? {
+        Going::Waits(_) => match hear_again(manner, client, iio, watch, pending, out)? {
             Going::On => {
                 if bytes.is_empty() {
                     return Ok((0, Going::On));
                 }
-                carry_on(alloc, manner, desk, iio, watch, lines, pending, bytes, out)
+                carry_on(
+                    alloc, manner, client, iio, watch, lines, pending, bytes, out,
+                )
             }
             going => Ok((0, going)),
         },
@@ -418,7 +433,7 @@ fn keep_unread(left: &mut Vec<u8>, going: Going, taken: usize, bytes: &[u8]) -> 
 pub(crate) fn hear<I: Iio, W: Watch<I>>(
     alloc: Global,
     manner: Manner,
-    desk: &mut Desk<I::Seat>,
+    client: &mut Client<I::Seat>,
     iio: &mut I,
     watch: &mut W,
     lines: &mut Lines,
@@ -429,19 +444,20 @@ pub(crate) fn hear<I: Iio, W: Watch<I>>(
     out: &mut Vec<u8>,
 ) -> Result<Going, Mem>
     requires ready { IsKept was lines.old pending.old left.old.items }
-    requires desk { IsDesk I.seen (I.front (I.kept iio.old)) desk.old }
+    requires client { IsClient I.seen (I.front (I.kept iio.old)) client.old }
     ensures kept { I.kept iio.new ≡ I.kept iio.old }
-    ensures desk { IsDesk I.seen (I.front (I.kept iio.new)) desk.new }
+    ensures client { IsClient I.seen (I.front (I.kept iio.new)) client.new }
     ensures ready { IfOk result (λ going. IsKept going lines.new pending.new left.new.items) }
-    ensures hears { IfOk result (λ going. Hears W.makes manner (I.front (I.kept iio.old)) (scene_of I.seen (I.told iio.old) desk.old watch.old (is_waiting was))
+    ensures hears { IfOk result
+        (λ going. Hears W.makes manner (I.front (I.kept iio.old)) (scene_of I.seen (I.told iio.old) client.old watch.old (is_waiting was))
         (scan_on (scan_on (stream_by was lines.old pending.old) left.old.items) bytes.now) out.old.items out.new.items
-        (scene_of I.seen (I.told iio.new) desk.new watch.new (is_waiting going))
+        (scene_of I.seen (I.told iio.new) client.new watch.new (is_waiting going))
         (scan_on (stream_by going lines.new pending.new) left.new.items) going) }
     ensures all { IfOk result (λ going. going ≡ Going.On → (scan_on (stream_by going lines.new pending.new) left.new.items).items ≡ []) }
 {
     if left.is_empty() {
         let (taken, going) = carry_out(
-            alloc, manner, desk, iio, watch, lines, pending, was, bytes, out,
+            alloc, manner, client, iio, watch, lines, pending, was, bytes, out,
         )?;
         keep_unread(left, going, taken, bytes)?;
         return Ok(going);
@@ -449,7 +465,7 @@ pub(crate) fn hear<I: Iio, W: Watch<I>>(
     cut_anywhere();
     left.extend_from_slice(bytes)?;
     let (taken, going) = carry_out(
-        alloc, manner, desk, iio, watch, lines, pending, was, left, out,
+        alloc, manner, client, iio, watch, lines, pending, was, left, out,
     )?;
     let rest = Vec::from_slice(alloc, unread(going, taken, left))?;
     *left = rest;

@@ -99,7 +99,7 @@ pub trait Iio {
     ghost use Rattle.iio_desc.specs.Kind.{is_average, is_input, is_output};
     ghost use Rattle.iio_core.specs.Front.{Front, find_device, find_trigger, kind_at, shape_at, trigger_name};
     ghost use Rattle.iio_core.specs.Machine.{Machine, is_plugged, lost_of, queue_of};
-    ghost use Rattle.iio_core.specs.Calls.{closed, ev_close_of, ev_open_of, ev_read_of, open_of, read_attr_of, remask_of, set_trigger_of, trigger_of, write_attr_of, write_scans_of};
+    ghost use Rattle.iio_core.specs.Calls.{machine_after_close, ev_close_of, ev_open_of, ev_read_of, open_of, read_attr_of, remask_of, set_trigger_of, trigger_of, write_attr_of, write_scans_of};
     ghost use Rattle.iiod_session.specs.Reading.{TakesScans};
     ghost use Rattle.iiod_session.specs.Seat.{Answers, IsNew, IsOfDevice, MayOpen, Remasks, SeatRecord, Takes, after_take, seat_id, number_by};
     ghost use Rattle.iiod_session.specs.Target.{MayRead, MayWrite};
@@ -202,7 +202,7 @@ pub trait Iio {
         requires dev { dev < length (front (kept self.old)).devices }
         requires owned { IsOfDevice (front (kept self.old)) dev (seen seat) }
         ensures kept { kept self.new ≡ kept self.old }
-        ensures told { IfSome (told self.old) (λ m. told self.new ≡ Some (closed (front (kept self.old)) m dev (seen seat).number)) };
+        ensures told { IfSome (told self.old) (λ m. told self.new ≡ Some (machine_after_close (front (kept self.old)) m dev (seen seat).number)) };
 
     /// Takes the oldest scan that waits, at no output device, into `out`, which has its size.
     fn take(&mut self, dev: u32, seat: &mut Self::Seat, out: &mut [u8]) -> Took
@@ -211,7 +211,7 @@ pub trait Iio {
         requires owned { IsOfDevice (front (kept self.old)) dev (seen seat.old) }
         requires size { length out.old ≡ (seen seat.old).size }
         ensures kept { kept self.new ≡ kept self.old }
-        ensures seat { seen seat.new ≡ record (seen seat.old) { tale = option_map (after_take result out.new) (seen seat.old).tale } }
+        ensures seat { seen seat.new ≡ record (seen seat.old) { trace = option_map (after_take result out.new) (seen seat.old).trace } }
         ensures told { IfSome (told self.old) (λ m. Takes m dev (seat_id (seen seat.old)) result out.new (told self.new)) };
 
     /// Takes the oldest scans that wait, at no output device, at most `most`, and appends their bytes to `out`, which has room

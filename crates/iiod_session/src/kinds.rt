@@ -4,7 +4,7 @@ ghost use Rattle.std.specs.Prelude.{◌≡◌, ◌⊎◌, ◌<◌, length, false
 ghost use Rattle.iio_text.specs.declared.errors.Errno.{Errno};
 ghost use Rattle.iio_desc.specs.Kind.{is_input};
 ghost use Rattle.iiod_session.specs.Acts.{Acted, where_known};
-ghost use Rattle.iiod_session.specs.Desk.{DeskRecord};
+ghost use Rattle.iiod_session.specs.Client.{ClientRecord};
 ghost use Rattle.iio_core.specs.Front.{kind_at};
 ghost use Rattle.iiod_session.specs.Kinds.{kind_code};
 ghost use Rattle.iiod_reply.specs.Reply.{Refusal};
@@ -50,8 +50,8 @@ pub(crate) fn is_input<I: Iio>(iio: &I, dev: u32) -> bool
 pub(crate) fn unknown_refusal<I: Iio>(iio: &I, dev: u32) -> Errno
     requires { dev < length (I.front (I.kept iio.now)).devices }
     ensures one { (result ≡ Errno.ENODEV) ⊎ (result ≡ Errno.ENOSYS) }
-    ensures told { (desk : DeskRecord) (acted : Acted) → IfSome (I.told iio.now) (λ m. Comes m desk (where_known false m desk dev acted)
-        (Refusal result) (I.told iio.now) desk) }
+    ensures told { (client : ClientRecord) (acted : Acted) → IfSome (I.told iio.now) (λ m. Comes m client (where_known false m client dev acted)
+        (Refusal result) (I.told iio.now) client) }
 {
     if iio.plugged(dev) {
         Errno::ENOSYS

@@ -1,10 +1,10 @@
 //! The end of a connection at the devices.
 
 ghost use Rattle.std.specs.Prelude.{◌≡◌, All, [], Some, IfSome};
-ghost use Rattle.iiod_session.specs.Acts.{all_closed, all_released, left_desk, left_machine};
-ghost use Rattle.iiod_session.specs.Desk.{AllHeld, IsDesk, IsHolding, desk_of, seats_of};
+ghost use Rattle.iiod_session.specs.Acts.{all_closed, all_released, left_client, left_machine};
+ghost use Rattle.iiod_session.specs.Client.{AllHeld, IsClient, IsHolding, client_of, seats_of};
 
-use crate::desk::{Desk, Held};
+use crate::client::{Client, Held};
 use crate::iio::Iio;
 
 // Closes each seat, the last one first.
@@ -40,14 +40,14 @@ fn release_all<I: Iio>(holdings: &mut Vec<u32>, iio: &mut I, who: u32)
 }
 
 /// Closes each seat, and ends each holding of events.
-pub(crate) fn leave<I: Iio>(desk: &mut Desk<I::Seat>, iio: &mut I)
-    requires { IsDesk I.seen (I.front (I.kept iio.old)) desk.old }
+pub(crate) fn leave<I: Iio>(client: &mut Client<I::Seat>, iio: &mut I)
+    requires { IsClient I.seen (I.front (I.kept iio.old)) client.old }
     ensures kept { I.kept iio.new ≡ I.kept iio.old }
-    ensures desk { IsDesk I.seen (I.front (I.kept iio.new)) desk.new }
-    ensures none { desk.new.held.items ≡ [] }
-    ensures left { desk_of I.seen desk.new ≡ left_desk (desk_of I.seen desk.old) }
-    ensures told { IfSome (I.told iio.old) (λ m. I.told iio.new ≡ Some (left_machine (I.front (I.kept iio.old)) m (desk_of I.seen desk.old))) }
+    ensures client { IsClient I.seen (I.front (I.kept iio.new)) client.new }
+    ensures none { client.new.held.items ≡ [] }
+    ensures left { client_of I.seen client.new ≡ left_client (client_of I.seen client.old) }
+    ensures told { IfSome (I.told iio.old) (λ m. I.told iio.new ≡ Some (left_machine (I.front (I.kept iio.old)) m (client_of I.seen client.old))) }
 {
-    close_all(&mut desk.held, iio);
-    release_all(&mut desk.holdings, iio, desk.who);
+    close_all(&mut client.held, iio);
+    release_all(&mut client.holdings, iio, client.who);
 }

@@ -4,7 +4,7 @@
 mod answers;
 mod attributes;
 mod buffers;
-mod desk;
+mod client;
 mod events;
 mod feed;
 mod iio;
@@ -22,7 +22,7 @@ mod wanted;
 mod watch;
 mod word;
 
-pub use desk::{FIRST_BUFFERS, MAX_BUFFERS};
+pub use client::{FIRST_BUFFERS, MAX_BUFFERS};
 pub use iio::{Bells, Counts, Iio, No, Took, held_no, holder_no, no_of, raw_no, remask_no};
 pub use iio_base::Mem;
 pub use iio_core::MAX_SCANS;

@@ -4,7 +4,7 @@ ghost use Rattle.std.specs.Prelude.{◌≡◌, ◌<◌, length, option_map, vec_
 ghost use Rattle.iiod_grammar.specs.Stream.{Said, Streamed, Written};
 ghost use Rattle.iiod_grammar.specs.View.{command_view, target_view};
 ghost use Rattle.iiod_session.specs.Answers.{Fits, IsAt, ServesBy};
-ghost use Rattle.iiod_session.specs.Desk.{IsDesk, desk_of, tales_of};
+ghost use Rattle.iiod_session.specs.Client.{IsClient, client_of, traces_of};
 ghost use Rattle.iiod_session.specs.Performs.{AnswersInRoom, Performs};
 ghost use Rattle.iiod_session.specs.Session.{IsAtOnce};
 ghost use Rattle.iiod_session.specs.declared.manner.Performed.{Performed};
@@ -12,7 +12,7 @@ ghost use Rattle.iiod_session.specs.declared.manner.Performed.{Performed};
 use crate::answers::{ANSWER_ROOM, Answer, answered, finish, push_answer, push_no};
 use crate::attributes::{read_attribute_at, write_attribute};
 use crate::buffers::{remask_known, set_buffers_at, write_buffer};
-use crate::desk::Desk;
+use crate::client::Client;
 use crate::events::{ev_close_known, ev_open_known, ev_read_known};
 use crate::iio::{Iio, No};
 use crate::manner::{Manner, Performed};
@@ -28,18 +28,18 @@ use std::alloc::Global;
 fn at_device<I: Iio>(
     alloc: Global,
     dev: Option<u32>,
-    desk: &mut Desk<I::Seat>,
+    client: &mut Client<I::Seat>,
     iio: &mut I,
     command: &Command<'_>,
 ) -> Result<Answer, No>
     requires within { IfSome dev (λ k. k < length (I.front (I.kept iio.old)).devices) }
     requires at { IsAt (I.front (I.kept iio.old)) dev (command_view command.now) }
-    requires desk { IsDesk I.seen (I.front (I.kept iio.old)) desk.old }
+    requires client { IsClient I.seen (I.front (I.kept iio.old)) client.old }
     ensures kept { I.kept iio.new ≡ I.kept iio.old }
-    ensures desk { IsDesk I.seen (I.front (I.kept iio.new)) desk.new }
+    ensures client { IsClient I.seen (I.front (I.kept iio.new)) client.new }
     ensures fits { Fits result }
-    ensures served { ServesBy (I.front (I.kept iio.old)) (I.told iio.old) (desk_of I.seen desk.old) (tales_of I.seen desk.old.held.items)
-        (Said (Ok (command_view command.now))) result (I.told iio.new) (desk_of I.seen desk.new) (tales_of I.seen desk.new.held.items) }
+    ensures served { ServesBy (I.front (I.kept iio.old)) (I.told iio.old) (client_of I.seen client.old) (traces_of I.seen client.old.held.items)
+        (Said (Ok (command_view command.now))) result (I.told iio.new) (client_of I.seen client.new) (traces_of I.seen client.new.held.items) }
 {
     match dev {
         None => Err(No::Errno(Errno::ENODEV)),
@@ -49,18 +49,21 @@ fn at_device<I: Iio>(
                 mask,
                 cyclic,
                 ..
-            } => answered(0, open_at(desk, iio, dev, samples, mask, cyclic)),
-            Command::Close { .. } => answered(0, close_at(desk, iio, dev)),
+            } => answered(0, open_at(client, iio, dev, samples, mask, cyclic)),
+            Command::Close { .. } => answered(0, close_at(client, iio, dev)),
             Command::Read { place, attr, .. } => read_attribute_at(
-                alloc, desk, iio, dev, place, attr,
+                alloc, client, iio, dev, place, attr,
             ),
             Command::GetTrig { .. } => get_trigger_at(iio, dev),
             Command::SetTrig { trigger, .. } => answered(0, set_trigger_known(iio, dev, trigger)),
-            Command::SetBuffers { count, .. } => answered(0, set_buffers_at(desk, iio, dev, count)),
-            Command::Remask { mask, .. } => answered(0, remask_known(desk, iio, dev, mask)),
-            Command::EvOpen { .. } => answered(0, ev_open_known(desk, iio, dev)),
-            Command::EvRead { .. } => ev_read_known(desk, iio, dev),
-            Command::EvClose { .. } => answered(0, ev_close_known(desk, iio, dev)),
+            Command::SetBuffers { count, .. } => answered(
+                0,
+                set_buffers_at(client, iio, dev, count),
+            ),
+            Command::Remask { mask, .. } => answered(0, remask_known(client, iio, dev, mask)),
+            Command::EvOpen { .. } => answered(0, ev_open_known(client, iio, dev)),
+            Command::EvRead { .. } => ev_read_known(client, iio, dev),
+            Command::EvClose { .. } => answered(0, ev_close_known(client, iio, dev)),
             Command::Help
             | Command::Exit
             | Command::Version
@@ -77,17 +80,17 @@ fn at_device<I: Iio>(
 #[inline(always)]
 fn answer_to<I: Iio>(
     alloc: Global,
-    desk: &mut Desk<I::Seat>,
+    client: &mut Client<I::Seat>,
     iio: &mut I,
     command: &Command<'_>,
 ) -> Result<Answer, No>
     requires at_once { IsAtOnce (Ok (command_view command.now)) }
-    requires desk { IsDesk I.seen (I.front (I.kept iio.old)) desk.old }
+    requires client { IsClient I.seen (I.front (I.kept iio.old)) client.old }
     ensures kept { I.kept iio.new ≡ I.kept iio.old }
-    ensures desk { IsDesk I.seen (I.front (I.kept iio.new)) desk.new }
+    ensures client { IsClient I.seen (I.front (I.kept iio.new)) client.new }
     ensures fits { Fits result }
-    ensures served { ServesBy (I.front (I.kept iio.old)) (I.told iio.old) (desk_of I.seen desk.old) (tales_of I.seen desk.old.held.items)
-        (Said (Ok (command_view command.now))) result (I.told iio.new) (desk_of I.seen desk.new) (tales_of I.seen desk.new.held.items) }
+    ensures served { ServesBy (I.front (I.kept iio.old)) (I.told iio.old) (client_of I.seen client.old) (traces_of I.seen client.old.held.items)
+        (Said (Ok (command_view command.now))) result (I.told iio.new) (client_of I.seen client.new) (traces_of I.seen client.new.held.items) }
 {
     match *command {
         Command::Help => Ok(Answer::Help),
@@ -98,16 +101,16 @@ fn answer_to<I: Iio>(
         | Command::Write { .. }
         | Command::WriteBuf { .. }
         | Command::ReadBuf { .. } => Ok(Answer::Number(0)),
-        Command::Open { dev, .. } => at_device(alloc, iio.find(dev), desk, iio, command),
-        Command::Close { dev } => at_device(alloc, iio.find(dev), desk, iio, command),
-        Command::Read { dev, .. } => at_device(alloc, iio.find(dev), desk, iio, command),
-        Command::GetTrig { dev } => at_device(alloc, iio.find(dev), desk, iio, command),
-        Command::SetTrig { dev, .. } => at_device(alloc, iio.find(dev), desk, iio, command),
-        Command::SetBuffers { dev, .. } => at_device(alloc, iio.find(dev), desk, iio, command),
-        Command::Remask { dev, .. } => at_device(alloc, iio.find(dev), desk, iio, command),
-        Command::EvOpen { dev } => at_device(alloc, iio.find(dev), desk, iio, command),
-        Command::EvRead { dev } => at_device(alloc, iio.find(dev), desk, iio, command),
-        Command::EvClose { dev } => at_device(alloc, iio.find(dev), desk, iio, command),
+        Command::Open { dev, .. } => at_device(alloc, iio.find(dev), client, iio, command),
+        Command::Close { dev } => at_device(alloc, iio.find(dev), client, iio, command),
+        Command::Read { dev, .. } => at_device(alloc, iio.find(dev), client, iio, command),
+        Command::GetTrig { dev } => at_device(alloc, iio.find(dev), client, iio, command),
+        Command::SetTrig { dev, .. } => at_device(alloc, iio.find(dev), client, iio, command),
+        Command::SetBuffers { dev, .. } => at_device(alloc, iio.find(dev), client, iio, command),
+        Command::Remask { dev, .. } => at_device(alloc, iio.find(dev), client, iio, command),
+        Command::EvOpen { dev } => at_device(alloc, iio.find(dev), client, iio, command),
+        Command::EvRead { dev } => at_device(alloc, iio.find(dev), client, iio, command),
+        Command::EvClose { dev } => at_device(alloc, iio.find(dev), client, iio, command),
     }
 }
 
@@ -118,38 +121,38 @@ fn answer_to<I: Iio>(
 pub(crate) fn perform<I: Iio>(
     alloc: Global,
     manner: Manner,
-    desk: &mut Desk<I::Seat>,
+    client: &mut Client<I::Seat>,
     iio: &mut I,
     command: &Command<'_>,
     out: &mut Vec<u8>,
 ) -> Result<(), Mem>
-    requires desk { IsDesk I.seen (I.front (I.kept iio.old)) desk.old }
+    requires client { IsClient I.seen (I.front (I.kept iio.old)) client.old }
     requires at_once { IsAtOnce (Ok (command_view command.now)) }
     ensures kept { I.kept iio.new ≡ I.kept iio.old }
-    ensures desk { IsDesk I.seen (I.front (I.kept iio.new)) desk.new }
+    ensures client { IsClient I.seen (I.front (I.kept iio.new)) client.new }
     ensures served { OnOk result (Performs manner (I.front (I.kept iio.old)) (I.told iio.old) (I.told iio.new)
-        (desk_of I.seen desk.old) (tales_of I.seen desk.old.held.items) (Said (Ok (command_view command.now)))
-        (desk_of I.seen desk.new) (tales_of I.seen desk.new.held.items) out.old.items out.new.items Performed.Done) }
+        (client_of I.seen client.old) (traces_of I.seen client.old.held.items) (Said (Ok (command_view command.now)))
+        (client_of I.seen client.new) (traces_of I.seen client.new.held.items) out.old.items out.new.items Performed.Done) }
     ensures answers { AnswersInRoom manner out.old.items (vec_capacity out.old) result }
 {
     if out.reserve(ANSWER_ROOM).is_err() {
         return push_no(manner, No::Mem, out);
     }
-    let answer = answer_to(alloc, desk, iio, command);
+    let answer = answer_to(alloc, client, iio, command);
     push_answer(manner, iio, answer, out)
 }
 
 /// A line that is no command is answered at the end of `out`, as by [`perform`]: by `EINVAL`, but for a line without a word.
 pub(crate) fn perform_refused<I: Iio>(
     manner: Manner,
-    desk: &Desk<I::Seat>,
+    client: &Client<I::Seat>,
     iio: &I,
     why: Refused,
     out: &mut Vec<u8>,
 ) -> Result<Performed, Mem>
     ensures served { IfOk result (Performs manner (I.front (I.kept iio.now)) (I.told iio.now) (I.told iio.now)
-        (desk_of I.seen desk.now) (tales_of I.seen desk.now.held.items) (Said (Err why))
-        (desk_of I.seen desk.now) (tales_of I.seen desk.now.held.items) out.old.items out.new.items) }
+        (client_of I.seen client.now) (traces_of I.seen client.now.held.items) (Said (Err why))
+        (client_of I.seen client.now) (traces_of I.seen client.now.held.items) out.old.items out.new.items) }
     ensures answers { AnswersInRoom manner out.old.items (vec_capacity out.old) result }
 {
     match why {
@@ -164,27 +167,27 @@ pub(crate) fn perform_refused<I: Iio>(
 pub(crate) fn perform_written<I: Iio>(
     _alloc: Global,
     manner: Manner,
-    desk: &mut Desk<I::Seat>,
+    client: &mut Client<I::Seat>,
     iio: &mut I,
     device: &[u8],
     target: Option<(Place<'_>, Option<&[u8]>)>,
     payload: &[u8],
     out: &mut Vec<u8>,
 ) -> Result<Performed, Mem>
-    requires desk { IsDesk I.seen (I.front (I.kept iio.old)) desk.old }
+    requires client { IsClient I.seen (I.front (I.kept iio.old)) client.old }
     ensures kept { I.kept iio.new ≡ I.kept iio.old }
-    ensures desk { IsDesk I.seen (I.front (I.kept iio.new)) desk.new }
+    ensures client { IsClient I.seen (I.front (I.kept iio.new)) client.new }
     ensures done { IfOk result (λ p. p ≡ Performed.Done) }
     ensures served { IfOk result (Performs manner (I.front (I.kept iio.old)) (I.told iio.old) (I.told iio.new)
-        (desk_of I.seen desk.old) (tales_of I.seen desk.old.held.items)
+        (client_of I.seen client.old) (traces_of I.seen client.old.held.items)
         (Written device.now (option_map target_view target.entry) payload.now)
-        (desk_of I.seen desk.new) (tales_of I.seen desk.new.held.items) out.old.items out.new.items) }
+        (client_of I.seen client.new) (traces_of I.seen client.new.held.items) out.old.items out.new.items) }
     ensures answers { AnswersInRoom manner out.old.items (vec_capacity out.old) result }
 {
     if out.reserve(ANSWER_ROOM).is_err() {
         return finish(manner, No::Mem, out);
     }
-    let answer = write_attribute(desk, iio, device, target, payload);
+    let answer = write_attribute(client, iio, device, target, payload);
     push_answer(manner, iio, answer, out)?;
     Ok(Performed::Done)
 }
@@ -192,25 +195,25 @@ pub(crate) fn perform_written<I: Iio>(
 /// A WRITEBUF is performed with its payload, and answered at the end of `out`, as by [`perform`].
 pub(crate) fn perform_streamed<I: Iio>(
     manner: Manner,
-    desk: &mut Desk<I::Seat>,
+    client: &mut Client<I::Seat>,
     iio: &mut I,
     device: &[u8],
     payload: &[u8],
     out: &mut Vec<u8>,
 ) -> Result<Performed, Mem>
-    requires desk { IsDesk I.seen (I.front (I.kept iio.old)) desk.old }
+    requires client { IsClient I.seen (I.front (I.kept iio.old)) client.old }
     ensures kept { I.kept iio.new ≡ I.kept iio.old }
-    ensures desk { IsDesk I.seen (I.front (I.kept iio.new)) desk.new }
+    ensures client { IsClient I.seen (I.front (I.kept iio.new)) client.new }
     ensures done { IfOk result (λ p. p ≡ Performed.Done) }
     ensures served { IfOk result (Performs manner (I.front (I.kept iio.old)) (I.told iio.old) (I.told iio.new)
-        (desk_of I.seen desk.old) (tales_of I.seen desk.old.held.items) (Streamed device.now payload.now)
-        (desk_of I.seen desk.new) (tales_of I.seen desk.new.held.items) out.old.items out.new.items) }
+        (client_of I.seen client.old) (traces_of I.seen client.old.held.items) (Streamed device.now payload.now)
+        (client_of I.seen client.new) (traces_of I.seen client.new.held.items) out.old.items out.new.items) }
     ensures answers { AnswersInRoom manner out.old.items (vec_capacity out.old) result }
 {
     if out.reserve(ANSWER_ROOM).is_err() {
         return finish(manner, No::Mem, out);
     }
-    let answer = write_buffer(desk, iio, device, payload);
+    let answer = write_buffer(client, iio, device, payload);
     push_answer(manner, iio, answer, out)?;
     Ok(Performed::Done)
 }

@@ -5,17 +5,17 @@ ghost use Rattle.std.specs.List.{position};
 ghost use Rattle.iiod_session.specs.Acts.{close_at, joined_at, open_at, remask_at, write_at_place};
 ghost use Rattle.iio_desc.specs.Kind.{is_input, is_output};
 ghost use Rattle.iio_core.specs.Front.{kind_at, size_at};
-ghost use Rattle.iiod_session.specs.Desk.{IsDesk, IsHeld, bare_of, buffers_of, desk_of, place_of, seats_of, tale_of, tales_of};
+ghost use Rattle.iiod_session.specs.Client.{IsClient, IsHeld, bare_of, buffers_of, client_of, place_of, seats_of, trace_of, traces_of};
 ghost use Rattle.iiod_session.specs.Performs.{Comes, JoinsBy, LeavesBy, OpensBy, ReadAt, ReadHeld, RemaskMoves, RemaskTold, RemasksBy, WritesHeld, reply_by, taken_by};
 ghost use Rattle.iio_core.specs.Calls.{open_of};
 ghost use Rattle.iiod_session.specs.Seat.{Answers, IsNew, MayOpen, number_by};
 ghost use Rattle.iiod_session.specs.Wanted.{wanted_of_code};
 ghost use Rattle.iio_text.specs.declared.errors.Errno.{Errno};
-ghost use Rattle.iiod_session.specs.declared.desk.Held.{Held};
+ghost use Rattle.iiod_session.specs.declared.client.Held.{Held};
 ghost use Rattle.iiod_session.specs.declared.iio.No.{No};
 
 use crate::answers::push_refusal;
-use crate::desk::{BuffersCount, Desk, FIRST_BUFFERS, Held};
+use crate::client::{BuffersCount, Client, FIRST_BUFFERS, Held};
 use crate::iio::{Iio, No, Took};
 use crate::reading::read_sized;
 use crate::wanted::{Wanted, mask_wanted_by, wanted_by};
@@ -76,7 +76,7 @@ fn open_seat<I: Iio>(
 
 // The last part of OPEN: a seat more. The room for it is taken first.
 fn join<I: Iio>(
-    desk: &mut Desk<I::Seat>,
+    client: &mut Client<I::Seat>,
     iio: &mut I,
     dev: u32,
     wanted: Wanted,
@@ -85,18 +85,18 @@ fn join<I: Iio>(
     requires may_open { MayOpen (I.front (I.kept iio.old)) dev wanted.mask.bits wanted.capacity }
     requires size { wanted.size ≡ size_at (I.front (I.kept iio.old)) dev wanted.mask.bits }
     requires some { 1 ≤ wanted.size }
-    requires free { place_of dev (seats_of I.seen desk.old.held.items) ≡ None }
+    requires free { place_of dev (seats_of I.seen client.old.held.items) ≡ None }
     requires cycles { (cyclic && not (is_output (kind_at (I.front (I.kept iio.old)) dev))) ≡ false }
-    requires desk { IsDesk I.seen (I.front (I.kept iio.old)) desk.old }
+    requires client { IsClient I.seen (I.front (I.kept iio.old)) client.old }
     ensures kept { I.kept iio.new ≡ I.kept iio.old }
-    ensures desk { IsDesk I.seen (I.front (I.kept iio.new)) desk.new }
-    ensures told { IfSome (I.told iio.old) (λ m. Comes m (desk_of I.seen desk.old)
-        (joined_at (I.front (I.kept iio.old)) m (desk_of I.seen desk.old) dev (wanted_of_code wanted) cyclic)
-        (reply_by result) (I.told iio.new) (desk_of I.seen desk.new)) }
-    ensures moves { JoinsBy dev (wanted_of_code wanted) (desk_of I.seen desk.old) (tales_of I.seen desk.old.held.items)
-        result (desk_of I.seen desk.new) (tales_of I.seen desk.new.held.items) }
+    ensures client { IsClient I.seen (I.front (I.kept iio.new)) client.new }
+    ensures told { IfSome (I.told iio.old) (λ m. Comes m (client_of I.seen client.old)
+        (joined_at (I.front (I.kept iio.old)) m (client_of I.seen client.old) dev (wanted_of_code wanted) cyclic)
+        (reply_by result) (I.told iio.new) (client_of I.seen client.new)) }
+    ensures moves { JoinsBy dev (wanted_of_code wanted) (client_of I.seen client.old) (traces_of I.seen client.old.held.items)
+        result (client_of I.seen client.new) (traces_of I.seen client.new.held.items) }
 {
-    if desk.held.reserve(1).is_err() {
+    if client.held.reserve(1).is_err() {
         return Err(No::Mem);
     }
     let Wanted {
@@ -107,7 +107,7 @@ fn join<I: Iio>(
     match open_seat(iio, dev, mask, capacity, cyclic) {
         Err(no) => Err(no),
         Ok(seat) => {
-            desk.held.push_reserved(Held {
+            client.held.push_reserved(Held {
                 dev,
                 mask,
                 capacity,
@@ -122,7 +122,7 @@ fn join<I: Iio>(
 
 /// OPEN. It is refused as by [`wanted_by`], then as by [`Iio::open`], or [`Iio::open_out`] at an output device.
 pub(crate) fn open_at<I: Iio>(
-    desk: &mut Desk<I::Seat>,
+    client: &mut Client<I::Seat>,
     iio: &mut I,
     dev: u32,
     samples: u32,
@@ -130,18 +130,18 @@ pub(crate) fn open_at<I: Iio>(
     cyclic: bool,
 ) -> Result<(), No>
     requires dev { dev < length (I.front (I.kept iio.old)).devices }
-    requires desk { IsDesk I.seen (I.front (I.kept iio.old)) desk.old }
+    requires client { IsClient I.seen (I.front (I.kept iio.old)) client.old }
     ensures kept { I.kept iio.new ≡ I.kept iio.old }
-    ensures desk { IsDesk I.seen (I.front (I.kept iio.new)) desk.new }
-    ensures told { IfSome (I.told iio.old) (λ m. Comes m (desk_of I.seen desk.old)
-        (open_at (I.front (I.kept iio.old)) m (desk_of I.seen desk.old) dev samples text.now cyclic)
-        (reply_by result) (I.told iio.new) (desk_of I.seen desk.new)) }
-    ensures moves { OpensBy (I.front (I.kept iio.old)) dev samples text.now cyclic (desk_of I.seen desk.old) (tales_of I.seen desk.old.held.items)
-        result (desk_of I.seen desk.new) (tales_of I.seen desk.new.held.items) }
+    ensures client { IsClient I.seen (I.front (I.kept iio.new)) client.new }
+    ensures told { IfSome (I.told iio.old) (λ m. Comes m (client_of I.seen client.old)
+        (open_at (I.front (I.kept iio.old)) m (client_of I.seen client.old) dev samples text.now cyclic)
+        (reply_by result) (I.told iio.new) (client_of I.seen client.new)) }
+    ensures moves { OpensBy (I.front (I.kept iio.old)) dev samples text.now cyclic (client_of I.seen client.old) (traces_of I.seen client.old.held.items)
+        result (client_of I.seen client.new) (traces_of I.seen client.new.held.items) }
 {
-    let is_open = place(iio, &desk.held, dev).is_some();
+    let is_open = place(iio, &client.held, dev).is_some();
     let plugged = iio.plugged(dev);
-    let buffers = buffers_of(&desk.buffers, dev);
+    let buffers = buffers_of(&client.buffers, dev);
     match wanted_by(
         is_open,
         plugged,
@@ -153,23 +153,27 @@ pub(crate) fn open_at<I: Iio>(
         cyclic,
     ) {
         Err(errno) => Err(No::Errno(errno)),
-        Ok(wanted) => join(desk, iio, dev, wanted, cyclic),
+        Ok(wanted) => join(client, iio, dev, wanted, cyclic),
     }
 }
 
 /// CLOSE. `EBADF` comes where the connection has no seat at the device.
-pub(crate) fn close_at<I: Iio>(desk: &mut Desk<I::Seat>, iio: &mut I, dev: u32) -> Result<(), No>
-    requires desk { IsDesk I.seen (I.front (I.kept iio.old)) desk.old }
+pub(crate) fn close_at<I: Iio>(
+    client: &mut Client<I::Seat>,
+    iio: &mut I,
+    dev: u32,
+) -> Result<(), No>
+    requires client { IsClient I.seen (I.front (I.kept iio.old)) client.old }
     ensures kept { I.kept iio.new ≡ I.kept iio.old }
-    ensures desk { IsDesk I.seen (I.front (I.kept iio.new)) desk.new }
-    ensures told { IfSome (I.told iio.old) (λ m. Comes m (desk_of I.seen desk.old)
-        (close_at (I.front (I.kept iio.old)) m (desk_of I.seen desk.old) (place_of dev (seats_of I.seen desk.old.held.items)))
-        (reply_by result) (I.told iio.new) (desk_of I.seen desk.new)) }
-    ensures none { place_of dev (seats_of I.seen desk.old.held.items) ≡ None → result ≡ Err (No.Errno Errno.EBADF) }
-    ensures moves { LeavesBy dev (desk_of I.seen desk.old) (tales_of I.seen desk.old.held.items)
-        result (desk_of I.seen desk.new) (tales_of I.seen desk.new.held.items) }
+    ensures client { IsClient I.seen (I.front (I.kept iio.new)) client.new }
+    ensures told { IfSome (I.told iio.old) (λ m. Comes m (client_of I.seen client.old)
+        (close_at (I.front (I.kept iio.old)) m (client_of I.seen client.old) (place_of dev (seats_of I.seen client.old.held.items)))
+        (reply_by result) (I.told iio.new) (client_of I.seen client.new)) }
+    ensures none { place_of dev (seats_of I.seen client.old.held.items) ≡ None → result ≡ Err (No.Errno Errno.EBADF) }
+    ensures moves { LeavesBy dev (client_of I.seen client.old) (traces_of I.seen client.old.held.items)
+        result (client_of I.seen client.new) (traces_of I.seen client.new.held.items) }
 {
-    match place(iio, &desk.held, dev) {
+    match place(iio, &client.held, dev) {
         None => Err(No::Errno(Errno::EBADF)),
         Some(i) => {
             let Held {
@@ -179,7 +183,7 @@ pub(crate) fn close_at<I: Iio>(desk: &mut Desk<I::Seat>, iio: &mut I, dev: u32) 
                 size: _,
                 discarded: _,
                 seat,
-            } = desk.held.remove(i);
+            } = client.held.remove(i);
             iio.close(at, seat);
             Ok(())
         }
@@ -195,8 +199,8 @@ fn remask_held<I: Iio>(iio: &mut I, h: &mut Held<I::Seat>, text: &[u8]) -> Resul
     ensures dev { h.new.dev ≡ h.old.dev }
     ensures told { IfSome (I.told iio.old) (λ m. RemaskTold (I.front (I.kept iio.old)) text.now m (bare_of I.seen h.old)
         result (I.told iio.new) (bare_of I.seen h.new)) }
-    ensures moves { RemaskMoves (I.front (I.kept iio.old)) text.now (bare_of I.seen h.old) (tale_of I.seen h.old)
-        result (bare_of I.seen h.new) (tale_of I.seen h.new) }
+    ensures moves { RemaskMoves (I.front (I.kept iio.old)) text.now (bare_of I.seen h.old) (trace_of I.seen h.old)
+        result (bare_of I.seen h.new) (trace_of I.seen h.new) }
 {
     let wanted = match mask_wanted_by(iio.shape(h.dev), h.capacity, text) {
         Err(errno) => return Err(No::Errno(errno)),
@@ -216,29 +220,29 @@ fn remask_held<I: Iio>(iio: &mut I, h: &mut Held<I::Seat>, text: &[u8]) -> Resul
 /// REMASK at an input device. `ENODEV` comes where the device is unplugged, `EBADF` where the connection has no seat at it;
 /// then it is refused as by [`mask_wanted_by`], and then as by [`Iio::remask`]. A refusal changes nothing.
 pub(crate) fn remask_at<I: Iio>(
-    desk: &mut Desk<I::Seat>,
+    client: &mut Client<I::Seat>,
     iio: &mut I,
     dev: u32,
     text: &[u8],
 ) -> Result<(), No>
     requires dev { dev < length (I.front (I.kept iio.old)).devices }
     requires input { is_input (kind_at (I.front (I.kept iio.old)) dev) ≡ true }
-    requires desk { IsDesk I.seen (I.front (I.kept iio.old)) desk.old }
+    requires client { IsClient I.seen (I.front (I.kept iio.old)) client.old }
     ensures kept { I.kept iio.new ≡ I.kept iio.old }
-    ensures desk { IsDesk I.seen (I.front (I.kept iio.new)) desk.new }
-    ensures told { IfSome (I.told iio.old) (λ m. Comes m (desk_of I.seen desk.old)
-        (remask_at (I.front (I.kept iio.old)) m (desk_of I.seen desk.old) text.now dev)
-        (reply_by result) (I.told iio.new) (desk_of I.seen desk.new)) }
-    ensures moves { RemasksBy (I.front (I.kept iio.old)) dev text.now (desk_of I.seen desk.old) (tales_of I.seen desk.old.held.items)
-        result (desk_of I.seen desk.new) (tales_of I.seen desk.new.held.items) }
+    ensures client { IsClient I.seen (I.front (I.kept iio.new)) client.new }
+    ensures told { IfSome (I.told iio.old) (λ m. Comes m (client_of I.seen client.old)
+        (remask_at (I.front (I.kept iio.old)) m (client_of I.seen client.old) text.now dev)
+        (reply_by result) (I.told iio.new) (client_of I.seen client.new)) }
+    ensures moves { RemasksBy (I.front (I.kept iio.old)) dev text.now (client_of I.seen client.old) (traces_of I.seen client.old.held.items)
+        result (client_of I.seen client.new) (traces_of I.seen client.new.held.items) }
 {
     if !iio.plugged(dev) {
         return Err(No::Errno(Errno::ENODEV));
     }
-    let Some(i) = place(iio, &desk.held, dev) else {
+    let Some(i) = place(iio, &client.held, dev) else {
         return Err(No::Errno(Errno::EBADF));
     };
-    remask_held(iio, &mut desk.held[i], text)
+    remask_held(iio, &mut client.held[i], text)
 }
 
 // READBUF at a seat.
@@ -254,7 +258,7 @@ fn read_held<I: Iio>(
     ensures held { IsHeld I.seen (I.front (I.kept iio.new)) h.new }
     ensures bare { bare_of I.seen h.new ≡ bare_of I.seen h.old }
     ensures read { ReadHeld (I.front (I.kept iio.old)) asked (I.told iio.old) (I.told iio.new)
-        (bare_of I.seen h.old) (tale_of I.seen h.old) (tale_of I.seen h.new) out.old.items out.new.items result }
+        (bare_of I.seen h.old) (trace_of I.seen h.old) (trace_of I.seen h.new) out.old.items out.new.items result }
     ensures capacity { vec_capacity out.old ≤ vec_capacity out.new }
 {
     if asked < h.size {
@@ -275,27 +279,27 @@ fn read_held<I: Iio>(
 
 /// READBUF at a device that is no output device. `EBADF` is answered where the connection has no seat at the device.
 pub(crate) fn read_at<I: Iio>(
-    desk: &mut Desk<I::Seat>,
+    client: &mut Client<I::Seat>,
     iio: &mut I,
     dev: u32,
     asked: u32,
     out: &mut Vec<u8>,
 ) -> Result<Took, Mem>
     requires read { is_output (kind_at (I.front (I.kept iio.old)) dev) ≡ false }
-    requires desk { IsDesk I.seen (I.front (I.kept iio.old)) desk.old }
+    requires client { IsClient I.seen (I.front (I.kept iio.old)) client.old }
     ensures kept { I.kept iio.new ≡ I.kept iio.old }
-    ensures desk { IsDesk I.seen (I.front (I.kept iio.new)) desk.new }
-    ensures same { desk_of I.seen desk.new ≡ desk_of I.seen desk.old }
+    ensures client { IsClient I.seen (I.front (I.kept iio.new)) client.new }
+    ensures same { client_of I.seen client.new ≡ client_of I.seen client.old }
     ensures read { ReadAt (I.front (I.kept iio.old)) dev asked (I.told iio.old) (I.told iio.new)
-        (desk_of I.seen desk.old) (tales_of I.seen desk.old.held.items) (tales_of I.seen desk.new.held.items) out.old.items out.new.items result }
+        (client_of I.seen client.old) (traces_of I.seen client.old.held.items) (traces_of I.seen client.new.held.items) out.old.items out.new.items result }
     ensures capacity { vec_capacity out.old ≤ vec_capacity out.new }
 {
-    match place(iio, &desk.held, dev) {
+    match place(iio, &client.held, dev) {
         None => {
             push_refusal(out, Errno::EBADF)?;
             Ok(Took::Scan)
         }
-        Some(i) => read_held(iio, &mut desk.held[i], asked, out),
+        Some(i) => read_held(iio, &mut client.held[i], asked, out),
     }
 }
 
@@ -306,7 +310,7 @@ fn write_held<I: Iio>(iio: &mut I, h: &mut Held<I::Seat>, payload: &[u8]) -> Res
     ensures kept { I.kept iio.new ≡ I.kept iio.old }
     ensures held { IsHeld I.seen (I.front (I.kept iio.new)) h.new }
     ensures bare { bare_of I.seen h.new ≡ bare_of I.seen h.old }
-    ensures tale { tale_of I.seen h.new ≡ tale_of I.seen h.old }
+    ensures trace { trace_of I.seen h.new ≡ trace_of I.seen h.old }
     ensures within { IfOk result (λ taken. taken ≤ length payload.now) }
     ensures told { WritesHeld (I.front (I.kept iio.old)) payload.now (I.told iio.old) (bare_of I.seen h.old) (taken_by result) (I.told iio.new) }
 {
@@ -316,24 +320,24 @@ fn write_held<I: Iio>(iio: &mut I, h: &mut Held<I::Seat>, payload: &[u8]) -> Res
 /// WRITEBUF at an output device: how many of the bytes were taken. `EBADF` comes where the connection has no seat at it; then
 /// it is refused as by [`Iio::write_scans`].
 pub(crate) fn write_at<I: Iio>(
-    desk: &mut Desk<I::Seat>,
+    client: &mut Client<I::Seat>,
     iio: &mut I,
     dev: u32,
     payload: &[u8],
 ) -> Result<u32, No>
     requires written { is_output (kind_at (I.front (I.kept iio.old)) dev) ≡ true }
-    requires desk { IsDesk I.seen (I.front (I.kept iio.old)) desk.old }
+    requires client { IsClient I.seen (I.front (I.kept iio.old)) client.old }
     ensures kept { I.kept iio.new ≡ I.kept iio.old }
-    ensures desk { IsDesk I.seen (I.front (I.kept iio.new)) desk.new }
-    ensures same { desk_of I.seen desk.new ≡ desk_of I.seen desk.old }
-    ensures tales { tales_of I.seen desk.new.held.items ≡ tales_of I.seen desk.old.held.items }
+    ensures client { IsClient I.seen (I.front (I.kept iio.new)) client.new }
+    ensures same { client_of I.seen client.new ≡ client_of I.seen client.old }
+    ensures traces { traces_of I.seen client.new.held.items ≡ traces_of I.seen client.old.held.items }
     ensures within { IfOk result (λ taken. taken ≤ length payload.now) }
-    ensures told { IfSome (I.told iio.old) (λ m. Comes m (desk_of I.seen desk.old)
-        (write_at_place (I.front (I.kept iio.old)) m (desk_of I.seen desk.old) payload.now (place_of dev (seats_of I.seen desk.old.held.items)))
-        (taken_by result) (I.told iio.new) (desk_of I.seen desk.old)) }
+    ensures told { IfSome (I.told iio.old) (λ m. Comes m (client_of I.seen client.old)
+        (write_at_place (I.front (I.kept iio.old)) m (client_of I.seen client.old) payload.now (place_of dev (seats_of I.seen client.old.held.items)))
+        (taken_by result) (I.told iio.new) (client_of I.seen client.old)) }
 {
-    let Some(i) = place(iio, &desk.held, dev) else {
+    let Some(i) = place(iio, &client.held, dev) else {
         return Err(No::Errno(Errno::EBADF));
     };
-    write_held(iio, &mut desk.held[i], payload)
+    write_held(iio, &mut client.held[i], payload)
 }

@@ -3,16 +3,16 @@
 ghost use Rattle.std.specs.Prelude.{◌≡◌, ◌↔◌, [], IfOk, IfSome, IsTrue, OnErr, Some, is_some};
 ghost use Rattle.iiod_grammar.specs.Scans.{scan_on};
 ghost use Rattle.iiod_grammar.specs.Stream.{AtEnd, no_item};
-ghost use Rattle.iiod_session.specs.Acts.{left_desk, left_machine};
+ghost use Rattle.iiod_session.specs.Acts.{left_client, left_machine};
 ghost use Rattle.iio_device.specs.Site.{is_empty};
-ghost use Rattle.iiod_session.specs.Desk.{IsDesk, desk_of, place_of, seats_of};
+ghost use Rattle.iiod_session.specs.Client.{IsClient, client_of, place_of, seats_of};
 ghost use Rattle.iiod_session.specs.Run.{FeedTells, Feeds, state_of};
 ghost use Rattle.iiod_session.specs.Seat.{SeatRecord};
 ghost use Rattle.iiod_session.specs.Session.{IsFresh};
 ghost use Rattle.iiod_session.specs.Watch.{Hears, scene_of, waits_in};
 ghost use Rattle.iiod_session.specs.declared.manner.Going.{Going};
 
-use crate::desk::Desk;
+use crate::client::Client;
 use crate::feed::hear;
 use crate::iio::Iio;
 use crate::leave::leave;
@@ -32,7 +32,7 @@ use std::marker::Model;
 #[derive(Drop)]
 pub struct Session<S> {
     manner: Manner,
-    desk: Desk<S>,
+    client: Client<S>,
     lines: Lines,
     // The WRITE or WRITEBUF whose payload comes, or the READBUF that waits.
     pending: PendingWrite,
@@ -49,7 +49,7 @@ impl<S> Model for Session<S> {
 
     ghost view = { λ x. record {
       manner = x.manner;
-      desk = x.desk;
+      client = x.client;
       stream = scan_on (stream_by x.going x.lines x.pending) x.left.items;
     } };
 
@@ -65,7 +65,7 @@ impl<S> Session<S> {
         let lines = Lines::new(alloc)?;
         Ok(Session {
             manner,
-            desk: Desk {
+            client: Client {
                 who,
                 held: Vec::new(alloc),
                 buffers: Vec::new(alloc),
@@ -96,18 +96,18 @@ impl<S> Session<S> {
         bytes: &[u8],
         out: &mut Vec<u8>,
     ) -> Result<Going, Mem>
-        requires { IsDesk I.seen (I.front (I.kept iio.old)) self.old.desk }
+        requires { IsClient I.seen (I.front (I.kept iio.old)) self.old.client }
         ensures kept { I.kept iio.new ≡ I.kept iio.old }
-        ensures desk { IsDesk I.seen (I.front (I.kept iio.new)) self.new.desk }
-        ensures feeds { IfOk result (Feeds self.old.manner (I.front (I.kept iio.old)) (state_of I.seen (I.told iio.old) self.old.desk)
-            (scan_on self.old.stream bytes.now) out.old.items out.new.items (state_of I.seen (I.told iio.new) self.new.desk) self.new.stream) }
+        ensures client { IsClient I.seen (I.front (I.kept iio.new)) self.new.client }
+        ensures feeds { IfOk result (Feeds self.old.manner (I.front (I.kept iio.old)) (state_of I.seen (I.told iio.old) self.old.client)
+            (scan_on self.old.stream bytes.now) out.old.items out.new.items (state_of I.seen (I.told iio.new) self.new.client) self.new.stream) }
         ensures all { IfOk result (λ going. going ≡ Going.On → self.new.stream.items ≡ []) }
         ensures manner { self.new.manner ≡ self.old.manner }
-        ensures gone { OnErr result ((self.new.desk.held.items ≡ []) × (self.new.desk.holdings.items ≡ []) × (self.new.stream ≡ no_item AtEnd)) }
+        ensures gone { OnErr result ((self.new.client.held.items ≡ []) × (self.new.client.holdings.items ≡ []) × (self.new.stream ≡ no_item AtEnd)) }
 
         // In a script, over devices that tell their state, all of it is determined.
-        ensures script { IfOk result (λ going. FeedTells self.old.manner (I.front (I.kept iio.old)) (state_of I.seen (I.told iio.old) self.old.desk)
-            (scan_on self.old.stream bytes.now).items out.old.items out.new.items (state_of I.seen (I.told iio.new) self.new.desk)) }
+        ensures script { IfOk result (λ going. FeedTells self.old.manner (I.front (I.kept iio.old)) (state_of I.seen (I.told iio.old) self.old.client)
+            (scan_on self.old.stream bytes.now).items out.old.items out.new.items (state_of I.seen (I.told iio.new) self.new.client)) }
     {
         self.feed_watched(alloc, iio, &mut Unwatched, bytes, out)
     }
@@ -122,29 +122,29 @@ impl<S> Session<S> {
         bytes: &[u8],
         out: &mut Vec<u8>,
     ) -> Result<Going, Mem>
-        requires { IsDesk I.seen (I.front (I.kept iio.old)) self.old.desk }
+        requires { IsClient I.seen (I.front (I.kept iio.old)) self.old.client }
         ensures kept { I.kept iio.new ≡ I.kept iio.old }
-        ensures desk { IsDesk I.seen (I.front (I.kept iio.new)) self.new.desk }
-        ensures feeds { IfOk result (Feeds self.old.manner (I.front (I.kept iio.old)) (state_of I.seen (I.told iio.old) self.old.desk)
-            (scan_on self.old.stream bytes.now) out.old.items out.new.items (state_of I.seen (I.told iio.new) self.new.desk) self.new.stream) }
+        ensures client { IsClient I.seen (I.front (I.kept iio.new)) self.new.client }
+        ensures feeds { IfOk result (Feeds self.old.manner (I.front (I.kept iio.old)) (state_of I.seen (I.told iio.old) self.old.client)
+            (scan_on self.old.stream bytes.now) out.old.items out.new.items (state_of I.seen (I.told iio.new) self.new.client) self.new.stream) }
         ensures watched { IfOk result (Hears W.makes self.old.manner (I.front (I.kept iio.old))
-            (scene_of I.seen (I.told iio.old) self.old.desk watch.old (waits_in self.old.stream.items))
+            (scene_of I.seen (I.told iio.old) self.old.client watch.old (waits_in self.old.stream.items))
             (scan_on self.old.stream bytes.now) out.old.items out.new.items
-            (scene_of I.seen (I.told iio.new) self.new.desk watch.new (waits_in self.new.stream.items)) self.new.stream) }
+            (scene_of I.seen (I.told iio.new) self.new.client watch.new (waits_in self.new.stream.items)) self.new.stream) }
         ensures all { IfOk result (λ going. going ≡ Going.On → self.new.stream.items ≡ []) }
         ensures manner { self.new.manner ≡ self.old.manner }
-        ensures gone { OnErr result ((self.new.desk.held.items ≡ []) × (self.new.desk.holdings.items ≡ []) × (self.new.stream ≡ no_item AtEnd)) }
+        ensures gone { OnErr result ((self.new.client.held.items ≡ []) × (self.new.client.holdings.items ≡ []) × (self.new.stream ≡ no_item AtEnd)) }
 
         // In a script, over devices that tell their state, all of it is determined.
-        ensures script { IfOk result (λ going. FeedTells self.old.manner (I.front (I.kept iio.old)) (state_of I.seen (I.told iio.old) self.old.desk)
-            (scan_on self.old.stream bytes.now).items out.old.items out.new.items (state_of I.seen (I.told iio.new) self.new.desk)) }
+        ensures script { IfOk result (λ going. FeedTells self.old.manner (I.front (I.kept iio.old)) (state_of I.seen (I.told iio.old) self.old.client)
+            (scan_on self.old.stream bytes.now).items out.old.items out.new.items (state_of I.seen (I.told iio.new) self.new.client)) }
     {
         let was = self.going;
         self.going = Going::Ended;
         match hear(
             alloc,
             self.manner,
-            &mut self.desk,
+            &mut self.client,
             iio,
             watch,
             &mut self.lines,
@@ -159,7 +159,7 @@ impl<S> Session<S> {
                 Ok(going)
             }
             Err(Mem) => {
-                leave(&mut self.desk, iio);
+                leave(&mut self.client, iio);
                 Err(Mem)
             }
         }
@@ -167,53 +167,53 @@ impl<S> Session<S> {
 
     /// Closes every seat and ends every holding of events: the connection is lost.
     pub fn drop_all<I: Iio<Seat = S>>(&mut self, iio: &mut I)
-        requires { IsDesk I.seen (I.front (I.kept iio.old)) self.old.desk }
+        requires { IsClient I.seen (I.front (I.kept iio.old)) self.old.client }
         ensures kept { I.kept iio.new ≡ I.kept iio.old }
-        ensures desk { IsDesk I.seen (I.front (I.kept iio.new)) self.new.desk }
-        ensures left { desk_of I.seen self.new.desk ≡ left_desk (desk_of I.seen self.old.desk) }
-        ensures told { IfSome (I.told iio.old) (λ m. I.told iio.new ≡ Some (left_machine (I.front (I.kept iio.old)) m (desk_of I.seen self.old.desk))) }
+        ensures client { IsClient I.seen (I.front (I.kept iio.new)) self.new.client }
+        ensures left { client_of I.seen self.new.client ≡ left_client (client_of I.seen self.old.client) }
+        ensures told { IfSome (I.told iio.old) (λ m. I.told iio.new ≡ Some (left_machine (I.front (I.kept iio.old)) m (client_of I.seen self.old.client))) }
         ensures stream { self.new.stream ≡ self.old.stream }
         ensures manner { self.new.manner ≡ self.old.manner }
     {
-        leave(&mut self.desk, iio);
+        leave(&mut self.client, iio);
     }
 
     /// Closes every seat and ends every holding of events, and spends the session.
     pub fn end<I: Iio<Seat = S>>(self, iio: &mut I)
-        requires { IsDesk I.seen (I.front (I.kept iio.old)) self.desk }
+        requires { IsClient I.seen (I.front (I.kept iio.old)) self.client }
         ensures kept { I.kept iio.new ≡ I.kept iio.old }
-        ensures told { IfSome (I.told iio.old) (λ m. I.told iio.new ≡ Some (left_machine (I.front (I.kept iio.old)) m (desk_of I.seen self.desk))) }
+        ensures told { IfSome (I.told iio.old) (λ m. I.told iio.new ≡ Some (left_machine (I.front (I.kept iio.old)) m (client_of I.seen self.client))) }
     {
         let Session {
             manner: _,
-            mut desk,
+            mut client,
             lines: _,
             pending: _,
             going: _,
             left: _,
         } = self;
-        leave(&mut desk, iio);
-        let Desk {
+        leave(&mut client, iio);
+        let Client {
             who: _,
             held,
             buffers: _,
             holdings: _,
-        } = desk;
+        } = client;
         held.destroy_empty();
     }
 
     /// Whether it has a seat at the device.
     pub fn holds(&self, dev: u32) -> bool
-        ensures { (seen : S → SeatRecord) → result ≡ is_some (place_of dev (seats_of seen self.now.desk.held.items)) }
+        ensures { (seen : S → SeatRecord) → result ≡ is_some (place_of dev (seats_of seen self.now.client.held.items)) }
     {
-        find_held(&self.desk.held, dev).is_some()
+        find_held(&self.client.held, dev).is_some()
     }
 
     /// Whether it has no seat.
     pub fn holds_nothing(&self) -> bool
-        ensures { (seen : S → SeatRecord) → result ≡ is_empty (seats_of seen self.now.desk.held.items) }
+        ensures { (seen : S → SeatRecord) → result ≡ is_empty (seats_of seen self.now.client.held.items) }
     {
-        self.desk.held.is_empty()
+        self.client.held.is_empty()
     }
 
     /// Whether it has ended: by EXIT, by a broken limit, or because [`Session::feed`] answered `Mem`.

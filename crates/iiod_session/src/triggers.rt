@@ -5,7 +5,7 @@ ghost use Rattle.std.specs.Option.{option_copied};
 ghost use Rattle.iio_desc.specs.Kind.{is_average};
 ghost use Rattle.iiod_session.specs.Acts.{get_trigger_at, set_trigger_at, set_trigger_known, trigger_named};
 ghost use Rattle.iiod_session.specs.Answers.{IsTrigger, reply_of};
-ghost use Rattle.iiod_session.specs.Desk.{DeskRecord};
+ghost use Rattle.iiod_session.specs.Client.{ClientRecord};
 ghost use Rattle.iio_core.specs.Front.{kind_at};
 ghost use Rattle.iiod_session.specs.Performs.{Comes, reply_by};
 
@@ -33,8 +33,8 @@ fn set_trigger_at<I: Iio>(iio: &mut I, dev: u32, name: Option<&[u8]>) -> Result<
     requires dev { dev < length (I.front (I.kept iio.old)).devices }
     requires own { is_average (kind_at (I.front (I.kept iio.old)) dev) ≡ false }
     ensures kept { I.kept iio.new ≡ I.kept iio.old }
-    ensures told { (desk : DeskRecord) → IfSome (I.told iio.old) (λ m. Comes m desk
-        (set_trigger_at (I.front (I.kept iio.old)) m desk (option_copied name.entry) dev) (reply_by result) (I.told iio.new) desk) }
+    ensures told { (client : ClientRecord) → IfSome (I.told iio.old) (λ m. Comes m client
+        (set_trigger_at (I.front (I.kept iio.old)) m client (option_copied name.entry) dev) (reply_by result) (I.told iio.new) client) }
 {
     if !iio.plugged(dev) {
         return Err(No::Errno(Errno::ENODEV));
@@ -53,8 +53,8 @@ pub(crate) fn set_trigger_known<I: Iio>(
 ) -> Result<(), No>
     requires dev { dev < length (I.front (I.kept iio.old)).devices }
     ensures kept { I.kept iio.new ≡ I.kept iio.old }
-    ensures told { (desk : DeskRecord) → IfSome (I.told iio.old) (λ m. Comes m desk
-        (set_trigger_known (I.front (I.kept iio.old)) m desk (option_copied name.entry) dev) (reply_by result) (I.told iio.new) desk) }
+    ensures told { (client : ClientRecord) → IfSome (I.told iio.old) (λ m. Comes m client
+        (set_trigger_known (I.front (I.kept iio.old)) m client (option_copied name.entry) dev) (reply_by result) (I.told iio.new) client) }
 {
     if iio.is_average(dev) {
         return Err(No::Errno(unknown_refusal(iio, dev)));
@@ -66,8 +66,8 @@ pub(crate) fn set_trigger_known<I: Iio>(
 pub(crate) fn get_trigger_at<I: Iio>(iio: &I, dev: u32) -> Result<Answer, No>
     requires { dev < length (I.front (I.kept iio.now)).devices }
     ensures trigger { IsTrigger result }
-    ensures told { (desk : DeskRecord) → IfSome (I.told iio.now) (λ m. Comes m desk
-        (get_trigger_at (I.front (I.kept iio.now)) m desk dev) (reply_of (I.front (I.kept iio.now)) result) (I.told iio.now) desk) }
+    ensures told { (client : ClientRecord) → IfSome (I.told iio.now) (λ m. Comes m client
+        (get_trigger_at (I.front (I.kept iio.now)) m client dev) (reply_of (I.front (I.kept iio.now)) result) (I.told iio.now) client) }
 {
     if !iio.plugged(dev) {
         return Err(No::Errno(Errno::ENODEV));

@@ -8,7 +8,7 @@ ghost use Rattle.iio_layout.specs.Layout.{scan_size};
 ghost use Rattle.iio_layout.specs.Shape.{count_of};
 ghost use Rattle.iio_mask.specs.Text.{mask_of};
 ghost use Rattle.iiod_session.specs.Wanted.{mask_view, wanted_of_code, wanted_view};
-ghost use Rattle.iiod_session.specs.Desk.{IsWanted, mask_wanted, wanted_of};
+ghost use Rattle.iiod_session.specs.Client.{IsWanted, mask_wanted, wanted_of};
 ghost use Rattle.iio_core.specs.Front.{Front, shape_at};
 ghost use Rattle.iio_core.specs.Opening.{is_excess};
 ghost use Rattle.iiod_session.specs.Seat.{MayOpen};
@@ -46,7 +46,7 @@ pub(crate) fn ensure(holds: bool, errno: Errno) -> Result<(), Errno>
 /// The mask and the capacity, which is the samples times the buffers count. Of the refusals the first that applies is the
 /// answer: the device is unplugged, CYCLIC is given at another than an output device, the text is no mask, the mask has no
 /// data channel, the capacity is 0 or too large, the connection has the device open.
-#[tactic(auto, unfolding(crate::specs::Desk::wanted_of))]
+#[tactic(auto, unfolding(crate::specs::Client::wanted_of))]
 pub(crate) fn wanted_by(
     is_open: bool,
     plugged: bool,
@@ -83,7 +83,7 @@ pub(crate) fn wanted_by(
 
 /// The mask of a REMASK, for a queue of that capacity. Of the refusals the first that applies is the answer: the text is no
 /// mask, the mask has no data channel, the queue would have too many bytes.
-#[tactic(auto, unfolding(crate::specs::Desk::mask_wanted))]
+#[tactic(auto, unfolding(crate::specs::Client::mask_wanted))]
 pub(crate) fn mask_wanted_by(shape: &Shape, capacity: u32, text: &[u8]) -> Result<Wanted, Errno>
     ensures value { mask_view result ≡ mask_wanted shape.now capacity text.now }
     ensures wanted { IfOk result (λ x. mask_of text.now (count_of shape.now) ≡ Some x.mask.bits) }

@@ -7,5 +7,5 @@ use Rattle.iiod_session.specs.Seat.{SeatRecord, after_scans}
 pub record Came (count : ℕ) (old new : SeatRecord) (before after : List ℕ) : Type 0 where
   pub scans : List (List ℕ)
   pub many : length scans ≡ count
-  pub told : new ≡ record old { tale = option_map (after_scans scans) old.tale }
+  pub told : new ≡ record old { trace = option_map (after_scans scans) old.trace }
   pub bytes : after ≡ before ++ joined_scans scans

@@ -9,11 +9,11 @@ seen_of s = record {
   mask = s.mask.bits;
   size = s.size;
   capacity = s.capacity;
-  tale = Some (record { given = map (λ v. v.items) s.given.items; empties = s.empties; gone = false });
+  trace = Some (record { given = map (λ v. v.items) s.given.items; empties = s.empties; gone = false });
 }
 
 -- a scan was given, and its bytes appended; or nothing changed
 abbrev pub Gives : Bool → (old new : SeatRecord) → (before after : List ℕ) → Type 0
 Gives true old new before after =
-    (scan : List ℕ) × (length scan ≡ old.size) × (new ≡ record old { tale = option_map (after_scans (scan ∷ [])) old.tale }) × (after ≡ before ++ scan)
+    (scan : List ℕ) × (length scan ≡ old.size) × (new ≡ record old { trace = option_map (after_scans (scan ∷ [])) old.trace }) × (after ≡ before ++ scan)
 Gives false old new before after = (new ≡ old) × (after ≡ before)

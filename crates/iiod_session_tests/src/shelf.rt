@@ -32,7 +32,7 @@ pub struct ShelfSeat {
 impl ShelfSeat {
     // A take found nothing, at a device that is plugged.
     fn nothing(&mut self)
-        ensures { seen_of self.new ≡ record (seen_of self.old) { tale = option_map (after_nothing false) (seen_of self.old).tale } }
+        ensures { seen_of self.new ≡ record (seen_of self.old) { trace = option_map (after_nothing false) (seen_of self.old).trace } }
     {
         self.empties = self.empties.saturating_add(1);
     }

@@ -4,7 +4,7 @@ ghost use Rattle.std.specs.Prelude.{◌≡◌, ◌+◌, ◌-◌, ◌^◌, ◌<�
 ghost use Rattle.iio_desc.specs.DescReader.{drivers_of, line_count};
 ghost use Rattle.iio_desc.specs.WellFormed.{IsWellFormed};
 ghost use Rattle.iiod_bank.specs.FrontOf.{front_of};
-ghost use Rattle.iiod_session.specs.Desk.{IsDesk};
+ghost use Rattle.iiod_session.specs.Client.{IsClient};
 ghost use Rattle.iiod_session_tests.specs.Shelf.{seen_of};
 
 use crate::shelf::{Shelf, ShelfSeat};
@@ -76,8 +76,8 @@ fn hear(
     exchange: Exchange<'_>,
     going: Going,
 ) -> Result<(), Fail>
-    requires { IsDesk seen_of (front_of shelf.old.front) session.old.desk }
-    ensures desk { IsDesk seen_of (front_of shelf.new.front) session.new.desk }
+    requires { IsClient seen_of (front_of shelf.old.front) session.old.client }
+    ensures client { IsClient seen_of (front_of shelf.new.front) session.new.client }
     ensures front { front_of shelf.new.front ≡ front_of shelf.old.front }
 {
     let (piece, answers) = exchange;
@@ -135,8 +135,8 @@ fn hear_all(
     session: &mut Session<ShelfSeat>,
     shelf: &mut Shelf,
 ) -> Result<(), Fail>
-    requires { IsDesk seen_of (front_of shelf.old.front) session.old.desk }
-    ensures { IsDesk seen_of (front_of shelf.new.front) session.new.desk }
+    requires { IsClient seen_of (front_of shelf.old.front) session.old.client }
+    ensures { IsClient seen_of (front_of shelf.new.front) session.new.client }
 {
     hear(rt, alloc, session, shelf, EXCHANGES[0], Going::On)?;
     hear(rt, alloc, session, shelf, EXCHANGES[1], Going::On)?;

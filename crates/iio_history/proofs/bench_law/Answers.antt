@@ -1,9 +1,9 @@
 use Rattle.iio_history.proofs.BenchSizes.{sizes_from}
 use Rattle.iio_history.proofs.BenchKept.{arrived_is_there, bench_kept, first_bench, live_is_there, names_stay, room_lasts, told_is_bench}
 use Rattle.iio_history.proofs.BenchItems.{acts_tell, items_are_acts}
-use Rattle.iio_history.proofs.BenchOthers.{arrival_is_nothing, desks_are_kept, new_is_desk}
+use Rattle.iio_history.proofs.BenchOthers.{arrival_is_nothing, clients_are_kept, new_is_client}
 use Rattle.iio_history.proofs.BenchEnds.{ends_are_left}
-use Rattle.iio_history.proofs.BenchFeeds.{feeds_are_acts, feeds_keep_desks, script_feeds_tell}
+use Rattle.iio_history.proofs.BenchFeeds.{feeds_are_acts, feeds_keep_clients, script_feeds_tell}
 use Rattle.iio_history.proofs.bench_law.Goals as goal
 
 pub returns-clause-first : goal.returns-clause-first
@@ -16,10 +16,10 @@ pub returns-clause-items : goal.returns-clause-items
 returns-clause-items c = items_are_acts
 
 pub returns-clause-others : goal.returns-clause-others
-returns-clause-others c = desks_are_kept
+returns-clause-others c = clients_are_kept
 
 pub returns-clause-arrives : goal.returns-clause-arrives
-returns-clause-arrives c = new_is_desk
+returns-clause-arrives c = new_is_client
 
 pub returns-clause-arrival : goal.returns-clause-arrival
 returns-clause-arrival c = arrival_is_nothing
@@ -31,7 +31,7 @@ pub returns-clause-feeds : goal.returns-clause-feeds
 returns-clause-feeds c = feeds_are_acts
 
 pub returns-clause-beside : goal.returns-clause-beside
-returns-clause-beside c = feeds_keep_desks
+returns-clause-beside c = feeds_keep_clients
 
 pub returns-clause-told : goal.returns-clause-told
 returns-clause-told c = told_is_bench

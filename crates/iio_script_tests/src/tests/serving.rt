@@ -3,7 +3,7 @@
 
 ghost use Rattle.std.specs.Prelude.{◌≡◌, ◌+◌, ◌-◌, ◌^◌, ◌<◌, ◌≤◌, IfOk, OnOk, length};
 ghost use Rattle.iio_desc.specs.DescReader.{drivers_of, line_count};
-ghost use Rattle.iiod_session.specs.Desk.{IsDesk};
+ghost use Rattle.iiod_session.specs.Client.{IsClient};
 ghost use Rattle.iio_system.specs.Bench.{front_of};
 ghost use Rattle.iio_system.specs.Seat.{seen_of};
 
@@ -68,8 +68,8 @@ fn hear(
     answers: &[u8],
     going: Going,
 ) -> Result<(), Fail>
-    requires { IsDesk seen_of (front_of bench.old) session.old.desk }
-    ensures desk { IsDesk seen_of (front_of bench.new) session.new.desk }
+    requires { IsClient seen_of (front_of bench.old) session.old.client }
+    ensures client { IsClient seen_of (front_of bench.new) session.new.client }
     ensures front { front_of bench.new ≡ front_of bench.old }
 {
     let mut out = Vec::new(alloc);
@@ -82,7 +82,7 @@ fn hear(
 
 // A connection that has opened the device.
 fn opened(rt: &impl Abort, alloc: Global, bench: &mut Bench) -> Result<Session<Seat>, Fail>
-    ensures desk { IfOk result (λ s. IsDesk seen_of (front_of bench.new) s.desk) }
+    ensures client { IfOk result (λ s. IsClient seen_of (front_of bench.new) s.client) }
     ensures front { front_of bench.new ≡ front_of bench.old }
 {
     let mut session = Session::new(alloc, 7, Manner::Server)?;
@@ -105,10 +105,10 @@ fn hear_waiting(
     a: &mut Session<Seat>,
     bench: &mut Bench,
 ) -> Result<(), Fail>
-    requires desk { IsDesk seen_of (front_of bench.old) a.old.desk }
+    requires client { IsClient seen_of (front_of bench.old) a.old.client }
     requires triggers { 1 ≤ length (front_of bench.old).triggers }
     requires devices { 1 ≤ length (front_of bench.old).devices }
-    ensures { IsDesk seen_of (front_of bench.new) a.new.desk }
+    ensures { IsClient seen_of (front_of bench.new) a.new.client }
 {
     let waits = Going::Waits(0);
     let first = b"READBUF adc0 2\nVERSION\nREADBUF adc0 1\nTIM";
@@ -140,9 +140,9 @@ fn hear_unplugged(
     a: &mut Session<Seat>,
     bench: &mut Bench,
 ) -> Result<(), Fail>
-    requires desk { IsDesk seen_of (front_of bench.old) a.old.desk }
+    requires client { IsClient seen_of (front_of bench.old) a.old.client }
     requires devices { 1 ≤ length (front_of bench.old).devices }
-    ensures { IsDesk seen_of (front_of bench.new) a.new.desk }
+    ensures { IsClient seen_of (front_of bench.new) a.new.client }
 {
     let first = b"READBUF adc0 2\nVERSION\nREADBUF adc0 1\n";
     hear(rt, alloc, a, bench, first, b"", Going::Waits(0))?;
@@ -171,10 +171,10 @@ fn hear_two(
     b: &mut Session<Seat>,
     bench: &mut Bench,
 ) -> Result<(), Fail>
-    requires first { IsDesk seen_of (front_of bench.old) a.old.desk }
-    requires second { IsDesk seen_of (front_of bench.old) b.old.desk }
-    ensures first { IsDesk seen_of (front_of bench.new) a.new.desk }
-    ensures second { IsDesk seen_of (front_of bench.new) b.new.desk }
+    requires first { IsClient seen_of (front_of bench.old) a.old.client }
+    requires second { IsClient seen_of (front_of bench.old) b.old.client }
+    ensures first { IsClient seen_of (front_of bench.new) a.new.client }
+    ensures second { IsClient seen_of (front_of bench.new) b.new.client }
 {
     let has = b"OPEN adc0 1 00000001\nEVOPEN adc0\n";
     hear(rt, alloc, a, bench, has, b"0\n0\n", Going::On)?;

@@ -1,4 +1,4 @@
-use Rattle.iio_worlds.proofs.DeskLaws.{desks_decide}
+use Rattle.iio_worlds.proofs.ClientLaws.{clients_decide}
 use Rattle.iio_worlds.proofs.StanceLaws.{stance_decides, step_decides, seats_tell, others_are_there}
 use Rattle.iio_worlds.proofs.stance_law.Goals as goal
 
@@ -14,5 +14,5 @@ returns-clause-seats c = seats_tell
 pub returns-clause-others : goal.returns-clause-others
 returns-clause-others c = others_are_there
 
-pub returns-clause-desks : goal.returns-clause-desks
-returns-clause-desks c = desks_decide
+pub returns-clause-clients : goal.returns-clause-clients
+returns-clause-clients c = clients_decide

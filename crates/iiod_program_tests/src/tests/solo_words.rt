@@ -214,7 +214,7 @@ B "OPEN adc0 1 00000002\n"
 }
 
 /// How A parts from the device, and what is printed for it.
-const PARTINGS: &[(&str, &str)] = &[
+const ENDINGS: &[(&str, &str)] = &[
     ("A \"CLOSE adc0\\n\"\n", "A \"0\\n\"\n"),
     ("A \"REMASK adc0 00000001\\n\"\n", "A \"0\\n\"\n"),
     ("A \"EXIT\\n\"\n", "A \"\"\nA closed\n"),
@@ -231,9 +231,9 @@ const PARTINGS: &[(&str, &str)] = &[
 
 // Not beside B; but after B has left.
 #[test]
-fn each_parting(rt: HostRuntime) -> Result<(), Fail> {
+fn each_ending(rt: HostRuntime) -> Result<(), Fail> {
     let alloc = rt.alloc();
-    for (parting, told) in PARTINGS {
+    for (parting, told) in ENDINGS {
         let text = after_opening(alloc, &[parting])?;
         check_solo(
             &rt,

@@ -3,7 +3,7 @@
 ghost use Rattle.std.specs.Prelude.{IfOk, ◌<◌, length};
 ghost use Rattle.iio_desc.specs.WellFormed.{IsWellFormed};
 ghost use Rattle.iiod_hub.specs.Link.{seen_of};
-ghost use Rattle.iiod_session.specs.Desk.{IsDesk};
+ghost use Rattle.iiod_session.specs.Client.{IsClient};
 
 use super::doubles::Texts;
 use super::sessions::{handle, hear, link_to, poll, tick_once, unplug};
@@ -131,9 +131,9 @@ fn hear_between(
     link: &mut HubLink<OwnBank>,
     said: &mut Vec<u8>,
 ) -> Result<Between, Mem>
-    requires desk { IsDesk seen_of (⟦<OwnBank as Bank>⟧.front link.old.bank) session.old.desk }
+    requires client { IsClient seen_of (⟦<OwnBank as Bank>⟧.front link.old.bank) session.old.client }
     requires device { 0 < length (⟦<OwnBank as Bank>⟧.front link.old.bank).devices }
-    ensures { IsDesk seen_of (⟦<OwnBank as Bank>⟧.front link.new.bank) session.new.desk }
+    ensures { IsClient seen_of (⟦<OwnBank as Bank>⟧.front link.new.bank) session.new.client }
 {
     let mut ticker = ListTicker::new(vec![in alloc; 1000i64]?);
     hear(alloc, session, link, b"OPEN adc0 1 00000009\n", said)?;
@@ -173,9 +173,9 @@ fn hear_unplugged(
     link: &mut HubLink<OwnBank>,
     said: &mut Vec<u8>,
 ) -> Result<(Going, bool, bool, Going), Mem>
-    requires desk { IsDesk seen_of (⟦<OwnBank as Bank>⟧.front link.old.bank) session.old.desk }
+    requires client { IsClient seen_of (⟦<OwnBank as Bank>⟧.front link.old.bank) session.old.client }
     requires device { 0 < length (⟦<OwnBank as Bank>⟧.front link.old.bank).devices }
-    ensures { IsDesk seen_of (⟦<OwnBank as Bank>⟧.front link.new.bank) session.new.desk }
+    ensures { IsClient seen_of (⟦<OwnBank as Bank>⟧.front link.new.bank) session.new.client }
 {
     let first = b"OPEN adc0 1 00000005\nREADBUF adc0 4\n";
     let waits = hear(alloc, session, link, first, said)?;

@@ -2,7 +2,7 @@
 
 ghost use Rattle.std.specs.Prelude.{◌≡◌, ◌<◌, length, ⊤};
 ghost use Rattle.iiod_hub.specs.Link.{seen_of};
-ghost use Rattle.iiod_session.specs.Desk.{IsDesk};
+ghost use Rattle.iiod_session.specs.Client.{IsClient};
 
 use super::sessions::{handle, hear, link_to, poll};
 use iiod_bank::{Bank, OwnBank};
@@ -39,9 +39,9 @@ fn exchange(
     link: &mut HubLink<OwnBank>,
     said: &mut Vec<u8>,
 ) -> Result<Going, Mem>
-    requires desk { IsDesk seen_of (⟦<OwnBank as Bank>⟧.front link.old.bank) session.old.desk }
+    requires client { IsClient seen_of (⟦<OwnBank as Bank>⟧.front link.old.bank) session.old.client }
     requires device { 0 < length (⟦<OwnBank as Bank>⟧.front link.old.bank).devices }
-    ensures { IsDesk seen_of (⟦<OwnBank as Bank>⟧.front link.new.bank) session.new.desk }
+    ensures { IsClient seen_of (⟦<OwnBank as Bank>⟧.front link.new.bank) session.new.client }
 {
     hear(alloc, session, link, b"OPEN adc0 1 00000005\n", said)?;
     fire(link, 1000);

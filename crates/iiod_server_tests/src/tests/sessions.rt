@@ -3,7 +3,7 @@
 
 ghost use Rattle.std.specs.Prelude.{◌≡◌, ◌<◌, length, IfOk, ⊤};
 ghost use Rattle.iiod_hub.specs.Link.{seen_of};
-ghost use Rattle.iiod_session.specs.Desk.{IsDesk};
+ghost use Rattle.iiod_session.specs.Client.{IsClient};
 
 use super::described;
 use iio_device::Handled;
@@ -34,8 +34,8 @@ pub(crate) fn hear(
     bytes: &[u8],
     said: &mut Vec<u8>,
 ) -> Result<Going, Mem>
-    requires { IsDesk seen_of (⟦<OwnBank as Bank>⟧.front link.old.bank) session.old.desk }
-    ensures desk { IsDesk seen_of (⟦<OwnBank as Bank>⟧.front link.new.bank) session.new.desk }
+    requires { IsClient seen_of (⟦<OwnBank as Bank>⟧.front link.old.bank) session.old.client }
+    ensures client { IsClient seen_of (⟦<OwnBank as Bank>⟧.front link.new.bank) session.new.client }
     ensures front { ⟦<OwnBank as Bank>⟧.front link.new.bank ≡ ⟦<OwnBank as Bank>⟧.front link.old.bank }
 {
     session.feed(alloc, link, bytes, said)

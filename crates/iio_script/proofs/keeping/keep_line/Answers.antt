@@ -54,5 +54,5 @@ returns-clause-keeps g c = λ s first given finds keeps.
     c.in-Ok.ensures.ok ∙ ap (λ (o : Option Step). Ok (option_map step_view o)) c.in-Some.is in
     keeps_more _ s c.args.watched.now c.args.system.now c.keep_step.new.system c.args.offence.now c.keep_step.new.offence c.args.text.now.items
     c.keep_step.new.text.items first c.args.number given c.args.line.now (step_view c.in-Some.step)
-    (sym (same_step c.args.names.now s.desc c.args.line.now finds) ∙ said) room (λ h stands modest. c.in_ok-keep_step.ensures.keeps s h stands modest)
+    (sym (same_step c.args.names.now s.desc c.args.line.now finds) ∙ said) room (λ h stands neutral. c.in_ok-keep_step.ensures.keeps s h stands neutral)
     c.in_ok-keep_step.ensures.names keeps

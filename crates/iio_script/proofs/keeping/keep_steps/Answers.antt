@@ -88,7 +88,8 @@ returns-in-Some-clause-keeps g c = λ s input front more stands finds follows lo
     c.loop-room.lines c.find.new.self (g.S.Source.left c.args.input.now) (g.S.Source.left c.loop-room.input) (g.S.Source.left c.find.new.source)
     c.find.ensures.follows (c.loop-room.invariant.keeps s stands finds) in (
       kept_refused _ s c.args.watched.now c.loop-room.system c.loop-room.offence c.loop-room.text.items c.line.result.now c.args.first c.loop-room.number
-          c.args.lines.now c.find.new.self (g.S.Source.left c.args.input.now) (g.S.Source.left c.find.new.source) front more input c.in-Some.why c.find.ensures.hand
+          c.args.lines.now c.find.new.self (g.S.Source.left c.args.input.now) (g.S.Source.left c.find.new.source) front more input c.in-Some.why
+          c.find.ensures.hand
           (rw c.in-Ok-Line.field-0-is at c.in-Ok-Line.ensures.found) follows looked c.line.ensures so
           (rw c.in-Some.is at c.in-Ok.ensures.keeps s c.args.first so.given finds so.keeps),
       takes_so _ s c.args.watched.now c.loop-room.system c.loop-room.offence c.loop-room.text.items c.args.first c.loop-room.number c.args.lines.now

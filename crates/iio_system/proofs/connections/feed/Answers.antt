@@ -11,5 +11,6 @@ pub returns-in-Some-clause-makes : goal.returns-in-Some-clause-makes
 returns-in-Some-clause-makes g c =
     feeds_there _ c.args.bench.now c.feed_at.new.iio c.args.connections.now.items c.in-Some.at c.index_mut.result.now c.feed_at.new.connection c.args.name.now
     c.args.bytes.now _ _ c.feed_at.result
-    (rw (c.in-Some.is, c.deref.ensures.value) at c.place.ensures) c.index_mut.ensures.value c.feed_at.ensures.name c.feed_at.ensures.kept c.feed_at.ensures.desk
+    (rw (c.in-Some.is, c.deref.ensures.value) at c.place.ensures) c.index_mut.ensures.value c.feed_at.ensures.name c.feed_at.ensures.kept
+    c.feed_at.ensures.client
     c.feed_at.ensures.fed

@@ -7,7 +7,7 @@ pub returns-clause-owned : goal.returns-clause-owned
 returns-clause-owned g c =
     let items : c.push_reserved.new.self.items ≡ c.args.connections.now.items ++ c.feed_at-fed.new.connection ∷ [] = search rules in
     rw items (more_owned _ _ c.args.connections.now.items c.feed_at-fed.new.connection
-    (front_kept c.args.bench.now c.feed_at-fed.new.iio c.feed_at-fed.ensures.kept) c.requires.owned c.feed_at-fed.ensures.desk)
+    (front_kept c.args.bench.now c.feed_at-fed.new.iio c.feed_at-fed.ensures.kept) c.requires.owned c.feed_at-fed.ensures.client)
 
 pub returns-clause-few : goal.returns-clause-few
 returns-clause-few g c =
@@ -30,4 +30,4 @@ returns-clause-makes g c =
     (feeds_new _ c.args.bench.now c.feed_at-fed.new.iio c.args.connections.now.items c.in_ok-connection.connection c.feed_at-fed.new.connection c.args.name.now
     c.args.bytes.now _ _ c.feed_at-fed.result
     (sym c.requires.absent) (subst (λ (n : ℕ). IsNew c.args.name.now n c.in_ok-connection.connection) many c.in_ok-connection.ensures)
-    c.feed_at-fed.ensures.name c.feed_at-fed.ensures.kept c.feed_at-fed.ensures.desk c.feed_at-fed.ensures.fed)
+    c.feed_at-fed.ensures.name c.feed_at-fed.ensures.kept c.feed_at-fed.ensures.client c.feed_at-fed.ensures.fed)

@@ -12,7 +12,7 @@ returns-clause-owned g c =
     c.split_at_mut-before.ensures.front_len
     (rw (c.in-Some.is, c.deref.ensures.value) at c.place.ensures) in
     owned_between _ _ _ _ _ at _ _ c.feed_beside.new.connection _ (written _ _ _ _ _ at c.args.connections.now.len c.feed_beside.new.connection (search rules))
-    (front_kept c.args.bench.now c.feed_beside.new.bench c.feed_beside.ensures.kept) c.requires.owned c.feed_beside.ensures.desk
+    (front_kept c.args.bench.now c.feed_beside.new.bench c.feed_beside.ensures.kept) c.requires.owned c.feed_beside.ensures.client
 
 pub returns-clause-names : goal.returns-clause-names
 returns-clause-names g c =
@@ -34,7 +34,7 @@ returns-clause-makes g c =
     (rw (c.in-Some.is, c.deref.ensures.value) at c.place.ensures) in
     feeds_between _ _ _ _ _ at _ c.args.bench.now c.feed_beside.new.bench c.feed_beside.new.connection _ c.args.bytes.now _ _ c.feed_beside.result
     (written _ _ _ _ _ at c.args.connections.now.len c.feed_beside.new.connection (search rules)) c.feed_beside.ensures.name c.feed_beside.ensures.kept
-    c.feed_beside.ensures.desk c.feed_beside.ensures.fed
+    c.feed_beside.ensures.client c.feed_beside.ensures.fed
 
 pub returns-clause-meets : goal.returns-clause-meets
 returns-clause-meets g c =
@@ -43,5 +43,5 @@ returns-clause-meets g c =
     stands_at _ _ _ c.split_at_mut-before.result.1.now _ _ c.in-Some.at (search rules) c.in-Some-split_first_mut.ensures.cases.0
     c.split_at_mut-before.ensures.front_len
     (rw (c.in-Some.is, c.deref.ensures.value) at c.place.ensures) in
-    meets_between _ c.stance_law.ensures.desks c.args.bench.now _ _ _ _ c.args.watched.now c.args.name.now c.args.bytes.now c.feed_beside.result at
+    meets_between _ c.stance_law.ensures.clients c.args.bench.now _ _ _ _ c.args.watched.now c.args.name.now c.args.bytes.now c.feed_beside.result at
     c.feed_beside.ensures.meets

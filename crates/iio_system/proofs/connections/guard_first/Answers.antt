@@ -8,7 +8,7 @@ pub returns-clause-owned : goal.returns-clause-owned
 returns-clause-owned g c =
     let items : c.push_reserved.new.self.items ≡ c.args.connections.now.items ++ c.feed_beside-fed.new.connection ∷ [] = search rules in
     rw items (more_owned _ _ c.args.connections.now.items c.feed_beside-fed.new.connection
-    (front_kept c.args.bench.now c.feed_beside-fed.new.bench c.feed_beside-fed.ensures.kept) c.requires.owned c.feed_beside-fed.ensures.desk)
+    (front_kept c.args.bench.now c.feed_beside-fed.new.bench c.feed_beside-fed.ensures.kept) c.requires.owned c.feed_beside-fed.ensures.client)
 
 pub returns-clause-few : goal.returns-clause-few
 returns-clause-few g c =
@@ -31,13 +31,13 @@ returns-clause-makes g c =
     (feeds_new _ c.args.bench.now c.feed_beside-fed.new.bench c.args.connections.now.items c.in_ok-connection.connection c.feed_beside-fed.new.connection
     c.args.name.now c.args.bytes.now _ _ c.feed_beside-fed.result
     (sym c.requires.absent) (subst (λ (n : ℕ). IsNew c.args.name.now n c.in_ok-connection.connection) many c.in_ok-connection.ensures)
-    c.feed_beside-fed.ensures.name c.feed_beside-fed.ensures.kept c.feed_beside-fed.ensures.desk c.feed_beside-fed.ensures.fed)
+    c.feed_beside-fed.ensures.name c.feed_beside-fed.ensures.kept c.feed_beside-fed.ensures.client c.feed_beside-fed.ensures.fed)
 
 pub returns-clause-meets : goal.returns-clause-meets
 returns-clause-meets g c =
     let many : c.len.result ≡ length c.args.connections.now.items = search rules in
     let others : c.deref.result.now ++ [] ≡ c.args.connections.now.items = append-nil c.deref.result.now ∙ search rules in
-    meets_new _ c.stance_law.ensures.desks c.args.bench.now c.args.connections.now.items c.in_ok-connection.connection c.args.watched.now c.args.name.now
+    meets_new _ c.stance_law.ensures.clients c.args.bench.now c.args.connections.now.items c.in_ok-connection.connection c.args.watched.now c.args.name.now
     c.args.bytes.now c.feed_beside-fed.result
     c.requires.absent (subst (λ (n : ℕ). IsNew c.args.name.now n c.in_ok-connection.connection) many c.in_ok-connection.ensures)
     (rw others at c.feed_beside-fed.ensures.meets)

@@ -4,7 +4,7 @@ use Rattle.iio_core.specs.Front.{find_device}
 use Rattle.iiod_session.specs.Watch.{IsSeen}
 use Rattle.iio_worlds.specs.Stance.{by_number}
 use Rattle.iio_system.specs.Bench.{front_of}
-use Rattle.iio_system.specs.Guard.{desk_by, own_input}
+use Rattle.iio_system.specs.Guard.{client_by, own_input}
 use Rattle.iio_system.specs.Seat.{seen_of}
 use Rattle.iio_system.proofs.SaidLaws.{command_said, long_said, refused_said}
 use Rattle.iio_system.proofs.guard.may_say.Goals as goal
@@ -12,13 +12,13 @@ use Rattle.iio_system.proofs.guard.may_say.Goals as goal
 pub returns-in-Refused : goal.returns-in-Refused
 returns-in-Refused g c x told = elim c.in-Refused.is [
   | inl is ↦ refused_said (λ (device : List ℕ). by_number (find_device (front_of c.args.bench.now) device)
-      (own_input (front_of c.args.bench.now) (desk_by seen_of c.args.own))) x (subst (λ (z : Seen). IsSeen x z) is told)
+      (own_input (front_of c.args.bench.now) (client_by seen_of c.args.own))) x (subst (λ (z : Seen). IsSeen x z) is told)
   | inr is ↦ long_said (λ (device : List ℕ). by_number (find_device (front_of c.args.bench.now) device)
-      (own_input (front_of c.args.bench.now) (desk_by seen_of c.args.own))) x (subst (λ (z : Seen). IsSeen x z) is told)
+      (own_input (front_of c.args.bench.now) (client_by seen_of c.args.own))) x (subst (λ (z : Seen). IsSeen x z) is told)
 ]
 
 pub returns-in-Command : goal.returns-in-Command
 returns-in-Command g c x told =
     c.may_ask.ensures
     ∙ command_said (λ (device : List ℕ). by_number (find_device (front_of c.args.bench.now) device)
-    (own_input (front_of c.args.bench.now) (desk_by seen_of c.args.own))) x c.in-Command.command (subst (λ (z : Seen). IsSeen x z) c.in-Command.is told)
+    (own_input (front_of c.args.bench.now) (client_by seen_of c.args.own))) x c.in-Command.command (subst (λ (z : Seen). IsSeen x z) c.in-Command.is told)

@@ -71,7 +71,8 @@ invariant_of-bench-in-Some g c =
     c.if-not-has_member.true) c.leave_inner.ensures.station c.in-Some.trigger c.index_mut-in-Some-2.result.now c.leave_inner.new.trigger
     (slice_get_read _ _ _ _ refl there c.index_mut-in-Some-2.ensures.value)
     (own_along drive c.args.bench.now.devices.items c.args.base c.in-Some.trigger c.index-then-not-has_member.result.now
-    c.index_mut-in-Some.result.now q.under p.under c.in-Some.ensures) there c.leave_mean.ensures.keeps.head c.leave_inner.ensures.keeps.head c.leave_inner.ensures.trigger in
+    c.index_mut-in-Some.result.now q.under p.under c.in-Some.ensures) there c.leave_mean.ensures.keeps.head c.leave_inner.ensures.keeps.head
+    c.leave_inner.ensures.trigger in
     record { sound = h.sound; numbered = h.numbered; averaged = h.averaged }
 
 pub invariant_of-bench-else-not-has_member : goal.invariant_of-bench-else-not-has_member

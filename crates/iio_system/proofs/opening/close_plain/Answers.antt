@@ -13,7 +13,8 @@ index_mut-requires-in-Some g c =
     let drive = driver_of (λ b. (g.dyn-1.0.entry b.vtable).1.driver b.value) in
     let at = element_at any_front _ _ _ c.requires.dev c.index.ensures in
     subst (λ n. c.in-Some.trigger < n) (sym c.args.bench.now.triggers.ok.0)
-    (within_states drive _ _ c.args.bench.now.devices.items _ c.args.bench.now.sound c.args.bench.now.averaged c.args.dev c.in-Some.trigger c.index.result.now at
+    (within_states drive _ _ c.args.bench.now.devices.items _ c.args.bench.now.sound c.args.bench.now.averaged c.args.dev c.in-Some.trigger c.index.result.now
+    at
     (plain_at c.args.bench.now.context.items c.args.bench.now.described.items c.args.bench.now.devices.items c.args.dev c.index.result.now at c.requires.own)
     c.in-Some.ensures)
 

@@ -3,7 +3,7 @@ use Rattle.std.proofs.lemmas.List.{at_drop_all}
 use Rattle.iio_worlds.specs.Stance.{one_seated}
 use Rattle.iio_system.specs.declared.connection.Connection.{Connection}
 use Rattle.iio_system.specs.declared.seat.Seat.{Seat}
-use Rattle.iio_system.specs.Guard.{desks_besides}
+use Rattle.iio_system.specs.Guard.{clients_besides}
 use Rattle.iio_system.specs.Seat.{seen_of}
 use Rattle.iio_system.proofs.BesideLaws.{seated_on}
 use Rattle.iio_system.proofs.others.one_holds.Goals as goal
@@ -26,6 +26,6 @@ returns-then-other_holds c =
 
 pub returns : goal.returns
 returns c =
-    sym (at_drop_all (λ (ds : List (Connection Seat)). one_seated (desks_besides seen_of c.args.watched.now ds) c.args.dev) c.args.connections.now
+    sym (at_drop_all (λ (ds : List (Connection Seat)). one_seated (clients_besides seen_of c.args.watched.now ds) c.args.dev) c.args.connections.now
     c.loop-connection.connection-index (omega (arith, c.loop-connection-test.false)))
     ∙ c.loop-connection.invariant

@@ -1,6 +1,6 @@
 use Rattle.std.proofs.Common.{◌≡◌, IfSome, Some, subst}
 use Rattle.iiod_session.specs.Acts.{left_machine}
-use Rattle.iiod_session.specs.Desk.{desk_of}
+use Rattle.iiod_session.specs.Client.{client_of}
 use Rattle.iiod_connection.specs.Place.{first_place, place_of}
 use Rattle.iiod_connection.proofs.Whole.{closed_by, is_first_place, nothing_heard, served_all}
 use Rattle.iiod_connection.proofs.serve.serve_on.Goals as goal
@@ -22,6 +22,6 @@ returns-clause-served g c =
           (is_first_place g.B.Iio.seen told c.args.who c.in-Ok.session c.in-Ok.ensures) s.1,
       closed_by (g.B.Iio.front (g.B.Iio.kept c.args.iio.now)) c.talk-end.result s.0 last (g.B.Iio.told c.end.new.iio) s.2
           (subst (λ k. IfSome (g.B.Iio.told c.talk-end.new.iio)
-          (λ m. g.B.Iio.told c.end.new.iio ≡ Some (left_machine (g.B.Iio.front k) m (desk_of g.B.Iio.seen c.talk-end.new.session.desk))))
+          (λ m. g.B.Iio.told c.end.new.iio ≡ Some (left_machine (g.B.Iio.front k) m (client_of g.B.Iio.seen c.talk-end.new.session.client))))
           c.talk-end.ensures.kept c.end.ensures.told),
     )

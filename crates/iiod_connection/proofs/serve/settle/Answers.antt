@@ -21,7 +21,8 @@ returns-in-Ended-clause-turns g c =
       refl,
       inv.sends,
       subst
-          (λ (w : Going). StandsBy (g.B.Iio.front (g.B.Iio.kept c.args.iio.now)) w (place_of g.B.Iio.seen (g.B.Iio.told c.loop.iio) c.loop.session)) c.in-Ended.is
+          (λ (w : Going). StandsBy (g.B.Iio.front (g.B.Iio.kept c.args.iio.now)) w (place_of g.B.Iio.seen (g.B.Iio.told c.loop.iio) c.loop.session))
+          c.in-Ended.is
           inv.stands,
     )
 
@@ -53,7 +54,7 @@ loop-preserved g c =
     record {
       manner = c.feed_and_send.ensures.manner;
       kept = c.feed_and_send.ensures.kept ∙ inv.kept;
-      desk = c.feed_and_send.ensures.desk;
+      client = c.feed_and_send.ensures.client;
       look = rw (c.feed_and_send.ensures.kept ∙ inv.kept) (rw c.look_at.ensures there);
       left = c.feed_and_send.ensures.left ∙ inv.left;
       faults = c.in_ok-going.ensures.faults ∙ inv.faults;

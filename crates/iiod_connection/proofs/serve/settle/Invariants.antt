@@ -1,5 +1,5 @@
 use Rattle.std.proofs.Common.{◌≡◌, ◌<◌, [], length, IfSome}
-use Rattle.iiod_session.specs.Desk.{IsDesk}
+use Rattle.iiod_session.specs.Client.{IsClient}
 use Rattle.iiod_session.specs.declared.manner.Manner.TheVariants.{Server}
 use Rattle.iiod_connection.specs.Place.{place_of}
 use Rattle.iiod_connection.specs.Talks.{SendsAll, StandsBy}
@@ -9,7 +9,7 @@ abbrev pub invariant-loop : goal.invariant-loop
 invariant-loop g l = record {
   manner : l.session.manner ≡ Server;
   kept : g.B.Iio.kept l.iio ≡ g.B.Iio.kept l.fn.iio;
-  desk : IsDesk g.B.Iio.seen (g.B.Iio.front (g.B.Iio.kept l.iio)) l.session.desk;
+  client : IsClient g.B.Iio.seen (g.B.Iio.front (g.B.Iio.kept l.iio)) l.session.client;
   look : IfSome l.carried.look (λ k. k.dev < length (g.B.Iio.front (g.B.Iio.kept l.iio)).devices);
   left : g.L.Link.left l.link ≡ g.L.Link.left l.fn.link;
   faults : g.L.Link.faults l.link ≡ g.L.Link.faults l.fn.link;

@@ -7,7 +7,7 @@ pub loop-init : goal.loop-init
 loop-init g c = record {
   manner = c.requires.manner;
   kept = refl;
-  desk = c.requires.desk;
+  client = c.requires.client;
   look = tt;
   settled = c.requires.settled;
   faults = refl;
@@ -32,7 +32,7 @@ loop-preserved g c =
     record {
       manner = c.turn.ensures.manner;
       kept = c.turn.ensures.kept ∙ inv.kept;
-      desk = c.turn.ensures.desk;
+      client = c.turn.ensures.client;
       look = c.turn.ensures.look;
       settled = c.in_default-turn.ensures.turns.1;
       faults = c.in_default-turn.ensures.faults ∙ c.in-Ok.ensures.steady ∙ inv.faults;

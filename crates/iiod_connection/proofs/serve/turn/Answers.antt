@@ -20,7 +20,7 @@ loop-done-preserved g c =
     record {
       manner = c.hear.ensures.manner;
       kept = c.hear.ensures.kept ∙ inv.kept;
-      desk = c.hear.ensures.desk;
+      client = c.hear.ensures.client;
       look = c.hear.ensures.look;
       settled = c.in_ok-hear.ensures.turns.1;
       left = c.hear.ensures.left ∙ inv.left;

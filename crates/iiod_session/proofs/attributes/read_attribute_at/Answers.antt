@@ -1,7 +1,7 @@
 use Rattle.std.proofs.Common.{rules, sym, ◌∙◌, Ok}
 use Rattle.std.specs.Option.{option_copied}
 use Rattle.iiod_grammar.specs.View.{place_view}
-use Rattle.iiod_session.specs.Desk.{desk_of}
+use Rattle.iiod_session.specs.Client.{client_of}
 use Rattle.iio_core.specs.Front.{kind_at, shape_at}
 use Rattle.iiod_session.specs.Targets.{named_of_code, named_view}
 use Rattle.iiod_session.proofs.AttributeLaws.{reads_found, reads_refused}
@@ -18,19 +18,19 @@ read_device-requires-clause-may_read g c =
 
 pub returns-in-Err-clause-told : goal.returns-in-Err-clause-told
 returns-in-Err-clause-told g c =
-    reads_refused _ _ (desk_of g.I.Iio.seen c.args.desk.now) _ _ _ c.is_some-is_open.result c.plugged-plugged.result c.shape.result.now _
+    reads_refused _ _ (client_of g.I.Iio.seen c.args.client.now) _ _ _ c.is_some-is_open.result c.plugged-plugged.result c.shape.result.now _
     (search rules) c.plugged-plugged.ensures c.shape.ensures (c.in-Err.ensures (kind_at _ c.args.dev) c.kind_of-kind.ensures)
 
 pub returns-then-of_buffer-clause-told : goal.returns-then-of_buffer-clause-told
 returns-then-of_buffer-clause-told g c =
-    reads_found _ _ _ (desk_of g.I.Iio.seen c.args.desk.now) _ _ _ c.is_some-is_open.result c.plugged-plugged.result c.is_of_buffer-of_buffer.result
+    reads_found _ _ _ (client_of g.I.Iio.seen c.args.client.now) _ _ _ c.is_some-is_open.result c.plugged-plugged.result c.is_of_buffer-of_buffer.result
     c.shape.result.now (named_view (Ok c.in-Ok.target)) _
     (search rules) c.plugged-plugged.ensures c.shape.ensures c.is_of_buffer-of_buffer.ensures (c.in-Ok.ensures (kind_at _ c.args.dev) c.kind_of-kind.ensures)
     (rw c.if-of_buffer.true c.read_buffer.ensures.told)
 
 pub returns-else-of_buffer-clause-told : goal.returns-else-of_buffer-clause-told
 returns-else-of_buffer-clause-told g c =
-    reads_found _ _ _ (desk_of g.I.Iio.seen c.args.desk.now) _ _ _ c.is_some-is_open.result c.plugged-plugged.result c.is_of_buffer-of_buffer.result
+    reads_found _ _ _ (client_of g.I.Iio.seen c.args.client.now) _ _ _ c.is_some-is_open.result c.plugged-plugged.result c.is_of_buffer-of_buffer.result
     c.shape.result.now (named_view (Ok c.in-Ok.target)) _
     (search rules) c.plugged-plugged.ensures c.shape.ensures c.is_of_buffer-of_buffer.ensures (c.in-Ok.ensures (kind_at _ c.args.dev) c.kind_of-kind.ensures)
-    (rw c.if-of_buffer.false (c.read_device.ensures.told (desk_of g.I.Iio.seen c.args.desk.now)))
+    (rw c.if-of_buffer.false (c.read_device.ensures.told (client_of g.I.Iio.seen c.args.client.now)))

@@ -1,35 +1,36 @@
 use Rattle.std.proofs.Common.{ap, rules, List}
 use Rattle.std.proofs.lemmas.List.Elements.{All-set}
-use Rattle.iiod_session.specs.Desk.{Bare, IsHeld, bare_of, desk_of, tale_of, with_seats}
+use Rattle.iiod_session.specs.Client.{Bare, IsHeld, bare_of, client_of, trace_of, with_seats}
 use Rattle.iiod_session.proofs.AttributeLaws.{counted, held_under}
 use Rattle.iiod_session.proofs.SeatsLaws.{apart_set, map_set_same}
 use Rattle.iiod_session.proofs.attributes.read_buffer.Goals as goal
 
-pub returns-in-Some-clause-desk : goal.returns-in-Some-clause-desk
-returns-in-Some-clause-desk g c = record {
+pub returns-in-Some-clause-client : goal.returns-in-Some-clause-client
+returns-in-Some-clause-client g c = record {
   seats = rw c.buffer_number.ensures.kept
-      (All-set (IsHeld g.I.Iio.seen (g.I.Iio.front (g.I.Iio.kept c.args.iio.now))) c.args.desk.now.held.items c.in-Some.i c.buffer_number.new.h
-      (rw c.buffer_number.ensures.kept at c.buffer_number.ensures.held) c.requires.desk.seats);
+      (All-set (IsHeld g.I.Iio.seen (g.I.Iio.front (g.I.Iio.kept c.args.iio.now))) c.args.client.now.held.items c.in-Some.i c.buffer_number.new.h
+      (rw c.buffer_number.ensures.kept at c.buffer_number.ensures.held) c.requires.client.seats);
   apart =
-      apart_set g.I.Iio.seen c.args.desk.now.held.items c.in-Some.i c.buffer_number.new.h c.index_mut.result.now (search rules) c.index_mut.ensures.value
-      c.buffer_number.ensures.bare c.requires.desk.apart;
-  holdings = rw c.buffer_number.ensures.kept c.requires.desk.holdings;
+      apart_set g.I.Iio.seen c.args.client.now.held.items c.in-Some.i c.buffer_number.new.h c.index_mut.result.now (search rules) c.index_mut.ensures.value
+      c.buffer_number.ensures.bare c.requires.client.apart;
+  holdings = rw c.buffer_number.ensures.kept c.requires.client.holdings;
 }
 
 pub returns-in-Some-clause-same : goal.returns-in-Some-clause-same
 returns-in-Some-clause-same g c =
-    ap (λ (bs : List Bare). with_seats bs (desk_of g.I.Iio.seen c.args.desk.now))
-    (map_set_same g.I.Iio.seen (bare_of g.I.Iio.seen) c.args.desk.now.held.items c.in-Some.i c.buffer_number.new.h c.index_mut.result.now (search rules)
+    ap (λ (bs : List Bare). with_seats bs (client_of g.I.Iio.seen c.args.client.now))
+    (map_set_same g.I.Iio.seen (bare_of g.I.Iio.seen) c.args.client.now.held.items c.in-Some.i c.buffer_number.new.h c.index_mut.result.now (search rules)
     c.index_mut.ensures.value c.buffer_number.ensures.bare)
 
-pub returns-in-Some-clause-tales : goal.returns-in-Some-clause-tales
-returns-in-Some-clause-tales g c =
-    map_set_same g.I.Iio.seen (tale_of g.I.Iio.seen) c.args.desk.now.held.items c.in-Some.i c.buffer_number.new.h c.index_mut.result.now (search rules)
-    c.index_mut.ensures.value c.buffer_number.ensures.tale
+pub returns-in-Some-clause-traces : goal.returns-in-Some-clause-traces
+returns-in-Some-clause-traces g c =
+    map_set_same g.I.Iio.seen (trace_of g.I.Iio.seen) c.args.client.now.held.items c.in-Some.i c.buffer_number.new.h c.index_mut.result.now (search rules)
+    c.index_mut.ensures.value c.buffer_number.ensures.trace
 
 pub returns-in-Some-clause-told : goal.returns-in-Some-clause-told
 returns-in-Some-clause-told g c =
-    counted g.I.Iio.seen _ _ (desk_of g.I.Iio.seen c.args.desk.now) c.args.dev c.in-Some.i _ c.args.attribute c.args.desk.now.held.items c.index_mut.result.now
+    counted g.I.Iio.seen _ _ (client_of g.I.Iio.seen c.args.client.now) c.args.dev c.in-Some.i _ c.args.attribute c.args.client.now.held.items
+    c.index_mut.result.now
     (search rules) (search rules) c.index_mut.ensures.value
-    (held_under g.I.Iio.seen _ c.args.desk.now.held.items c.in-Some.i c.index_mut.result.now (search rules) c.index_mut.ensures.value c.requires.desk.seats)
+    (held_under g.I.Iio.seen _ c.args.client.now.held.items c.in-Some.i c.index_mut.result.now (search rules) c.index_mut.ensures.value c.requires.client.seats)
     c.buffer_number.ensures.value c.buffer_number.ensures.told

@@ -11,12 +11,12 @@ write_attr-requires-clause-may_write g c =
     (sym (rw c.shape.ensures at (c.in-Ok.ensures (kind_at _ c.args.dev) c.kind_of-kind.ensures)))
 
 pub returns-in-Err-clause-told : goal.returns-in-Err-clause-told
-returns-in-Err-clause-told g c = λ desk same.
-    writes_refused _ _ desk _ _ _ _ c.args.is_open c.plugged-plugged.result c.shape.result.now _ same c.plugged-plugged.ensures c.shape.ensures
+returns-in-Err-clause-told g c = λ client same.
+    writes_refused _ _ client _ _ _ _ c.args.is_open c.plugged-plugged.result c.shape.result.now _ same c.plugged-plugged.ensures c.shape.ensures
     (c.in-Err.ensures (kind_at _ c.args.dev) c.kind_of-kind.ensures)
 
 pub returns-in-Ok-clause-told : goal.returns-in-Ok-clause-told
-returns-in-Ok-clause-told g c = λ desk same.
-    writes _ _ _ desk _ _ _ _ c.args.is_open c.plugged-plugged.result c.shape.result.now (assignment_of_code c.in-Ok.x) _ same c.plugged-plugged.ensures
+returns-in-Ok-clause-told g c = λ client same.
+    writes _ _ _ client _ _ _ _ c.args.is_open c.plugged-plugged.result c.shape.result.now (assignment_of_code c.in-Ok.x) _ same c.plugged-plugged.ensures
     c.shape.ensures (c.in-Ok.ensures (kind_at _ c.args.dev) c.kind_of-kind.ensures)
     c.write_attr.ensures.told

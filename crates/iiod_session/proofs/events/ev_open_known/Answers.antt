@@ -1,17 +1,17 @@
 use Rattle.std.proofs.Common.{sym, ◌∙◌}
 use Rattle.iiod_reply.specs.Reply.{Refusal}
 use Rattle.iiod_session.specs.Acts.{ev_open_at}
-use Rattle.iiod_session.specs.Desk.{desk_of}
+use Rattle.iiod_session.specs.Client.{client_of}
 use Rattle.iiod_session.proofs.ServeLaws.{known, not_known}
 use Rattle.iiod_session.proofs.events.ev_open_known.Goals as goal
 
 pub returns-then-not-is_input-clause-told : goal.returns-then-not-is_input-clause-told
 returns-then-not-is_input-clause-told g c =
-    let desk = desk_of g.I.Iio.seen c.args.desk.now in
-    not_known _ _ desk c.args.dev (λ m. ev_open_at m desk c.args.dev) (Refusal c.unknown_refusal.result) (sym c.is_input.ensures ∙ c.if-not-is_input.true)
+    let client = client_of g.I.Iio.seen c.args.client.now in
+    not_known _ _ client c.args.dev (λ m. ev_open_at m client c.args.dev) (Refusal c.unknown_refusal.result) (sym c.is_input.ensures ∙ c.if-not-is_input.true)
     c.unknown_refusal.ensures.told
 
 pub returns-clause-told : goal.returns-clause-told
 returns-clause-told g c =
-    let desk = desk_of g.I.Iio.seen c.args.desk.now in
-    known _ _ _ desk _ c.args.dev (λ m. ev_open_at m desk c.args.dev) _ (sym c.is_input.ensures ∙ c.if-not-is_input.false) c.ev_open_at.ensures.told
+    let client = client_of g.I.Iio.seen c.args.client.now in
+    known _ _ _ client _ c.args.dev (λ m. ev_open_at m client c.args.dev) _ (sym c.is_input.ensures ∙ c.if-not-is_input.false) c.ev_open_at.ensures.told

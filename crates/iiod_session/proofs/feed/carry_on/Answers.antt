@@ -10,44 +10,45 @@ use Rattle.iiod_session.proofs.feed.carry_on.Goals as goal
 
 pub returns-in-More-clause-hears : goal.returns-in-More-clause-hears
 returns-in-More-clause-hears g c =
-    more_feeds _ _ _ _ _ _ _ c.loop-desk.lines c.feed-taken.new.self (pending_of c.loop-desk.pending) _ _ _
-    (rw c.in-More.is at (c.feed-taken.ensures.items (pending_of c.loop-desk.pending)))
-    (take_rest c.args.bytes.now c.loop-desk.at)
-    (none_after c.loop-desk.at c.feed-taken.result.0 c.args.bytes.now c.loop-desk.invariant.within
-    (c.feed-taken.ensures.taken ∙ more_takes c.loop-desk.lines _ c.loop-desk.invariant.ready (sym c.feed-taken.ensures.ready ∙ c.in-More.is)))
-    c.loop-desk.invariant.fed
+    more_feeds _ _ _ _ _ _ _ c.loop-client.lines c.feed-taken.new.self (pending_of c.loop-client.pending) _ _ _
+    (rw c.in-More.is at (c.feed-taken.ensures.items (pending_of c.loop-client.pending)))
+    (take_rest c.args.bytes.now c.loop-client.at)
+    (none_after c.loop-client.at c.feed-taken.result.0 c.args.bytes.now c.loop-client.invariant.within
+    (c.feed-taken.ensures.taken ∙ more_takes c.loop-client.lines _ c.loop-client.invariant.ready (sym c.feed-taken.ensures.ready ∙ c.in-More.is)))
+    c.loop-client.invariant.fed
 
 pub returns-in-More-clause-all : goal.returns-in-More-clause-all
 returns-in-More-clause-all g c on = (
-  all_taken c.loop-desk.at c.feed-taken.result.0 c.args.bytes.now c.loop-desk.invariant.within
-      (c.feed-taken.ensures.taken ∙ more_takes c.loop-desk.lines _ c.loop-desk.invariant.ready (sym c.feed-taken.ensures.ready ∙ c.in-More.is)),
+  all_taken c.loop-client.at c.feed-taken.result.0 c.args.bytes.now c.loop-client.invariant.within
+      (c.feed-taken.ensures.taken ∙ more_takes c.loop-client.lines _ c.loop-client.invariant.ready (sym c.feed-taken.ensures.ready ∙ c.in-More.is)),
   rw c.feed-taken.ensures.state
-      (more_waits c.loop-desk.lines _ (pending_of c.loop-desk.pending) c.loop-desk.invariant.ready (sym c.feed-taken.ensures.ready ∙ c.in-More.is)),
+      (more_waits c.loop-client.lines _ (pending_of c.loop-client.pending) c.loop-client.invariant.ready (sym c.feed-taken.ensures.ready ∙ c.in-More.is)),
 )
 
-pub loop-desk-preserved : goal.loop-desk-preserved
-loop-desk-preserved g c = record {
+pub loop-client-preserved : goal.loop-client-preserved
+loop-client-preserved g c = record {
   kept = search rules;
-  desk = rw (c.hear_piece.ensures.kept ∙ c.loop-desk.invariant.kept) at c.hear_piece.ensures.desk;
+  client = rw (c.hear_piece.ensures.kept ∙ c.loop-client.invariant.kept) at c.hear_piece.ensures.client;
   within =
-      let n : c.feed-taken.result.0 ≤ length (drop c.loop-desk.at c.args.bytes.now) =
-      rw (take_rest c.args.bytes.now c.loop-desk.at) at c.feed-taken.ensures.within in
-      omega (arith, length-drop c.loop-desk.at c.args.bytes.now, c.loop-desk.invariant.within);
+      let n : c.feed-taken.result.0 ≤ length (drop c.loop-client.at c.args.bytes.now) =
+      rw (take_rest c.args.bytes.now c.loop-client.at) at c.feed-taken.ensures.within in
+      omega (arith, length-drop c.loop-client.at c.args.bytes.now, c.loop-client.invariant.within);
   ready = rw c.in-On.is at c.in_ok-going.ensures.ready;
   fed = on_fed _ _ _ _ _ _ _ _ _ _ _ _ _ _
-      (ap (λ bs. scan_on (stream_by On c.loop-desk.lines c.loop-desk.pending) bs) (sym (take_rest c.args.bytes.now c.loop-desk.at))
-      ∙ piece_scans c.cut_anywhere.ensures.items c.cut_anywhere.ensures.scanner c.loop-desk.lines c.feed-taken.new.self c.loop-desk.pending _
+      (ap (λ bs. scan_on (stream_by On c.loop-client.lines c.loop-client.pending) bs) (sym (take_rest c.args.bytes.now c.loop-client.at))
+      ∙ piece_scans c.cut_anywhere.ensures.items c.cut_anywhere.ensures.scanner c.loop-client.lines c.feed-taken.new.self c.loop-client.pending _
       c.feed-taken.result.0 c.feed-taken.result.1
-      c.in_default.not-More c.loop-desk.invariant.ready (c.feed-taken.ensures.items (pending_of c.loop-desk.pending)))
-      (rest_after c.loop-desk.at c.feed-taken.result.0 c.args.bytes.now) c.loop-desk.invariant.fed
-      (rw (c.in-On.is, c.loop-desk.invariant.kept) at c.in_ok-going.ensures.hears);
+      c.in_default.not-More c.loop-client.invariant.ready (c.feed-taken.ensures.items (pending_of c.loop-client.pending)))
+      (rest_after c.loop-client.at c.feed-taken.result.0 c.args.bytes.now) c.loop-client.invariant.fed
+      (rw (c.in-On.is, c.loop-client.invariant.kept) at c.in_ok-going.ensures.hears);
 }
 
 pub returns-in_default-2-clause-hears : goal.returns-in_default-2-clause-hears
 returns-in_default-2-clause-hears g c =
     stop_feeds _ _ _ _ _ _ _ _ _ _ _ _ _ _ c.in_ok-going.going c.in_default-2.not-On
-    (ap (λ bs. scan_on (stream_by On c.loop-desk.lines c.loop-desk.pending) bs) (sym (take_rest c.args.bytes.now c.loop-desk.at))
-    ∙ piece_scans c.cut_anywhere.ensures.items c.cut_anywhere.ensures.scanner c.loop-desk.lines c.feed-taken.new.self c.loop-desk.pending _
+    (ap (λ bs. scan_on (stream_by On c.loop-client.lines c.loop-client.pending) bs) (sym (take_rest c.args.bytes.now c.loop-client.at))
+    ∙ piece_scans c.cut_anywhere.ensures.items c.cut_anywhere.ensures.scanner c.loop-client.lines c.feed-taken.new.self c.loop-client.pending _
     c.feed-taken.result.0 c.feed-taken.result.1
-    c.in_default.not-More c.loop-desk.invariant.ready (c.feed-taken.ensures.items (pending_of c.loop-desk.pending)))
-    (rest_after c.loop-desk.at c.feed-taken.result.0 c.args.bytes.now) c.loop-desk.invariant.fed (rw c.loop-desk.invariant.kept at c.in_ok-going.ensures.hears)
+    c.in_default.not-More c.loop-client.invariant.ready (c.feed-taken.ensures.items (pending_of c.loop-client.pending)))
+    (rest_after c.loop-client.at c.feed-taken.result.0 c.args.bytes.now) c.loop-client.invariant.fed
+    (rw c.loop-client.invariant.kept at c.in_ok-going.ensures.hears)

@@ -32,7 +32,7 @@ pub returns-else-is_empty-clause-hears : goal.returns-else-is_empty-clause-hears
 returns-else-is_empty-clause-hears g c =
     let kept = rw c.in-Waits.is at c.requires.ready in
     rw c.in-Waits.is
-    (resumed _ _ _ _ (λ r. scene_of g.I.Iio.seen (g.I.Iio.told c.carry_on-in-On-2.new.iio) c.carry_on-in-On-2.new.desk c.carry_on-in-On-2.new.watch
+    (resumed _ _ _ _ (λ r. scene_of g.I.Iio.seen (g.I.Iio.told c.carry_on-in-On-2.new.iio) c.carry_on-in-On-2.new.client c.carry_on-in-On-2.new.watch
     (is_waiting r.1)) _ _ _ _ _ c.args.bytes.now
     (λ r. scan_on (stream_by r.1 c.carry_on-in-On-2.new.lines c.carry_on-in-On-2.new.pending) (drop r.0 c.args.bytes.now)) _
     (rw c.in-On-2.is at (c.in_ok-going-in-Waits.ensures.hears c.args.lines.now kept.0 kept.1))

@@ -1,7 +1,7 @@
 use Rattle.std.proofs.Common.{◌≡◌, vec_len, IfSome, Some}
 use Rattle.iio_core.specs.Machine.{Machine}
 use Rattle.iiod_session.specs.Acts.{all_closed}
-use Rattle.iiod_session.specs.Desk.{AllHeld, seats_of}
+use Rattle.iiod_session.specs.Client.{AllHeld, seats_of}
 use Rattle.iiod_session.proofs.leave.close_all.Given as goal
 
 abbrev pub invariant-loop-h : goal.invariant-loop-h

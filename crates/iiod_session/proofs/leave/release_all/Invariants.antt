@@ -1,7 +1,7 @@
 use Rattle.std.proofs.Common.{◌≡◌, All, vec_len, IfSome, Some}
 use Rattle.iio_core.specs.Machine.{Machine}
 use Rattle.iiod_session.specs.Acts.{all_released}
-use Rattle.iiod_session.specs.Desk.{IsHolding}
+use Rattle.iiod_session.specs.Client.{IsHolding}
 use Rattle.iiod_session.proofs.leave.release_all.Given as goal
 
 abbrev pub invariant-loop-dev : goal.invariant-loop-dev

@@ -1,7 +1,7 @@
 use Rattle.std.proofs.Common.{inl, inr, refl, rules}
 use Rattle.std.specs.Option.{option_copied}
 use Rattle.iiod_grammar.specs.View.{command_view, place_view}
-use Rattle.iiod_session.specs.Desk.{desk_of}
+use Rattle.iiod_session.specs.Client.{client_of}
 use Rattle.iiod_session.proofs.AnswerLaws.{by_event, by_no, by_text, by_zero, event_fits, event_formed, serves_short, text_fits, text_formed, trigger_fits, trigger_formed}
 use Rattle.iiod_session.proofs.AttributeLaws.{serves_read_attribute}
 use Rattle.iiod_session.proofs.ServeLaws.{serves_close, serves_ev_close, serves_ev_open, serves_ev_read, serves_get_trigger, serves_open, serves_remask, serves_set_buffers, serves_set_trigger, serves_unknown, short_at}
@@ -30,7 +30,7 @@ returns-in-Read-clause-served g c =
     rw c.in-Read.is
     (by_text _ _ _ _ _ _ _ _ c.read_attribute_at.result c.read_attribute_at.ensures.text
     (serves_read_attribute _ _ _ _ _ _ _ _ _ _ c.in-Some.dev _ here c.read_attribute_at.ensures.told c.read_attribute_at.ensures.same
-    c.read_attribute_at.ensures.tales
+    c.read_attribute_at.ensures.traces
     (text_formed _ c.in-Read.dev.now (place_view c.in-Read.place) (option_copied c.in-Read.attr)
     c.read_attribute_at.result c.read_attribute_at.ensures.text)))
 
@@ -41,7 +41,7 @@ pub returns-in-GetTrig-clause-served : goal.returns-in-GetTrig-clause-served
 returns-in-GetTrig-clause-served g c =
     let here = rw (c.in-Some.is, c.in-GetTrig.is) at c.requires.at in
     rw c.in-GetTrig.is (record {
-      served = serves_get_trigger _ _ _ _ _ c.in-Some.dev _ here (c.get_trigger_at.ensures.told (desk_of g.I.Iio.seen c.args.desk.now))
+      served = serves_get_trigger _ _ _ _ _ c.in-Some.dev _ here (c.get_trigger_at.ensures.told (client_of g.I.Iio.seen c.args.client.now))
           (trigger_formed _ c.in-GetTrig.dev.now c.get_trigger_at.result c.get_trigger_at.ensures.trigger);
       short = λ long. serves_short _ _ _ _ _ (short_at _) (refl, refl);
     })
@@ -54,7 +54,8 @@ returns-in-SetTrig-clause-served g c =
     let here = rw (c.in-Some.is, c.in-SetTrig.is) at c.requires.at in
     rw (c.in-SetTrig.is, c.answered-in-SetTrig.ensures.value)
     (by_zero _ _ _ _ _ _ _ _ c.set_trigger_known.result
-    (serves_set_trigger _ _ _ _ _ _ _ c.in-Some.dev c.set_trigger_known.result here (c.set_trigger_known.ensures.told (desk_of g.I.Iio.seen c.args.desk.now))))
+    (serves_set_trigger _ _ _ _ _ _ _ c.in-Some.dev c.set_trigger_known.result here
+    (c.set_trigger_known.ensures.told (client_of g.I.Iio.seen c.args.client.now))))
 
 pub returns-in-SetBuffers-clause-served : goal.returns-in-SetBuffers-clause-served
 returns-in-SetBuffers-clause-served g c =

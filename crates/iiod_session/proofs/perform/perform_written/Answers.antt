@@ -1,7 +1,7 @@
 use Rattle.std.proofs.Common.{option_map, refl}
 use Rattle.iiod_grammar.specs.Stream.{Written}
 use Rattle.iiod_grammar.specs.View.{target_view}
-use Rattle.iiod_session.specs.Desk.{desk_of}
+use Rattle.iiod_session.specs.Client.{client_of}
 use Rattle.iiod_session.proofs.AnswerLaws.{performed, serves_short, short_written}
 use Rattle.iiod_session.proofs.ServeLaws.{finished}
 use Rattle.iiod_session.proofs.perform.perform_written.Goals as goal
@@ -11,7 +11,7 @@ returns-then-is_err-clause-served g c =
     let device = c.args.device.now in
     let target = option_map target_view c.args.target in
     let payload = c.args.payload.now in
-    let short = short_written _ (desk_of g.I.Iio.seen c.args.desk.now) device target payload in
+    let short = short_written _ (client_of g.I.Iio.seen c.args.client.now) device target payload in
     finished _ _ _ _ _ _ _ _ _ _ _ _ _
     (serves_short _ _ _ _ (Written device target payload) short (refl, refl))
     c.finish.ensures.done (rw c.reserve.ensures.items at c.finish.ensures.text) c.finish.ensures.allowed tt

@@ -1,5 +1,5 @@
 use Rattle.std.proofs.Common.{◌≡◌, drop}
-use Rattle.iiod_session.specs.Desk.{buffers_of}
+use Rattle.iiod_session.specs.Client.{buffers_of}
 use Rattle.iiod_session.proofs.seats.buffers_of.Given as goal
 
 abbrev pub invariant-loop-b : goal.invariant-loop-b

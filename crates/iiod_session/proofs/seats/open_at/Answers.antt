@@ -1,26 +1,27 @@
 use Rattle.std.proofs.Common.{rules}
-use Rattle.iiod_session.specs.Desk.{desk_of}
+use Rattle.iiod_session.specs.Client.{client_of}
 use Rattle.iio_core.specs.Front.{kind_at}
 use Rattle.iiod_session.proofs.SeatsLaws.{opens, opens_by, refuses}
 use Rattle.iiod_session.proofs.seats.open_at.Goals as goal
 
 pub returns-in-Err-clause-told : goal.returns-in-Err-clause-told
 returns-in-Err-clause-told g c =
-    refuses _ _ (desk_of g.I.Iio.seen c.args.desk.now) c.args.dev c.args.samples c.args.text.now c.args.cyclic c.is_some-is_open.result c.plugged-plugged.result
+    refuses _ _ (client_of g.I.Iio.seen c.args.client.now) c.args.dev c.args.samples c.args.text.now c.args.cyclic c.is_some-is_open.result
+    c.plugged-plugged.result
     c.shape.result.now
     c.buffers_of-buffers.result _ (search rules) c.plugged-plugged.ensures c.shape.ensures (search rules)
     (c.in-Err.ensures.value (kind_at _ c.args.dev) c.is_output.ensures)
 
 pub returns-in-Ok-clause-told : goal.returns-in-Ok-clause-told
 returns-in-Ok-clause-told g c =
-    opens _ _ _ (desk_of g.I.Iio.seen c.args.desk.now) _ c.args.dev c.args.samples c.args.text.now c.args.cyclic c.is_some-is_open.result
+    opens _ _ _ (client_of g.I.Iio.seen c.args.client.now) _ c.args.dev c.args.samples c.args.text.now c.args.cyclic c.is_some-is_open.result
     c.plugged-plugged.result c.shape.result.now
     c.buffers_of-buffers.result c.in-Ok.wanted _ (search rules) c.plugged-plugged.ensures c.shape.ensures (search rules)
     (c.in-Ok.ensures.value (kind_at _ c.args.dev) c.is_output.ensures) c.join.ensures.told
 
 pub returns-in-Ok-clause-moves : goal.returns-in-Ok-clause-moves
 returns-in-Ok-clause-moves g c =
-    opens_by _ _ c.args.samples c.args.text.now c.args.cyclic (desk_of g.I.Iio.seen c.args.desk.now) _ _ _ c.shape.result.now c.buffers_of-buffers.result _
+    opens_by _ _ c.args.samples c.args.text.now c.args.cyclic (client_of g.I.Iio.seen c.args.client.now) _ _ _ c.shape.result.now c.buffers_of-buffers.result _
     c.join.result
     c.shape.ensures (search rules) (c.in-Ok.ensures.wanted (kind_at _ c.args.dev) c.is_output.ensures) c.join.ensures.moves
 

@@ -1,6 +1,6 @@
 use Rattle.std.proofs.Common.{rules, refl}
 use Rattle.iiod_session.specs.Acts.{zero_reply}
-use Rattle.iiod_session.specs.Desk.{bare_of}
+use Rattle.iiod_session.specs.Client.{bare_of}
 use Rattle.iiod_session.proofs.HeldLaws.{id_is, served_less, read_ends}
 use Rattle.iiod_session.proofs.seats.read_held.Goals as goal
 

@@ -2,36 +2,36 @@ use Rattle.std.proofs.Common.{ℕ, ◌∙◌, ap, rules}
 use Rattle.std.proofs.lemmas.List.Elements.{All-set}
 use Rattle.iio_desc.specs.Kind.{is_input}
 use Rattle.iio_core.specs.Front.{kind_at}
-use Rattle.iiod_session.specs.Desk.{IsHeld, desk_of}
+use Rattle.iiod_session.specs.Client.{IsHeld, client_of}
 use Rattle.iiod_session.proofs.SeatsLaws.{apart_under_mask, dev_is, remask_comes, remasks_by}
 use Rattle.iiod_session.proofs.seats.remask_at.Goals as goal
 
-pub returns-clause-desk : goal.returns-clause-desk
-returns-clause-desk g c = record {
+pub returns-clause-client : goal.returns-clause-client
+returns-clause-client g c = record {
   seats = rw c.remask_held.ensures.kept
-      (All-set (IsHeld g.I.Iio.seen (g.I.Iio.front (g.I.Iio.kept c.args.iio.now))) c.args.desk.now.held.items c.in-Some.i c.remask_held.new.h
-      (rw c.remask_held.ensures.kept at c.remask_held.ensures.held) c.requires.desk.seats);
+      (All-set (IsHeld g.I.Iio.seen (g.I.Iio.front (g.I.Iio.kept c.args.iio.now))) c.args.client.now.held.items c.in-Some.i c.remask_held.new.h
+      (rw c.remask_held.ensures.kept at c.remask_held.ensures.held) c.requires.client.seats);
   apart =
-      apart_under_mask g.I.Iio.seen c.args.desk.now.held.items c.in-Some.i c.remask_held.new.h c.index_mut.result.now (search rules) c.index_mut.ensures.value
-      c.remask_held.ensures.dev c.requires.desk.apart;
-  holdings = rw c.remask_held.ensures.kept c.requires.desk.holdings;
+      apart_under_mask g.I.Iio.seen c.args.client.now.held.items c.in-Some.i c.remask_held.new.h c.index_mut.result.now (search rules) c.index_mut.ensures.value
+      c.remask_held.ensures.dev c.requires.client.apart;
+  holdings = rw c.remask_held.ensures.kept c.requires.client.holdings;
 }
 
 pub returns-clause-told : goal.returns-clause-told
 returns-clause-told g c =
-    remask_comes g.I.Iio.seen _ _ _ (desk_of g.I.Iio.seen c.args.desk.now) c.args.dev c.in-Some.i _ c.args.desk.now.held.items c.index_mut.result.now
+    remask_comes g.I.Iio.seen _ _ _ (client_of g.I.Iio.seen c.args.client.now) c.args.dev c.in-Some.i _ c.args.client.now.held.items c.index_mut.result.now
     c.remask_held.new.h c.remask_held.result
     (search rules) (search rules) c.index_mut.ensures.value (rw c.if-not-plugged.false at c.plugged.ensures) c.remask_held.ensures.moves
     c.remask_held.ensures.told
 
 pub returns-clause-moves : goal.returns-clause-moves
 returns-clause-moves g c =
-    remasks_by g.I.Iio.seen _ (desk_of g.I.Iio.seen c.args.desk.now) c.args.dev c.in-Some.i _ c.args.desk.now.held.items c.index_mut.result.now
+    remasks_by g.I.Iio.seen _ (client_of g.I.Iio.seen c.args.client.now) c.args.dev c.in-Some.i _ c.args.client.now.held.items c.index_mut.result.now
     c.remask_held.new.h c.remask_held.result
     (search rules) (search rules) c.index_mut.ensures.value c.remask_held.ensures.moves
 
 pub remask_held-requires-clause-input : goal.remask_held-requires-clause-input
 remask_held-requires-clause-input g c =
     ap (λ (d : ℕ). is_input (kind_at (g.I.Iio.front (g.I.Iio.kept c.args.iio.now)) d))
-    (dev_is g.I.Iio.seen c.args.dev c.in-Some.i c.args.desk.now.held.items c.index_mut.result.now (search rules) (search rules) c.index_mut.ensures.value)
+    (dev_is g.I.Iio.seen c.args.dev c.in-Some.i c.args.client.now.held.items c.index_mut.result.now (search rules) (search rules) c.index_mut.ensures.value)
     ∙ c.requires.input

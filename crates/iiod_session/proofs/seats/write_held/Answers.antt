@@ -1,5 +1,5 @@
 use Rattle.std.proofs.Common.{refl}
-use Rattle.iiod_session.specs.Desk.{bare_of}
+use Rattle.iiod_session.specs.Client.{bare_of}
 use Rattle.iiod_session.proofs.HeldLaws.{id_is, wrote_scans}
 use Rattle.iiod_session.proofs.seats.write_held.Goals as goal
 

@@ -6,13 +6,13 @@ use Rattle.iiod_session.proofs.ServeLaws.{known, not_known}
 use Rattle.iiod_session.proofs.triggers.set_trigger_known.Goals as goal
 
 pub returns-then-is_average-clause-told : goal.returns-then-is_average-clause-told
-returns-then-is_average-clause-told g c = λ desk.
+returns-then-is_average-clause-told g c = λ client.
     let front = g.I.Iio.front (g.I.Iio.kept c.args.iio.now) in
-    not_known _ _ desk c.args.dev (λ m. set_trigger_at front m desk (option_copied c.args.name) c.args.dev) (Refusal c.unknown_refusal.result)
+    not_known _ _ client c.args.dev (λ m. set_trigger_at front m client (option_copied c.args.name) c.args.dev) (Refusal c.unknown_refusal.result)
     (ap not (sym c.is_average.ensures ∙ c.if-is_average.true)) c.unknown_refusal.ensures.told
 
 pub returns-clause-told : goal.returns-clause-told
-returns-clause-told g c = λ desk.
+returns-clause-told g c = λ client.
     let front = g.I.Iio.front (g.I.Iio.kept c.args.iio.now) in
-    known _ _ _ desk desk c.args.dev (λ m. set_trigger_at front m desk (option_copied c.args.name) c.args.dev) _
-    (ap not (sym c.is_average.ensures ∙ c.if-is_average.false)) (c.set_trigger_at.ensures.told desk)
+    known _ _ _ client client c.args.dev (λ m. set_trigger_at front m client (option_copied c.args.name) c.args.dev) _
+    (ap not (sym c.is_average.ensures ∙ c.if-is_average.false)) (c.set_trigger_at.ensures.told client)

@@ -1,7 +1,7 @@
 use Rattle.std.proofs.Common.{◌≡◌, ◌+◌, ◌-◌, ℕ, List, length, take, drop, sym, ap, ◌∙◌, subst, arith, inl, inr}
 use Rattle.std.proofs.lemmas.List.{drop-drop, length-drop, take_all}
 use Rattle.iio_script.specs.LineReader.{Hand, IsHand, StandsAtEnd}
-use Rattle.iio_script.proofs.HandLaws.{looked_all, looked_to, stands_at}
+use Rattle.iio_script.proofs.HandLaws.{scanned_all, scanned_to, stands_at}
 use Rattle.iio_script.proofs.line_reader.LineReader.look_on.Goals as goal
 use Rattle.iio_script.proofs.line_reader.LineReader.look_on.Goals.{in-Some, in-None}
 
@@ -23,9 +23,10 @@ invariant_of-self c =
       elim c.match-line_end.branch [
         | in-Some w ↦
             subst (λ (n : ℕ). IsHand (record h { looked = n })) (sym w.self-is)
-            (looked_to h _ w.in-Some.len c.self.invariant.2 text (rw w.in-Some.is at c.line_end.ensures))
+            (scanned_to h _ w.in-Some.len c.self.invariant.2 text (rw w.in-Some.is at c.line_end.ensures))
         | in-None w ↦
-            looked_all h _ c.match-line_end.self c.self.invariant.2 text (rw w.in-None.is at c.line_end.ensures) (omega (arith, w.self-is, w.len.ensures, long))
+            scanned_all h _ c.match-line_end.self c.self.invariant.2 text (rw w.in-None.is at c.line_end.ensures)
+            (omega (arith, w.self-is, w.len.ensures, long))
       ],
     )
 

@@ -21,7 +21,8 @@ invariant_of-self g c =
     record {
       sound = sound_placed drive _ _ c.index_mut.result.now c.set_trigger.new.self at _ _ c.args.self.now.sound kept.place;
       numbered = numbered_after _ _ _ _ _ c.args.self.now.numbered at c.set_trigger.ensures.keeps.head.number;
-      averaged = averaged_set drive _ _ _ _ c.index_mut.result.now c.set_trigger.new.self c.args.self.now.averaged at plain c.set_trigger.ensures.keeps.head kept;
+      averaged =
+          averaged_set drive _ _ _ _ c.index_mut.result.now c.set_trigger.new.self c.args.self.now.averaged at plain c.set_trigger.ensures.keeps.head kept;
     }
 
 pub returns-clause-kept : goal.returns-clause-kept

@@ -1,7 +1,7 @@
 use Rattle.iio_device.specs.Plug.{driver_of}
 use Rattle.iio_system.specs.Station.{station_by}
 use Rattle.std.proofs.Common.{refl, sym, ◌∙◌}
-use Rattle.iio_core.specs.Calls.{remasked}
+use Rattle.iio_core.specs.Calls.{station_after_remask}
 use Rattle.iio_system.specs.Acting.{id_of}
 use Rattle.iio_system.specs.Inner.{inner_at}
 use Rattle.iio_system.specs.Remasking.{remask_answer}
@@ -13,7 +13,7 @@ use Rattle.iio_system.proofs.in_device.InDevice.remask.Goals as goal
 pub returns-then-not-is_inner-clause-acts : goal.returns-then-not-is_inner-clause-acts
 returns-then-not-is_inner-clause-acts g c =
     let drive = driver_of (λ b. (g.dyn-1.0.entry b.vtable).1.driver b.value) in
-    acts_named c.args.self.now.inners.items (remasked c.args.seat.now.number c.args.mask.bits c.args.seat.now.capacity)
+    acts_named c.args.self.now.inners.items (station_after_remask c.args.seat.now.number c.args.mask.bits c.args.seat.now.capacity)
     (remask_answer c.args.self.now.device.core.roster.shape (station_by drive c.args.self.now.device) (id_of c.args.seat.now.number c.args.seat.now.mask)
     c.args.mask.bits) (remask_answer c.args.self.now.device.core.roster.shape (named c.args.self.now.inners.items (station_by drive c.args.self.now.device))
     (id_of c.args.seat.now.number c.args.seat.now.mask) c.args.mask.bits) c.remask.result (station_by drive c.args.self.now.device)

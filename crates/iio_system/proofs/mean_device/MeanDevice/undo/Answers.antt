@@ -1,5 +1,5 @@
 use Rattle.std.proofs.Common.{◌≡◌, subst, map, false, None}
-use Rattle.iio_core.specs.Calls.{joined}
+use Rattle.iio_core.specs.Calls.{station_after_join}
 use Rattle.iio_system.specs.Faults.{HasJoined}
 use Rattle.iio_system.specs.MeanStation.{mean_member}
 use Rattle.iio_system.specs.Seated.{IsSeating}
@@ -31,4 +31,4 @@ returns-clause-station c before e =
     (told_with old.average old.plugged old.starts old.next old.captures old.totals (map (mean_member old.average.seats) seats))) c.in-Some.ensures.items
     c.requires)
     before (subst (λ seats. told_with old.average old.plugged old.starts old.next old.captures old.totals (map (mean_member old.average.seats) seats)
-    ≡ joined c.args.seat.mask.bits c.args.seat.capacity false None before) c.in-Some.ensures.items e))
+    ≡ station_after_join c.args.seat.mask.bits c.args.seat.capacity false None before) c.in-Some.ensures.items e))

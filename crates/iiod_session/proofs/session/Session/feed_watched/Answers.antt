@@ -1,5 +1,5 @@
 use Rattle.std.proofs.Common.{Ok, ap}
-use Rattle.iiod_session.specs.Desk.{DeskRecord}
+use Rattle.iiod_session.specs.Client.{ClientRecord}
 use Rattle.iiod_session.proofs.FeedLaws.{feeds_given}
 use Rattle.iiod_session.proofs.HearLaws.{waits_by}
 use Rattle.iiod_session.proofs.SeatsLaws.{seated}
@@ -11,7 +11,7 @@ use Rattle.iiod_session.proofs.session.Session.feed_watched.Goals as goal
 pub returns-in-Ok-clause-feeds : goal.returns-in-Ok-clause-feeds
 returns-in-Ok-clause-feeds g c =
     rw (← c.self.view_is) (feeds_given c.self.inside.manner _ _ _ _ _ _ _ c.in-Ok.going
-    (seated g.I.Iio.seen _ c.self.inside.desk (rw (← c.self.view_is) at c.requires))
+    (seated g.I.Iio.seen _ c.self.inside.client (rw (← c.self.view_is) at c.requires))
     (carries_of c.self.inside.manner _ _ _ _ _ _ _ c.in-Ok.going c.in-Ok.ensures.hears))
 
 pub returns-in-Ok-clause-script : goal.returns-in-Ok-clause-script
@@ -28,4 +28,4 @@ returns-in-Ok-clause-watched g c =
     ) c.in-Ok.ensures.hears)
 
 pub returns-in-Err-clause-gone : goal.returns-in-Err-clause-gone
-returns-in-Err-clause-gone g c = (c.leave.ensures.none, ap (λ (d : DeskRecord). d.holdings) c.leave.ensures.left, scan_end c.hear.new.left.items)
+returns-in-Err-clause-gone g c = (c.leave.ensures.none, ap (λ (d : ClientRecord). d.holdings) c.leave.ensures.left, scan_end c.hear.new.left.items)

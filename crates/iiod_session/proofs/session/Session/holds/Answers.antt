@@ -6,4 +6,4 @@ use Rattle.iiod_session.proofs.session.Session.holds.Goals as goal
 pub returns : goal.returns
 returns g c seen =
     rw (← c.self.view_is)
-    (c.is_some.ensures ∙ ap is_some (rw c.deref.ensures.value at c.find_held.ensures.place ∙ sym (place_is seen c.args.dev c.self.inside.desk.held.items)))
+    (c.is_some.ensures ∙ ap is_some (rw c.deref.ensures.value at c.find_held.ensures.place ∙ sym (place_is seen c.args.dev c.self.inside.client.held.items)))

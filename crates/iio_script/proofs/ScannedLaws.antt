@@ -6,7 +6,7 @@ use Rattle.std.proofs.lemmas.Bool.Decides.{nat_tests}
 use Rattle.std.proofs.lemmas.List.{length-append, length-take}
 use Rattle.iio_text.specs.Lines.{fits_line, lines_of}
 use Rattle.iio_text.specs.declared.lines.TheConstants.{MAX_LINE_BYTES}
-use Rattle.iio_history.specs.Input.{cut_line, ended_part, input_limit, looked_lines, told_part}
+use Rattle.iio_history.specs.Input.{cut_line, ended_part, input_limit, scanned_lines, told_part}
 use Rattle.iio_script.specs.LineReader.{IsFront, IsPlain}
 use Rattle.iio_script.proofs.LineLaws.{BeginsWith, Parted, ended_behind, ended_none, lines_begin, lines_last, parted, plain_append, told_front}
 
@@ -14,7 +14,7 @@ use Rattle.iio_script.proofs.LineLaws.{BeginsWith, Parted, ended_behind, ended_n
 lines_within : ℕ → List ℕ → List (List ℕ)
 lines_within limit input = lines_of (cond (nat_lt limit (length input)) (told_part (take limit input)) input)
 
-looked : (input : List ℕ) → lines_within input_limit input ≡ looked_lines input
+looked : (input : List ℕ) → lines_within input_limit input ≡ scanned_lines input
 unfolding lines_within
 looked input = refl
 
@@ -138,28 +138,28 @@ long_within limit bytes line rest front is plain long few = elim (cases_lt limit
 
 -- ---- the same of the input's limit
 
-pub looked_begin : (bytes rest : List ℕ) (front : List (List ℕ)) → IsFront bytes front → length bytes ≤ input_limit
-    → Begins front (looked_lines (bytes ++ rest))
+pub scanned_begin : (bytes rest : List ℕ) (front : List (List ℕ)) → IsFront bytes front → length bytes ≤ input_limit
+    → Begins front (scanned_lines (bytes ++ rest))
 unfolding lines_within
-looked_begin bytes rest front is few = begins_within input_limit bytes rest front is few
+scanned_begin bytes rest front is few = begins_within input_limit bytes rest front is few
 
-pub looked_whole : (bytes : List ℕ) (front : List (List ℕ)) → IsFront bytes front → length bytes ≤ input_limit → looked_lines bytes ≡ front
+pub scanned_whole : (bytes : List ℕ) (front : List (List ℕ)) → IsFront bytes front → length bytes ≤ input_limit → scanned_lines bytes ≡ front
 unfolding lines_within
-looked_whole bytes front is few =
+scanned_whole bytes front is few =
     all_within input_limit bytes few ∙ ap lines_of (sym (append-nil bytes)) ∙ is.lines [] ∙ append-nil front
 
-pub looked_last : (bytes line : List ℕ) (front : List (List ℕ)) → IsFront bytes front → IsPlain line → 0 < length line → length (bytes ++ line) ≤ input_limit
-    → looked_lines (bytes ++ line) ≡ front ++ line ∷ []
+pub scanned_last : (bytes line : List ℕ) (front : List (List ℕ)) → IsFront bytes front → IsPlain line → 0 < length line → length (bytes ++ line) ≤ input_limit
+    → scanned_lines (bytes ++ line) ≡ front ++ line ∷ []
 unfolding lines_within
-looked_last bytes line front is plain some short = last_within input_limit bytes line front is plain some short
+scanned_last bytes line front is plain some short = last_within input_limit bytes line front is plain some short
 
-pub looked_cut : (bytes rest : List ℕ) (front : List (List ℕ)) → IsFront bytes front → length bytes ≤ input_limit → input_limit < length (bytes ++ rest)
-    → IsPlain (take (input_limit - length bytes) rest) → input_limit ≤ length bytes + MAX_LINE_BYTES → looked_lines (bytes ++ rest) ≡ front
+pub scanned_cut : (bytes rest : List ℕ) (front : List (List ℕ)) → IsFront bytes front → length bytes ≤ input_limit → input_limit < length (bytes ++ rest)
+    → IsPlain (take (input_limit - length bytes) rest) → input_limit ≤ length bytes + MAX_LINE_BYTES → scanned_lines (bytes ++ rest) ≡ front
 unfolding lines_within
-looked_cut bytes rest front is few over plain short = cut_within input_limit bytes rest front is few over plain short
+scanned_cut bytes rest front is few over plain short = cut_within input_limit bytes rest front is few over plain short
 
-pub looked_long : (bytes line rest : List ℕ) (front : List (List ℕ)) → IsFront bytes front → IsPlain line → MAX_LINE_BYTES < length line
+pub scanned_long : (bytes line rest : List ℕ) (front : List (List ℕ)) → IsFront bytes front → IsPlain line → MAX_LINE_BYTES < length line
     → length bytes + length line ≤ input_limit
-    → LongBehind front (looked_lines (bytes ++ (line ++ rest)))
+    → LongBehind front (scanned_lines (bytes ++ (line ++ rest)))
 unfolding lines_within
-looked_long bytes line rest front is plain long few = long_within input_limit bytes line rest front is plain long few
+scanned_long bytes line rest front is plain long few = long_within input_limit bytes line rest front is plain long few

@@ -29,7 +29,7 @@ pub(crate) struct BuffersCount {
 
 /// A connection's number, its seats, the buffers counts that it has set, and the devices whose events go to it.
 #[derive(Drop)]
-pub(crate) struct Desk<S> {
+pub(crate) struct Client<S> {
     pub(crate) who: u32,
     pub(crate) held: Vec<Held<S>>,
     pub(crate) buffers: Vec<BuffersCount>,

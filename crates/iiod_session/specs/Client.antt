@@ -1,5 +1,5 @@
 -- What a connection has of the devices: its seats, its buffers counts, and the devices whose events go to it. The seats'
--- tales stand beside, in the same order.
+-- traces stand beside, in the same order.
 use Rattle.std.specs.Prelude.{◌≡◌, ℕ, ◌+◌, ◌-◌, ◌*◌, ◌^◌, ◌==◌, ◌<◌, ◌≤◌, ◌||◌, ◌&&◌, min, nat_lt, not, Bool, true, false, List, [], ◌∷◌, ◌++◌, map, filter, length, if◌then◌else◌, Option, Some, is_none, unwrap_or, All, Result, position}
 use Rattle.iio_base.specs.Refusals.{first_refusal, unless_refused}
 use Rattle.iio_text.specs.declared.errors.Errno.{Errno}
@@ -9,14 +9,14 @@ use Rattle.iio_kfifo.specs.declared.limits.TheConstants.{MAX_BYTES}
 use Rattle.iio_layout.specs.Active.{has_data}
 use Rattle.iio_layout.specs.Layout.{scan_size}
 use Rattle.iio_layout.specs.Shape.{ShapeRecord, count_of}
-use Rattle.iiod_session.specs.declared.desk.BuffersCount.{BuffersCount}
-use Rattle.iiod_session.specs.declared.desk.Desk.{Desk}
-use Rattle.iiod_session.specs.declared.desk.Held.{Held}
-use Rattle.iiod_session.specs.declared.desk.TheConstants.{FIRST_BUFFERS}
+use Rattle.iiod_session.specs.declared.client.BuffersCount.{BuffersCount}
+use Rattle.iiod_session.specs.declared.client.Client.{Client}
+use Rattle.iiod_session.specs.declared.client.Held.{Held}
+use Rattle.iiod_session.specs.declared.client.TheConstants.{FIRST_BUFFERS}
 use Rattle.iio_core.specs.Front.{Front, kind_at, size_at}
 use Rattle.iio_core.specs.Machine.{MemberId}
 use Rattle.iio_core.specs.Opening.{asked_refusals, is_excess, mask_refusals}
-use Rattle.iiod_session.specs.Seat.{SeatRecord, Tale, MayOpen, IsOwned}
+use Rattle.iiod_session.specs.Seat.{SeatRecord, Trace, MayOpen, IsOwned}
 
 -- a seat of a connection as the told state knows it
 pub record Bare : Type 0 where
@@ -31,7 +31,7 @@ pub record Bare : Type 0 where
 abbrev pub bare_id : Bare → MemberId
 bare_id s = record { number = s.number; mask = s.mask }
 
-pub record DeskRecord : Type 0 where
+pub record ClientRecord : Type 0 where
   pub who : ℕ
   pub seats : List Bare
   pub buffers : List BuffersCount
@@ -56,19 +56,19 @@ abbrev pub buffers_of : ℕ → List BuffersCount → ℕ
 buffers_of dev [] = FIRST_BUFFERS
 buffers_of dev (b ∷ bs) = if b.dev == dev then b.count else buffers_of dev bs
 
-abbrev pub with_seats : List Bare → DeskRecord → DeskRecord
-with_seats seats desk = record desk { seats = seats }
+abbrev pub with_seats : List Bare → ClientRecord → ClientRecord
+with_seats seats client = record client { seats = seats }
 
 -- the buffers count of a device is set
-abbrev pub with_count : ℕ → ℕ → DeskRecord → DeskRecord
-with_count dev n desk = record desk { buffers = filter (λ (b : BuffersCount). not (b.dev == dev)) desk.buffers ++ record { dev = dev; count = n } ∷ [] }
+abbrev pub with_count : ℕ → ℕ → ClientRecord → ClientRecord
+with_count dev n client = record client { buffers = filter (λ (b : BuffersCount). not (b.dev == dev)) client.buffers ++ record { dev = dev; count = n } ∷ [] }
 
 -- a device more whose events are held, and one less
-abbrev pub with_holding : ℕ → DeskRecord → DeskRecord
-with_holding dev desk = record desk { holdings = desk.holdings ++ dev ∷ [] }
+abbrev pub with_holding : ℕ → ClientRecord → ClientRecord
+with_holding dev client = record client { holdings = client.holdings ++ dev ∷ [] }
 
-abbrev pub without_holding : ℕ → DeskRecord → DeskRecord
-without_holding dev desk = record desk { holdings = filter (λ d. not (d == dev)) desk.holdings }
+abbrev pub without_holding : ℕ → ClientRecord → ClientRecord
+without_holding dev client = record client { holdings = filter (λ d. not (d == dev)) client.holdings }
 
 -- ---- what an OPEN asks for
 
@@ -119,17 +119,17 @@ module _ {S : Type 0} (seen : S → SeatRecord) where
   abbrev pub bare_of : Held S → Bare
   bare_of h = record { dev = h.dev; number = (seen h.seat).number; mask = h.mask.bits; capacity = h.capacity; discarded = h.discarded }
 
-  abbrev pub tale_of : Held S → Option Tale
-  tale_of h = (seen h.seat).tale
+  abbrev pub trace_of : Held S → Option Trace
+  trace_of h = (seen h.seat).trace
 
   abbrev pub seats_of : List (Held S) → List Bare
   seats_of held = map bare_of held
 
-  abbrev pub tales_of : List (Held S) → List (Option Tale)
-  tales_of held = map tale_of held
+  abbrev pub traces_of : List (Held S) → List (Option Trace)
+  traces_of held = map trace_of held
 
-  abbrev pub desk_of : Desk S → DeskRecord
-  desk_of d = record { who = d.who; seats = seats_of d.held.items; buffers = d.buffers.items; holdings = d.holdings.items }
+  abbrev pub client_of : Client S → ClientRecord
+  client_of d = record { who = d.who; seats = seats_of d.held.items; buffers = d.buffers.items; holdings = d.holdings.items }
 
   -- a seat is owned at its device, with its mask and the capacity of its OPEN, and its size is that of the mask's scans
   pub record IsHeld (front : Front) (h : Held S) : Type 0 where
@@ -142,7 +142,7 @@ module _ {S : Type 0} (seen : S → SeatRecord) where
   AllHeld front held = All (IsHeld front) held
 
   -- each seat is, no two are at one device, and events are held of input devices that are there
-  pub record IsDesk (front : Front) (d : Desk S) : Type 0 where
+  pub record IsClient (front : Front) (d : Client S) : Type 0 where
     pub seats : AllHeld front d.held.items
     pub apart : are_apart (seats_of d.held.items) ≡ true
     pub holdings : All (IsHolding front) d.holdings.items
