@@ -1,5 +1,5 @@
 -- What contracts see of a shape's fields.
-use Rattle.std.specs.Prelude.{◌≡◌, ℕ, ◌<◌, true, List, get_or, map, length, slice_index}
+use Rattle.std.specs.Prelude.{◌≡◌, ◌↔◌, ℕ, ◌<◌, IsTrue, List, get_or, map, length, slice_index}
 use Rattle.iio_layout.specs.declared.channel.Channel.{Channel}
 use Rattle.iio_layout.specs.declared.channel.Suffix.TheVariants.{Number}
 use Rattle.iio_layout.specs.declared.shape.Shape.TheInside.{Inside}
@@ -14,10 +14,11 @@ record_of a = record { channels = a.channels.items; stamp = a.stamp; listed = ma
 abbrev pub AreNumbered : List Channel → Type 0
 AreNumbered channels = (c : ℕ) (d : Channel) → c < length channels → (get_or channels c d).suffix ≡ Number c
 
--- each shape is one that `new` accepts; where each channel's values begin, and how many there are in all, is kept
+-- each shape is one that `new` accepts; where each channel's values begin, how many there are in all, and whether each channel has
+-- its place for its number, is kept
 pub record IsSound (a : Inside) : Type 0 where
   pub shape : IsShape (record_of a)
   pub starts : (c : ℕ) → c < length a.channels.items → slice_index a.starts c ≡ first_value (formats_of (record_of a)) c
   pub room : length a.starts ≡ MAX_CHANNELS
   pub width : a.width ≡ width_of (record_of a)
-  pub numbered : a.numbered ≡ true → AreNumbered a.channels.items
+  pub numbered : IsTrue a.numbered ↔ AreNumbered a.channels.items

@@ -12,5 +12,5 @@ invariant_of-result c =
       starts = λ k within. values.starts k within ∙ sym (first_value_is channels (stamp_formats c.args.stamp) k (omega arith));
       room = values.room;
       width = values.width;
-      numbered = λ each. rw c.deref-4.ensures.value at (c.are_numbered-numbered.ensures each);
+      numbered = rw c.deref-4.ensures.value at c.are_numbered-numbered.ensures;
     }
