@@ -29,7 +29,7 @@ use Rattle.iio_core.specs.Machine.{Machine, Member, Station, masks_of as plain_m
 use Rattle.iio_desc.specs.Kind.{Input}
 use Rattle.iio_derive.specs.Window.{no_window}
 use Rattle.iio_output.specs.Last.{first_last}
-use Rattle.iio_core.specs.Moves.{Capture, asked_once, entry_made, offered_to, handled_answer}
+use Rattle.iio_core.specs.Moves.{Capture, asked_once, station_after_entry, offered_to, handled_answer}
 use Rattle.iio_core.specs.Devices.{AreMet, IsAt, IsMet, left_after, member_with, members_met, queue_waited, queue_waits, station_met, station_of, station_with, writer_waited, writer_waits}
 use Rattle.iio_core.proofs.DeviceLaws.{at_changed, empty_map, masks_are}
 
@@ -140,7 +140,7 @@ module _ {Q : Type 0} (taken lost size capacity : Q → ℕ) (offer_gives : Q �
       → (d.standing.captures == 2 ^ 64 - 1) ≡ false
       → d.standing.active ≡ active_for d.standing.shape (masks_of d.standing.members) → AreMet lost capacity waits waited offer_gives r d d'
       → (r ≡ handled_answer e (station_met lost capacity waits waited r d d'))
-      × (entry_made Input d.standing.shape (Some e) (station_met lost capacity waits waited r d d') ≡ after d')
+      × (station_after_entry Input d.standing.shape (Some e) (station_met lost capacity waits waited r d d') ≡ after d')
   handled_is e Idle d d' h own fewer ruled met_is =
       let idle : is_current e.attachment d.site.attachment (after d).members d.site.plugged ≡ false
       = current_is e d (after d).members own fewer (empty_map (λ (m : Membership Q). member_with lost capacity (waits m.tail) m) d.standing.members) ∙ h.0 in
@@ -210,11 +210,11 @@ module _ {Q : Type 0} (taken lost size capacity : Q → ℕ) (offer_gives : Q �
       → d.standing.active ≡ active_for d.standing.shape (masks_of d.standing.members) → AreMet lost capacity waits waited offer_gives r d d'
       → slice_get m.stations dev ≡ Some (station_met lost capacity waits waited r d d')
       → (r ≡ handled_answer e (station_met lost capacity waits waited r d d'))
-      × IsAt lost capacity waits (with_station (entry_made Input d.standing.shape (Some e)) dev m) dev d'
+      × IsAt lost capacity waits (with_station (station_after_entry Input d.standing.shape (Some e)) dev m) dev d'
   handlings_agree m dev e r d d' h own fewer ruled met_is here =
       let is = handled_is e r d d' h own fewer ruled met_is in (
         is.0,
-        at_changed m dev (station_met lost capacity waits waited r d d') (entry_made Input d.standing.shape (Some e)) here
+        at_changed m dev (station_met lost capacity waits waited r d d') (station_after_entry Input d.standing.shape (Some e)) here
             ∙ ap (λ (st : Station). Some st) is.1,
       )
 

@@ -33,7 +33,7 @@ use Rattle.iio_device.specs.Site.{Site, at_place, attached, is_empty, sampled, s
 use Rattle.iio_device.specs.Stored.{attr_value}
 use Rattle.iio_device.specs.Totals.{with_left, with_lost}
 use Rattle.iio_core.specs.Attached.{has_no_place, is_attached}
-use Rattle.iio_core.specs.Calls.{Outcome, all_joined, attr_answer, machine_after_close, ev_close_of, ev_open_of, ev_read_of, inner_gone, inner_left, is_full, is_raw, station_after_join, station_after_leave, open_of, open_refusals, read_attr_of, set_trigger_of, unless, unless_made, window_left, with_inner, without_inner, write_attr_of}
+use Rattle.iio_core.specs.Calls.{CallResult, all_joined, attr_answer, machine_after_close, ev_close_of, ev_open_of, ev_read_of, inner_gone, inner_left, is_full, is_raw, station_after_join, station_after_leave, open_of, open_refusals, read_attr_of, set_trigger_of, unless, unless_made, window_left, with_inner, without_inner, write_attr_of}
 use Rattle.iio_desc.specs.Kind.{Kind, Input, is_input, is_over}
 use Rattle.iio_derive.specs.Window.{Window, no_window}
 use Rattle.iio_core.proofs.PlaceLists.{get_first}
@@ -41,7 +41,7 @@ use Rattle.iio_core.specs.Front.{Front, device_name, kind_at, shape_at}
 use Rattle.iio_core.specs.Machine.{attachment_of, attachments_of, Machine, Member, Station, is_seat_of, lost_by, masks_of as plain_masks, no_station, station_at, with_site, with_station, without}
 use Rattle.iio_core.specs.Faults.{errno_of, held_errno, holder_errno, map_err, raw_value}
 use Rattle.iio_core.specs.Opening.{join_refusals, own_host}
-use Rattle.iio_core.specs.Moves.{look_made}
+use Rattle.iio_core.specs.Moves.{station_after_look}
 use Rattle.iio_core.specs.Devices.{Does, IsAt, IsJoined, IsRefused, member_with, station_of}
 use Rattle.iio_core.specs.DeviceLaw.{IsNewEnd, IsPlaced, SamePlaces}
 
@@ -132,7 +132,7 @@ module _ {Q : Type 0} (lost capacity : Q → ℕ) (waits : Q → List (List ℕ)
     where
       by : (sample : ℤ) (p e f : Bool)
           → Does lost capacity waits
-          (let o : Outcome Value =
+          (let o : CallResult Value =
           record {
             answer = ensure p ENODEV >>= (λ plugged. ensure e EBUSY >>= (λ free. ensure (not f) EIO >>= (λ answered. Ok (Int sample))));
             machine =
@@ -163,15 +163,15 @@ module _ {Q : Type 0} (lost capacity : Q → ℕ) (waits : Q → List (List ℕ)
     where
       by : (p k e i : Bool) (x y : Result Value Errno) → p ≡ true → k ≡ false → x ≡ y
           → Does lost capacity waits
-          (let o : Outcome Value =
+          (let o : CallResult Value =
           record { answer = ensure p ENODEV >>= (λ there. x); machine = cond (k && p && e && i) (with_station (with_site sampled) dev m) m } in o) y dev d
       by true false e i x y p k same = record { answered = same; device = here }
       by true true e i x y p k same = absurd (cc)
       by false k' e i x y p k same = absurd (cc)
 
   pub looks_agree : (m : Machine) (dev : ℕ) (t : ℤ) (d : DeviceView Q) → IsAt lost capacity waits m dev d
-      → IsAt lost capacity waits (with_station (look_made d.standing.shape t) dev m) dev (after_sense t d)
-  looks_agree m dev t d here = at_changed m dev (seen d) (look_made d.standing.shape t) here ∙ ap (λ (st : Station). Some st) (by d.site.plugged)
+      → IsAt lost capacity waits (with_station (station_after_look d.standing.shape t) dev m) dev (after_sense t d)
+  looks_agree m dev t d here = at_changed m dev (seen d) (station_after_look d.standing.shape t) here ∙ ap (λ (st : Station). Some st) (by d.site.plugged)
     where
       by : (b : Bool) → cond b (with_site (λ site. with_sensed (sensed d.standing.shape t site) site) (seen d)) (seen d)
           ≡ seen (cond b (at_site (with_sensed (sensed d.standing.shape t d.site) d.site) d) d)
@@ -390,7 +390,7 @@ module _ {Q : Type 0} (lost capacity : Q → ℕ) (waits : Q → List (List ℕ)
   stated f None e = rw e refl
   stated f (Some g) e = rw e refl
 
-  refused_is : (o : Outcome ℕ) (m : Machine) (dev next : ℕ) (change : Machine → Machine) (d d' : DeviceView Q) (r : Option Errno)
+  refused_is : (o : CallResult ℕ) (m : Machine) (dev next : ℕ) (change : Machine → Machine) (d d' : DeviceView Q) (r : Option Errno)
       → IsAt lost capacity waits m dev d → d' ≡ d
       → o ≡ unless_made change m (unless_refused next r) → IsRefused lost capacity waits o m r dev d'
   refused_is o m dev next change d d' None here same e = rw same (here)
@@ -404,9 +404,9 @@ module _ {Q : Type 0} (lost capacity : Q → ℕ) (waits : Q → List (List ℕ)
   joins_agree front m dev mask tail (Ok x) d d' s s' j here input shaped good places fresh =
       let o = open_is front m dev mask.bits (capacity tail) d None here input shaped (refusals_are front m d mask.bits s None good places j.0) in
       record {
-        answered = ap (λ (y : Outcome ℕ). y.answer) o ∙ ap (λ (n : ℕ). (let r : Result ℕ Errno = Ok n in r)) (sym j.1);
+        answered = ap (λ (y : CallResult ℕ). y.answer) o ∙ ap (λ (n : ℕ). (let r : Result ℕ Errno = Ok n in r)) (sym j.1);
         device =
-            ap (λ (y : Outcome ℕ). slice_get y.machine.stations dev) o
+            ap (λ (y : CallResult ℕ). slice_get y.machine.stations dev) o
             ∙ at_joined front m dev (station d) (station_after_join mask.bits (capacity tail) false None) here
             ∙ ap (λ (st : Station). Some st) (joined_is mask tail d fresh ∙ ap station (sym j.2));
       }

@@ -18,7 +18,7 @@ use Rattle.iio_device.specs.Members.{is_live, masks_of, member_of as membership_
 use Rattle.iio_device.specs.Remasking.{IsRemaskRefusal, begun_anew, remasked as remasked_members}
 use Rattle.iio_device.specs.Site.{is_empty}
 use Rattle.iio_device.specs.Totals.{with_left, with_lost}
-use Rattle.iio_core.specs.Calls.{Outcome, remask_of, remask_refusals, station_after_remask, unless, with_mask}
+use Rattle.iio_core.specs.Calls.{CallResult, remask_of, remask_refusals, station_after_remask, unless, with_mask}
 use Rattle.iio_core.specs.Front.{Front, shape_at}
 use Rattle.iio_core.specs.Machine.{Machine, Member, MemberId, Station, is_id_of, lost_by, masks_of as plain_masks, member_in, queue_of, scans_in, without}
 use Rattle.iio_core.specs.Faults.{remask_errno}
@@ -149,7 +149,7 @@ module _ {Q : Type 0} (lost capacity : Q → ℕ) (waits : Q → List (List ℕ)
   stated f None e = rw e refl
   stated f (Some g) e = rw e refl
 
-  refused_is : (o : Outcome ℕ) (m : Machine) (dev n : ℕ) (change : Station → Station) (d d' : DeviceView Q) (r : Option Errno)
+  refused_is : (o : CallResult ℕ) (m : Machine) (dev n : ℕ) (change : Station → Station) (d d' : DeviceView Q) (r : Option Errno)
       → IsAt lost capacity waits m dev d → d' ≡ d
       → o ≡ unless change dev m (unless_refused n r) → IsRefused lost capacity waits o m r dev d'
   refused_is o m dev n change d d' None here same e = rw same (here)
@@ -163,10 +163,10 @@ module _ {Q : Type 0} (lost capacity : Q → ℕ) (waits : Q → List (List ℕ)
       let o = remask_is front m dev id mask.bits (capacity tail) d None here shaped (refusals_are id mask.bits d None good knows j.0) in
       record {
         answered =
-            ap (λ (y : Outcome ℕ). y.answer) o
+            ap (λ (y : CallResult ℕ). y.answer) o
             ∙ ap (λ (q : List (List ℕ)). (let r : Result ℕ Errno = Ok (length q) in r)) (waited_is id before d.standing.members knows j.1);
         device =
-            ap (λ (y : Outcome ℕ). slice_get y.machine.stations dev) o
+            ap (λ (y : CallResult ℕ). slice_get y.machine.stations dev) o
             ∙ at_changed m dev (seen d) (station_after_remask id.number mask.bits (capacity tail)) here
             ∙ ap (λ (st : Station). Some st) (remasked_is id mask tail before d d' j fresh);
       }

@@ -29,18 +29,18 @@ use Rattle.iio_core.specs.Machine.{Member, MemberId, Station, Machine, attachmen
 use Rattle.iio_core.specs.Opening.{Host, host_by, inner_host, join_refusals, own_host}
 
 -- an answer, and what stands then
-pub record Outcome (A : Type 0) : Type 0 where
+pub record CallResult (A : Type 0) : Type 0 where
   pub answer : Result A Errno
   pub machine : Machine
 
 module _ {A : Type 0} where
   -- a call that changes a device, where it isn't refused
-  abbrev pub unless : (Station → Station) → ℕ → Machine → Result A Errno → Outcome A
+  abbrev pub unless : (Station → Station) → ℕ → Machine → Result A Errno → CallResult A
   unless change dev m (Ok x) = record { answer = Ok x; machine = with_station change dev m }
   unless change dev m (Err e) = record { answer = Err e; machine = m }
 
 -- ... or several of them
-abbrev pub unless_made : {A : Type 0} → (Machine → Machine) → Machine → Result A Errno → Outcome A
+abbrev pub unless_made : {A : Type 0} → (Machine → Machine) → Machine → Result A Errno → CallResult A
 unless_made change m (Ok x) = record { answer = Ok x; machine = change m }
 unless_made change m (Err e) = record { answer = Err e; machine = m }
 
@@ -94,7 +94,7 @@ abbrev pub all_joined : Front → ℕ → (Station → Station) → Machine → 
 all_joined front dev change m = record m { stations = map_from (λ k st. if dev == k then change st else with_inner front dev k st) 0 m.stations }
 
 -- `open`, and `open_out` of an output device: the new member's number
-unfoldable pub open_of : Front → Machine → ℕ → (mask capacity : ℕ) → (cyclic : Bool) → Outcome ℕ
+unfoldable pub open_of : Front → Machine → ℕ → (mask capacity : ℕ) → (cyclic : Bool) → CallResult ℕ
 open_of front m dev mask capacity cyclic =
     unless_made (all_joined front dev (station_after_join mask capacity cyclic None)) m
     (unless_refused (station_at m dev).next (first_refusal (open_refusals front m.stations (kind_at front dev)
@@ -152,7 +152,7 @@ station_after_remask number mask capacity st =
     record st { totals = with_left (lost_by number st.members) st.totals; members = map (with_mask number mask capacity) st.members }
 
 -- `remask`: how many scans waited
-unfoldable pub remask_of : Front → Machine → ℕ → MemberId → (mask capacity : ℕ) → Outcome ℕ
+unfoldable pub remask_of : Front → Machine → ℕ → MemberId → (mask capacity : ℕ) → CallResult ℕ
 remask_of front m dev id mask capacity =
     unless (station_after_remask id.number mask capacity) dev m
     (unless_refused (length (queue_of m dev id)) (first_refusal (remask_refusals (shape_at front dev) (station_at m dev) id mask)))
@@ -186,7 +186,7 @@ write_scans_at st id size bytes = do
       (first_refusal (write_refusals (unwrap_or (member_in id st.members) no_member) size bytes))
 
 -- `write_scans`: the number of bytes that are taken
-unfoldable pub write_scans_of : Front → Machine → ℕ → MemberId → List ℕ → Outcome ℕ
+unfoldable pub write_scans_of : Front → Machine → ℕ → MemberId → List ℕ → CallResult ℕ
 write_scans_of front m dev id bytes =
     unless (λ st. record st { members = map (writes id (scans_of (size_at front dev id.mask) bytes)) st.members }) dev m
     (write_scans_at (station_at m dev) id (size_at front dev id.mask) bytes)
@@ -223,14 +223,14 @@ abbrev pub is_asking : Kind → Option ℕ → Attr → Station → Bool
 is_asking kind channel a st = is_raw channel a && st.site.plugged && is_empty st.members && is_input kind
 
 -- `read_attr`: the sensor is asked also where its ask fails
-unfoldable pub read_attr_of : Front → Machine → ℕ → Option ℕ → Attr → Outcome Value
+unfoldable pub read_attr_of : Front → Machine → ℕ → Option ℕ → Attr → CallResult Value
 read_attr_of front m dev channel a = record {
   answer = read_answer (device_name front dev) (kind_at front dev) (shape_at front dev) m.clock channel a (station_at m dev);
   machine = if is_asking (kind_at front dev) channel a (station_at m dev) then with_station (with_site sampled) dev m else m;
 }
 
 -- `write_attr`
-unfoldable pub write_attr_of : Machine → ℕ → Option ℕ → Attr → Fixed → Outcome ⊤
+unfoldable pub write_attr_of : Machine → ℕ → Option ℕ → Attr → Fixed → CallResult ⊤
 write_attr_of m dev channel a v = unless (with_site (site_written channel a v)) dev m (ensure (station_at m dev).site.plugged ENODEV)
 
 -- ---- triggers
@@ -249,7 +249,7 @@ trigger_answer st = do
   ensure (is_empty st.members) EBUSY
 
 -- `set_trigger`
-unfoldable pub set_trigger_of : Machine → ℕ → Option ℕ → Outcome ⊤
+unfoldable pub set_trigger_of : Machine → ℕ → Option ℕ → CallResult ⊤
 set_trigger_of m dev trigger = unless (with_site (λ site. record site { trigger = trigger })) dev m (trigger_answer (station_at m dev))
 
 -- ---- events. A holder is known by the number of its connection
@@ -263,7 +263,7 @@ ev_open_answer st = do
   ensure (is_none st.site.monitor.holder) EBUSY
 
 -- `ev_open`
-unfoldable pub ev_open_of : Machine → ℕ → ℕ → Outcome ⊤
+unfoldable pub ev_open_of : Machine → ℕ → ℕ → CallResult ⊤
 ev_open_of m dev who = unless (with_site (with_monitor (after_open who))) dev m (ev_open_answer (station_at m dev))
 
 abbrev pub ev_read_answer : ℕ → Station → Result (Option EventData) Errno
@@ -273,10 +273,10 @@ ev_read_answer who st = do
   Ok (slice_get st.site.monitor.events 0)
 
 -- `ev_read`: the oldest event, where there is one
-unfoldable pub ev_read_of : Machine → ℕ → ℕ → Outcome (Option EventData)
+unfoldable pub ev_read_of : Machine → ℕ → ℕ → CallResult (Option EventData)
 ev_read_of m dev who = unless (with_site (with_monitor (after_read (λ a b. a == b) who))) dev m (ev_read_answer who (station_at m dev))
 
 -- `ev_close`: it ends a holding also at a device that is unplugged
-unfoldable pub ev_close_of : Machine → ℕ → ℕ → Outcome ⊤
+unfoldable pub ev_close_of : Machine → ℕ → ℕ → CallResult ⊤
 ev_close_of m dev who =
     unless (with_site (with_monitor (after_close (λ a b. a == b) who))) dev m (ensure (holds_events who (station_at m dev)) EBADF)

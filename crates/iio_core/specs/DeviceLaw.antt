@@ -26,7 +26,7 @@ use Rattle.iio_desc.specs.Kind.{Input}
 use Rattle.iio_core.specs.Faults.{held_errno, holder_errno, map_err, raw_value}
 use Rattle.iio_core.specs.Front.{Front, device_name, kind_at, shape_at}
 use Rattle.iio_core.specs.Machine.{attachment_of, attachments_of, Machine, MemberId, lost_by, with_site, with_station}
-use Rattle.iio_core.specs.Moves.{entry_made, look_made, handled_answer}
+use Rattle.iio_core.specs.Moves.{station_after_entry, station_after_look, handled_answer}
 use Rattle.iio_core.specs.Devices.{AreMet, Does, IsAt, IsJoined, IsMet, IsRemasked, queue_waited, queue_waits, station_met, station_of, writer_waited, writer_waits}
 
 module _ {Q : Type 0} where
@@ -102,7 +102,7 @@ module _ {Q : Type 0} where
       → old.standing.active ≡ active_for old.standing.shape (masks_of old.standing.members) → AreMet lost capacity waits waited offer_gives r old new
       → slice_get m.stations dev ≡ Some (station_met lost capacity waits waited r old new)
       → (r ≡ handled_answer due (station_met lost capacity waits waited r old new))
-      × IsAt lost capacity waits (with_station (entry_made Input old.standing.shape (Some due)) dev m) dev new
+      × IsAt lost capacity waits (with_station (station_after_entry Input old.standing.shape (Some due)) dev m) dev new
 
   -- ---- attributes, the trigger, thresholds, the end
 
@@ -134,7 +134,7 @@ module _ {Q : Type 0} where
   abbrev pub LooksAgree : (lost capacity : Q → ℕ) → Type 0
   LooksAgree lost capacity =
       (waits : Q → List (List ℕ)) (m : Machine) (dev : ℕ) (t : ℤ) (d : DeviceView Q) → IsAt lost capacity waits m dev d
-      → IsAt lost capacity waits (with_station (look_made d.standing.shape t) dev m) dev (after_sense t d)
+      → IsAt lost capacity waits (with_station (station_after_look d.standing.shape t) dev m) dev (after_sense t d)
 
   abbrev pub UnpluggingsAgree : (lost capacity : Q → ℕ) → Type 0
   UnpluggingsAgree lost capacity =

@@ -18,7 +18,7 @@ use Rattle.iio_device.specs.declared.membership.Membership.{Membership}
 use Rattle.iio_device.specs.declared.roster.JoinRefused.{JoinRefused}
 use Rattle.iio_device.specs.declared.roster.RemaskRefused.{RemaskRefused}
 use Rattle.iio_device.specs.Device.{DeviceView}
-use Rattle.iio_core.specs.Calls.{Outcome}
+use Rattle.iio_core.specs.Calls.{CallResult}
 use Rattle.iio_core.specs.Machine.{Machine, Member, Station}
 use Rattle.iio_core.specs.Faults.{errno_of, remask_errno}
 
@@ -58,22 +58,22 @@ module _ {Q : Type 0} (lost capacity : Q → ℕ) where
     -- ---- what a call makes of it
 
     -- in the plain state too the call has this answer, and the device is left so
-    pub record Does {A : Type 0} (o : Outcome A) (answer : Result A Errno) (dev : ℕ) (d : DeviceView Q) : Type 0 where
+    pub record Does {A : Type 0} (o : CallResult A) (answer : Result A Errno) (dev : ℕ) (d : DeviceView Q) : Type 0 where
       pub answered : o.answer ≡ answer
       pub device : IsAt o.machine dev d
 
     -- a refusal by an errno is the one of the plain state; want of memory, which has none, leaves all as it was
-    abbrev pub IsRefused : {A : Type 0} → Outcome A → Machine → Option Errno → ℕ → DeviceView Q → Type 0
+    abbrev pub IsRefused : {A : Type 0} → CallResult A → Machine → Option Errno → ℕ → DeviceView Q → Type 0
     IsRefused o m (Some e) dev d = Does o (Err e) dev d
     IsRefused o m None dev d = IsAt m dev d
 
     -- a join
-    abbrev pub IsJoined : Outcome ℕ → Machine → Result MemberNumber (JoinRefused Q) → ℕ → DeviceView Q → Type 0
+    abbrev pub IsJoined : CallResult ℕ → Machine → Result MemberNumber (JoinRefused Q) → ℕ → DeviceView Q → Type 0
     IsJoined o m (Ok member) dev d = Does o (Ok member.number) dev d
     IsJoined o m (Err refused) dev d = IsRefused o m (errno_of refused.fault) dev d
 
     -- an exchange of a mask: the answer is how many scans waited in the queue's end that comes back
-    abbrev pub IsRemasked : Outcome ℕ → Machine → Result Q (RemaskRefused Q) → ℕ → DeviceView Q → Type 0
+    abbrev pub IsRemasked : CallResult ℕ → Machine → Result Q (RemaskRefused Q) → ℕ → DeviceView Q → Type 0
     IsRemasked o m (Ok before) dev d = Does o (Ok (length (waits before))) dev d
     IsRemasked o m (Err refused) dev d = IsRefused o m (remask_errno refused.fault) dev d
 

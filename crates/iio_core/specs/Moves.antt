@@ -26,7 +26,7 @@ use Rattle.iio_core.specs.declared.became.Gave.TheVariants as gave
 use Rattle.iio_core.specs.Attached.{entries_from}
 use Rattle.iio_core.specs.Front.{Front, kind_at, shape_at}
 use Rattle.iio_core.specs.Lists.{map_from}
-use Rattle.iio_core.specs.Trigger.{Trigger, entries_at, entry_of, trigger_after_handling, missed_at, poll_answer, polled_by}
+use Rattle.iio_core.specs.Trigger.{Trigger, entries_at, entry_of, trigger_after_handling, missed_at, poll_answer, trigger_after_poll}
 use Rattle.iio_core.specs.Machine.{Machine, Member, Station, attachments_of, masks_of, station_at, with_site, with_station}
 
 -- one accepted trigger event of a device: its moment, and the value of every element of every channel, in order
@@ -78,8 +78,8 @@ abbrev pub gives : Member → Member
 gives x = record x { scans = after_given x.cyclic x.scans; lost = underruns_after x.scans x.lost }
 
 -- it is to be given a scan
-abbrev pub giving_made : ShapeRecord → Station → Station
-giving_made shape st = record st { members = map gives st.members; last = last_with shape (next_of st.members) st.last }
+abbrev pub station_after_giving : ShapeRecord → Station → Station
+station_after_giving shape st = record st { members = map gives st.members; last = last_with shape (next_of st.members) st.last }
 
 abbrev pub gave_by : Option GivenScan → Giving
 gave_by None = gave.Underrun
@@ -92,19 +92,19 @@ gave_answer e st = if is_due e st then gave_by (next_of st.members) else gave.Id
 -- ---- the device whose entry is handled
 
 -- where the entry is current
-abbrev pub capture_made : Kind → ShapeRecord → ℤ → Station → Station
-capture_made Output shape moment st = giving_made shape st
-capture_made (Average base window) shape moment st = st
-capture_made Input shape moment st =
+abbrev pub station_after_capture : Kind → ShapeRecord → ℤ → Station → Station
+station_after_capture Output shape moment st = station_after_giving shape st
+station_after_capture (Average base window) shape moment st = st
+station_after_capture Input shape moment st =
     if ask_fails st.site.driver then asked_once shape moment st
     else (
     let c : Capture = record { moment = moment; values = values_of st.site.driver shape moment } in
     record (asked_once shape moment st) { captures = st.captures + 1; members = map (offered_to shape c) st.members; window = no_window })
 
 -- the entry that it has, if any, is handled; one that isn't current is let go
-abbrev pub entry_made : Kind → ShapeRecord → Option Handed → Station → Station
-entry_made kind shape None st = st
-entry_made kind shape (Some e) st = if is_due e st then capture_made kind shape e.t st else st
+abbrev pub station_after_entry : Kind → ShapeRecord → Option Handed → Station → Station
+station_after_entry kind shape None st = st
+station_after_entry kind shape (Some e) st = if is_due e st then station_after_capture kind shape e.t st else st
 
 -- how it is answered at a device of a kind; an averaging device has no entries
 abbrev pub kind_answer : Kind → Handed → Station → Became
@@ -128,22 +128,22 @@ capture_in kind shape (Some e) st = if is_due e st then current_capture kind sha
 -- ---- averaging devices
 
 -- one with a capture more of its base: the last of so many makes a mean
-abbrev pub mean_made : ShapeRecord → Capture → Station → Station
-mean_made shape c st = record st { captures = st.captures + 1; members = map (offered_to shape c) st.members; window = no_window }
+abbrev pub station_after_mean : ShapeRecord → Capture → Station → Station
+station_after_mean shape c st = record st { captures = st.captures + 1; members = map (offered_to shape c) st.members; window = no_window }
 
-abbrev pub gathered_to : (size : ℕ) → ShapeRecord → Option Capture → Station → Station
-gathered_to size shape None st = st
-gathered_to size shape (Some c) st =
+abbrev pub station_after_gathering : (size : ℕ) → ShapeRecord → Option Capture → Station → Station
+station_after_gathering size shape None st = st
+station_after_gathering size shape (Some c) st =
     if is_empty st.members then st
-    else if is_filled_by size st.window then mean_made shape (record { moment = c.moment; values = means_of size (sums_with st.window c.values) }) st
+    else if is_filled_by size st.window then station_after_mean shape (record { moment = c.moment; values = means_of size (sums_with st.window c.values) }) st
     else record st { window = window_with st.window c.values }
 
 -- ---- all devices, once the entry of device `dev` was handled
 
 -- device j, where that made that capture, if any
 abbrev pub entry_at : Option Handed → Option Capture → (dev : ℕ) → Kind → ShapeRecord → (j : ℕ) → Station → Station
-entry_at o c dev (Average base window) shape j st = if dev == base then gathered_to window shape c st else st
-entry_at o c dev kind shape j st = if dev == j then entry_made kind shape o st else st
+entry_at o c dev (Average base window) shape j st = if dev == base then station_after_gathering window shape c st else st
+entry_at o c dev kind shape j st = if dev == j then station_after_entry kind shape o st else st
 
 abbrev pub capture_at : Front → Option Handed → (dev : ℕ) → Machine → Option Capture
 capture_at front o dev m = capture_in (kind_at front dev) (shape_at front dev) o (station_at m dev)
@@ -158,7 +158,7 @@ abbrev pub with_trigger : (Trigger → Trigger) → (trigger : ℕ) → Machine 
 with_trigger change trigger m = record m { triggers = at_place trigger change m.triggers }
 
 abbrev pub machine_after_poll : (trigger : ℕ) → ℤ → Machine → Machine
-machine_after_poll trigger moment m = with_trigger (polled_by (attachments_of m.stations) trigger moment) trigger m
+machine_after_poll trigger moment m = with_trigger (trigger_after_poll (attachments_of m.stations) trigger moment) trigger m
 
 -- the answer to a poll
 abbrev pub polled_answer : (trigger : ℕ) → ℤ → Machine → Polled
@@ -178,11 +178,11 @@ machine_after_handling front trigger dev m = taken_off trigger dev (machine_afte
 
 -- ---- looks at thresholds
 
-abbrev pub look_made : ShapeRecord → ℤ → Station → Station
-look_made shape moment st = if st.site.plugged then with_site (λ site. with_sensed (sensed shape moment site) site) st else st
+abbrev pub station_after_look : ShapeRecord → ℤ → Station → Station
+station_after_look shape moment st = if st.site.plugged then with_site (λ site. with_sensed (sensed shape moment site) site) st else st
 
 abbrev pub machine_after_look : Front → (dev : ℕ) → ℤ → Machine → Machine
-machine_after_look front dev moment m = with_station (look_made (shape_at front dev) moment) dev m
+machine_after_look front dev moment m = with_station (station_after_look (shape_at front dev) moment) dev m
 
 abbrev pub sensed_answer : ShapeRecord → ℤ → Station → Sensed
 sensed_answer shape moment st =

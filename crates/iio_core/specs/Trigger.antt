@@ -28,8 +28,8 @@ missed_at triggers trigger = (trigger_in triggers trigger).missed
 -- ---- polls
 
 -- a trigger that is polled: an entry for each attached device, where nothing is outstanding; else the poll is missed
-abbrev pub polled_by : List Attachment → ℕ → ℤ → Trigger → Trigger
-polled_by devices trigger moment t =
+abbrev pub trigger_after_poll : List Attachment → ℕ → ℤ → Trigger → Trigger
+trigger_after_poll devices trigger moment t =
     record { entries = poll_made (entries_from 0 trigger moment devices) t.entries; missed = missed_after t.entries t.missed }
 
 -- the answer to a poll: how many entries it made, or how many polls were missed with it

@@ -19,7 +19,7 @@ use Rattle.iio_kfifo.specs.declared.limits.TheConstants.{MAX_BYTES}
 use Rattle.iiod_session.specs.Acts.{Acted, act, refused, remask_at, remask_place, remask_seat, remask_wanted, remasked_seat as session_remasked, where_known, zero_reply}
 use Rattle.iio_desc.specs.Kind.{is_input}
 use Rattle.iio_core.specs.Calls.{remask_of, remask_refusals as bench_refusals, station_after_remask as bench_remasked, unless, with_mask}
-use Rattle.iiod_session.specs.Client.{Bare, ClientRecord, bare_remasked, mask_wanted, more_discarded, place_of, with_seats}
+use Rattle.iiod_session.specs.Client.{SeatState, ClientRecord, seat_state_remasked, mask_wanted, more_discarded, place_of, with_seats}
 use Rattle.iio_core.specs.Front.{kind_at, shape_at}
 use Rattle.iio_core.specs.Machine.{Member as MachineMember, Station as MachineStation, masks_of, member_in, queue_of, scans_in, station_at, with_station, without}
 use Rattle.iio_core.specs.Opening.{mask_refusals}
@@ -31,8 +31,8 @@ use Rattle.iio_history.specs.Act.{Act, Nothing, Remasking, accepted, only as onl
 use Rattle.iio_history.specs.Queue.{new_queue}
 use Rattle.iio_history.specs.Told.{Seat, Station, Told, device_of, member_of_seat, registry_of}
 use Rattle.iio_history.specs.Machine.{remasked_seat, station_after, station_by, step, without_seats}
-use Rattle.iio_history.specs.Reply.{Known, replied, reply, seat_of}
-use Rattle.iio_history.specs.Bench.{IsAct, IsBench, IsClientOf, bare_by, bench_by, front_of, machine_of, names_of, numbered, place_in, seat_at, seat_in}
+use Rattle.iio_history.specs.Reply.{KnownDevice, replied, reply, seat_of}
+use Rattle.iio_history.specs.Bench.{IsAct, IsBench, IsClientOf, seat_state_by, bench_by, front_of, machine_of, names_of, numbered, place_in, seat_at, seat_in}
 use Rattle.iio_history.proofs.WhoLaws.{same_is}
 use Rattle.iio_core.proofs.PlaceLists.{get_first, itself, same_number}
 use Rattle.iio_history.proofs.BenchLists.{first_appended, first_of_two}
@@ -109,7 +109,7 @@ no_mask (Some n) = refl
 abbrev remasking : Result Remasked Errno → Act
 remasking r = accepted (λ x. Remasking x.member x.mask) r
 
-abbrev answered : List ℕ → List ℕ → Known → Result Reply Errno
+abbrev answered : List ℕ → List ℕ → KnownDevice → Result Reply Errno
 answered name text x = do
   remask ← remask_answer (device_of x.station) (Conn name) text
   Ok zero_reply
@@ -125,7 +125,7 @@ module _ (s : Setup) (m : Told) (name : List ℕ) (client : ClientRecord) (devic
   names : Names s m name (Said (Ok (Remask device text))) device
   names = record {
     elsewhere = λ i x other. ap (λ (b : Bool). only_act b (remasking (remask_answer x (Conn name) text))) other;
-    unknown = λ none. ap (λ (r : Result Known Errno). replied (r >>= answered name text)) (sym (unknown_is s m device none));
+    unknown = λ none. ap (λ (r : Result KnownDevice Errno). replied (r >>= answered name text)) (sym (unknown_is s m device none));
     uncounted = λ none u. refl;
   }
 
@@ -143,7 +143,7 @@ module _ (s : Setup) (m : Told) (name : List ℕ) (client : ClientRecord) (devic
     reply_is : (r : Result Remasked Errno) → remask_answer (device_of st) (Conn name) text ≡ r
         → replied (r >>= (λ remask. Ok zero_reply)) ≡ reply s m name (Said (Ok (Remask device text)))
     reply_is r is =
-        sym (ap (λ (x : Result Known Errno). replied (x >>= answered name text)) (known_is s m device k st found at)
+        sym (ap (λ (x : Result KnownDevice Errno). replied (x >>= answered name text)) (known_is s m device k st found at)
         ∙ ap (λ (x : Result Remasked Errno). replied (x >>= (λ remask. Ok zero_reply))) is)
 
     -- one that is refused
@@ -252,30 +252,30 @@ module _ (s : Setup) (m : Told) (name : List ℕ) (client : ClientRecord) (devic
             ∙ ap (bench_with (Rattle.iio_device.specs.Totals.with_left (Rattle.iio_core.specs.Machine.lost_by y.number (map numbered st.seats)) st.totals))
             (members_remasked (Conn name) mask y st.seats tell))
 
-        abbrev new_bare : ℕ → Bare
-        new_bare n = bare_remasked mask n (bare_by k y)
+        abbrev new_seat_state : ℕ → SeatState
+        new_seat_state n = seat_state_remasked mask n (seat_state_by k y)
 
-        remasked_here : seat_in k (Conn name) (slice_get (step s m (Heard name item)).stations k) ≡ Some (new_bare (length y.queue.scans))
+        remasked_here : seat_in k (Conn name) (slice_get (step s m (Heard name item)).stations k) ≡ Some (new_seat_state (length y.queue.scans))
         remasked_here =
             ap (seat_in k (Conn name))
             (get_first (station_after s (registry_of m) (Heard name item)) m.stations k
             ∙ ap (option_map (station_after s (registry_of m) (Heard name item) k)) at)
             ∙ ap (λ (a : Act). seat_in k (Conn name) (Some (station_by a st))) (acts (Ok made) accepted_is).is
-            ∙ ap (λ (w : Who). option_map (bare_by k) (seat_of (Conn name) (map (remasked_seat w mask) st.seats))) (sym own)
-            ∙ ap (option_map (bare_by k)) (seat_remasked (Conn name) mask st.seats y is)
+            ∙ ap (λ (w : Who). option_map (seat_state_by k) (seat_of (Conn name) (map (remasked_seat w mask) st.seats))) (sym own)
+            ∙ ap (option_map (seat_state_by k)) (seat_remasked (Conn name) mask st.seats y is)
 
         holder : (j : ℕ) (x : Station) (b : Bool) (r : Result Remasked Errno) → HolderStays (Conn name) (only_act b (remasking r)) x
         holder j x false r h = h
         holder j x true (Err e) h = h
         holder j x true (Ok n) h = h
 
-        client_is : (i : ℕ) → slice_get client.seats i ≡ Some (bare_by k y)
+        client_is : (i : ℕ) → slice_get client.seats i ≡ Some (seat_state_by k y)
             → IsClientOf (step s m (Heard name (Said (Ok (Remask device text))))) name
-            (with_seats (slice_set client.seats i (new_bare (length y.queue.scans))) client)
+            (with_seats (slice_set client.seats i (new_seat_state (length y.queue.scans))) client)
         client_is i here = record {
           who = d.who ∙ sym (ap (λ (ns : List (List ℕ)). place_in ns name) (names_kept s m (Heard name item) refl));
-          seats = λ j. put_at client.seats i (bare_by k y) (new_bare (length y.queue.scans)) d.apart here refl j ∙ by j (k == j) refl;
-          apart = put_apart client.seats i (bare_by k y) (new_bare (length y.queue.scans)) d.apart here refl;
+          seats = λ j. put_at client.seats i (seat_state_by k y) (new_seat_state (length y.queue.scans)) d.apart here refl j ∙ by j (k == j) refl;
+          apart = put_apart client.seats i (seat_state_by k y) (new_seat_state (length y.queue.scans)) d.apart here refl;
           buffers =
               λ j. d.buffers j ∙ sym (counts_kept s m (Heard name item) name (users_after s (registry_of m) (Heard name item) name m.lines [] refl)
               (λ u is. refl) j);
@@ -285,7 +285,7 @@ module _ (s : Setup) (m : Told) (name : List ℕ) (client : ClientRecord) (devic
         }
           where
             by : (j : ℕ) (b : Bool) → (k == j) ≡ b
-                → cond b (Some (new_bare (length y.queue.scans))) (seat_at j client.seats)
+                → cond b (Some (new_seat_state (length y.queue.scans))) (seat_at j client.seats)
                 ≡ seat_in j (Conn name) (slice_get (step s m (Heard name item)).stations j)
             by j true here =
                 sym (ap (λ (i : ℕ). seat_in i (Conn name) (slice_get (step s m (Heard name item)).stations i)) (sym (same_number k j here)) ∙ remasked_here)
@@ -297,10 +297,12 @@ module _ (s : Setup) (m : Told) (name : List ℕ) (client : ClientRecord) (devic
       -- the answer of the device, as the session takes it
       abbrev taken : ℕ → Result ℕ Errno → Acted
       taken i r =
-          let o = unless (bench_remasked y.number mask y.member.capacity) k (machine_of m) r in session_remasked client i (bare_by k y) mask o.machine o.answer
+          let o =
+          unless (bench_remasked y.number mask y.member.capacity) k (machine_of m) r in session_remasked client i (seat_state_by k y) mask o.machine o.answer
 
-      by_union : (i : ℕ) → slice_get client.seats i ≡ Some (bare_by k y) → first_refusal own_list ≡ None → (b : Option Errno) → first_refusal union_list ≡ b
-          → IsAct s m name (Said (Ok (Remask device text))) (remask_wanted (front_of s) (machine_of m) client i (bare_by k y) (Ok mask))
+      by_union : (i : ℕ) → slice_get client.seats i ≡ Some (seat_state_by k y) → first_refusal own_list ≡ None → (b : Option Errno)
+          → first_refusal union_list ≡ b
+          → IsAct s m name (Said (Ok (Remask device text))) (remask_wanted (front_of s) (machine_of m) client i (seat_state_by k y) (Ok mask))
       unfolding remask_of
       by_union i here first b second =
           subst (λ (o : Option Errno). IsAct s m name (Said (Ok (Remask device text)))
@@ -313,15 +315,16 @@ module _ (s : Setup) (m : Told) (name : List ℕ) (client : ClientRecord) (devic
           by (Some e) answer = is_refused e answer
           by None answer = record { answer = reply_is (Ok made) answer; state = state_is answer; client = client_is answer i here }
 
-      by_own : (i : ℕ) → slice_get client.seats i ≡ Some (bare_by k y) → (a : Option Errno) → first_refusal own_list ≡ a
-          → IsAct s m name (Said (Ok (Remask device text))) (remask_wanted (front_of s) (machine_of m) client i (bare_by k y) (unless_refused mask a))
+      by_own : (i : ℕ) → slice_get client.seats i ≡ Some (seat_state_by k y) → (a : Option Errno) → first_refusal own_list ≡ a
+          → IsAct s m name (Said (Ok (Remask device text))) (remask_wanted (front_of s) (machine_of m) client i (seat_state_by k y) (unless_refused mask a))
       by_own i here (Some e) first = is_refused e (answer_is (Some e) (first_refusal union_list) first refl)
       by_own i here None first = by_union i here first (first_refusal union_list) refl
 
-      at_seat : (i : ℕ) → slice_get client.seats i ≡ Some (bare_by k y)
-          → IsAct s m name (Said (Ok (Remask device text))) (remask_seat (front_of s) (machine_of m) client text i (Some (bare_by k y)))
+      at_seat : (i : ℕ) → slice_get client.seats i ≡ Some (seat_state_by k y)
+          → IsAct s m name (Said (Ok (Remask device text))) (remask_seat (front_of s) (machine_of m) client text i (Some (seat_state_by k y)))
       at_seat i here =
-          subst (λ (r : Result ℕ Errno). IsAct s m name (Said (Ok (Remask device text))) (remask_wanted (front_of s) (machine_of m) client i (bare_by k y) r))
+          subst (λ (r : Result ℕ Errno). IsAct s m name (Said (Ok (Remask device text)))
+          (remask_wanted (front_of s) (machine_of m) client i (seat_state_by k y) r))
           (sym wanted_is) (by_own i here (first_refusal own_list) refl)
 
     by_seat : is_input st.kind ≡ true → st.site.plugged ≡ true → (o : Option Seat) → seat_of (Conn name) st.seats ≡ o
@@ -331,9 +334,10 @@ module _ (s : Setup) (m : Told) (name : List ℕ) (client : ClientRecord) (devic
         (sym (place_none k client.seats (own_seat m name client k st None d at is)))
         (is_refused EBADF (plugged_answer input plugged None is))
     by_seat input plugged (Some y) is =
-        let f = is_at k client.seats (bare_by k y) d.apart (own_seat m name client k st (Some y) d at is) in
+        let f = is_at k client.seats (seat_state_by k y) d.apart (own_seat m name client k st (Some y) d at is) in
         subst (λ (p : Option ℕ). IsAct s m name (Said (Ok (Remask device text))) (remask_place (front_of s) (machine_of m) client text p)) (sym f.place)
-        (subst (λ (b : Option Bare). IsAct s m name (Said (Ok (Remask device text))) (remask_seat (front_of s) (machine_of m) client text f.i b)) (sym f.here)
+        (subst (λ (b : Option SeatState). IsAct s m name (Said (Ok (Remask device text))) (remask_seat (front_of s) (machine_of m) client text f.i b))
+        (sym f.here)
         (at_seat input plugged y is f.i f.here))
 
     remask_here : IsAct s m name (Said (Ok (Remask device text)))

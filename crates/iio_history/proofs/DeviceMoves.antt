@@ -20,7 +20,7 @@ use Rattle.iio_core.specs.Trigger.{entries_at, entry_of}
 use Rattle.iio_history.specs.Told.{Told}
 use Rattle.iio_history.specs.Machine.{step}
 use Rattle.iio_history.specs.Bench.{IsBench, front_of, machine_of}
-use Rattle.iio_core.specs.Moves.{capture_at, entry_at, entry_made, look_made, unplugs}
+use Rattle.iio_core.specs.Moves.{capture_at, entry_at, station_after_entry, station_after_look, unplugs}
 use Rattle.iio_core.specs.Devices.{AreMet, IsAt, station_met, station_of}
 use Rattle.iio_history.proofs.BenchMoves.{handling_is, look_is, unplugging_is}
 use Rattle.iio_core.proofs.DeviceLaws.{looks_agree}
@@ -44,7 +44,7 @@ module _ {Q : Type 0} (lost capacity : Q → ℕ) where
       → IsAt lost capacity waits (machine_of m) k d → IsAt lost capacity waits (machine_of (step s m (SensedAt k t))) k (after_sense t d)
   told_looks_agree waits s m k t d bench shaped here =
       ap (λ (x : Machine). slice_get x.stations k) (look_is s m k t bench)
-      ∙ ap (λ (shape : ShapeRecord). slice_get (with_station (look_made shape t) k (machine_of m)).stations k) shaped
+      ∙ ap (λ (shape : ShapeRecord). slice_get (with_station (station_after_look shape t) k (machine_of m)).stations k) shaped
       ∙ looks_agree lost capacity waits (machine_of m) k t d here
 
 module _ {Q : Type 0} (taken lost size capacity : Q → ℕ) (offer_gives : Q → List ℕ → Offered → Q → Type 0) where
@@ -66,7 +66,7 @@ module _ {Q : Type 0} (taken lost size capacity : Q → ℕ) (offer_gives : Q �
       ∙ get_first (λ j st. made j (kind_at (front_of s) j) st) (machine_of m).stations k
       ∙ ap (λ (o : Option Station). option_map (made k (kind_at (front_of s) k)) o) here
       ∙ ap (λ (kind : Kind). Some (made k kind met)) input
-      ∙ ap (λ (b : Bool). Some (cond b (entry_made Input (shape_at (front_of s) k) (entry_of k es) met) met)) itself
-      ∙ ap (λ (shape : ShapeRecord). Some (entry_made Input shape (entry_of k es) met)) shaped
-      ∙ ap (λ o. Some (entry_made Input d.standing.shape o met)) entry
+      ∙ ap (λ (b : Bool). Some (cond b (station_after_entry Input (shape_at (front_of s) k) (entry_of k es) met) met)) itself
+      ∙ ap (λ (shape : ShapeRecord). Some (station_after_entry Input shape (entry_of k es) met)) shaped
+      ∙ ap (λ o. Some (station_after_entry Input d.standing.shape o met)) entry
       ∙ ap (λ (st : Station). Some st) (handled_is taken lost size capacity offer_gives waits waited due r d d' h own fewer ruled met_is).1

@@ -4,7 +4,7 @@ use Rattle.iio_trigger.specs.Trigger.{Handed, poll_made}
 use Rattle.iio_history.specs.Event.{Event, Polled, Handled}
 use Rattle.iio_history.specs.Registry.{Setup, attachments_of}
 use Rattle.iio_core.specs.Attached.{entries_from}
-use Rattle.iio_core.specs.Trigger.{Trigger, first_trigger, trigger_after_handling, polled_by, without_entry}
+use Rattle.iio_core.specs.Trigger.{Trigger, first_trigger, trigger_after_handling, trigger_after_poll, without_entry}
 use Rattle.iio_device.specs.Site.{at_place, is_empty}
 use Rattle.iio_history.specs.Fold.{outstanding, registry_after}
 
@@ -39,12 +39,13 @@ outstanding_is s h trigger t is =
     let r = registry_after s h in
     let here : outstanding s trigger h ≡ t.entries = ap entries_by is in (
       λ (moment : ℤ). ap entries_by
-          (got_at trigger (polled_by (attachments_of r) trigger moment) r.triggers ∙ ap (option_map (polled_by (attachments_of r) trigger moment)) is)
+          (got_at trigger (trigger_after_poll (attachments_of r) trigger moment) r.triggers
+          ∙ ap (option_map (trigger_after_poll (attachments_of r) trigger moment)) is)
           ∙ made_is (entries_from 0 trigger moment (attachments_of r)) t.entries
           ∙ ap (λ (es : List Handed). cond (is_empty es) (entries_from 0 trigger moment (attachments_of r)) es) (sym here),
       λ (k : ℕ). ap entries_by (got_at trigger (trigger_after_handling k) r.triggers ∙ ap (option_map (trigger_after_handling k)) is)
           ∙ ap (without_entry k) (sym here),
       λ (other : ℕ) (moment : ℤ) (apart : other ≡ trigger → ⊥). ap entries_by
-          (got_elsewhere other trigger (polled_by (attachments_of r) other moment) r.triggers apart),
+          (got_elsewhere other trigger (trigger_after_poll (attachments_of r) other moment) r.triggers apart),
       λ (other k : ℕ) (apart : other ≡ trigger → ⊥). ap entries_by (got_elsewhere other trigger (trigger_after_handling k) r.triggers apart),
     )

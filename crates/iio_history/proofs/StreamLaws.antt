@@ -5,7 +5,7 @@ use Rattle.std.specs.Str.{bytes_eq}
 use Rattle.std.proofs.lemmas.Slice.Eq.{bytes_eq-Decides}
 use Rattle.iiod_grammar.specs.Stream.{Item, Scanner, InLine, after_byte, items_from, scanner_after, items_of}
 use Rattle.iio_history.specs.Event.{Event, Arrived}
-use Rattle.iio_history.specs.Registry.{Setup, User, Registry, user_named}
+use Rattle.iio_history.specs.Registry.{Setup, ConnectionRecord, Registry, user_named}
 use Rattle.iio_history.specs.Fold.{user_after, newcomers, new_user, users_after, registry_after}
 use Rattle.iio_history.specs.Told.{Line, user_of, line_told, stream_of, begun_of}
 use Rattle.iio_history.specs.Machine.{begun_after, line_after, new_line}
@@ -35,7 +35,7 @@ begun_is (Arrived speaker bytes) h name = by_name (bytes_eq speaker name)
     by_name false = refl
 begun_is e h name = refl
 
-lines_kept : (s : Setup) (r : Registry) (e : Event) (h : List Event) (us : List User)
+lines_kept : (s : Setup) (r : Registry) (e : Event) (h : List Event) (us : List ConnectionRecord)
     → map (line_told (e ∷ h)) (map (user_after s r e) us) ≡ map (line_after s r e) (map (line_told h) us)
 lines_kept s r e h [] = refl
 lines_kept s r e h (u ∷ us) =
@@ -43,17 +43,17 @@ lines_kept s r e h (u ∷ us) =
     ∙ ap (λ (ls : List Line). line_after s r e (line_told h u) ∷ ls) (lines_kept s r e h us)
 
 -- who isn't there sent nothing
-abbrev has_user : List ℕ → List User → Bool
+abbrev has_user : List ℕ → List ConnectionRecord → Bool
 has_user name us = is_some (user_named name us)
 
-has_first : (name : List ℕ) (u : User) (us : List User) → has_user name (u ∷ us) ≡ (bytes_eq u.who name || has_user name us)
+has_first : (name : List ℕ) (u : ConnectionRecord) (us : List ConnectionRecord) → has_user name (u ∷ us) ≡ (bytes_eq u.who name || has_user name us)
 has_first name u us = by_name (bytes_eq u.who name)
   where
     by_name : (b : Bool) → is_some (cond b (Some u) (user_named name us)) ≡ (b || has_user name us)
     by_name true = refl
     by_name false = refl
 
-has_more : (name : List ℕ) (us more : List User) → has_user name (us ++ more) ≡ (has_user name us || has_user name more)
+has_more : (name : List ℕ) (us more : List ConnectionRecord) → has_user name (us ++ more) ≡ (has_user name us || has_user name more)
 has_more name [] more = refl
 has_more name (u ∷ us) more =
     has_first name u (us ++ more) ∙ ap (λ (b : Bool). bytes_eq u.who name || b) (has_more name us more)
@@ -63,7 +63,7 @@ has_more name (u ∷ us) more =
     or_of true b c = refl
     or_of false b c = refl
 
-has_kept : (s : Setup) (r : Registry) (e : Event) (name : List ℕ) (us : List User) → has_user name (map (user_after s r e) us) ≡ has_user name us
+has_kept : (s : Setup) (r : Registry) (e : Event) (name : List ℕ) (us : List ConnectionRecord) → has_user name (map (user_after s r e) us) ≡ has_user name us
 has_kept s r e name [] = refl
 has_kept s r e name (u ∷ us) =
     has_first name (user_after s r e u) (map (user_after s r e) us) ∙ ap (λ (b : Bool). bytes_eq u.who name || b) (has_kept s r e name us)
@@ -80,7 +80,7 @@ absent_before s r e name h =
     let both = parts (has_user name kept) (has_user name (newcomers s e r.users)) (sym (has_more name kept (newcomers s e r.users)) ∙ h) in
     (sym (has_kept s r e name r.users) ∙ both.0, both.1)
 
-stranger : (s : Setup) (speaker name : List ℕ) (us : List User) (x : Bool) → has_user speaker us ≡ x → has_user name us ≡ false
+stranger : (s : Setup) (speaker name : List ℕ) (us : List ConnectionRecord) (x : Bool) → has_user speaker us ≡ x → has_user name us ≡ false
     → has_user name (cond x [] (new_user s speaker ∷ [])) ≡ false → bytes_eq speaker name ≡ false
 stranger s speaker name us true is absent h = by_name (bytes_eq speaker name) refl
   where
@@ -121,15 +121,15 @@ lines_are s e h =
     ∙ ap (λ (ls : List Line). ls ++ map (line_told (e ∷ h)) (newcomers s e r.users)) (lines_kept s r e h r.users)
     ∙ ap (λ (ls : List Line). map (line_after s r e) (map (line_told h) r.users) ++ ls) (newcomers_are s e h)
 
-pub users_are : (h : List Event) (us : List User) → map user_of (map (line_told h) us) ≡ us
+pub users_are : (h : List Event) (us : List ConnectionRecord) → map user_of (map (line_told h) us) ≡ us
 users_are h [] = refl
-users_are h (u ∷ us) = ap (λ (vs : List User). u ∷ vs) (users_are h us)
+users_are h (u ∷ us) = ap (λ (vs : List ConnectionRecord). u ∷ vs) (users_are h us)
 
 -- what a connection has begun
 abbrev begun_with : Option Line → Scanner
 begun_with o = elim o [ None ↦ InLine [] | Some l ↦ l.begun ]
 
-begun_in_by : (name : List ℕ) (h : List Event) (us : List User) → (has_user name us ≡ false → stream_of name h ≡ [])
+begun_in_by : (name : List ℕ) (h : List Event) (us : List ConnectionRecord) → (has_user name us ≡ false → stream_of name h ≡ [])
     → begun_by name (map (line_told h) us) ≡ begun_of (stream_of name h)
 begun_in_by name h [] absent = ap begun_of (sym (absent refl))
 begun_in_by name h (u ∷ us) absent = by_name (bytes_eq u.who name) refl absent (λ a. begun_in_by name h us a)

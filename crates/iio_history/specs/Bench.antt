@@ -12,7 +12,7 @@ use Rattle.iio_event.specs.Monitor.{MonitorRecord, is_holder}
 use Rattle.iio_device.specs.Site.{Site}
 use Rattle.iiod_grammar.specs.Stream.{Item}
 use Rattle.iiod_session.specs.Acts.{Acted}
-use Rattle.iiod_session.specs.Client.{Bare, ClientRecord, buffers_of as client_buffers}
+use Rattle.iiod_session.specs.Client.{SeatState, ClientRecord, buffers_of as client_buffers}
 use Rattle.iio_core.specs.Front.{Front, first_front}
 use Rattle.iio_core.specs.Machine.{Machine, Member as MachineMember, Station as MachineStation}
 use Rattle.iio_history.specs.Who.{Who, Conn, Inner, same}
@@ -99,12 +99,12 @@ machine_of m = record { clock = m.clock; triggers = m.triggers; stations = map (
 -- ---- what a client has to be
 
 -- the first seat of a client at a device
-abbrev pub seat_at : ℕ → List Bare → Option Bare
+abbrev pub seat_at : ℕ → List SeatState → Option SeatState
 seat_at dev [] = None
 seat_at dev (s ∷ ss) = if s.dev == dev then Some s else seat_at dev ss
 
 -- no two seats have one device
-abbrev pub OnePerDevice : List Bare → Type 0
+abbrev pub OnePerDevice : List SeatState → Type 0
 OnePerDevice [] = Unit {0}
 OnePerDevice (s ∷ ss) = (seat_at s.dev ss ≡ None) × OnePerDevice ss
 
@@ -113,12 +113,12 @@ is_listed dev [] = false
 is_listed dev (d ∷ ds) = d == dev || is_listed dev ds
 
 -- a membership of device k as its connection knows it
-abbrev pub bare_by : ℕ → Seat → Bare
-bare_by k x = record { dev = k; number = x.number; mask = x.member.mask; capacity = x.member.capacity; discarded = x.discarded }
+abbrev pub seat_state_by : ℕ → Seat → SeatState
+seat_state_by k x = record { dev = k; number = x.number; mask = x.member.mask; capacity = x.member.capacity; discarded = x.discarded }
 
-abbrev pub seat_in : ℕ → Who → Option Station → Option Bare
+abbrev pub seat_in : ℕ → Who → Option Station → Option SeatState
 seat_in k who None = None
-seat_in k who (Some st) = option_map (bare_by k) (seat_of who st.seats)
+seat_in k who (Some st) = option_map (seat_state_by k) (seat_of who st.seats)
 
 abbrev pub holds_in : Who → Option Station → Bool
 holds_in who None = false

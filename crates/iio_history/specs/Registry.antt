@@ -45,14 +45,14 @@ pub record Outline : Type 0 where
   pub masks : List ℕ
 
 -- a connection: whether it has ended, and the buffers count of each device
-pub record User : Type 0 where
+pub record ConnectionRecord : Type 0 where
   pub who : List ℕ
   pub ended : Bool
   pub buffers : List ℕ
 
 pub record Registry : Type 0 where
   pub clock : ℤ
-  pub users : List User
+  pub users : List ConnectionRecord
   pub triggers : List Trigger
   pub devices : List Device
 
@@ -98,15 +98,15 @@ abbrev pub is_named : Setup → List ℕ → ℕ → Bool
 is_named s name k = is_at (find_device s.desc name) k
 
 -- the connection of that name
-abbrev pub user_named : List ℕ → List User → Option User
+abbrev pub user_named : List ℕ → List ConnectionRecord → Option ConnectionRecord
 user_named name [] = None
 user_named name (u ∷ us) = if bytes_eq u.who name then Some u else user_named name us
 
 -- whether it is there and has ended, and whether it is there and hasn't
-abbrev pub has_ended : List ℕ → List User → Bool
+abbrev pub has_ended : List ℕ → List ConnectionRecord → Bool
 has_ended name us = elim (user_named name us) [ None ↦ false | Some u ↦ u.ended ]
 
-abbrev pub is_live : List ℕ → List User → Bool
+abbrev pub is_live : List ℕ → List ConnectionRecord → Bool
 is_live name us = elim (user_named name us) [ None ↦ false | Some u ↦ not u.ended ]
 
 -- the buffers count before a SET
@@ -114,5 +114,5 @@ abbrev pub first_buffers : ℕ
 first_buffers = FIRST_BUFFERS
 
 -- a connection's buffers count of device k
-abbrev pub buffers_of : List User → List ℕ → ℕ → ℕ
+abbrev pub buffers_of : List ConnectionRecord → List ℕ → ℕ → ℕ
 buffers_of us name k = elim (user_named name us) [ None ↦ first_buffers | Some u ↦ slice_index_or u.buffers k first_buffers ]

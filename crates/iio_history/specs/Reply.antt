@@ -39,33 +39,33 @@ replied (Err e) = Refusal e
 -- ---- who is spoken of
 
 -- a device, and its number
-pub record Known : Type 0 where
+pub record KnownDevice : Type 0 where
   pub number : ℕ
   pub station : Station
 
 -- the device of that name
-abbrev pub known : Setup → Told → List ℕ → Result Known Errno
+abbrev pub known : Setup → Told → List ℕ → Result KnownDevice Errno
 known s m name = do
   k ← ok_or (find_device s.desc name) ENODEV
   st ← ok_or (slice_get m.stations k) ENODEV
   Ok (record { number = k; station = st })
 
 -- the device of that name, where it is plugged
-abbrev pub there : Setup → Told → List ℕ → Result Known Errno
+abbrev pub there : Setup → Told → List ℕ → Result KnownDevice Errno
 there s m name = do
   x ← known s m name
   plugged ← ensure x.station.site.plugged ENODEV
   Ok x
 
 -- the device of that name, for a command that devices of some kinds alone know: the others answer that once they are plugged
-abbrev pub known_as : (Kind → Bool) → Setup → Told → List ℕ → Result Known Errno
+abbrev pub known_as : (Kind → Bool) → Setup → Told → List ℕ → Result KnownDevice Errno
 known_as knows s m name = do
   x ← known s m name
   plugged ← ensure (knows x.station.kind || x.station.site.plugged) ENODEV
   own ← ensure (knows x.station.kind) ENOSYS
   Ok x
 
-abbrev pub there_as : (Kind → Bool) → Setup → Told → List ℕ → Result Known Errno
+abbrev pub there_as : (Kind → Bool) → Setup → Told → List ℕ → Result KnownDevice Errno
 there_as knows s m name = do
   x ← there s m name
   own ← ensure (knows x.station.kind) ENOSYS
@@ -117,11 +117,11 @@ abbrev pub raw_by : Kind → ℤ → Station → ℕ → Result Reply Errno
 raw_by Output clock st c = Ok (Value (signed_decimal (slice_index_or st.last c (pos 0))))
 raw_by kind clock st c = raw_value clock st c
 
-abbrev pub attribute_value : Setup → ℤ → Known → Option ℕ → Attr → Result Reply Errno
+abbrev pub attribute_value : Setup → ℤ → KnownDevice → Option ℕ → Attr → Result Reply Errno
 attribute_value s clock x (Some c) attr.Raw = raw_by x.station.kind clock x.station c
 attribute_value s clock x channel a = Ok (Value (value_text (device_name s.desc x.number) channel a x.station.site))
 
-abbrev pub read_value : Setup → ℤ → Known → Who → Place → Option (List ℕ) → Result Reply Errno
+abbrev pub read_value : Setup → ℤ → KnownDevice → Who → Place → Option (List ℕ) → Result Reply Errno
 read_value s clock x who place attribute = do
   target ← found (device_of x.station) who place attribute
   if is_of_buffer place attribute

@@ -14,19 +14,19 @@ use Rattle.iio_core.specs.Moves.{next_scan}
 use Rattle.iio_history.specs.Who.{Who, same, is_among}
 use Rattle.iiod_grammar.specs.Stream.{Scanner, InLine, scanner_after}
 use Rattle.iio_history.specs.Event.{Event, Arrived}
-use Rattle.iio_history.specs.Registry.{Setup, Member, Device, User, Registry}
+use Rattle.iio_history.specs.Registry.{Setup, Member, Device, ConnectionRecord, Registry}
 use Rattle.iio_core.specs.Trigger.{Trigger}
 use Rattle.iio_history.specs.Act.{Act, Remasking, Leaving, Ending, Reading, Capturing, Giving, act_at, act_of}
 use Rattle.iio_history.specs.Fold.{registry_after, registry_first}
 use Rattle.iio_history.specs.Log.{membership_log}
-use Rattle.iio_history.specs.Queue.{Queue, private_queue}
+use Rattle.iio_history.specs.Queue.{MemberQueue, private_queue}
 use Rattle.iio_history.specs.Membership.{joinings_of, number_of, discarded_of}
 
 -- a member with its number, its queue, and how many scans its REMASKs discarded
 pub record Seat : Type 0 where
   pub member : Member
   pub number : ℕ
-  pub queue : Queue
+  pub queue : MemberQueue
   pub discarded : ℕ
 
 -- a device, how many have joined it, how many captures it made, what its queues gave and lost in all, and its members
@@ -44,7 +44,7 @@ pub record Station : Type 0 where
 
 -- a connection, with what it sent that is not yet an item
 pub record Line : Type 0 where
-  pub user : User
+  pub user : ConnectionRecord
   pub begun : Scanner
 
 pub record Told : Type 0 where
@@ -61,7 +61,7 @@ member_of_seat x = x.member
 abbrev pub device_of : Station → Device
 device_of st = record { kind = st.kind; shape = st.shape; site = st.site; window = st.window; members = map member_of_seat st.seats }
 
-abbrev pub user_of : Line → User
+abbrev pub user_of : Line → ConnectionRecord
 user_of l = l.user
 
 abbrev pub registry_of : Told → Registry
@@ -157,7 +157,7 @@ station_told s h k d = record {
   seats = map (seat_told s h k d.shape) d.members;
 }
 
-abbrev pub line_told : List Event → User → Line
+abbrev pub line_told : List Event → ConnectionRecord → Line
 line_told h u = record { user = u; begun = begun_of (stream_of u.who h) }
 
 abbrev pub told_by : Setup → List Event → Registry → Told

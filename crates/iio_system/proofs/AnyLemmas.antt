@@ -12,7 +12,7 @@ use Rattle.iio_device.specs.Site.{at_place, is_empty}
 use Rattle.iio_core.specs.Opening.{own_host}
 use Rattle.iio_core.specs.Attached.{is_attached}
 use Rattle.iio_core.specs.Lists.{map_from}
-use Rattle.iio_core.specs.Calls.{Outcome, all_joined, machine_after_close, inner_gone, inner_joined, inner_left, station_after_join, station_after_leave, open_of, open_refusals, trigger_by, trigger_of, unless, unless_made, with_inner, without_inner, host_of}
+use Rattle.iio_core.specs.Calls.{CallResult, all_joined, machine_after_close, inner_gone, inner_joined, inner_left, station_after_join, station_after_leave, open_of, open_refusals, trigger_by, trigger_of, unless, unless_made, with_inner, without_inner, host_of}
 use Rattle.iio_core.specs.Front.{Front, kind_at, shape_at}
 use Rattle.iio_core.specs.Machine.{Machine, Station, station_at, with_station, attachment_of, masks_of}
 use Rattle.iio_core.proofs.PlaceLists.{placed_from}
@@ -84,7 +84,7 @@ module _ (front : Front) (dev : ℕ) (plain : is_average (kind_at front dev) ≡
   closed_alone m number = left_alone (with_station (station_after_leave number) dev m)
 
   made_alone : (change : Station → Station) (m : Machine) (x : Result ℕ Errno) → unless_made (all_joined front dev change) m x ≡ unless change dev m x
-  made_alone change m (Ok n) = ap (λ (y : Machine). (let o : Outcome ℕ = record { answer = Ok n; machine = y } in o)) (joined_alone change m)
+  made_alone change m (Ok n) = ap (λ (y : Machine). (let o : CallResult ℕ = record { answer = Ok n; machine = y } in o)) (joined_alone change m)
   made_alone change m (Err e) = refl
 
   module _ (m : Machine) (mask capacity : ℕ) (cyclic : Bool) (st : Station) (shape : ShapeRecord) (here : station_at m dev ≡ st)

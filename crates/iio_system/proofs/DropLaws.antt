@@ -9,7 +9,7 @@ use Rattle.iio_core.specs.Machine.{Machine}
 use Rattle.iiod_session.specs.Seat.{SeatRecord}
 use Rattle.iiod_session.specs.Session.{SessionRecord}
 use Rattle.iio_history.specs.Event.{Dropped}
-use Rattle.iio_history.specs.Registry.{Registry, Setup, User, is_live, user_named}
+use Rattle.iio_history.specs.Registry.{Registry, Setup, ConnectionRecord, is_live, user_named}
 use Rattle.iio_history.specs.Told.{Line, Told, registry_of, user_of}
 use Rattle.iio_history.specs.Machine.{line_after, step}
 use Rattle.iio_history.specs.Played.{state_after, step_lines}
@@ -51,9 +51,9 @@ drop_lines s m name live is =
     append-nil (printed (name ∷ cond (is_live name (registry_of m).users) (codes "dropped") (codes "closed") ∷ []))
     ∙ ap (λ (b : Bool). printed (name ∷ cond b (codes "dropped") (codes "closed") ∷ [])) is
 
-live_by : (m : Told) (name : List ℕ) (o : Option User) → user_named name (registry_of m).users ≡ o
+live_by : (m : Told) (name : List ℕ) (o : Option ConnectionRecord) → user_named name (registry_of m).users ≡ o
     → is_live name (registry_of m).users ≡ elim o [ None ↦ false | Some u ↦ not u.ended ]
-live_by m name o is = ap (λ (x : Option User). elim x [ None ↦ false | Some u ↦ not u.ended ]) is
+live_by m name o is = ap (λ (x : Option ConnectionRecord). elim x [ None ↦ false | Some u ↦ not u.ended ]) is
 
 module _ {S : Type 0} (seen : S → SeatRecord) where
   others_dropped : (s : Setup) (m : Told) (front : Front) (name : List ℕ) (cs : List (Connection S)) → AreLines seen front m m.lines cs

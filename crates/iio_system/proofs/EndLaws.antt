@@ -148,12 +148,12 @@ client_after-append : (front : Front) (m : Machine) (client : ClientRecord) (xs 
 client_after-append front m client [] ys = refl
 client_after-append front m client (x ∷ xs) ys = client_after-append front (act front m client x).machine (act front m client x).client xs ys
 
-pub bare_after : (front : Front) (m : Machine) (client : ClientRecord) (s : Scanner) (bytes : List ℕ) → is_at_end s ≡ false
+pub seat_state_after : (front : Front) (m : Machine) (client : ClientRecord) (s : Scanner) (bytes : List ℕ) → is_at_end s ≡ false
     → is_at_end (scanner_after s bytes) ≡ true → IsBare (client_after front m client (items_from s bytes))
 unfolding act
-bare_after front m client s [] before after = absurd (true≢false (sym after ∙ before))
-bare_after front m client s (b ∷ bs) before after =
-    by (is_at_end (after_byte s b).next) refl (λ m' client' at. bare_after front m' client' (after_byte s b).next bs at after)
+seat_state_after front m client s [] before after = absurd (true≢false (sym after ∙ before))
+seat_state_after front m client s (b ∷ bs) before after =
+    by (is_at_end (after_byte s b).next) refl (λ m' client' at. seat_state_after front m' client' (after_byte s b).next bs at after)
   where
     first : List Item
     first = (after_byte s b).items

@@ -10,7 +10,7 @@ use Rattle.iiod_session.specs.Run.{client_after}
 use Rattle.iiod_session.specs.Seat.{SeatRecord}
 use Rattle.iiod_session.specs.Session.{SessionRecord}
 use Rattle.iio_history.specs.Event.{Event, Arrived, Heard}
-use Rattle.iio_history.specs.Registry.{Setup, User, has_ended, user_named}
+use Rattle.iio_history.specs.Registry.{Setup, ConnectionRecord, has_ended, user_named}
 use Rattle.iio_history.specs.Fold.{new_user, newcomers}
 use Rattle.iio_history.specs.Told.{Line, Told, registry_of, user_of}
 use Rattle.iio_history.specs.Machine.{line_after, new_line, step}
@@ -25,12 +25,12 @@ use Rattle.iio_history.proofs.BenchOthers.{arrival_is_nothing, clients_are_kept}
 use Rattle.iio_system.specs.declared.connection.Connection.{Connection}
 use Rattle.iio_system.specs.Connection.{HasHeard, IsHearing, IsSessionOf}
 use Rattle.iio_system.specs.System.{IsBare, IsLive, IsServed, Stands}
-use Rattle.iio_system.proofs.EndLaws.{bare_after, bytes_agree, has_end}
+use Rattle.iio_system.proofs.EndLaws.{seat_state_after, bytes_agree, has_end}
 use Rattle.iio_system.specs.Feeding.{IsOwning, is_at_end}
 use Rattle.iio_system.proofs.LineLaws.{OthersAre, others_after_items, others_are, others_arrived}
 use Rattle.iio_system.proofs.OwnLaws.{line_found, line_mapped, own_items, rejoined, with_session}
 
-abbrev ended_by : Option User → Bool
+abbrev ended_by : Option ConnectionRecord → Bool
 ended_by o = elim o [ None ↦ false | Some u ↦ u.ended ]
 
 -- the users of lines
@@ -49,13 +49,13 @@ user_is m name l is = user_of_line name m.lines ∙ ap (λ (o : Option Line). op
 -- nobody comes
 none_new : (s : Setup) (m : Told) (name bytes : List ℕ) (l : Line) → line_named name m.lines ≡ Some l
     → newcomers s (Arrived name bytes) (registry_of m).users ≡ []
-none_new s m name bytes l is = ap (λ (o : Option User). cond (is_some o) [] (new_user s name ∷ [])) (user_is m name l is)
+none_new s m name bytes l is = ap (λ (o : Option ConnectionRecord). cond (is_some o) [] (new_user s name ∷ [])) (user_is m name l is)
 
 -- its lines after its bytes came
 arrived_lines : (s : Setup) (m : Told) (name bytes : List ℕ) (l : Line) → line_named name m.lines ≡ Some l
     → (step s m (Arrived name bytes)).lines ≡ map (line_after s (registry_of m) (Arrived name bytes)) m.lines
 arrived_lines s m name bytes l is =
-    ap (λ (us : List User). map (line_after s (registry_of m) (Arrived name bytes)) m.lines ++ map (new_line (Arrived name bytes)) us)
+    ap (λ (us : List ConnectionRecord). map (line_after s (registry_of m) (Arrived name bytes)) m.lines ++ map (new_line (Arrived name bytes)) us)
     (none_new s m name bytes l is) ∙ append-nil (map (line_after s (registry_of m) (Arrived name bytes)) m.lines)
 
 pub arrived_own : (s : Setup) (m : Told) (name bytes : List ℕ) (l : Line) → line_named name m.lines ≡ Some l
@@ -194,7 +194,7 @@ module _ {S : Type 0} (seen : S → SeatRecord) where
       → HasNothing (steps s n (heard name (items_from begun bytes))) name
   has_nothing s n front told name begun bytes x h before after = (
     client_after (front_of s) (machine_of n) (client_of seen x.client) (items_from begun bytes),
-    bare_after (front_of s) (machine_of n) (client_of seen x.client) begun bytes before after,
+    seat_state_after (front_of s) (machine_of n) (client_of seen x.client) begun bytes before after,
     (feeds_are_acts s n name (client_of seen x.client) (items_from begun bytes) h.bench h.there h.session.client h.room).client_then,
   )
 
@@ -224,7 +224,7 @@ module _ (s : Setup) (m : Told) (name bytes : List ℕ) (begun : Scanner) (live 
 
 pub live_user : (m : Told) (name : List ℕ) (l : Line) (e : Bool) → line_named name m.lines ≡ Some l → l.user.ended ≡ e
     → has_ended name (registry_of m).users ≡ e
-live_user m name l e is live = ap (λ (o : Option User). ended_by o) (user_is m name l is) ∙ live
+live_user m name l e is live = ap (λ (o : Option ConnectionRecord). ended_by o) (user_is m name l is) ∙ live
 
 pub begun_line : (m : Told) (name : List ℕ) (l : Line) → line_named name m.lines ≡ Some l → begun_by name m.lines ≡ l.begun
 begun_line m name l is = ap (λ (o : Option Line). elim o [ None ↦ InLine [] | Some x ↦ x.begun ]) is

@@ -15,7 +15,7 @@ use Rattle.iio_core.specs.Machine.{Machine, station_at, attachment_of}
 use Rattle.iio_core.specs.Moves.{entry_answer, machine_after_handling, entry_in, machine_after_entry, machine_after_poll, polled_answer, taken_off}
 use Rattle.iio_history.specs.Event.{Handled, Polled}
 use Rattle.iio_history.specs.Registry.{Setup, attachments_of}
-use Rattle.iio_core.specs.Trigger.{Trigger, entries_at, entry_of, without_entry, trigger_after_handling, polled_by, first_due, missed_at, poll_answer}
+use Rattle.iio_core.specs.Trigger.{Trigger, entries_at, entry_of, without_entry, trigger_after_handling, trigger_after_poll, first_due, missed_at, poll_answer}
 use Rattle.iio_history.specs.Told.{Told, registry_of}
 use Rattle.iio_history.specs.Machine.{step}
 use Rattle.iio_history.specs.Played.{state_after, step_lines, steps, texts}
@@ -300,7 +300,7 @@ module _ {X : Type 0} {V : X → Type 0} (driver : Plug X V → Driver) where
           =
           ap (λ (x : Machine). length x.triggers) (sym (machine_told driver s m b cs h))
           ∙ length_map_is trigger_of b.triggers.items ∙ many in
-          entries_placed (polled_by (attachments_of (registry_of m)) trigger t) (λ es. poll_made made es) (λ x. refl) trigger
+          entries_placed (trigger_after_poll (attachments_of (registry_of m)) trigger t) (λ es. poll_made made es) (λ x. refl) trigger
           m.triggers (λ past. absurd (omega (arith, past, long, within)))
 
       in_order : InOrder 0 (length (bench_front b').devices) made

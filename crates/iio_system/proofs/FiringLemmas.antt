@@ -13,8 +13,8 @@ use Rattle.iio_device.specs.Sensing.{sensed, with_sensed}
 use Rattle.iio_device.specs.Site.{at_place, unplugged}
 use Rattle.iio_core.specs.Attached.{entries_from}
 use Rattle.iio_core.specs.Machine.{Station, with_site, attachments_of}
-use Rattle.iio_core.specs.Trigger.{polled_by, trigger_after_handling, Trigger, entry_of, trigger_in, first_trigger, poll_answer, entries_at, missed_at}
-use Rattle.iio_core.specs.Moves.{look_made}
+use Rattle.iio_core.specs.Trigger.{trigger_after_poll, trigger_after_handling, Trigger, entry_of, trigger_in, first_trigger, poll_answer, entries_at, missed_at}
+use Rattle.iio_core.specs.Moves.{station_after_look}
 use Rattle.iio_system.specs.Acting.{Keeps, KeepsCaptures}
 use Rattle.iio_core.specs.declared.became.Became.{Became}
 use Rattle.iio_system.specs.Handling.{is_last, entry_became}
@@ -46,9 +46,10 @@ module _ (triggers : List TriggerDesc) (states : List State) (sts : List Station
       bench_triggered triggers states sts t s s' bench there (poll_places t sts moment s (bench.each t s there) answer s' p)
       (poll_sound t sts moment s (bench.each t s there) answer s' p)
 
-  pub poll_triggers : map trigger_of (set states t s') ≡ at_place t (polled_by (attachments_of sts) t moment) (map trigger_of states)
+  pub poll_triggers : map trigger_of (set states t s') ≡ at_place t (trigger_after_poll (attachments_of sts) t moment) (map trigger_of states)
   poll_triggers =
-      map_changed trigger_of states t s s' (polled_by (attachments_of sts) t moment) there (poll_told t sts moment s (bench.each t s there) answer s' p)
+      map_changed trigger_of states t s s' (trigger_after_poll (attachments_of sts) t moment) there
+      (poll_told t sts moment s (bench.each t s there) answer s' p)
 
   pub poll_answer_is : answer
       ≡ poll_answer (entries_from 0 t moment (attachments_of sts)) (entries_at (map trigger_of states) t) (missed_at (map trigger_of states) t)
@@ -64,7 +65,7 @@ sense_by : (b : Bool) (v v' w : DeviceView Queue) → v' ≡ cond b w v → stat
 sense_by true v v' w e = ap station_of e
 sense_by false v v' w e = ap station_of e
 
-pub sense_station : (t : ℤ) (v v' : DeviceView Queue) → v' ≡ after_sense t v → station_of v' ≡ look_made v.standing.shape t (station_of v)
+pub sense_station : (t : ℤ) (v v' : DeviceView Queue) → v' ≡ after_sense t v → station_of v' ≡ station_after_look v.standing.shape t (station_of v)
 sense_station t v v' e = sense_by v.site.plugged v v' _ e
 
 sense_keeps_by : (b : Bool) (v v' w : DeviceView Queue) → w.name ≡ v.name → w.number ≡ v.number → w.standing.shape ≡ v.standing.shape → v' ≡ cond b w v
@@ -99,9 +100,9 @@ sensed_stands_by : (b : Bool) (st w : Station) → KeepsStanding st w → KeepsS
 sensed_stands_by true st w k = k
 sensed_stands_by false st w k = stands_same st st refl
 
-pub sense_stands : (shape : ShapeRecord) (t : ℤ) (st st' : Station) → st' ≡ look_made shape t st → KeepsStanding st st'
+pub sense_stands : (shape : ShapeRecord) (t : ℤ) (st st' : Station) → st' ≡ station_after_look shape t st → KeepsStanding st st'
 sense_stands shape t st st' e =
-    stands_along st (look_made shape t st) st'
+    stands_along st (station_after_look shape t st) st'
     (sensed_stands_by st.site.plugged st (with_site (with_sensed (sensed shape t st.site)) st) (standing st _ refl refl refl refl (λ j. refl) refl)) e
 
 -- ---- unplugging

@@ -278,27 +278,27 @@ abbrev pub AreBare : List Station → Type 0
 AreBare [] = Unit {0}
 AreBare (st ∷ sts) = (is_empty st.members ≡ true) × AreBare sts
 
-outputs_bare : (descs : List OutputRecord) → AreBare (map first_out_station descs)
-outputs_bare [] = tt
-outputs_bare (x ∷ xs) = (refl, outputs_bare xs)
+outputs_seat_state : (descs : List OutputRecord) → AreBare (map first_out_station descs)
+outputs_seat_state [] = tt
+outputs_seat_state (x ∷ xs) = (refl, outputs_seat_state xs)
 
-averages_bare : (made : AverageRecord → Station) → ((x : AverageRecord) → (made x).members ≡ []) → (means : List AverageRecord) → AreBare (map made means)
-averages_bare made none [] = tt
-averages_bare made none (x ∷ xs) = (ap (λ (ms : List Member). is_empty ms) (none x), averages_bare made none xs)
+averages_seat_state : (made : AverageRecord → Station) → ((x : AverageRecord) → (made x).members ≡ []) → (means : List AverageRecord) → AreBare (map made means)
+averages_seat_state made none [] = tt
+averages_seat_state made none (x ∷ xs) = (ap (λ (ms : List Member). is_empty ms) (none x), averages_seat_state made none xs)
 
-bare_both : (xs ys : List Station) → AreBare xs → AreBare ys → AreBare (xs ++ ys)
-bare_both [] ys xs-bare ys-bare = ys-bare
-bare_both (x ∷ xs) ys xs-bare ys-bare = (xs-bare.0, bare_both xs ys xs-bare.1 ys-bare)
+seat_state_both : (xs ys : List Station) → AreBare xs → AreBare ys → AreBare (xs ++ ys)
+seat_state_both [] ys xs-bare ys-bare = ys-bare
+seat_state_both (x ∷ xs) ys xs-bare ys-bare = (xs-bare.0, seat_state_both xs ys xs-bare.1 ys-bare)
 
-inputs_bare : (drivers : List Driver) (inputs : List DeviceRecord) → AreBare (map (first_station drivers) inputs)
-inputs_bare drivers [] = tt
-inputs_bare drivers (x ∷ xs) = (refl, inputs_bare drivers xs)
+inputs_seat_state : (drivers : List Driver) (inputs : List DeviceRecord) → AreBare (map (first_station drivers) inputs)
+inputs_seat_state drivers [] = tt
+inputs_seat_state drivers (x ∷ xs) = (refl, inputs_seat_state drivers xs)
 
-pub first_bare : (drivers : List Driver) (inputs : List DeviceRecord) (outputs : List OutputRecord) (means : List AverageRecord)
+pub first_seat_state : (drivers : List Driver) (inputs : List DeviceRecord) (outputs : List OutputRecord) (means : List AverageRecord)
     → AreBare (map (first_station drivers) inputs ++ (map first_out_station outputs ++ map (first_mean_station inputs) means))
-first_bare drivers inputs outputs means =
-    bare_both (map (first_station drivers) inputs) _ (inputs_bare drivers inputs)
-    (bare_both (map first_out_station outputs) _ (outputs_bare outputs) (averages_bare (first_mean_station inputs) (λ x. refl) means))
+first_seat_state drivers inputs outputs means =
+    seat_state_both (map (first_station drivers) inputs) _ (inputs_seat_state drivers inputs)
+    (seat_state_both (map first_out_station outputs) _ (outputs_seat_state outputs) (averages_seat_state (first_mean_station inputs) (λ x. refl) means))
 
 module _ {D : Type 0} (f h : D → Station) (same : (d : D) → is_empty (h d).members ≡ is_empty (f d).members) where
   none_placed : (dev t : ℕ) (ds : List D) → AreBare (map f ds) → places_from dev t (map h ds) ≡ []
@@ -580,12 +580,12 @@ first_averaged triggers first heads sts bases many bare fresh = record {
   bases = bases;
   hosted =
       λ dev plain. on_one triggers (station_in sts dev).site.trigger (is_empty (station_in sts dev).members) (fresh_on triggers sts dev fresh)
-      (bare_at sts dev bare);
+      (seat_state_at sts dev bare);
   inners = λ j base window is. record {
     plugged =
         plugged j (let less = average_there heads j base window is in omega (arith, less, many))
         ∙ sym (plugged base (let less = (bases.bases j base window is).before in let within = bases.within in omega (arith, less, within, many)));
-    inner = no_inner j (station_in sts base).members (bare_at sts base bare) ∙ sym (ap not (bare_at sts j bare));
+    inner = no_inner j (station_in sts base).members (seat_state_at sts base bare) ∙ sym (ap not (seat_state_at sts j bare));
     fewer = (let a = none j in let b = none base in omega (arith, a, b));
     most = (let b = none base in omega (arith, b));
   };
@@ -597,10 +597,10 @@ first_averaged triggers first heads sts bases many bare fresh = record {
     none : (i : ℕ) → (station_in sts i).captures ≡ 0
     none i = fresh_captures triggers sts i fresh
 
-    bare_at : (xs : List Station) (i : ℕ) → AreBare xs → is_empty (station_in xs i).members ≡ true
-    bare_at [] i bare = refl
-    bare_at (x ∷ xs) zero bare = bare.0
-    bare_at (x ∷ xs) (suc i) bare = bare_at xs i bare.1
+    seat_state_at : (xs : List Station) (i : ℕ) → AreBare xs → is_empty (station_in xs i).members ≡ true
+    seat_state_at [] i bare = refl
+    seat_state_at (x ∷ xs) zero bare = bare.0
+    seat_state_at (x ∷ xs) (suc i) bare = seat_state_at xs i bare.1
 
     no_inner : (j : ℕ) (ms : List Member) → is_empty ms ≡ true → list_any (is_inner_of j) ms ≡ false
     no_inner j [] e = refl

@@ -13,7 +13,7 @@ use Rattle.iio_core.specs.Attached.{is_attached}
 use Rattle.iio_core.specs.Front.{Front, kind_at, shape_at}
 use Rattle.iio_core.specs.Machine.{Machine, Station, no_station, station_at, station_in, with_site, attachment_of}
 use Rattle.iio_core.specs.Lists.{map_from}
-use Rattle.iio_core.specs.Moves.{Capture, gathered_to, mean_made, offered_to, unplugs, machine_after_unplugging, entry_at, capture_at, capture_in, entry_made, is_due, machine_after_entry}
+use Rattle.iio_core.specs.Moves.{Capture, station_after_gathering, station_after_mean, offered_to, unplugs, machine_after_unplugging, entry_at, capture_at, capture_in, station_after_entry, is_due, machine_after_entry}
 use Rattle.iio_core.proofs.PlaceLists.{same_number}
 use Rattle.iio_system.specs.Averages.{HasInner, IsAveraged, kind_in}
 use Rattle.iio_system.specs.Handling.{is_last}
@@ -58,30 +58,31 @@ bench_each triggers states sts sts' bench same kept = record {
 
 -- ---- averaging devices
 
-gathered_some : (size : ℕ) (shape : ShapeRecord) (c : Capture) (st : Station) → KeepsInner st (gathered_to size shape (Some c) st)
+gathered_some : (size : ℕ) (shape : ShapeRecord) (c : Capture) (st : Station) → KeepsInner st (station_after_gathering size shape (Some c) st)
 gathered_some size shape c st = by (is_empty st.members) (is_filled_by size st.window)
   where
     mean : Capture
     mean = record { moment = c.moment; values = means_of size (sums_with st.window c.values) }
 
-    by : (a b : Bool) → KeepsInner st (cond a st (cond b (mean_made shape mean st) (record st { window = window_with st.window c.values })))
+    by : (a b : Bool) → KeepsInner st (cond a st (cond b (station_after_mean shape mean st) (record st { window = window_with st.window c.values })))
     by true b = inner_kept st st refl refl refl refl (λ j. refl)
     by false false = inner_kept st _ refl refl refl refl (λ j. refl)
     by false true =
-        inner_kept st (mean_made shape mean st) refl refl refl (is_empty-map (offered_to shape mean) st.members)
+        inner_kept st (station_after_mean shape mean st) refl refl refl (is_empty-map (offered_to shape mean) st.members)
         (λ j. inner_mapped j (offered_to shape mean) (offered_inner shape mean j) st.members)
 
-gathered_kept : (size : ℕ) (shape : ShapeRecord) (o : Option Capture) (st : Station) → KeepsInner st (gathered_to size shape o st)
+gathered_kept : (size : ℕ) (shape : ShapeRecord) (o : Option Capture) (st : Station) → KeepsInner st (station_after_gathering size shape o st)
 gathered_kept size shape None st = inner_kept st st refl refl refl refl (λ j. refl)
 gathered_kept size shape (Some c) st = gathered_some size shape c st
 
-gathered_more : (size : ℕ) (shape : ShapeRecord) (c : Capture) (st : Station) → (gathered_to size shape (Some c) st).captures ≤ st.captures + 1
+gathered_more : (size : ℕ) (shape : ShapeRecord) (c : Capture) (st : Station) → (station_after_gathering size shape (Some c) st).captures ≤ st.captures + 1
 gathered_more size shape c st = by (is_empty st.members) (is_filled_by size st.window)
   where
     mean : Capture
     mean = record { moment = c.moment; values = means_of size (sums_with st.window c.values) }
 
-    by : (a b : Bool) → (cond a st (cond b (mean_made shape mean st) (record st { window = window_with st.window c.values }))).captures ≤ st.captures + 1
+    by : (a b : Bool) → (cond a st (cond b (station_after_mean shape mean st) (record st { window = window_with st.window c.values }))).captures ≤ st.captures
+        + 1
     by true b = omega arith
     by false false = omega arith
     by false true = omega arith
@@ -89,20 +90,20 @@ gathered_more size shape c st = by (is_empty st.members) (is_filled_by size st.w
 -- ---- captures of the device whose entry is handled
 
 asked_more : (e : Handed) (shape : ShapeRecord) (st : Station) (o : Option Capture) → capture_in Input shape (Some e) st ≡ o
-    → (elim o [ None ↦ st.captures | Some c ↦ st.captures + 1 ]) ≡ (entry_made Input shape (Some e) st).captures
+    → (elim o [ None ↦ st.captures | Some c ↦ st.captures + 1 ]) ≡ (station_after_entry Input shape (Some e) st).captures
 asked_more e shape st o is = by (is_due e st) (ask_fails st.site.driver) refl refl o is
   where
     made : Capture
     made = record { moment = e.t; values = values_of st.site.driver shape e.t }
 
     by : (a b : Bool) → is_due e st ≡ a → ask_fails st.site.driver ≡ b → (o : Option Capture) → capture_in Input shape (Some e) st ≡ o
-        → (elim o [ None ↦ st.captures | Some c ↦ st.captures + 1 ]) ≡ (entry_made Input shape (Some e) st).captures
+        → (elim o [ None ↦ st.captures | Some c ↦ st.captures + 1 ]) ≡ (station_after_entry Input shape (Some e) st).captures
     by false b p q o is = let none : capture_in Input shape (Some e) st ≡ None = rw p refl in rw (sym is ∙ none, p) refl
     by true true p q o is = let none : capture_in Input shape (Some e) st ≡ None = rw (p, q) refl in rw (sym is ∙ none, p, q) refl
     by true false p q o is = let some : capture_in Input shape (Some e) st ≡ Some made = rw (p, q) refl in rw (sym is ∙ some, p, q) refl
 
 entry_more : (o : Option Handed) (shape : ShapeRecord) (st : Station) (c : Option Capture) → capture_in Input shape o st ≡ c
-    → (elim c [ None ↦ st.captures | Some x ↦ st.captures + 1 ]) ≡ (entry_made Input shape o st).captures
+    → (elim c [ None ↦ st.captures | Some x ↦ st.captures + 1 ]) ≡ (station_after_entry Input shape o st).captures
 entry_more None shape st c is = rw (sym is) refl
 entry_more (Some e) shape st c is = asked_more e shape st c is
 
@@ -110,9 +111,10 @@ entry_more (Some e) shape st c is = asked_more e shape st c is
 
 entry_at_kept : (o : Option Handed) (c : Option Capture) (dev : ℕ) (kind : Kind) (shape : ShapeRecord) (j : ℕ) (st : Station)
     → KeepsInner st (entry_at o c dev kind shape j st)
-entry_at_kept o c dev Input shape j st = current_kept (dev == j) st (entry_made Input shape o st) (entry_kept Input o shape st)
-entry_at_kept o c dev Output shape j st = current_kept (dev == j) st (entry_made Output shape o st) (entry_kept Output o shape st)
-entry_at_kept o c dev (Average base window) shape j st = current_kept (dev == base) st (gathered_to window shape c st) (gathered_kept window shape c st)
+entry_at_kept o c dev Input shape j st = current_kept (dev == j) st (station_after_entry Input shape o st) (entry_kept Input o shape st)
+entry_at_kept o c dev Output shape j st = current_kept (dev == j) st (station_after_entry Output shape o st) (entry_kept Output o shape st)
+entry_at_kept o c dev (Average base window) shape j st =
+    current_kept (dev == base) st (station_after_gathering window shape c st) (gathered_kept window shape c st)
 
 module _ (front : Front) (o : Option Handed) (dev : ℕ) (m : Machine) where
   abbrev handled_at : ℕ → Station → Station
@@ -144,10 +146,10 @@ module _ (front : Front) (o : Option Handed) (dev : ℕ) (m : Machine) where
   module _ (j base window : ℕ) (st b : Station) (is : kind_at front j ≡ Average base window) (input : kind_at front base ≡ Input)
       (at : slice_get m.stations j ≡ Some st) (under : slice_get m.stations base ≡ Some b)
       (fewer : st.captures ≤ b.captures) where
-    own_is : handled_at j st ≡ cond (dev == base) (gathered_to window (shape_at front j) (capture_at front o dev m) st) st
+    own_is : handled_at j st ≡ cond (dev == base) (station_after_gathering window (shape_at front j) (capture_at front o dev m) st) st
     own_is = ap (λ (kind : Kind). entry_at o (capture_at front o dev m) dev kind (shape_at front j) j st) is
 
-    base_is : handled_at base b ≡ cond (dev == base) (entry_made Input (shape_at front base) o b) b
+    base_is : handled_at base b ≡ cond (dev == base) (station_after_entry Input (shape_at front base) o b) b
     base_is = ap (λ (kind : Kind). entry_at o (capture_at front o dev m) dev kind (shape_at front base) base b) input
 
     capture_is : dev ≡ base → capture_at front o dev m ≡ capture_in Input (shape_at front base) o b
@@ -157,8 +159,8 @@ module _ (front : Front) (o : Option Handed) (dev : ℕ) (m : Machine) where
         ∙ ap (λ (kind : Kind). capture_in kind (shape_at front base) o (station_in m.stations base)) input
         ∙ ap (λ (x : Option Station). capture_in Input (shape_at front base) o (unwrap_or x no_station)) under
 
-    rises : (c : Option Capture) → (elim c [ None ↦ b.captures | Some x ↦ b.captures + 1 ]) ≡ (entry_made Input (shape_at front base) o b).captures
-        → (gathered_to window (shape_at front j) c st).captures ≤ (entry_made Input (shape_at front base) o b).captures
+    rises : (c : Option Capture) → (elim c [ None ↦ b.captures | Some x ↦ b.captures + 1 ]) ≡ (station_after_entry Input (shape_at front base) o b).captures
+        → (station_after_gathering window (shape_at front j) c st).captures ≤ (station_after_entry Input (shape_at front base) o b).captures
     rises None more = omega (arith, more, fewer)
     rises (Some c) more = let most = gathered_more window (shape_at front j) c st in omega (arith, more, most, fewer)
 
@@ -166,8 +168,8 @@ module _ (front : Front) (o : Option Handed) (dev : ℕ) (m : Machine) where
     fewer_after = rw (own_is, base_is) (by (dev == base) refl)
       where
         by : (t : Bool) → (dev == base) ≡ t
-            → (cond t (gathered_to window (shape_at front j) (capture_at front o dev m) st) st).captures
-            ≤ (cond t (entry_made Input (shape_at front base) o b) b).captures
+            → (cond t (station_after_gathering window (shape_at front j) (capture_at front o dev m) st) st).captures
+            ≤ (cond t (station_after_entry Input (shape_at front base) o b) b).captures
         by true here =
             let e : dev ≡ base = same_number dev base here in
             rises (capture_at front o dev m) (entry_more o (shape_at front base) b (capture_at front o dev m) (sym (capture_is e)))
@@ -176,20 +178,21 @@ module _ (front : Front) (o : Option Handed) (dev : ℕ) (m : Machine) where
     most_after : b.captures ≤ 2 ^ 64 - 1 → (dev ≡ base → is_last b.captures ≡ false) → (handled_at base b).captures ≤ 2 ^ 64 - 1
     most_after most goes_on = rw base_is (by (dev == base) refl)
       where
-        counts : (c : Option Capture) → (elim c [ None ↦ b.captures | Some x ↦ b.captures + 1 ]) ≡ (entry_made Input (shape_at front base) o b).captures
+        counts : (c : Option Capture)
+            → (elim c [ None ↦ b.captures | Some x ↦ b.captures + 1 ]) ≡ (station_after_entry Input (shape_at front base) o b).captures
             → is_last b.captures ≡ false
-            → (entry_made Input (shape_at front base) o b).captures ≤ 2 ^ 64 - 1
+            → (station_after_entry Input (shape_at front base) o b).captures ≤ 2 ^ 64 - 1
         counts None more less = omega (arith, more, most)
         counts (Some c) more less =
             let apart : b.captures ≡ 2 ^ 64 - 1 → ⊥ =
             (λ e. absurd (let h : false ≡ true = sym less ∙ ap is_last e in cc)) in by_two (same_or b.captures (2 ^ 64 - 1)) apart
           where
             by_two : (b.captures ≡ 2 ^ 64 - 1) ⊎ (b.captures ≡ 2 ^ 64 - 1 → ⊥) → (b.captures ≡ 2 ^ 64 - 1 → ⊥)
-                → (entry_made Input (shape_at front base) o b).captures ≤ 2 ^ 64 - 1
+                → (station_after_entry Input (shape_at front base) o b).captures ≤ 2 ^ 64 - 1
             by_two (inl e) apart = absurd (apart e)
             by_two (inr other) apart = omega (arith, more, most, other)
 
-        by : (t : Bool) → (dev == base) ≡ t → (cond t (entry_made Input (shape_at front base) o b) b).captures ≤ 2 ^ 64 - 1
+        by : (t : Bool) → (dev == base) ≡ t → (cond t (station_after_entry Input (shape_at front base) o b) b).captures ≤ 2 ^ 64 - 1
         by true here =
             counts (capture_in Input (shape_at front base) o b) (entry_more o (shape_at front base) b _ refl) (goes_on (same_number dev base here))
         by false away = most

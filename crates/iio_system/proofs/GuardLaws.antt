@@ -5,7 +5,7 @@ use Rattle.std.proofs.lemmas.Slice.Eq.{bytes_eq-Decides}
 use Rattle.iiod_grammar.specs.Command.{Open, Close, Read, ReadBuf, GetTrig, SetBuffers, Remask}
 use Rattle.iiod_grammar.specs.Stream.{Item, Said, End, Scanner, items_from}
 use Rattle.iio_desc.specs.Kind.{is_input}
-use Rattle.iiod_session.specs.Client.{Bare, ClientRecord, client_of}
+use Rattle.iiod_session.specs.Client.{SeatState, ClientRecord, client_of}
 use Rattle.iio_core.specs.Front.{Front, find_device, kind_at}
 use Rattle.iio_core.specs.Machine.{Machine}
 use Rattle.iiod_session.specs.Seat.{SeatRecord}
@@ -84,8 +84,8 @@ others_all w (n ∷ ns) absent = by (bytes_eq n w) refl absent (λ h. others_all
 
 -- ---- clients by connections
 
-abbrev pub bare_client : ClientRecord
-bare_client = record { who = 0; seats = []; buffers = []; holdings = [] }
+abbrev pub seat_state_client : ClientRecord
+seat_state_client = record { who = 0; seats = []; buffers = []; holdings = [] }
 
 module _ {S : Type 0} (seen : S → SeatRecord) (front : Front) (m : Told) where
   abbrev pub client_of_line : (l : Line) (o : Option (SessionRecord S)) → IsServed seen front m l o → ClientRecord
@@ -98,7 +98,7 @@ module _ {S : Type 0} (seen : S → SeatRecord) (front : Front) (m : Told) where
 
   abbrev pub client_at : (ls : List Line) (cs : List (Connection S)) → AreLines seen front m ls cs → List ℕ → ClientRecord
   client_at (l ∷ ls) (c ∷ cs) are name = cond (bytes_eq l.user.who name) (client_of_line l c.session are.0.served) (client_at ls cs are.1 name)
-  client_at ls cs are name = bare_client
+  client_at ls cs are name = seat_state_client
 
   clients_are : (ls : List Line) (cs : List (Connection S)) (are : AreLines seen front m ls cs)
       → Every (λ name. IsClientOf m name (client_at ls cs are name)) (map name_of ls)
@@ -141,12 +141,12 @@ module _ {S : Type 0} (seen : S → SeatRecord) (front : Front) (m : Told) where
   seated_more : (l : Line) (o : Option (SessionRecord S)) (p : IsServed seen front m l o) (k : ℕ) (ds es : List ClientRecord)
       → one_seated ds k ≡ one_seated es k
       → one_seated (client_of_line l o p ∷ ds) k ≡ one_seated (with_client seen o es) k
-  seated_more l None gone k ds es rest = ap (λ (ss : List Bare). is_some (seat_at k ss) || one_seated ds k) gone.bare.0 ∙ rest
+  seated_more l None gone k ds es rest = ap (λ (ss : List SeatState). is_some (seat_at k ss) || one_seated ds k) gone.bare.0 ∙ rest
   seated_more l (Some x) live k ds es rest = ap (λ b. has_seat k (client_of seen x.client) || b) rest
 
   none_more : (l : Line) (o : Option (SessionRecord S)) (p : IsServed seen front m l o) (ds es : List ClientRecord) → none_seated ds ≡ none_seated es
       → none_seated (client_of_line l o p ∷ ds) ≡ none_seated (with_client seen o es)
-  none_more l None gone ds es rest = ap (λ (ss : List Bare). is_empty ss && none_seated ds) gone.bare.0 ∙ rest
+  none_more l None gone ds es rest = ap (λ (ss : List SeatState). is_empty ss && none_seated ds) gone.bare.0 ∙ rest
   none_more l (Some x) live ds es rest = ap (λ b. is_empty (client_of seen x.client).seats && b) rest
 
   -- the same of a list of clients by any test that a client of nothing doesn't change
@@ -189,7 +189,7 @@ module _ {S : Type 0} (seen : S → SeatRecord) (front : Front) (m : Told) where
 
   own_line : (l : Line) (o : Option (SessionRecord S)) (p : IsServed seen front m l o) (k : ℕ)
       → own_has (Some (client_of_line l o p)) k ≡ own_has (option_map (λ (x : SessionRecord S). client_of seen x.client) o) k
-  own_line l None gone k = ap (λ (ss : List Bare). is_some (seat_at k ss)) gone.bare.0
+  own_line l None gone k = ap (λ (ss : List SeatState). is_some (seat_at k ss)) gone.bare.0
   own_line l (Some x) live k = refl
 
   pub own_named : (ls : List Line) (cs : List (Connection S)) (are : AreLines seen front m ls cs) (a : List ℕ) (k : ℕ)

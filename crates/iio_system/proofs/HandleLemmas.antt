@@ -20,7 +20,7 @@ use Rattle.iio_core.specs.Machine.{Member, Station}
 use Rattle.iio_system.specs.Acting.{Keeps}
 use Rattle.iio_core.specs.declared.became.Became.TheVariants.{Asked}
 use Rattle.iio_system.specs.Handling.{counted, entry_station, is_last, entry_became}
-use Rattle.iio_core.specs.Moves.{is_due, Capture, asked_once, capture_made, emptied_of, gives, giving_made, offered_to, handled_answer, entry_made}
+use Rattle.iio_core.specs.Moves.{is_due, Capture, asked_once, station_after_capture, emptied_of, gives, station_after_giving, offered_to, handled_answer, station_after_entry}
 use Rattle.iio_system.specs.Station.{station_of}
 use Rattle.iio_core.specs.Devices.{queue_waited, queue_waits}
 use Rattle.iio_core.proofs.DeviceHandlings.{handled_is as plain_handled, queues_stand}
@@ -31,13 +31,13 @@ use Rattle.iio_system.proofs.BenchLemmas.{KeepsInner, inner_kept, inner_mapped}
 pub handled_is : (e : Handed) (r : Handled) (v v' : DeviceView Queue)
     → Handles (λ (q : Queue). q.taken) (λ q. q.lost) (λ q. q.size) (λ q. q.capacity) Offers e r v v' → e.dev ≡ v.number
     → (v.standing.captures == 2 ^ 64 - 1) ≡ false → v.standing.active ≡ active_for v.standing.shape (masks_of_memberships v.standing.members)
-    → (r ≡ handled_answer e (station_of v)) × (station_of v' ≡ entry_made Input v.standing.shape (Some e) (station_of v))
+    → (r ≡ handled_answer e (station_of v)) × (station_of v' ≡ station_after_entry Input v.standing.shape (Some e) (station_of v))
 handled_is e r v v' h own fewer ruled =
     let stood = queues_stand e r v v' h in
     let is =
     plain_handled (λ (q : Queue). q.taken) (λ q. q.lost) (λ q. q.size) (λ q. q.capacity) Offers queue_waits queue_waited e r v v' h own fewer ruled stood.1 in (
       is.0 ∙ ap (λ (st : Station). handled_answer e st) stood.0,
-      sym is.1 ∙ ap (λ (st : Station). entry_made Input v.standing.shape (Some e) st) stood.0,
+      sym is.1 ∙ ap (λ (st : Station). station_after_entry Input v.standing.shape (Some e) st) stood.0,
     )
 
 -- ---- where captures have ended
@@ -121,10 +121,11 @@ asked_kept shape c t st false =
     inner_kept st _ refl refl refl (is_empty-map (offered_to shape c) st.members)
     (λ j. inner_mapped j (offered_to shape c) (offered_inner shape c j) st.members)
 
-given_kept : (shape : ShapeRecord) (st : Station) → KeepsInner st (giving_made shape st)
-given_kept shape st = inner_kept st (giving_made shape st) refl refl refl (is_empty-map gives st.members) (λ j. inner_mapped j gives (λ x. refl) st.members)
+given_kept : (shape : ShapeRecord) (st : Station) → KeepsInner st (station_after_giving shape st)
+given_kept shape st =
+    inner_kept st (station_after_giving shape st) refl refl refl (is_empty-map gives st.members) (λ j. inner_mapped j gives (λ x. refl) st.members)
 
-capture_kept : (kind : Kind) (shape : ShapeRecord) (t : ℤ) (st : Station) → KeepsInner st (capture_made kind shape t st)
+capture_kept : (kind : Kind) (shape : ShapeRecord) (t : ℤ) (st : Station) → KeepsInner st (station_after_capture kind shape t st)
 capture_kept Input shape t st = asked_kept shape (record { moment = t; values = values_of st.site.driver shape t }) t st (ask_fails st.site.driver)
 capture_kept Output shape t st = given_kept shape st
 capture_kept (Average base window) shape t st = inner_kept st st refl refl refl refl (λ j. refl)
@@ -133,6 +134,6 @@ pub current_kept : (b : Bool) (st w : Station) → KeepsInner st w → KeepsInne
 current_kept true st w kept = kept
 current_kept false st w kept = inner_kept st st refl refl refl refl (λ j. refl)
 
-pub entry_kept : (kind : Kind) (o : Option Handed) (shape : ShapeRecord) (st : Station) → KeepsInner st (entry_made kind shape o st)
+pub entry_kept : (kind : Kind) (o : Option Handed) (shape : ShapeRecord) (st : Station) → KeepsInner st (station_after_entry kind shape o st)
 entry_kept kind None shape st = inner_kept st st refl refl refl refl (λ j. refl)
-entry_kept kind (Some h) shape st = current_kept (is_due h st) st (capture_made kind shape h.t st) (capture_kept kind shape h.t st)
+entry_kept kind (Some h) shape st = current_kept (is_due h st) st (station_after_capture kind shape h.t st) (capture_kept kind shape h.t st)

@@ -441,10 +441,10 @@ nobody_idle : (shape : ShapeRecord) (ms : List (Membership Queue)) → AreIdle s
 nobody_idle shape [] = tt
 nobody_idle shape (m ∷ ms) = ((λ e. absurd (cc)), nobody_idle shape ms)
 
-pub bare_facts : (shape : ShapeRecord) (ms : List (Membership Queue)) (inners : List Inner) (room : List ℕ) → inners ≡ []
+pub seat_state_facts : (shape : ShapeRecord) (ms : List (Membership Queue)) (inners : List Inner) (room : List ℕ) → inners ≡ []
     → All (λ channel. IsInProfile channel.ty) shape.channels → HasInners shape ms inners room
 unfolding IsDistinct
-bare_facts shape ms inners room none types = subst (λ (is : List Inner). HasInners shape ms is room) (sym none) (record {
+seat_state_facts shape ms inners room none types = subst (λ (is : List Inner). HasInners shape ms is room) (sym none) (record {
   idle = nobody_idle shape ms;
   there = tt;
   once = tt;

@@ -30,7 +30,7 @@ use Rattle.iiod_session.specs.declared.iio.Took.{Took}
 use Rattle.iiod_session.specs.declared.iio.Took.TheVariants.{Scan, Empty, Gone}
 use Rattle.iio_core.specs.Calls.{attr_answer, is_asking, station_after_leave, raw_answer, read_answer, station_after_remask, window_left, with_mask}
 use Rattle.iio_core.specs.Machine.{Member, MemberId, Station, is_id_of, is_seat_of, lost_by, masks_of, member_in, scans_in, with_scans, with_site, without}
-use Rattle.iio_core.specs.Moves.{look_made}
+use Rattle.iio_core.specs.Moves.{station_after_look}
 use Rattle.iio_system.specs.declared.in_device.Inner.{Inner}
 use Rattle.iio_system.specs.Acting.{Acts, Reads, TakesAt, TakesScansAt, Turns, lost_in}
 use Rattle.iio_system.specs.Faults.{HostsAny, any_refusals, lacks_place}
@@ -491,7 +491,7 @@ module _ (shape shape' : ShapeRecord) (inners : List Inner) (room : List ℕ) (m
 -- ---- looks at thresholds
 
 pub sensed_named : (inners : List Inner) (shape : ShapeRecord) (t : ℤ) (st : Station)
-    → named inners (look_made shape t st) ≡ look_made shape t (named inners st)
+    → named inners (station_after_look shape t st) ≡ station_after_look shape t (named inners st)
 sensed_named inners shape t st = by st.site.plugged
   where
     by : (b : Bool) → named inners (cond b (with_site (with_sensed (sensed shape t st.site)) st) st)
@@ -499,7 +499,7 @@ sensed_named inners shape t st = by st.site.plugged
     by true = refl
     by false = refl
 
-pub sensed_stay : (shape : ShapeRecord) (t : ℤ) (st : Station) → (look_made shape t st).members ≡ st.members
+pub sensed_stay : (shape : ShapeRecord) (t : ℤ) (st : Station) → (station_after_look shape t st).members ≡ st.members
 sensed_stay shape t st = by st.site.plugged
   where
     by : (b : Bool) → (cond b (with_site (with_sensed (sensed shape t st.site)) st) st).members ≡ st.members

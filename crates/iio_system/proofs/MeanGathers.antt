@@ -27,7 +27,7 @@ use Rattle.iio_derive.specs.Values.{moment_in, value_in, values_in}
 use Rattle.iio_derive.proofs.ReadLemmas.{length-values}
 use Rattle.iio_derive.specs.Window.{added, means_of, no_window, sums_by, sums_with, window_with}
 use Rattle.iio_core.specs.Machine.{Member, Station, with_site}
-use Rattle.iio_core.specs.Moves.{Capture, offered_to, look_made}
+use Rattle.iio_core.specs.Moves.{Capture, offered_to, station_after_look}
 use Rattle.iio_system.specs.declared.mean_device.MeanSeat.{MeanSeat}
 use Rattle.iio_system.specs.declared.mean_device.MeanDevice.{MeanDevice}
 use Rattle.iio_system.specs.Handling.{IsScanOf, is_last, kind_gathered}
@@ -286,7 +286,7 @@ none_gathered a plugged starts next captures totals seats base c e = let none = 
 -- ---- a look at its thresholds
 
 -- it has none, so that a look changes nothing
-pub mean_look_stays : (d : MeanDevice) (t : ℤ) → mean_station d ≡ look_made d.average.shape t (mean_station d)
+pub mean_look_stays : (d : MeanDevice) (t : ℤ) → mean_station d ≡ station_after_look d.average.shape t (mean_station d)
 mean_look_stays d t =
     by d.plugged
     ∙ ap (λ (x : Sensed ℕ). cond d.plugged (with_site (with_sensed x) (mean_station d)) (mean_station d))

@@ -22,7 +22,7 @@ use Rattle.iio_device.specs.Site.{is_empty, no_driver}
 use Rattle.iiod_session.specs.declared.iio.No.{No}
 use Rattle.iiod_session.specs.declared.iio.No.TheVariants.{Errno as NoErrno, Mem as NoMem}
 use Rattle.iio_core.specs.Attached.{has_no_place}
-use Rattle.iio_core.specs.Calls.{all_joined, machine_after_close, has_no_number, inner_gone, is_inner_of, station_after_join, station_after_leave, newcomer, open_of, open_refusals, Outcome, unless_made}
+use Rattle.iio_core.specs.Calls.{all_joined, machine_after_close, has_no_number, inner_gone, is_inner_of, station_after_join, station_after_leave, newcomer, open_of, open_refusals, CallResult, unless_made}
 use Rattle.iio_core.specs.Front.{Front, kind_at, shape_at}
 use Rattle.iio_core.specs.Machine.{Machine, Member, Station, masks_of, station_at, station_in, attachments_of}
 use Rattle.iio_core.specs.Opening.{join_refusals, inner_host}
@@ -67,7 +67,7 @@ on_trigger n st some h = by st.site.trigger h
     by (Some t) e = refl
 
 -- want of memory changes nothing
-pub told_mem : {A : Type 0} (o : Outcome A) (m m' : Machine) (refusal : No) → refusal ≡ NoMem → m' ≡ m → Answers o m (Err refusal) (Some m')
+pub told_mem : {A : Type 0} (o : CallResult A) (m m' : Machine) (refusal : No) → refusal ≡ NoMem → m' ≡ m → Answers o m (Err refusal) (Some m')
 told_mem {A = A} o m m' refusal e same = subst (λ (y : No). Answers {A = A} o m (Err y) (Some m')) (sym e) (ap (λ (x : Machine). Some x) same)
 
 -- what an undoing wants

@@ -19,7 +19,7 @@ use Rattle.iio_core.specs.Front.{Front, device_name, kind_at, shape_at, trigger_
 use Rattle.iio_core.specs.Machine.{Machine, Member, Station, is_plugged, no_station, station_at}
 use Rattle.iiod_session.specs.Seat.{SeatRecord}
 use Rattle.iio_history.specs.Event.{Event, Arrived, Clock, Dropped, Handled, Heard, Polled, Sensed, Unplugged}
-use Rattle.iio_history.specs.Registry.{Registry, Setup, User}
+use Rattle.iio_history.specs.Registry.{Registry, Setup, ConnectionRecord}
 use Rattle.iio_core.specs.Moves.{entry_answer, kind_sensed, machine_after_handling, machine_after_look, machine_after_unplugging, entry_in, machine_after_poll, polled_answer}
 use Rattle.iio_history.specs.Fold.{newcomers}
 use Rattle.iio_history.specs.Told.{Line, Told, registry_of}
@@ -71,7 +71,7 @@ is_step : (names : List (List ℕ)) (e : Event) → IsOfBench e → IsStep names
 is_step names (Heard speaker item) is = absurd is
 is_step names e is = tt
 
-none_new : (s : Setup) (e : Event) (us : List User) → IsOfBench e → newcomers s e us ≡ []
+none_new : (s : Setup) (e : Event) (us : List ConnectionRecord) → IsOfBench e → newcomers s e us ≡ []
 none_new s (Arrived name bytes) us is = absurd is
 none_new s e us is = refl
 
@@ -105,7 +105,7 @@ module _ {S : Type 0} (seen : S → SeatRecord) where
   lines_move s m front e cs is are =
       let lines : (step s m e).lines ≡ map (line_after s (registry_of m) e) m.lines
       =
-      ap (λ (us : List User). map (line_after s (registry_of m) e) m.lines ++ map (new_line e) us) (none_new s e (registry_of m).users is)
+      ap (λ (us : List ConnectionRecord). map (line_after s (registry_of m) e) m.lines ++ map (new_line e) us) (none_new s e (registry_of m).users is)
       ∙ append-nil (map (line_after s (registry_of m) e) m.lines) in
       subst (λ (ls : List Line). AreLines seen front (step s m e) ls cs) (sym lines)
       (all_move front m (step s m e) (line_after s (registry_of m) e) m.lines cs (λ l. same_line s (registry_of m) e l is)

@@ -9,7 +9,7 @@ use Rattle.iio_core.specs.Machine.{Machine}
 use Rattle.iiod_session.specs.Seat.{SeatRecord}
 use Rattle.iiod_session.specs.Session.{IsFresh, SessionRecord}
 use Rattle.iio_history.specs.Event.{Arrived}
-use Rattle.iio_history.specs.Registry.{Setup, User, has_ended, user_named}
+use Rattle.iio_history.specs.Registry.{Setup, ConnectionRecord, has_ended, user_named}
 use Rattle.iio_history.specs.Fold.{new_user}
 use Rattle.iio_history.specs.Told.{Line, Told, registry_of, user_of}
 use Rattle.iio_history.specs.Machine.{line_after, new_line, step}
@@ -39,7 +39,7 @@ user_none : (m : Told) (name : List ℕ) → line_named name m.lines ≡ None �
 user_none m name none = user_of_line name m.lines ∙ ap (λ (o : Option Line). option_map user_of o) none
 
 pub new_live : (m : Told) (name : List ℕ) → line_named name m.lines ≡ None → has_ended name (registry_of m).users ≡ false
-new_live m name none = ap (λ (o : Option User). elim o [ None ↦ false | Some u ↦ u.ended ]) (user_none m name none)
+new_live m name none = ap (λ (o : Option ConnectionRecord). elim o [ None ↦ false | Some u ↦ u.ended ]) (user_none m name none)
 
 pub new_begun : (m : Told) (name : List ℕ) → line_named name m.lines ≡ None → begun_by name m.lines ≡ InLine []
 new_begun m name none = ap (λ (o : Option Line). elim o [ None ↦ InLine [] | Some x ↦ x.begun ]) none
@@ -48,7 +48,7 @@ new_lines : (s : Setup) (m : Told) (name bytes : List ℕ) → line_named name m
     → (step s m (Arrived name bytes)).lines ≡ map (line_after s (registry_of m) (Arrived name bytes)) m.lines ++ new_line (Arrived name bytes) (new_user s name)
     ∷ []
 new_lines s m name bytes none =
-    ap (λ (o : Option User). map (line_after s (registry_of m) (Arrived name bytes)) m.lines
+    ap (λ (o : Option ConnectionRecord). map (line_after s (registry_of m) (Arrived name bytes)) m.lines
     ++ map (new_line (Arrived name bytes)) (cond (is_some o) [] (new_user s name ∷ []))) (user_none m name none)
 
 -- the line at the end

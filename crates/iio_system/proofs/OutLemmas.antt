@@ -32,7 +32,7 @@ use Rattle.iio_core.specs.Calls.{bytes_taken, write_refusals, write_scans_at, wr
 use Rattle.iio_core.specs.Machine.{Member, MemberId, Station, is_id_of, member_in, with_site}
 use Rattle.iio_output.proofs.Scans.{length-scans_of, whole_is}
 use Rattle.iio_device.specs.declared.handling.Sensed.TheVariants as sense
-use Rattle.iio_core.specs.Moves.{sensed_answer, look_made}
+use Rattle.iio_core.specs.Moves.{sensed_answer, station_after_look}
 use Rattle.iio_system.specs.declared.out_device.OutDevice.{OutDevice}
 use Rattle.iio_system.proofs.ListLemmas.{empty_list}
 use Rattle.std.proofs.Math.Pow.{pow_mono}
@@ -339,7 +339,7 @@ module _ (d : OutDevice) (t : ℤ) where
   idle = idle_sensed d.out.shape t (length d.out.shape.channels) (out_station d).site.driver
 
   -- so that a look changes nothing
-  pub look_stays : out_station d ≡ look_made d.out.shape t (out_station d)
+  pub look_stays : out_station d ≡ station_after_look d.out.shape t (out_station d)
   look_stays = by d.plugged ∙ ap (λ (x : Sensed ℕ). cond d.plugged (with_site (with_sensed x) (out_station d)) (out_station d)) (sym idle)
     where
       by : (b : Bool) → out_station d

@@ -10,7 +10,7 @@ use Rattle.iio_trigger.specs.declared.Polled.TheVariants.{Accepted, Missed}
 use Rattle.iio_trigger.specs.Trigger.{Handed, Polls, State, after_poll, due_of, entries_at, is_waiting, missed_after, poll_made, with_in_hand, without_entry as without_entry_of}
 use Rattle.iio_core.specs.Attached.{entries_from}
 use Rattle.iio_core.specs.Machine.{Station, attachments_of}
-use Rattle.iio_core.specs.Trigger.{polled_by, trigger_after_handling, Trigger, entry_of, poll_answer}
+use Rattle.iio_core.specs.Trigger.{trigger_after_poll, trigger_after_handling, Trigger, entry_of, poll_answer}
 use Rattle.iio_system.specs.Places.{IsTrigger, handed_of, has_in_hand, trigger_of}
 use Rattle.iio_system.proofs.ListLemmas.{filter_map_is}
 use Rattle.iio_system.proofs.PlaceLemmas.{entries_of_places}
@@ -37,7 +37,7 @@ module _ (trigger : ℕ) (stations : List Station) (moment : ℤ) (s : State) (s
   made_by : map handed_of (entries_at moment s.attached) ≡ entries_from 0 trigger moment (attachments_of stations)
   made_by = ap (λ (ps : List Place). map handed_of (entries_at moment ps)) sound.attached ∙ entries_of_places trigger 0 moment stations
 
-  polled_state : trigger_of (after_poll moment s) ≡ polled_by (attachments_of stations) trigger moment (trigger_of s)
+  polled_state : trigger_of (after_poll moment s) ≡ trigger_after_poll (attachments_of stations) trigger moment (trigger_of s)
   polled_state =
       let entries : map handed_of (poll_made (entries_at moment s.attached) s.outstanding)
       ≡ poll_made (entries_from 0 trigger moment (attachments_of stations)) (map handed_of s.outstanding)
@@ -67,7 +67,8 @@ module _ (trigger : ℕ) (stations : List Station) (moment : ℤ) (s : State) (s
       → answer ≡ poll_answer (entries_from 0 trigger moment (attachments_of stations)) (trigger_of s).entries s.missed
   poll_answers answer s' p = answer_at answer s' s.outstanding refl p
 
-  pub poll_told : (answer : Polled) (s' : State) → Polls s moment answer s' → trigger_of s' ≡ polled_by (attachments_of stations) trigger moment (trigger_of s)
+  pub poll_told : (answer : Polled) (s' : State) → Polls s moment answer s'
+      → trigger_of s' ≡ trigger_after_poll (attachments_of stations) trigger moment (trigger_of s)
   poll_told answer s' p = ap trigger_of (polls_is answer s' p) ∙ polled_state
 
   pub poll_sound : (answer : Polled) (s' : State) → Polls s moment answer s' → IsTrigger trigger stations s'

@@ -16,7 +16,7 @@ use Rattle.iio_core.specs.Trigger.{Trigger}
 use Rattle.iio_core.specs.Calls.{is_inner_of}
 use Rattle.iio_core.specs.Front.{Front, kind_at, shape_at}
 use Rattle.iio_core.specs.Machine.{Machine, Member, Station, station_in, with_site}
-use Rattle.iio_core.specs.Moves.{Capture, gathered_to, unplugs, machine_after_unplugging, entry_at, capture_at, capture_in, entry_answer, entry_made, is_due, machine_after_entry}
+use Rattle.iio_core.specs.Moves.{Capture, station_after_gathering, unplugs, machine_after_unplugging, entry_at, capture_at, capture_in, entry_answer, station_after_entry, is_due, machine_after_entry}
 use Rattle.iio_core.proofs.PlaceLists.{itself, same_number}
 use Rattle.iio_system.specs.declared.any_device.AnyDevice.{AnyDevice}
 use Rattle.iio_core.specs.declared.became.Became.{Became}
@@ -41,32 +41,32 @@ use Rattle.iio_system.proofs.AnyCalls.{either}
 
 -- the device itself
 entry_own : (o : Option Handed) (c : Option Capture) (k : ℕ) (kind : Kind) (shape : ShapeRecord) (st : Station) → (c ≡ capture_in kind shape o st)
-    → entry_at o c k kind shape k st ≡ entry_made kind shape o st
-entry_own o c k Input shape st is = ap (λ (b : Bool). cond b (entry_made Input shape o st) st) (itself k)
-entry_own o c k Output shape st is = ap (λ (b : Bool). cond b (entry_made Output shape o st) st) (itself k)
+    → entry_at o c k kind shape k st ≡ station_after_entry kind shape o st
+entry_own o c k Input shape st is = ap (λ (b : Bool). cond b (station_after_entry Input shape o st) st) (itself k)
+entry_own o c k Output shape st is = ap (λ (b : Bool). cond b (station_after_entry Output shape o st) st) (itself k)
 entry_own o c k (Average base window) shape st is =
-    ap (λ (x : Option Capture). cond (k == base) (gathered_to window shape x st) st) (is ∙ none o) ∙ either (k == base) st ∙ sym (stays o)
+    ap (λ (x : Option Capture). cond (k == base) (station_after_gathering window shape x st) st) (is ∙ none o) ∙ either (k == base) st ∙ sym (stays o)
   where
     none : (o : Option Handed) → capture_in (Average base window) shape o st ≡ None
     none None = refl
     none (Some e) = either (is_due e st) None
 
-    stays : (o : Option Handed) → entry_made (Average base window) shape o st ≡ st
+    stays : (o : Option Handed) → station_after_entry (Average base window) shape o st ≡ st
     stays None = refl
     stays (Some e) = either (is_due e st) st
 
 -- another one, where there was a capture
 entry_other : (o : Option Handed) (c : Capture) (k : ℕ) (kind : Kind) (shape : ShapeRecord) (j : ℕ) (st : Station) → (k == j) ≡ false
     → with_capture k c kind shape st ≡ entry_at o (Some c) k kind shape j st
-entry_other o c k Input shape j st other = sym (ap (λ (b : Bool). cond b (entry_made Input shape o st) st) other)
-entry_other o c k Output shape j st other = sym (ap (λ (b : Bool). cond b (entry_made Output shape o st) st) other)
+entry_other o c k Input shape j st other = sym (ap (λ (b : Bool). cond b (station_after_entry Input shape o st) st) other)
+entry_other o c k Output shape j st other = sym (ap (λ (b : Bool). cond b (station_after_entry Output shape o st) st) other)
 entry_other o c k (Average base window) shape j st other = refl
 
 -- and where there was none
 entry_none : (o : Option Handed) (k : ℕ) (kind : Kind) (shape : ShapeRecord) (j : ℕ) (st : Station) → (k == j) ≡ false
     → st ≡ entry_at o None k kind shape j st
-entry_none o k Input shape j st other = sym (ap (λ (b : Bool). cond b (entry_made Input shape o st) st) other)
-entry_none o k Output shape j st other = sym (ap (λ (b : Bool). cond b (entry_made Output shape o st) st) other)
+entry_none o k Input shape j st other = sym (ap (λ (b : Bool). cond b (station_after_entry Input shape o st) st) other)
+entry_none o k Output shape j st other = sym (ap (λ (b : Bool). cond b (station_after_entry Output shape o st) st) other)
 entry_none o k (Average base window) shape j st other = sym (either (k == base) st)
 
 -- ---- which answers are captures
@@ -138,7 +138,7 @@ none_captured kind (Some e) shape st r is other = by kind (no_capture kind e sha
 
 module _ {X : Type 0} {V : X → Type 0} (drive : Plug X V → Driver) (context : List ℕ) (triggers : List TriggerDesc)
     (ds : List (AnyDevice X V)) (clock : ℤ) (ts : List Trigger) (k : ℕ) (d d' : AnyDevice X V) (at : slice_get ds k ≡ Some d)
-    (o : Option Handed) (station : any_station drive d' ≡ entry_made (any_front d).kind (any_front d).shape o (any_station drive d)) where
+    (o : Option Handed) (station : any_station drive d' ≡ station_after_entry (any_front d).kind (any_front d).shape o (any_station drive d)) where
   abbrev front : Front
   front = fronts_by any_front context triggers ds
 

@@ -18,7 +18,7 @@ use Rattle.iio_core.specs.declared.became.Became.TheVariants.{Asked, Gave}
 use Rattle.iio_core.specs.declared.became.Gave.{Gave as Giving}
 use Rattle.iio_core.specs.declared.became.Gave.TheVariants as gave
 use Rattle.iio_core.specs.Machine.{Member, Station}
-use Rattle.iio_core.specs.Moves.{Capture, capture_in, entry_made, gathered_to, kind_answer, next_of}
+use Rattle.iio_core.specs.Moves.{Capture, capture_in, station_after_entry, station_after_gathering, kind_answer, next_of}
 
 -- ---- devices that have come to their end
 
@@ -32,7 +32,7 @@ unless_ended ended idle made = if ended then idle else made
 
 -- a device after the handling of the entry that it has at a trigger, if any; its answer, and the capture that it makes
 abbrev pub entry_station : Kind → Option Handed → (ended : Bool) → ShapeRecord → Station → Station
-entry_station kind o ended shape st = unless_ended ended st (entry_made kind shape o st)
+entry_station kind o ended shape st = unless_ended ended st (station_after_entry kind shape o st)
 
 abbrev pub entry_became : Kind → Option Handed → (ended : Bool) → Station → Option Became
 entry_became kind o ended st = option_map (λ (e : Handed). unless_ended ended (Asked Idle) (kind_answer kind e st)) o
@@ -76,5 +76,5 @@ IsTakenWhole shape (Some c) members scan = has_inner members ≡ true → IsScan
 
 -- a device of a kind with a capture more of its base
 abbrev pub kind_gathered : Kind → ShapeRecord → Capture → Station → Station
-kind_gathered (Average base window) shape c st = gathered_to window shape (Some c) st
+kind_gathered (Average base window) shape c st = station_after_gathering window shape (Some c) st
 kind_gathered kind shape c st = st

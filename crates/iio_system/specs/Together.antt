@@ -9,7 +9,7 @@ use Rattle.iio_sensor.specs.Driver.{Driver}
 use Rattle.iio_device.specs.declared.plug.Plug.{Plug}
 use Rattle.iio_device.specs.Site.{is_empty, unplugged}
 use Rattle.iio_core.specs.Machine.{Station, with_site}
-use Rattle.iio_core.specs.Moves.{Capture, gathered_to}
+use Rattle.iio_core.specs.Moves.{Capture, station_after_gathering}
 use Rattle.iio_device.specs.declared.handling.Handled.TheVariants.{Captured}
 use Rattle.iio_system.specs.declared.any_device.AnyDevice.{AnyDevice}
 use Rattle.iio_core.specs.declared.became.Became.{Became}
@@ -31,7 +31,7 @@ gathers base kind st = is_over kind base && not (is_empty st.members)
 
 -- one with a capture more of that base
 abbrev pub with_capture : (base : ℕ) → Capture → Kind → ShapeRecord → Station → Station
-with_capture base c (Average b window) shape st = if base == b then gathered_to window shape (Some c) st else st
+with_capture base c (Average b window) shape st = if base == b then station_after_gathering window shape (Some c) st else st
 with_capture base c kind shape st = st
 
 -- the scan of all channels that stands at a device

@@ -19,7 +19,7 @@ ghost use Rattle.iio_device.specs.Site.{is_empty, site_written, with_monitor, un
 ghost use Rattle.iiod_session.specs.declared.iio.No.TheVariants.{Mem};
 ghost use Rattle.iio_core.specs.Calls.{ev_open_answer, ev_read_answer, has_no_number, holds_events, inner_gone, is_inner_of, station_after_join, station_after_leave, station_after_remask, trigger_answer, write_scans_at, writes};
 ghost use Rattle.iio_core.specs.Machine.{Station, scans_in, with_site};
-ghost use Rattle.iio_core.specs.Moves.{Capture, kind_sensed, look_made};
+ghost use Rattle.iio_core.specs.Moves.{Capture, kind_sensed, station_after_look};
 ghost use Rattle.iio_core.specs.Trigger.{entry_of};
 ghost use Rattle.iio_system.specs.Acting.{Acts, MayReadOf, Reads, TakesAt, TakesScansAt, id_of, lost_in};
 ghost use Rattle.iio_system.specs.Faults.{HasJoined, HostsAny, IsServedAlone, JoinsAny, JoinsMean, MayHaveInner, any_refusals};
@@ -569,7 +569,7 @@ impl AnyDevice {
     pub(crate) fn sense(&mut self, t: i64) -> Sensed
         ensures answer { result ≡ kind_sensed (any_front self.old).kind (any_front self.old).shape t (any_station ⟦<Plug as Sensor>⟧.driver self.old) }
         ensures station { any_station ⟦<Plug as Sensor>⟧.driver self.new
-            ≡ look_made (any_front self.old).shape t (any_station ⟦<Plug as Sensor>⟧.driver self.old) }
+            ≡ station_after_look (any_front self.old).shape t (any_station ⟦<Plug as Sensor>⟧.driver self.old) }
         ensures keeps { KeepsFront self.old self.new }
     {
         match self {

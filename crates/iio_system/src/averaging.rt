@@ -8,7 +8,7 @@ ghost use Rattle.iio_layout.specs.Shape.{count_of};
 ghost use Rattle.iio_derive.specs.Window.{full_mask};
 ghost use Rattle.iio_core.specs.Calls.{has_no_number, station_after_join, station_after_leave};
 ghost use Rattle.iio_core.specs.Machine.{Station, scans_in, with_site};
-ghost use Rattle.iio_core.specs.Moves.{Capture, kind_sensed, look_made};
+ghost use Rattle.iio_core.specs.Moves.{Capture, kind_sensed, station_after_look};
 ghost use Rattle.iio_device.specs.Site.{unplugged};
 ghost use Rattle.iio_system.specs.Acting.{MayReadOf, Reads, TakesAt, TakesScansAt, id_of, lost_in, nothing_at};
 ghost use Rattle.iio_system.specs.Faults.{HasJoined, JoinsMean};
@@ -327,7 +327,7 @@ impl MeanDevice {
     /// A look at its thresholds, of which it has none.
     pub(crate) fn sense(&self, _t: i64) -> Sensed
         ensures answer { result ≡ kind_sensed (mean_head self.now).kind self.now.average.shape _t (mean_station self.now) }
-        ensures station { mean_station self.now ≡ look_made self.now.average.shape _t (mean_station self.now) }
+        ensures station { mean_station self.now ≡ station_after_look self.now.average.shape _t (mean_station self.now) }
     {
         Sensed::Fired(0)
     }

@@ -20,7 +20,7 @@ ghost use Rattle.iio_core.specs.Machine.{scans_in, with_site};
 ghost use Rattle.iio_system.specs.Acting.{Acts, KeepsCaptures, Reads, TakesAt, TakesScansAt, id_of, lost_in};
 ghost use Rattle.iio_system.specs.Faults.{HostsAny, IsServedAlone, JoinsAny, MayHaveInner, any_refusals};
 ghost use Rattle.iio_system.specs.Handling.{IsTakenWhole, counted, entry_capture, entry_station, is_last, entry_became};
-ghost use Rattle.iio_core.specs.Moves.{sensed_answer, look_made};
+ghost use Rattle.iio_core.specs.Moves.{sensed_answer, station_after_look};
 ghost use Rattle.iio_core.specs.declared.became.Became.TheVariants.{Asked};
 ghost use Rattle.iio_system.specs.Inner.{AreApart, AreThere, AreWhole, HasRoom, inner_at, inners_without, number_by, number_of};
 ghost use Rattle.iio_system.specs.Taking.{IsTakenOf, all_taken};
@@ -418,7 +418,7 @@ impl InDevice {
     pub(crate) fn sense(&mut self, t: i64) -> Sensed
         ensures answer { result ≡ sensed_answer self.old.device.core.roster.shape t (in_station ⟦<Plug as Sensor>⟧.driver self.old) }
         ensures station { in_station ⟦<Plug as Sensor>⟧.driver self.new
-            ≡ look_made self.old.device.core.roster.shape t (in_station ⟦<Plug as Sensor>⟧.driver self.old) }
+            ≡ station_after_look self.old.device.core.roster.shape t (in_station ⟦<Plug as Sensor>⟧.driver self.old) }
         ensures keeps { KeepsInCaptures self.old self.new }
     {
         self.device.sense(t)

@@ -14,7 +14,7 @@ ghost use Rattle.iio_device.specs.Device.{has_no_place};
 ghost use Rattle.iio_core.specs.Calls.{station_after_leave, trigger_answer, write_scans_at, writes};
 ghost use Rattle.iio_device.specs.Site.{unplugged};
 ghost use Rattle.iio_core.specs.Machine.{member_in, scans_in, with_site};
-ghost use Rattle.iio_core.specs.Moves.{entry_made, gave_answer, is_due, look_made, sensed_answer};
+ghost use Rattle.iio_core.specs.Moves.{station_after_entry, gave_answer, is_due, station_after_look, sensed_answer};
 ghost use Rattle.iio_system.specs.Acting.{Acts, MayReadOf, Reads, id_of, lost_in};
 ghost use Rattle.iio_system.specs.Faults.{HostsAny, JoinsAny, any_refusals, lacks_place};
 ghost use Rattle.iio_system.specs.Handling.{IsGiven};
@@ -266,7 +266,7 @@ impl OutDevice {
     /// A look at its thresholds, of which it has none.
     pub(crate) fn sense(&self, _t: i64) -> Sensed
         ensures answer { result ≡ sensed_answer self.now.out.shape _t (out_station self.now) }
-        ensures station { out_station self.now ≡ look_made self.now.out.shape _t (out_station self.now) }
+        ensures station { out_station self.now ≡ station_after_look self.now.out.shape _t (out_station self.now) }
     {
         if self.plugged {
             Sensed::Fired(0)
@@ -296,7 +296,7 @@ impl OutDevice {
     /// Handles an entry of it that was handed out: it is given the first scan that waits, which then stands in `room`.
     pub(crate) fn handle(&mut self, due: &Due) -> Gave
         ensures answer { result ≡ gave_answer due.now (out_station self.old) }
-        ensures station { out_station self.new ≡ entry_made Output self.old.out.shape (Some due.now) (out_station self.old) }
+        ensures station { out_station self.new ≡ station_after_entry Output self.old.out.shape (Some due.now) (out_station self.old) }
         ensures given { IsGiven result (out_station self.old).members self.new.room.items }
         ensures keeps { KeepsOut self.old self.new }
     {

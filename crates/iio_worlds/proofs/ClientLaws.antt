@@ -11,7 +11,7 @@ use Rattle.iio_desc.specs.Description as desc_spec
 use Rattle.iio_device.specs.Site.{is_empty}
 use Rattle.iiod_grammar.specs.Command.{Close, Remask}
 use Rattle.iiod_grammar.specs.Stream.{Item, Said, End, items_from}
-use Rattle.iiod_session.specs.Client.{Bare, ClientRecord}
+use Rattle.iiod_session.specs.Client.{SeatState, ClientRecord}
 use Rattle.iio_core.specs.Front.{find_device, kind_at}
 use Rattle.iio_history.specs.Who.{Who, Conn, Inner, same}
 use Rattle.iio_history.specs.Registry.{Setup, Member, Device, is_member, has_ended}
@@ -183,11 +183,11 @@ none_where [] all = refl
 none_where (true ∷ bs) all = absurd (true≢false (all 0))
 none_where (false ∷ bs) all = none_where bs (λ k. all (suc k))
 
-unseated : (seats : List Bare) → is_empty seats ≡ true → (k : ℕ) → is_some (seat_at k seats) ≡ false
+unseated : (seats : List SeatState) → is_empty seats ≡ true → (k : ℕ) → is_some (seat_at k seats) ≡ false
 unseated [] is k = refl
 unseated (x ∷ xs) is k = cc
 
-seatless : (seats : List Bare) → ((k : ℕ) → is_some (seat_at k seats) ≡ false) → is_empty seats ≡ true
+seatless : (seats : List SeatState) → ((k : ℕ) → is_some (seat_at k seats) ≡ false) → is_empty seats ≡ true
 seatless [] all = refl
 seatless (x ∷ xs) all =
     let here : (x.dev == x.dev) ≡ true = grind (arith, nat_tests) in

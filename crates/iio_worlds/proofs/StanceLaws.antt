@@ -16,7 +16,7 @@ use Rattle.iio_history.specs.Fold.{device_after, registry_after}
 use Rattle.iio_history.specs.Told.{Seat, Station, Told, device_of, member_of_seat, registry_of, told}
 use Rattle.iio_history.specs.Reply.{seat_of}
 use Rattle.iio_history.specs.Transcript.{Step, Feed, Fire, Poll, Handle, Sense, SetClock, Drop, Unplug, and_then, begun_by, poll_entries, with_step}
-use Rattle.iio_history.specs.Bench.{Every, IsBench, IsClientOf, IsSeat, IsStation, IsThere, bare_by, is_in, names_of, seat_in}
+use Rattle.iio_history.specs.Bench.{Every, IsBench, IsClientOf, IsSeat, IsStation, IsThere, seat_state_by, is_in, names_of, seat_in}
 use Rattle.iio_history.proofs.ToldLaws.{registry_is}
 use Rattle.iio_worlds.specs.Bystanders.{mine, has_other, has_open, is_neutral, others_are_neutral, ends_membership, is_unparted, all_from, is_bystander, may_say, only_bystanders, meets_by, all_meet_by}
 use Rattle.iio_worlds.specs.Stance.{Stance, has_input, has_others, stance_of, opens_of, is_so_at, is_so, none_so, may_part, item_meets, items_meet, step_meets, has_seat, one_has}
@@ -230,7 +230,7 @@ pub seats_tell : (m : Told) (name : List ℕ) (client : ClientRecord) (k : ℕ) 
     → is_member (Conn name) (device_of st).members ≡ has_seat k client
 seats_tell m name client k st is here =
     seated (Conn name) st.seats
-    ∙ sym (is_some_map (bare_by k) (seat_of (Conn name) st.seats))
+    ∙ sym (is_some_map (seat_state_by k) (seat_of (Conn name) st.seats))
     ∙ ap (λ o. is_some (seat_in k (Conn name) o)) (sym here)
     ∙ ap is_some (sym (is.seats k))
 

@@ -13,7 +13,7 @@ use Rattle.iiod_session.specs.declared.manner.Manner.TheVariants.{Server}
 use Rattle.iio_core.specs.Front.{Front}
 use Rattle.iiod_session.specs.Acts.{left_machine}
 use Rattle.iiod_session.specs.declared.client.BuffersCount.{BuffersCount}
-use Rattle.iiod_session.specs.declared.client.Held.{Held}
+use Rattle.iiod_session.specs.declared.client.OpenSeat.{OpenSeat}
 use Rattle.iiod_session.specs.Client.{seats_of, traces_of}
 use Rattle.iio_core.specs.Machine.{Machine}
 use Rattle.iiod_session.specs.Run.{Stands, State}
@@ -145,7 +145,7 @@ closed_by front Memory c b told last s = tt
 pub is_first_place : {S : Type 0} (seen : S → SeatRecord) (told : Option Machine) (who : ℕ) (s : SessionRecord S) → IsFresh who Server s
     → place_of seen told s ≡ first_place who told
 is_first_place {S} seen told who s f =
-    let mk : ℕ → List (Held S) → List BuffersCount → List ℕ → Scanned → Place = λ w held counts holdings stream. record {
+    let mk : ℕ → List (OpenSeat S) → List BuffersCount → List ℕ → Scanned → Place = λ w held counts holdings stream. record {
       state =
           record { told = told; client = record { who = w; seats = seats_of seen held; buffers = counts; holdings = holdings }; traces = traces_of seen held };
       stream = stream;

@@ -14,7 +14,7 @@ use Rattle.iiod_session.specs.declared.answers.Answer.TheVariants as answer
 use Rattle.iiod_session.specs.declared.iio.No.{No}
 use Rattle.iiod_session.specs.declared.iio.No.TheVariants.{Errno as NoErrno, Mem as NoMem}
 use Rattle.iiod_session.specs.declared.manner.Manner.{Manner}
-use Rattle.iiod_session.specs.declared.manner.Performed.TheVariants.{Done}
+use Rattle.iiod_session.specs.declared.manner.Progress.TheVariants.{Done}
 use Rattle.iiod_session.specs.Acts.{Acts, act, help_reply, only, version_reply, zero_reply}
 use Rattle.iiod_session.specs.Answers.{Fits, IsEvent, IsLong, IsText, IsTrigger, Prints, ServesBy, answer_by, reply_of}
 use Rattle.iiod_session.specs.Client.{ClientRecord}

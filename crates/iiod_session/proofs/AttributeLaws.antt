@@ -21,13 +21,13 @@ use Rattle.iio_device.specs.Site.{is_empty}
 use Rattle.iiod_grammar.specs.Command.{Place, Read, Target}
 use Rattle.iiod_grammar.specs.Stream.{Said, Written}
 use Rattle.iiod_reply.specs.Reply.{Reply, Refusal, Value, NoMemory}
-use Rattle.iiod_session.specs.declared.client.Held.{Held}
+use Rattle.iiod_session.specs.declared.client.OpenSeat.{OpenSeat}
 use Rattle.iiod_session.specs.declared.iio.No.{No}
 use Rattle.iiod_session.specs.declared.iio.No.TheVariants.{Errno as NoErrno, Mem as NoMem}
 use Rattle.iiod_session.specs.Acts.{Acted, act, at_device, only, refused, read_attribute_at, read_buffer_attribute, read_buffer_attribute_at, read_device_attribute, read_named, write_assignment, write_attribute_at, written}
 use Rattle.iiod_session.specs.Attributes.{Assignment, Named, buffer_number, found, is_of_buffer, write_found}
 use Rattle.iio_core.specs.Calls.{raw_answer, raw_by, read_attr_of, write_attr_of}
-use Rattle.iiod_session.specs.Client.{AllHeld, ClientRecord, IsHeld, bare_of, place_of, seats_of, with_seats}
+use Rattle.iiod_session.specs.Client.{AllHeld, ClientRecord, IsHeld, seat_state_of, place_of, seats_of, with_seats}
 use Rattle.iio_core.specs.Front.{Front, find_device, kind_at, shape_at}
 use Rattle.iio_core.specs.Machine.{Machine, MemberId, Station, is_plugged, lost_of, queue_of, station_at}
 use Rattle.iiod_session.specs.Moves.{AnswersAs, Serves}
@@ -83,12 +83,12 @@ said_short front (Some m) told' client dev target v a = (a.1 ∙ ap (λ (n : Mac
 
 module _ {S : Type 0} (seen : S → SeatRecord) where
   -- a seat that is held has its mask
-  pub held_under : (front : Front) (held : List (Held S)) (i : ℕ) (h : Held S) → i < length held → h ≡ slice_index_or held i h → AllHeld seen front held
+  pub held_under : (front : Front) (held : List (OpenSeat S)) (i : ℕ) (h : OpenSeat S) → i < length held → h ≡ slice_index_or held i h → AllHeld seen front held
       → (seen h.seat).mask ≡ h.mask.bits
   held_under front held i h l e all =
-      subst (λ (x : Held S). (seen x.seat).mask ≡ x.mask.bits) (sym e) (All-get_or (IsHeld seen front) held i h l all).owned.under
+      subst (λ (x : OpenSeat S). (seen x.seat).mask ≡ x.mask.bits) (sym e) (All-get_or (IsHeld seen front) held i h l all).owned.under
 
-  pub counted : (told told' : Option Machine) (base : ClientRecord) (dev i n : ℕ) (a : Attr) (held : List (Held S)) (h : Held S)
+  pub counted : (told told' : Option Machine) (base : ClientRecord) (dev i n : ℕ) (a : Attr) (held : List (OpenSeat S)) (h : OpenSeat S)
       → place_of dev (seats_of seen held) ≡ Some i → i < length held → h ≡ slice_index_or held i h → (seen h.seat).mask ≡ h.mask.bits
       → IfSome told (λ m. n ≡ buffer_number a h.capacity (length (queue_of m h.dev (seat_id (seen h.seat)))) (lost_of m h.dev (seat_id (seen h.seat)))
       h.discarded)
@@ -101,10 +101,10 @@ module _ {S : Type 0} (seen : S → SeatRecord) where
     m,
     t,
     ap (λ p. read_buffer_attribute_at m client a p) at
-        ∙ ap (λ s. read_buffer_attribute m client a s) (get_is seen (bare_of seen) held i h l e)
+        ∙ ap (λ s. read_buffer_attribute m client a s) (get_is seen (seat_state_of seen) held i h l e)
         ∙ ap (λ (id : MemberId). record
         { reply = Value (decimal (buffer_number a h.capacity (length (queue_of m h.dev id)) (lost_of m h.dev id) h.discarded)); machine = m; client = client })
-        (id_is (bare_of seen h) (seen h.seat) refl under)
+        (id_is (seat_state_of seen h) (seen h.seat) refl under)
         ∙ ap (λ (k : ℕ). record { reply = Value (decimal k); machine = m; client = client }) (sym v),
   )
 

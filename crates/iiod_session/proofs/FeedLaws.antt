@@ -9,7 +9,7 @@ use Rattle.iiod_session.specs.declared.manner.Going.{Going}
 use Rattle.iiod_session.specs.declared.manner.Going.TheVariants.{On, Waits, Ended}
 use Rattle.iiod_session.specs.declared.manner.Manner.{Manner}
 use Rattle.iio_text.specs.declared.errors.Errno.TheVariants.{EAGAIN}
-use Rattle.iiod_session.specs.Client.{Bare}
+use Rattle.iiod_session.specs.Client.{SeatState}
 use Rattle.iio_core.specs.Front.{Front}
 use Rattle.iiod_session.specs.Given.{GivenIs}
 use Rattle.iiod_session.specs.Seat.{Trace}
@@ -69,7 +69,7 @@ module _ {S : Type 0} {Answered : S → Item → Reply → S → Type 0} where
   }
 
 -- what the seats gave follows from the answers
-given_then : (manner : Manner) (front : Front) (items : List Item) (replies : List Reply) (seats : List Bare) (traces : List (Option Trace)) (a b : State)
+given_then : (manner : Manner) (front : Front) (items : List Item) (replies : List Reply) (seats : List SeatState) (traces : List (Option Trace)) (a b : State)
     (left : Scanned) (going : Going)
     → Stands manner front a left b going → AreSeated a.client.seats a.traces
     → GivenIs front items replies seats traces a.client.seats a.traces → GivenIs front items replies seats traces b.client.seats b.traces

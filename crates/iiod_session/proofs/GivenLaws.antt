@@ -13,7 +13,7 @@ use Rattle.iiod_grammar.specs.Stream.{Item, Said, End}
 use Rattle.iiod_reply.specs.Reply.{Reply, Number, Refusal, Block, NoMemory}
 use Rattle.iiod_session.specs.declared.manner.Manner.{Manner}
 use Rattle.iiod_session.specs.Acts.{zero_reply}
-use Rattle.iiod_session.specs.Client.{Bare, ClientRecord, are_apart, bare_remasked, has_seat, place_of}
+use Rattle.iiod_session.specs.Client.{SeatState, ClientRecord, are_apart, seat_state_remasked, has_seat, place_of}
 use Rattle.iio_core.specs.Front.{Front, find_device, kind_at, size_at}
 use Rattle.iiod_session.specs.Given.{GivenIs, given_after, given_by, given_in, is_named, trace_at}
 use Rattle.iiod_session.specs.Moves.{Moves, ReadMoves, ReadsAs, ReadsAt, ReadsBy, ReadsFrom}
@@ -22,11 +22,11 @@ use Rattle.iiod_session.specs.Run.{State, Run}
 use Rattle.iiod_session.specs.Seat.{Trace, after_nothing, after_scans, first_trace}
 
 -- no two seats are at one device
-abbrev pub AreApart : List Bare → Type 0
+abbrev pub AreApart : List SeatState → Type 0
 AreApart [] = Unit {0}
 AreApart (s ∷ ss) = (has_seat s.dev ss ≡ false) × AreApart ss
 
-pub apart_by : (seats : List Bare) → are_apart seats ≡ true → AreApart seats
+pub apart_by : (seats : List SeatState) → are_apart seats ≡ true → AreApart seats
 apart_by [] e = tt
 apart_by (s ∷ ss) e = by (has_seat s.dev ss) refl (λ rest. apart_by ss rest)
   where
@@ -34,74 +34,75 @@ apart_by (s ∷ ss) e = by (has_seat s.dev ss) refl (λ rest. apart_by ss rest)
     by true h more = let n : false ≡ true = rw h at e in cc
     by false h more = (h, more (rw h at e))
 
-pub are_apart_by : (seats : List Bare) → AreApart seats → are_apart seats ≡ true
+pub are_apart_by : (seats : List SeatState) → AreApart seats → are_apart seats ≡ true
 are_apart_by [] a = refl
 are_apart_by (s ∷ ss) a = rw a.0 (are_apart_by ss a.1)
 
 -- ... and each has its trace
-pub record AreSeated (seats : List Bare) (traces : List (Option Trace)) : Type 0 where
+pub record AreSeated (seats : List SeatState) (traces : List (Option Trace)) : Type 0 where
   pub apart : AreApart seats
   pub told : length traces ≡ length seats
 
 -- ---- the first seat at a device
 
 -- it stands in place i
-abbrev IsFirst : ℕ → List Bare → ℕ → Type 0
+abbrev IsFirst : ℕ → List SeatState → ℕ → Type 0
 IsFirst dev [] i = ⊥
 IsFirst dev (s ∷ ss) zero = (s.dev == dev) ≡ true
 IsFirst dev (s ∷ ss) (suc i) = ((s.dev == dev) ≡ false) × IsFirst dev ss i
 
-has_lt : (dev : ℕ) (seats : List Bare) → has_seat dev seats ≡ true → position_or_len (λ (s : Bare). s.dev == dev) seats < length seats
+has_lt : (dev : ℕ) (seats : List SeatState) → has_seat dev seats ≡ true → position_or_len (λ (s : SeatState). s.dev == dev) seats < length seats
 has_lt dev [] h = cc
 has_lt dev (s ∷ ss) h = by (λ more. has_lt dev ss more) (s.dev == dev) refl
   where
-    by : (has_seat dev ss ≡ true → position_or_len (λ (x : Bare). x.dev == dev) ss < length ss) → (b : Bool) → (s.dev == dev) ≡ b
-        → position_or_len (λ (x : Bare). x.dev == dev) (s ∷ ss) < length (s ∷ ss)
+    by : (has_seat dev ss ≡ true → position_or_len (λ (x : SeatState). x.dev == dev) ss < length ss) → (b : Bool) → (s.dev == dev) ≡ b
+        → position_or_len (λ (x : SeatState). x.dev == dev) (s ∷ ss) < length (s ∷ ss)
     by rest true e = rw e (omega arith)
-    by rest false e = let n : position_or_len (λ (x : Bare). x.dev == dev) ss < length ss = rest (rw e at h) in rw e (omega arith)
+    by rest false e = let n : position_or_len (λ (x : SeatState). x.dev == dev) ss < length ss = rest (rw e at h) in rw e (omega arith)
 
-pub none_has : (dev : ℕ) (seats : List Bare) → place_of dev seats ≡ None → has_seat dev seats ≡ false
+pub none_has : (dev : ℕ) (seats : List SeatState) → place_of dev seats ≡ None → has_seat dev seats ≡ false
 none_has dev seats e = by (has_seat dev seats) refl
   where
     by : (b : Bool) → has_seat dev seats ≡ b → has_seat dev seats ≡ false
     by false h = h
     by true h =
-        let less : nat_lt (position_or_len (λ (s : Bare). s.dev == dev) seats) (length seats) ≡ true = lt-ltb _ _ (has_lt dev seats h) in
-        let n : Some (position_or_len (λ (s : Bare). s.dev == dev) seats) ≡ None = rw less at e in cc
+        let less : nat_lt (position_or_len (λ (s : SeatState). s.dev == dev) seats) (length seats) ≡ true = lt-ltb _ _ (has_lt dev seats h) in
+        let n : Some (position_or_len (λ (s : SeatState). s.dev == dev) seats) ≡ None = rw less at e in cc
 
-first_from : (dev : ℕ) (seats : List Bare) (i : ℕ) → i < length seats → position_or_len (λ (s : Bare). s.dev == dev) seats ≡ i → IsFirst dev seats i
+first_from : (dev : ℕ) (seats : List SeatState) (i : ℕ) → i < length seats → position_or_len (λ (s : SeatState). s.dev == dev) seats ≡ i → IsFirst dev seats i
 first_from dev [] i l e = absurd (omega arith)
 first_from dev (s ∷ ss) i l e = by (λ j below at. first_from dev ss j below at) (s.dev == dev) refl i l e
   where
-    by : ((j : ℕ) → j < length ss → position_or_len (λ (x : Bare). x.dev == dev) ss ≡ j → IsFirst dev ss j) → (b : Bool) → (s.dev == dev) ≡ b → (i : ℕ)
-        → i < length (s ∷ ss) → position_or_len (λ (x : Bare). x.dev == dev) (s ∷ ss) ≡ i → IsFirst dev (s ∷ ss) i
+    by : ((j : ℕ) → j < length ss → position_or_len (λ (x : SeatState). x.dev == dev) ss ≡ j → IsFirst dev ss j) → (b : Bool) → (s.dev == dev) ≡ b → (i : ℕ)
+        → i < length (s ∷ ss) → position_or_len (λ (x : SeatState). x.dev == dev) (s ∷ ss) ≡ i → IsFirst dev (s ∷ ss) i
     by rest true t zero l e = t
     by rest true t (suc i) l e = let n : 0 ≡ suc i = rw t at e in absurd (omega arith)
-    by rest false t zero l e = let n : 1 + position_or_len (λ (x : Bare). x.dev == dev) ss ≡ 0 = rw t at e in absurd (omega arith)
-    by rest false t (suc i) l e = let n : 1 + position_or_len (λ (x : Bare). x.dev == dev) ss ≡ suc i = rw t at e in (t, rest i (omega arith) (omega arith))
+    by rest false t zero l e = let n : 1 + position_or_len (λ (x : SeatState). x.dev == dev) ss ≡ 0 = rw t at e in absurd (omega arith)
+    by rest false t (suc i) l e =
+        let n : 1 + position_or_len (λ (x : SeatState). x.dev == dev) ss ≡ suc i = rw t at e in (t, rest i (omega arith) (omega arith))
 
-place_first : (dev : ℕ) (seats : List Bare) (i : ℕ) → place_of dev seats ≡ Some i → IsFirst dev seats i
-place_first dev seats i e = by (nat_lt (position_or_len (λ (s : Bare). s.dev == dev) seats) (length seats)) refl
+place_first : (dev : ℕ) (seats : List SeatState) (i : ℕ) → place_of dev seats ≡ Some i → IsFirst dev seats i
+place_first dev seats i e = by (nat_lt (position_or_len (λ (s : SeatState). s.dev == dev) seats) (length seats)) refl
   where
-    by : (b : Bool) → nat_lt (position_or_len (λ (s : Bare). s.dev == dev) seats) (length seats) ≡ b → IsFirst dev seats i
+    by : (b : Bool) → nat_lt (position_or_len (λ (s : SeatState). s.dev == dev) seats) (length seats) ≡ b → IsFirst dev seats i
     by true l =
-        let same : Some (position_or_len (λ (s : Bare). s.dev == dev) seats) ≡ Some i = rw l at e in
-        let at : position_or_len (λ (s : Bare). s.dev == dev) seats ≡ i = cc in
-        first_from dev seats i (let less : position_or_len (λ (s : Bare). s.dev == dev) seats < length seats = ltb-true _ _ l in omega arith) at
+        let same : Some (position_or_len (λ (s : SeatState). s.dev == dev) seats) ≡ Some i = rw l at e in
+        let at : position_or_len (λ (s : SeatState). s.dev == dev) seats ≡ i = cc in
+        first_from dev seats i (let less : position_or_len (λ (s : SeatState). s.dev == dev) seats < length seats = ltb-true _ _ l in omega arith) at
     by false l = let n : None ≡ Some i = rw l at e in cc
 
 -- it is at that device
-first_is : (dev : ℕ) (seats : List Bare) (i : ℕ) (s : Bare) → IsFirst dev seats i → slice_get seats i ≡ Some s → s.dev ≡ dev
+first_is : (dev : ℕ) (seats : List SeatState) (i : ℕ) (s : SeatState) → IsFirst dev seats i → slice_get seats i ≡ Some s → s.dev ≡ dev
 first_is dev [] i s f here = absurd f
-first_is dev (x ∷ xs) zero s f here = let one : s ≡ x = cc in ap (λ (b : Bare). b.dev) one ∙ eqb-true x.dev dev f
+first_is dev (x ∷ xs) zero s f here = let one : s ≡ x = cc in ap (λ (b : SeatState). b.dev) one ∙ eqb-true x.dev dev f
 first_is dev (x ∷ xs) (suc i) s f here = first_is dev xs i s f.1 here
 
-pub placed_at : (dev : ℕ) (seats : List Bare) (i : ℕ) (s : Bare) → place_of dev seats ≡ Some i → slice_get seats i ≡ Some s → s.dev ≡ dev
+pub placed_at : (dev : ℕ) (seats : List SeatState) (i : ℕ) (s : SeatState) → place_of dev seats ≡ Some i → slice_get seats i ≡ Some s → s.dev ≡ dev
 placed_at dev seats i s at here = first_is dev seats i s (place_first dev seats i at) here
 
 -- ---- a seat more
 
-trace_last : (dev : ℕ) (seats : List Bare) (traces : List (Option Trace)) (s : Bare) (t : Option Trace) → length traces ≡ length seats
+trace_last : (dev : ℕ) (seats : List SeatState) (traces : List (Option Trace)) (s : SeatState) (t : Option Trace) → length traces ≡ length seats
     → has_seat dev seats ≡ false
     → trace_at dev (seats ++ s ∷ []) (traces ++ t ∷ []) ≡ (if s.dev == dev then t else None)
 trace_last dev [] [] s t l h = refl
@@ -114,7 +115,7 @@ trace_last dev (x ∷ xs) (y ∷ ys) s t l h = by (λ none. trace_last dev xs ys
     by rest true e = let n : true ≡ false = rw e at h in cc
     by rest false e = rw e (rest (rw e at h))
 
-trace_before : (dev : ℕ) (seats : List Bare) (traces : List (Option Trace)) (s : Bare) (t : Option Trace) → length traces ≡ length seats
+trace_before : (dev : ℕ) (seats : List SeatState) (traces : List (Option Trace)) (s : SeatState) (t : Option Trace) → length traces ≡ length seats
     → (s.dev == dev) ≡ false
     → trace_at dev (seats ++ s ∷ []) (traces ++ t ∷ []) ≡ trace_at dev seats traces
 trace_before dev [] [] s t l n = rw n refl
@@ -122,7 +123,7 @@ trace_before dev [] (y ∷ ys) s t l n = absurd (omega arith)
 trace_before dev (x ∷ xs) [] s t l n = absurd (omega arith)
 trace_before dev (x ∷ xs) (y ∷ ys) s t l n = ap (λ z. if x.dev == dev then y else z) (trace_before dev xs ys s t (omega arith) n)
 
-has_last : (dev : ℕ) (seats : List Bare) (s : Bare) → has_seat dev seats ≡ false → (s.dev == dev) ≡ false → has_seat dev (seats ++ s ∷ []) ≡ false
+has_last : (dev : ℕ) (seats : List SeatState) (s : SeatState) → has_seat dev seats ≡ false → (s.dev == dev) ≡ false → has_seat dev (seats ++ s ∷ []) ≡ false
 has_last dev [] s h n = rw n refl
 has_last dev (x ∷ xs) s h n = by (λ none. has_last dev xs s none n) (x.dev == dev) refl
   where
@@ -133,7 +134,7 @@ has_last dev (x ∷ xs) s h n = by (λ none. has_last dev xs s none n) (x.dev ==
 turned : (a b : ℕ) → (a == b) ≡ false → (b == a) ≡ false
 turned a b e = grind (arith, nat_tests)
 
-pub apart_last : (seats : List Bare) (s : Bare) → AreApart seats → has_seat s.dev seats ≡ false → AreApart (seats ++ s ∷ [])
+pub apart_last : (seats : List SeatState) (s : SeatState) → AreApart seats → has_seat s.dev seats ≡ false → AreApart (seats ++ s ∷ [])
 apart_last [] s a h = (refl, tt)
 apart_last (x ∷ xs) s a h = by (λ none. apart_last xs s a.1 none) (x.dev == s.dev) refl
   where
@@ -143,7 +144,7 @@ apart_last (x ∷ xs) s a h = by (λ none. apart_last xs s a.1 none) (x.dev == s
 
 -- ---- a seat less
 
-no_trace : (dev : ℕ) (seats : List Bare) (traces : List (Option Trace)) → has_seat dev seats ≡ false → trace_at dev seats traces ≡ None
+no_trace : (dev : ℕ) (seats : List SeatState) (traces : List (Option Trace)) → has_seat dev seats ≡ false → trace_at dev seats traces ≡ None
 no_trace dev [] traces h = refl
 no_trace dev (x ∷ xs) [] h = refl
 no_trace dev (x ∷ xs) (y ∷ ys) h = by (λ none. no_trace dev xs ys none) (x.dev == dev) refl
@@ -155,34 +156,34 @@ no_trace dev (x ∷ xs) (y ∷ ys) h = by (λ none. no_trace dev xs ys none) (x.
 same_test : (a b c : ℕ) → (a == b) ≡ true → (a == c) ≡ (b == c)
 same_test a b c e = ap (λ n. n == c) (eqb-true a b e)
 
-trace_gone : (k dev i : ℕ) (seats : List Bare) (traces : List (Option Trace)) → IsFirst k seats i → AreApart seats → (k == dev) ≡ true
+trace_gone : (k dev i : ℕ) (seats : List SeatState) (traces : List (Option Trace)) → IsFirst k seats i → AreApart seats → (k == dev) ≡ true
     → trace_at dev (remove seats i) (remove traces i) ≡ None
 trace_gone k dev i [] traces f a e = absurd f
 trace_gone k dev zero (x ∷ xs) [] f a e = none_left xs
   where
-    none_left : (xs : List Bare) → trace_at dev xs [] ≡ None
+    none_left : (xs : List SeatState) → trace_at dev xs [] ≡ None
     none_left [] = refl
     none_left (y ∷ ys) = refl
 trace_gone k dev zero (x ∷ xs) (y ∷ ys) f a e = no_trace dev xs ys (ap (λ n. has_seat n xs) (sym (eqb-true k dev e) ∙ sym (eqb-true x.dev k f)) ∙ a.0)
 trace_gone k dev (suc i) (x ∷ xs) [] f a e = refl
 trace_gone k dev (suc i) (x ∷ xs) (y ∷ ys) f a e = rw (ap (λ n. x.dev == n) (sym (eqb-true k dev e)) ∙ f.0) (trace_gone k dev i xs ys f.1 a.1 e)
 
-trace_kept : (k dev i : ℕ) (seats : List Bare) (traces : List (Option Trace)) → IsFirst k seats i → (k == dev) ≡ false
+trace_kept : (k dev i : ℕ) (seats : List SeatState) (traces : List (Option Trace)) → IsFirst k seats i → (k == dev) ≡ false
     → trace_at dev (remove seats i) (remove traces i) ≡ trace_at dev seats traces
 trace_kept k dev i [] traces f e = absurd f
 trace_kept k dev zero (x ∷ xs) [] f e = none_left xs
   where
-    none_left : (xs : List Bare) → trace_at dev xs [] ≡ None
+    none_left : (xs : List SeatState) → trace_at dev xs [] ≡ None
     none_left [] = refl
     none_left (y ∷ ys) = refl
 trace_kept k dev zero (x ∷ xs) (y ∷ ys) f e = rw (same_test x.dev k dev f ∙ e) refl
 trace_kept k dev (suc i) (x ∷ xs) [] f e = refl
 trace_kept k dev (suc i) (x ∷ xs) (y ∷ ys) f e = ap (λ z. if x.dev == dev then y else z) (trace_kept k dev i xs ys f.1 e)
 
-has_kept : (dev i : ℕ) (seats : List Bare) → has_seat dev seats ≡ false → has_seat dev (remove seats i) ≡ false
+has_kept : (dev i : ℕ) (seats : List SeatState) → has_seat dev seats ≡ false → has_seat dev (remove seats i) ≡ false
 has_kept dev i [] h = by i
   where
-    by : (i : ℕ) → has_seat dev (remove (let none : List Bare = [] in none) i) ≡ false
+    by : (i : ℕ) → has_seat dev (remove (let none : List SeatState = [] in none) i) ≡ false
     by zero = refl
     by (suc i) = refl
 has_kept dev i (x ∷ xs) h = by (λ j none. has_kept dev j xs none) (x.dev == dev) refl i
@@ -193,16 +194,17 @@ has_kept dev i (x ∷ xs) h = by (λ j none. has_kept dev j xs none) (x.dev == d
     by rest false e zero = rw e at h
     by rest false e (suc i) = rw e (rest i (rw e at h))
 
-pub apart_kept : (i : ℕ) (seats : List Bare) → AreApart seats → AreApart (remove seats i)
+pub apart_kept : (i : ℕ) (seats : List SeatState) → AreApart seats → AreApart (remove seats i)
 apart_kept zero [] a = tt
 apart_kept (suc i) [] a = tt
 apart_kept zero (x ∷ xs) a = a.1
 apart_kept (suc i) (x ∷ xs) a = (has_kept x.dev i xs a.0, apart_kept i xs a.1)
 
-length_kept : (i : ℕ) (seats : List Bare) (traces : List (Option Trace)) → length traces ≡ length seats → length (remove traces i) ≡ length (remove seats i)
+length_kept : (i : ℕ) (seats : List SeatState) (traces : List (Option Trace)) → length traces ≡ length seats
+    → length (remove traces i) ≡ length (remove seats i)
 length_kept i [] [] l = by i
   where
-    by : (i : ℕ) → length (remove (let none : List (Option Trace) = [] in none) i) ≡ length (remove (let none : List Bare = [] in none) i)
+    by : (i : ℕ) → length (remove (let none : List (Option Trace) = [] in none) i) ≡ length (remove (let none : List SeatState = [] in none) i)
     by zero = refl
     by (suc i) = refl
 length_kept i [] (y ∷ ys) l = absurd (omega arith)
@@ -212,7 +214,8 @@ length_kept (suc i) (x ∷ xs) (y ∷ ys) l = let more : length (remove ys i) �
 
 -- ---- a seat that is read
 
-trace_set : (k dev i : ℕ) (seats : List Bare) (traces : List (Option Trace)) (trace trace' : Option Trace) → IsFirst k seats i → slice_get traces i ≡ Some trace
+trace_set : (k dev i : ℕ) (seats : List SeatState) (traces : List (Option Trace)) (trace trace' : Option Trace) → IsFirst k seats i
+    → slice_get traces i ≡ Some trace
     → (k == dev) ≡ true
     → (trace_at dev seats traces ≡ trace) × (trace_at dev seats (slice_set traces i trace') ≡ trace')
 trace_set k dev i [] traces trace trace' f g e = absurd f
@@ -223,7 +226,7 @@ trace_set k dev (suc i) (x ∷ xs) (y ∷ ys) trace trace' f g e =
     let here : (x.dev == dev) ≡ false = ap (λ n. x.dev == n) (sym (eqb-true k dev e)) ∙ f.0 in
     let more = trace_set k dev i xs ys trace trace' f.1 g e in (rw here more.0, rw here more.1)
 
-trace_other : (k dev i : ℕ) (seats : List Bare) (traces : List (Option Trace)) (trace' : Option Trace) → IsFirst k seats i → (k == dev) ≡ false
+trace_other : (k dev i : ℕ) (seats : List SeatState) (traces : List (Option Trace)) (trace' : Option Trace) → IsFirst k seats i → (k == dev) ≡ false
     → trace_at dev seats (slice_set traces i trace') ≡ trace_at dev seats traces
 trace_other k dev i [] traces trace' f e = absurd f
 trace_other k dev zero (x ∷ xs) [] trace' f e = refl
@@ -234,11 +237,11 @@ trace_other k dev (suc i) (x ∷ xs) (y ∷ ys) trace' f e = ap (λ z. if x.dev 
 -- ---- one item
 
 -- what stands at a device is what was given of it
-abbrev pub IsTold : (given : ℕ → List (List ℕ)) → List Bare → List (Option Trace) → Type 0
+abbrev pub IsTold : (given : ℕ → List (List ℕ)) → List SeatState → List (Option Trace) → Type 0
 IsTold given seats traces = (dev : ℕ) (t : Trace) → trace_at dev seats traces ≡ Some t → t.given ≡ given dev
 
 -- an item keeps that
-abbrev Keeps : Front → Item → Reply → List Bare → List (Option Trace) → List Bare → List (Option Trace) → Type 0
+abbrev Keeps : Front → Item → Reply → List SeatState → List (Option Trace) → List SeatState → List (Option Trace) → Type 0
 Keeps front item reply seats traces seats' traces' =
     AreSeated seats' traces'
     × ((given : ℕ → List (List ℕ)) → IsTold given seats traces → IsTold (λ dev. given_by front dev item reply (given dev)) seats' traces')
@@ -247,7 +250,7 @@ named_is : (front : Front) (device : List ℕ) (k dev : ℕ) → find_device fro
 named_is front device k dev e = rw e refl
 
 -- nothing changes at the seats
-same : (front : Front) (item : Item) (reply : Reply) (seats seats' : List Bare) (traces traces' : List (Option Trace)) → seats' ≡ seats → traces' ≡ traces
+same : (front : Front) (item : Item) (reply : Reply) (seats seats' : List SeatState) (traces traces' : List (Option Trace)) → seats' ≡ seats → traces' ≡ traces
     → ((dev : ℕ) (g : List (List ℕ)) → given_by front dev item reply g ≡ g) → AreSeated seats traces → Keeps front item reply seats traces seats' traces'
 same front item reply seats seats' traces traces' s t gives a =
     rw (s, t) (a, λ given is dev x e. is dev x e ∙ sym (gives dev (given dev)))
@@ -257,7 +260,7 @@ none_given : (y : Option Trace) (x : Trace) → y ≡ option_map (λ (z : Trace)
 none_given None x f e = cc
 none_given (Some y) x f e = let first : Some x ≡ Some first_trace = sym e ∙ f in let here : x ≡ first_trace = cc in ap (λ (z : Trace). z.given) here
 
-opened : (front : Front) (device text : List ℕ) (samples : ℕ) (cyclic : Bool) (n : ℤ) (s : Bare) (t : Option Trace) (seats : List Bare)
+opened : (front : Front) (device text : List ℕ) (samples : ℕ) (cyclic : Bool) (n : ℤ) (s : SeatState) (t : Option Trace) (seats : List SeatState)
     (traces : List (Option Trace))
     → find_device front device ≡ Some s.dev → place_of s.dev seats ≡ None → t ≡ option_map (λ (x : Trace). first_trace) t → AreSeated seats traces
     → Keeps front (Said (Ok (Open device samples text cyclic))) (Number n) seats traces (seats ++ s ∷ []) (traces ++ t ∷ [])
@@ -277,7 +280,7 @@ opened front device text samples cyclic n s t seats traces named free fresh a = 
         rw (named, here) (none_given t x fresh last)
     by given is dev x e false here = rw (named, here) (is dev x (sym (trace_before dev seats traces s t a.told here) ∙ e))
 
-closed : (front : Front) (device : List ℕ) (n : ℤ) (k i : ℕ) (seats : List Bare) (traces : List (Option Trace)) → place_of k seats ≡ Some i
+closed : (front : Front) (device : List ℕ) (n : ℤ) (k i : ℕ) (seats : List SeatState) (traces : List (Option Trace)) → place_of k seats ≡ Some i
     → AreSeated seats traces
     → Keeps front (Said (Ok (Close device))) (Number n) seats traces (remove seats i) (remove traces i)
 closed front device n k i seats traces at a = (
@@ -293,35 +296,36 @@ closed front device n k i seats traces at a = (
 -- ---- REMASK
 
 -- another seat at the same device, in the place of one
-has_under : (dev i : ℕ) (seats : List Bare) (s s' : Bare) → slice_get seats i ≡ Some s → s'.dev ≡ s.dev
+has_under : (dev i : ℕ) (seats : List SeatState) (s s' : SeatState) → slice_get seats i ≡ Some s → s'.dev ≡ s.dev
     → has_seat dev (slice_set seats i s') ≡ has_seat dev seats
 has_under dev i [] s s' here same = cc
-has_under dev zero (x ∷ xs) s s' here same = let one : s ≡ x = cc in ap (λ (n : ℕ). (n == dev) || has_seat dev xs) (same ∙ ap (λ (b : Bare). b.dev) one)
+has_under dev zero (x ∷ xs) s s' here same = let one : s ≡ x = cc in ap (λ (n : ℕ). (n == dev) || has_seat dev xs) (same ∙ ap (λ (b : SeatState). b.dev) one)
 has_under dev (suc i) (x ∷ xs) s s' here same = ap (λ (b : Bool). (x.dev == dev) || b) (has_under dev i xs s s' here same)
 
-pub apart_under : (i : ℕ) (seats : List Bare) (s s' : Bare) → slice_get seats i ≡ Some s → s'.dev ≡ s.dev → AreApart seats → AreApart (slice_set seats i s')
+pub apart_under : (i : ℕ) (seats : List SeatState) (s s' : SeatState) → slice_get seats i ≡ Some s → s'.dev ≡ s.dev → AreApart seats
+    → AreApart (slice_set seats i s')
 apart_under i [] s s' here same a = cc
-apart_under zero (x ∷ xs) s s' here same a = let one : s ≡ x = cc in (ap (λ (n : ℕ). has_seat n xs) (same ∙ ap (λ (b : Bare). b.dev) one) ∙ a.0, a.1)
+apart_under zero (x ∷ xs) s s' here same a = let one : s ≡ x = cc in (ap (λ (n : ℕ). has_seat n xs) (same ∙ ap (λ (b : SeatState). b.dev) one) ∙ a.0, a.1)
 apart_under (suc i) (x ∷ xs) s s' here same a = (has_under x.dev i xs s s' here same ∙ a.0, apart_under i xs s s' here same a.1)
 
-trace_under : (dev i : ℕ) (seats : List Bare) (traces : List (Option Trace)) (s s' : Bare) → slice_get seats i ≡ Some s → s'.dev ≡ s.dev
+trace_under : (dev i : ℕ) (seats : List SeatState) (traces : List (Option Trace)) (s s' : SeatState) → slice_get seats i ≡ Some s → s'.dev ≡ s.dev
     → trace_at dev (slice_set seats i s') traces ≡ trace_at dev seats traces
 trace_under dev i [] traces s s' here same = cc
 trace_under dev zero (x ∷ xs) [] s s' here same = refl
 trace_under dev (suc i) (x ∷ xs) [] s s' here same = refl
 trace_under dev zero (x ∷ xs) (t ∷ ts) s s' here same =
-    let one : s ≡ x = cc in ap (λ (n : ℕ). if n == dev then t else trace_at dev xs ts) (same ∙ ap (λ (b : Bare). b.dev) one)
+    let one : s ≡ x = cc in ap (λ (n : ℕ). if n == dev then t else trace_at dev xs ts) (same ∙ ap (λ (b : SeatState). b.dev) one)
 trace_under dev (suc i) (x ∷ xs) (t ∷ ts) s s' here same = ap (λ (z : Option Trace). if x.dev == dev then t else z) (trace_under dev i xs ts s s' here same)
 
 -- the trace beside a seat
-trace_beside : (i : ℕ) (seats : List Bare) (traces : List (Option Trace)) (s : Bare) → length traces ≡ length seats → slice_get seats i ≡ Some s
+trace_beside : (i : ℕ) (seats : List SeatState) (traces : List (Option Trace)) (s : SeatState) → length traces ≡ length seats → slice_get seats i ≡ Some s
     → (t : Option Trace) × (slice_get traces i ≡ Some t)
 trace_beside i [] traces s long here = cc
 trace_beside i (x ∷ xs) [] s long here = absurd (omega (arith, long))
 trace_beside zero (x ∷ xs) (t ∷ ts) s long here = (t, refl)
 trace_beside (suc i) (x ∷ xs) (t ∷ ts) s long here = trace_beside i xs ts s (omega (arith, long)) here
 
-remasked : (front : Front) (device text : List ℕ) (n : ℤ) (i : ℕ) (s s' : Bare) (t : Option Trace) (seats : List Bare) (traces : List (Option Trace))
+remasked : (front : Front) (device text : List ℕ) (n : ℤ) (i : ℕ) (s s' : SeatState) (t : Option Trace) (seats : List SeatState) (traces : List (Option Trace))
     → find_device front device ≡ Some s.dev → place_of s.dev seats ≡ Some i → slice_get seats i ≡ Some s → s'.dev ≡ s.dev
     → t ≡ option_map (λ (x : Trace). first_trace) t → AreSeated seats traces
     → Keeps front (Said (Ok (Remask device text))) (Number n) seats traces (slice_set seats i s') (slice_set traces i t)
@@ -376,7 +380,7 @@ reads_given front device bytes channels mask want asked dev (Refusal EAGAIN) g t
 reads_given front device bytes channels mask want asked dev (Refusal ENODEV) g trace trace' named r is x e = nothing_given true g trace trace' r is x e
 reads_given front device bytes channels mask want asked dev reply g trace trace' named r is x e = absurd r
 
-at_seat : (front : Front) (device : List ℕ) (s : Bare) (asked dev : ℕ) (reply : Reply) (g : List (List ℕ)) (trace trace' : Option Trace)
+at_seat : (front : Front) (device : List ℕ) (s : SeatState) (asked dev : ℕ) (reply : Reply) (g : List (List ℕ)) (trace trace' : Option Trace)
     → is_named front device dev ≡ true
     → ReadMoves front s asked reply trace trace' → ((x : Trace) → trace ≡ Some x → x.given ≡ g) → (x : Trace) → trace' ≡ Some x
     → x.given ≡ given_by front dev (Said (Ok (ReadBuf device asked))) reply g
@@ -392,7 +396,7 @@ not_named : (front : Front) (device : List ℕ) (asked dev : ℕ) (reply : Reply
 not_named front device asked dev (Block c m scans b) g n = rw n refl
 not_named front device asked dev reply g n = refl
 
-read_at : (front : Front) (device : List ℕ) (asked k i : ℕ) (reply : Reply) (seats : List Bare) (traces traces' : List (Option Trace))
+read_at : (front : Front) (device : List ℕ) (asked k i : ℕ) (reply : Reply) (seats : List SeatState) (traces traces' : List (Option Trace))
     → find_device front device ≡ Some k → place_of k seats ≡ Some i
     → ReadsAt front asked seats traces i reply traces' → AreSeated seats traces
     → Keeps front (Said (Ok (ReadBuf device asked))) reply seats traces seats traces'
@@ -418,7 +422,7 @@ refusal_gives : (front : Front) (e : Errno) (device : List ℕ) (asked dev : ℕ
     → given_by front dev (Said (Ok (ReadBuf device asked))) (Refusal e) g ≡ g
 refusal_gives front e device asked dev g = refl
 
-read_by : (front : Front) (device : List ℕ) (asked k : ℕ) (place : Option ℕ) (reply : Reply) (seats : List Bare) (traces traces' : List (Option Trace))
+read_by : (front : Front) (device : List ℕ) (asked k : ℕ) (place : Option ℕ) (reply : Reply) (seats : List SeatState) (traces traces' : List (Option Trace))
     → find_device front device ≡ Some k → place_of k seats ≡ place
     → ReadsBy front asked seats traces place reply traces' → AreSeated seats traces
     → Keeps front (Said (Ok (ReadBuf device asked))) reply seats traces seats traces'
@@ -426,7 +430,7 @@ read_by front device asked k None reply seats traces traces' named at r a =
     rw r.0 (same front (Said (Ok (ReadBuf device asked))) (Refusal EBADF) seats seats traces traces' refl r.1 (refusal_gives front EBADF device asked) a)
 read_by front device asked k (Some i) reply seats traces traces' named at r a = read_at front device asked k i reply seats traces traces' named at r a
 
-read_from : (front : Front) (device : List ℕ) (asked : ℕ) (dev : Option ℕ) (reply : Reply) (seats : List Bare) (traces traces' : List (Option Trace))
+read_from : (front : Front) (device : List ℕ) (asked : ℕ) (dev : Option ℕ) (reply : Reply) (seats : List SeatState) (traces traces' : List (Option Trace))
     → find_device front device ≡ dev
     → ReadsFrom front asked seats traces dev reply traces' → AreSeated seats traces
     → Keeps front (Said (Ok (ReadBuf device asked))) reply seats traces seats traces'
@@ -460,7 +464,8 @@ moved front client client' traces traces' (Said (Ok (Close device))) (Number n) 
     rw (ap (λ (d : ClientRecord). d.seats) m.gone, m.told) (closed front device n m.dev m.i client.seats traces m.at a)
 moved front client client' traces traces' (Said (Ok (Remask device text))) (Number n) a m =
     rw (ap (λ (d : ClientRecord). d.seats) m.2.under, m.2.told)
-    (remasked front device text n m.2.i m.2.s (bare_remasked m.2.mask m.2.waiting m.2.s) m.2.t client.seats traces (m.1 ∙ ap (λ (k : ℕ). Some k) (sym m.2.its))
+    (remasked front device text n m.2.i m.2.s (seat_state_remasked m.2.mask m.2.waiting m.2.s) m.2.t client.seats traces
+    (m.1 ∙ ap (λ (k : ℕ). Some k) (sym m.2.its))
     (ap (λ (k : ℕ). place_of k client.seats) m.2.its ∙ m.2.at) m.2.here refl m.2.fresh a)
 moved front client client' traces traces' (Said (Ok (ReadBuf device asked))) NoMemory a m =
     same front (Said (Ok (ReadBuf device asked))) NoMemory _ _ _ _ (seats_in client client' m.0) m.1 (λ dev g. refl) a
@@ -491,7 +496,7 @@ run_gives manner front a b (x ∷ xs) (y ∷ ys) r s =
     let more = run_gives manner front r.0 b xs ys r.2 one.0 in
     (more.0, λ given is. more.1 (λ dev. given_by front dev x y (given dev)) (one.1 given is))
 
-first_told : (seats : List Bare) (traces : List (Option Trace)) → IsTold (λ dev. given_in (trace_at dev seats traces)) seats traces
+first_told : (seats : List SeatState) (traces : List (Option Trace)) → IsTold (λ dev. given_in (trace_at dev seats traces)) seats traces
 first_told seats traces dev t e = ap (λ (x : Option Trace). given_in x) (sym e)
 
 pub gives : (manner : Manner) (front : Front) (a b : State) (items : List Item) (replies : List Reply) → Run manner front a items replies b
@@ -510,7 +515,8 @@ none_gives front dev item e g = by item
     by (Said (Ok (Remask device text))) = refl
     by item = refl
 
-pub waiting_gives : (front : Front) (items : List Item) (replies : List Reply) (seats : List Bare) (traces : List (Option Trace)) (a b : State) (item : Item)
+pub waiting_gives : (front : Front) (items : List Item) (replies : List Reply) (seats : List SeatState) (traces : List (Option Trace)) (a b : State)
+    (item : Item)
     (e : Errno)
     → Moves front a.client a.traces item (Refusal e) b.client b.traces → AreSeated a.client.seats a.traces
     → GivenIs front items replies seats traces a.client.seats a.traces → GivenIs front items replies seats traces b.client.seats b.traces

@@ -20,13 +20,13 @@ use Rattle.iiod_grammar.specs.Lines.{LinesRecord, after_piece}
 use Rattle.iiod_grammar.specs.Scans.{ScansBy, scan_on, scanner_at}
 use Rattle.iiod_grammar.specs.Stream.{Item, Said, Pending, OfWrite, OfWriteBuf, End, ItemsCutAnywhere, ScannerCutAnywhere, Scanned, AtEnd, InLine, after_line, after_said, ended_by, no_item, one_item, payload_after, payload_begun, with_payload}
 use Rattle.iiod_reply.specs.Reply.{Reply, text_of}
-use Rattle.iiod_session.specs.declared.client.Held.{Held}
+use Rattle.iiod_session.specs.declared.client.OpenSeat.{OpenSeat}
 use Rattle.iiod_session.specs.declared.manner.Going.{Going}
 use Rattle.iiod_session.specs.declared.manner.Going.TheVariants.{On, Waits, Ended}
 use Rattle.iiod_session.specs.declared.manner.Manner.{Manner}
 use Rattle.iiod_session.specs.declared.manner.Manner.TheVariants.{Script, Server}
-use Rattle.iiod_session.specs.declared.manner.Performed.{Performed}
-use Rattle.iiod_session.specs.declared.manner.Performed.TheVariants.{Done, Waits as PerformedWaits}
+use Rattle.iiod_session.specs.declared.manner.Progress.{Progress}
+use Rattle.iiod_session.specs.declared.manner.Progress.TheVariants.{Done, Waits as PerformedWaits}
 use Rattle.iiod_session.specs.Acts.{Acts, act, end_reply, left_client, left_machine}
 use Rattle.iiod_session.specs.Client.{ClientRecord, traces_of}
 use Rattle.iio_core.specs.Front.{Front}
@@ -70,7 +70,7 @@ end_acts front a b error t d = by a.told t error
     by (Some m) x None = (left_machine front m a.client, x, rw d refl)
     by (Some m) x (Some e) = (left_machine front m a.client, x, rw d refl)
 
-none_seen : {S : Type 0} (seen : S → SeatRecord) (held : List (Held S)) → held ≡ [] → traces_of seen held ≡ []
+none_seen : {S : Type 0} (seen : S → SeatRecord) (held : List (OpenSeat S)) → held ≡ [] → traces_of seen held ≡ []
 none_seen seen held e = ap (λ hs. traces_of seen hs) e
 
 module _ {W : Type 0} {makes : Front → Option Machine → ℕ → Item → W → W → Type 0} where
@@ -102,7 +102,8 @@ module _ {W : Type 0} {makes : Front → Option Machine → ℕ → Item → W �
       (refl, refl)
 
   -- the end of a connection, as `end` makes it
-  pub end_feeds : {S : Type 0} (seen : S → SeatRecord) (manner : Manner) (front : Front) (a b : State) (w v : W) (held : List (Held S)) (error : Option Errno)
+  pub end_feeds : {S : Type 0} (seen : S → SeatRecord) (manner : Manner) (front : Front) (a b : State) (w v : W) (held : List (OpenSeat S))
+      (error : Option Errno)
       (before after : List ℕ)
       → makes front a.told a.client.who (End error) w v
       → after ≡ before ++ text_of (end_reply error)
@@ -159,12 +160,12 @@ plain_line (Ok (Write device target count)) p = absurd p
 plain_line (Ok (WriteBuf device count)) p = absurd p
 plain_line said p = refl
 
-abbrev pub going_of : Performed → Going
+abbrev pub going_of : Progress → Going
 going_of Done = On
 going_of (PerformedWaits dev) = Waits dev
 
 pub plain_feeds : {W : Type 0} {makes : Front → Option Machine → ℕ → Item → W → W → Type 0} (manner : Manner) (front : Front) (a b : State) (w v : W)
-    (told : Bool) (line : List ℕ) (kept : PendingRecord) (said : Result Command Refused) (lines : LinesRecord) (before after : List ℕ) (p : Performed)
+    (told : Bool) (line : List ℕ) (kept : PendingRecord) (said : Result Command Refused) (lines : LinesRecord) (before after : List ℕ) (p : Progress)
     → command_of line ≡ said → IsPlain said → lines ≡ after_piece line
     → Tells makes manner front (scene a w told) (Said said) v
     → Performs manner front a.told b.told a.client a.traces (Said said) b.client b.traces before after p
@@ -203,7 +204,7 @@ no_wait front dev (Ok (ReadBuf device asked)) once r = absurd once
 no_wait front dev said once r = r
 
 pub at_once_feeds : {W : Type 0} {makes : Front → Option Machine → ℕ → Item → W → W → Type 0} (manner : Manner) (front : Front) (a b : State) (w v : W)
-    (kept : PendingRecord) (said : Result Command Refused) (lines : LinesRecord) (before after : List ℕ) (p : Performed)
+    (kept : PendingRecord) (said : Result Command Refused) (lines : LinesRecord) (before after : List ℕ) (p : Progress)
     → lines ≡ after_piece lines.piece → command_of lines.piece ≡ said → IsAtOnce said
     → makes front a.told a.client.who (Said said) w v
     → Performs manner front a.told b.told a.client a.traces (Said said) b.client b.traces before after p
@@ -219,7 +220,7 @@ no_read front dev (OfWrite device target) payload r = r
 no_read front dev (OfWriteBuf device) payload r = r
 
 pub written_feeds : {W : Type 0} {makes : Front → Option Machine → ℕ → Item → W → W → Type 0} (manner : Manner) (front : Front) (a b : State) (w v : W)
-    (lines : LinesRecord) (kept : PendingRecord) (of : Pending) (payload before after : List ℕ) (p : Performed)
+    (lines : LinesRecord) (kept : PendingRecord) (of : Pending) (payload before after : List ℕ) (p : Progress)
     → lines ≡ after_piece lines.piece
     → makes front a.told a.client.who (with_payload of payload) w v
     → Performs manner front a.told b.told a.client a.traces (with_payload of payload) b.client b.traces before after p
@@ -234,7 +235,7 @@ written_feeds manner front a b w v lines kept of payload before after Done is te
 written_feeds manner front a b w v lines kept of payload before after (PerformedWaits dev) is tells x = absurd (no_read front dev of payload x.2)
 
 pub said_feeds : {W : Type 0} {makes : Front → Option Machine → ℕ → Item → W → W → Type 0} (manner : Manner) (front : Front) (a b : State) (w v : W)
-    (told : Bool) (kept : PendingRecord) (said : Result Command Refused) (lines : LinesRecord) (before after : List ℕ) (p : Performed)
+    (told : Bool) (kept : PendingRecord) (said : Result Command Refused) (lines : LinesRecord) (before after : List ℕ) (p : Progress)
     → lines ≡ after_piece lines.piece → command_of lines.piece ≡ said → IsPlain said
     → Tells makes manner front (scene a w told) (Said said) v
     → Performs manner front a.told b.told a.client a.traces (Said said) b.client b.traces before after p

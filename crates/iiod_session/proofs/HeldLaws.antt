@@ -11,7 +11,7 @@ use Rattle.iiod_session.specs.declared.iio.No.{No}
 use Rattle.iiod_session.specs.declared.iio.No.TheVariants.{Errno as NoErrno, Mem as NoMem}
 use Rattle.iiod_session.specs.Acts.{zero_reply, refused, read_at_seat, read_scans_of, written_scans}
 use Rattle.iio_core.specs.Calls.{write_scans_of}
-use Rattle.iiod_session.specs.Client.{Bare, ClientRecord, bare_id}
+use Rattle.iiod_session.specs.Client.{SeatState, ClientRecord, seat_state_id}
 use Rattle.iio_core.specs.Front.{Front, channel_count, size_at}
 use Rattle.iio_core.specs.Machine.{Machine, MemberId, queue_of, with_queue}
 use Rattle.iiod_session.specs.Moves.{ReadsAs}
@@ -20,7 +20,7 @@ use Rattle.iiod_session.specs.Reading.{ReadSome, ReadNone, ReadEnds, FoundNothin
 use Rattle.iiod_session.specs.Seat.{Answers, SeatRecord, Trace, after_nothing, seat_id}
 
 -- a seat takes from the queue of its member
-pub id_is : (s : Bare) (v : SeatRecord) → s.number ≡ v.number → v.mask ≡ s.mask → bare_id s ≡ seat_id v
+pub id_is : (s : SeatState) (v : SeatRecord) → s.number ≡ v.number → v.mask ≡ s.mask → seat_state_id s ≡ seat_id v
 id_is s v number under = rw (number, ← under) refl
 
 less_is : (a b : ℕ) → a < b → nat_lt a b ≡ true
@@ -30,7 +30,7 @@ not_less_is : (a b : ℕ) → b ≤ a → nat_lt a b ≡ false
 not_less_is a b h = grind arith
 
 -- less than one scan is asked for
-pub served_less : (front : Front) (asked : ℕ) (told : Option Machine) (s : Bare) (trace : Option Trace) → asked < size_at front s.dev s.mask
+pub served_less : (front : Front) (asked : ℕ) (told : Option Machine) (s : SeatState) (trace : Option Trace) → asked < size_at front s.dev s.mask
     → ReadServed front asked told told s trace trace zero_reply
 served_less front asked told s trace h = record { exact = by told; moves = rw (less_is _ _ h) (refl, refl); whole = tt }
   where
@@ -39,18 +39,19 @@ served_less front asked told s trace h = record { exact = by told; moves = rw (l
     by None = tt
     by (Some m) = (m, refl, λ client. rw (less_is _ _ h) refl)
 
-read_scans_is : (front : Front) (m : Machine) (client : ClientRecord) (s : Bare) (want asked : ℕ) (scans : List (List ℕ)) → 0 < length scans
+read_scans_is : (front : Front) (m : Machine) (client : ClientRecord) (s : SeatState) (want asked : ℕ) (scans : List (List ℕ)) → 0 < length scans
     → read_scans_of front m client s want asked scans
     ≡ record {
       reply = Block (channel_count front s.dev) s.mask scans asked;
       machine =
-          with_queue m s.dev (bare_id s) scans (drop want (queue_of m s.dev (bare_id s)));
+          with_queue m s.dev (seat_state_id s) scans (drop want (queue_of m s.dev (seat_state_id s)));
       client = client;
     }
 read_scans_is front m client s want asked [] h = absurd (omega arith)
 read_scans_is front m client s want asked (x ∷ xs) h = refl
 
-served_some : (front : Front) (asked : ℕ) (told told' : Option Machine) (s : Bare) (v v' : SeatRecord) (scans : List (List ℕ)) → bare_id s ≡ seat_id v
+served_some : (front : Front) (asked : ℕ) (told told' : Option Machine) (s : SeatState) (v v' : SeatRecord) (scans : List (List ℕ))
+    → seat_state_id s ≡ seat_id v
     → size_at front s.dev s.mask ≤ asked
     → ReadSome s.dev (most_scans asked (size_at front s.dev s.mask) s.capacity) told told' v v' scans
     → ReadServed front asked told told' s v.trace v'.trace (Block (channel_count front s.dev) s.mask scans asked)
@@ -58,9 +59,9 @@ served_some front asked told told' s v v' scans same h r =
     record { exact = by told (rw (← same) at r.from); moves = rw (not_less_is _ _ h) (refl, refl, refl, r.reads); whole = tt }
   where
     by : (told : Option Machine)
-        → IfSome told (λ m. (take (most_scans asked (size_at front s.dev s.mask) s.capacity) (queue_of m s.dev (bare_id s)) ≡ scans)
-        × (told' ≡ Some (with_queue m s.dev (bare_id s) scans
-        (drop (most_scans asked (size_at front s.dev s.mask) s.capacity) (queue_of m s.dev (bare_id s))))))
+        → IfSome told (λ m. (take (most_scans asked (size_at front s.dev s.mask) s.capacity) (queue_of m s.dev (seat_state_id s)) ≡ scans)
+        × (told' ≡ Some (with_queue m s.dev (seat_state_id s) scans
+        (drop (most_scans asked (size_at front s.dev s.mask) s.capacity) (queue_of m s.dev (seat_state_id s))))))
         → IfSome told (λ m. (n : Machine) × (told' ≡ Some n)
         × ((client : ClientRecord) → read_at_seat front m client s asked
         ≡ record { reply = Block (channel_count front s.dev) s.mask scans asked; machine = n; client = client }))
@@ -72,7 +73,7 @@ served_some front asked told told' s v v' scans same h r =
           (read_scans_is front m client s (most_scans asked (size_at front s.dev s.mask) s.capacity) asked scans r.reads.some),
     )
 
-served_none : (front : Front) (asked : ℕ) (gone : Bool) (told told' : Option Machine) (s : Bare) (v v' : SeatRecord) → bare_id s ≡ seat_id v
+served_none : (front : Front) (asked : ℕ) (gone : Bool) (told told' : Option Machine) (s : SeatState) (v v' : SeatRecord) → seat_state_id s ≡ seat_id v
     → size_at front s.dev s.mask ≤ asked
     → ReadNone s.dev gone told told' v v'
     → ReadServed front asked told told' s v.trace v'.trace (Refusal (cond gone ENODEV EAGAIN))
@@ -93,7 +94,7 @@ served_none front asked gone told told' s v v' same h r =
         turned true plugged e = rw e refl
         turned false plugged e = rw e refl
 
-    by : (told : Option Machine) → FoundNothing s.dev (bare_id s) (not gone) told told'
+    by : (told : Option Machine) → FoundNothing s.dev (seat_state_id s) (not gone) told told'
         → IfSome told (λ m. (n : Machine) × (told' ≡ Some n)
         × ((client : ClientRecord) → read_at_seat front m client s asked
         ≡ record { reply = Refusal (cond gone ENODEV EAGAIN); machine = n; client = client }))
@@ -101,7 +102,8 @@ served_none front asked gone told told' s v v' same h r =
     by (Some m) f = (m, f.2, λ client. rw (not_less_is _ _ h, f.0, take-nil) (ap (λ e. refused e m client) (errno_is _ f.1)))
 
 -- what an Iio answers to scans that are written is what the definitions say of the seat
-pub wrote_scans : (front : Front) (told told' : Option Machine) (s : Bare) (v : SeatRecord) (payload : List ℕ) (r : Result ℕ No) → bare_id s ≡ seat_id v
+pub wrote_scans : (front : Front) (told told' : Option Machine) (s : SeatState) (v : SeatRecord) (payload : List ℕ) (r : Result ℕ No)
+    → seat_state_id s ≡ seat_id v
     → IfSome told (λ m. Answers (write_scans_of front m s.dev (seat_id v) payload) m r told')
     → WritesHeld front payload told s (taken_by r) told'
 wrote_scans front None told' s v payload r same a = tt
@@ -119,8 +121,8 @@ wrote_scans front (Some m) told' s v payload (Err (NoErrno e)) same a = λ clien
 )
 wrote_scans front (Some m) told' s v payload (Err NoMem) same a = λ client. (a, refl)
 
-pub read_ends : (front : Front) (asked : ℕ) (s : Bare) (told told' : Option Machine) (v v' : SeatRecord) (before after : List ℕ) (r : Result Took Mem)
-    → bare_id s ≡ seat_id v
+pub read_ends : (front : Front) (asked : ℕ) (s : SeatState) (told told' : Option Machine) (v v' : SeatRecord) (before after : List ℕ) (r : Result Took Mem)
+    → seat_state_id s ≡ seat_id v
     → size_at front s.dev s.mask ≤ asked
     → ReadEnds front s.dev s.mask s.capacity asked told told' v v' before after r
     → ReadHeld front asked told told' s v.trace v'.trace before after r

@@ -9,7 +9,7 @@ use Rattle.iio_text.specs.declared.errors.Errno.{Errno}
 use Rattle.iio_text.specs.declared.errors.Errno.TheVariants.{EBADF, ENODEV}
 use Rattle.iiod_reply.specs.Reply.{Reply, Refusal}
 use Rattle.iiod_session.specs.declared.client.Client.{Client}
-use Rattle.iiod_session.specs.declared.client.Held.{Held}
+use Rattle.iiod_session.specs.declared.client.OpenSeat.{OpenSeat}
 use Rattle.iiod_session.specs.declared.iio.No.{No}
 use Rattle.iiod_session.specs.declared.iio.No.TheVariants.{Errno as NoErrno, Mem as NoMem}
 use Rattle.iiod_session.specs.declared.iio.Took.{Took}
@@ -18,7 +18,7 @@ use Rattle.iiod_session.specs.declared.wanted.Wanted.{Wanted as CodeWanted}
 use Rattle.iio_mask.specs.declared.Mask.{Mask}
 use Rattle.iiod_session.specs.Acts.{Acted, all_closed, all_released, zero_reply, open_at, open_wanted, joined_at, close_at, close_seat, read_at, read_seat, read_at_seat, refused, remask_at, remask_place, remask_seat, write_at_place, write_at_seat}
 use Rattle.iio_core.specs.Calls.{machine_after_close, ev_close_of}
-use Rattle.iiod_session.specs.Client.{IsClient, IsWanted, Wanted, Bare, ClientRecord, are_apart, bare_of, trace_of, seats_of, traces_of, place_of, buffers_of, with_seats, wanted_of}
+use Rattle.iiod_session.specs.Client.{IsClient, IsWanted, Wanted, SeatState, ClientRecord, are_apart, seat_state_of, trace_of, seats_of, traces_of, place_of, buffers_of, with_seats, wanted_of}
 use Rattle.iio_core.specs.Front.{Front, kind_at, shape_at}
 use Rattle.iio_core.specs.Machine.{Machine, is_plugged}
 use Rattle.iiod_session.specs.Moves.{ReadsBy}
@@ -28,11 +28,11 @@ use Rattle.iiod_session.proofs.GivenLaws.{AreSeated, apart_by, apart_kept, apart
 use Rattle.iiod_session.specs.Wanted.{wanted_of_code}
 
 module _ {S : Type 0} (seen : S → SeatRecord) where
-  one_more_held : {B : Type 0} (f : Held S → B) (held : List (Held S)) (h : Held S) → map f (held ++ h ∷ []) ≡ map f held ++ f h ∷ []
+  one_more_held : {B : Type 0} (f : OpenSeat S → B) (held : List (OpenSeat S)) (h : OpenSeat S) → map f (held ++ h ∷ []) ≡ map f held ++ f h ∷ []
   one_more_held f [] h = refl
   one_more_held f (x ∷ xs) h = ap (λ ys. f x ∷ ys) (one_more_held f xs h)
 
-  pub joins : (front : Front) (dev capacity size : ℕ) (mask : Mask) (base : ClientRecord) (held mid held' : List (Held S)) (s : S)
+  pub joins : (front : Front) (dev capacity size : ℕ) (mask : Mask) (base : ClientRecord) (held mid held' : List (OpenSeat S)) (s : S)
       → IsNew front dev mask.bits capacity (seen s)
       → place_of dev (seats_of seen held) ≡ None
       → mid ≡ held → held' ≡ mid ++ record { dev = dev; mask = mask; capacity = capacity; size = size; discarded = 0; seat = s } ∷ []
@@ -44,55 +44,57 @@ module _ {S : Type 0} (seen : S → SeatRecord) where
         number = (seen s).number;
         t = (seen s).trace;
         free = free;
-        added = ap (λ hs. with_seats (seats_of seen hs) base) e ∙ ap (λ (bs : List Bare). with_seats bs base) (one_more_held (bare_of seen) held _);
+        added = ap (λ hs. with_seats (seats_of seen hs) base) e ∙ ap (λ (bs : List SeatState). with_seats bs base) (one_more_held (seat_state_of seen) held _);
         told = ap (λ hs. traces_of seen hs) e ∙ one_more_held (trace_of seen) held _;
         fresh = is.fresh;
       }
 
   -- no two seats are at one device, with one more at a device where there was none
-  pub apart_joined : (held mid held' : List (Held S)) (h : Held S) → are_apart (seats_of seen held) ≡ true → place_of h.dev (seats_of seen held) ≡ None
+  pub apart_joined : (held mid held' : List (OpenSeat S)) (h : OpenSeat S) → are_apart (seats_of seen held) ≡ true → place_of h.dev (seats_of seen held) ≡ None
       → mid ≡ held → held' ≡ mid ++ h ∷ [] → are_apart (seats_of seen held') ≡ true
   apart_joined held mid held' h a free z e =
-      rw (e, z, one_more_held (bare_of seen) held h)
-      (are_apart_by (seats_of seen held ++ bare_of seen h ∷ [])
-      (apart_last (seats_of seen held) (bare_of seen h) (apart_by (seats_of seen held) a) (none_has h.dev (seats_of seen held) free)))
+      rw (e, z, one_more_held (seat_state_of seen) held h)
+      (are_apart_by (seats_of seen held ++ seat_state_of seen h ∷ [])
+      (apart_last (seats_of seen held) (seat_state_of seen h) (apart_by (seats_of seen held) a) (none_has h.dev (seats_of seen held) free)))
 
-  prefix_is : (dev : ℕ) (held : List (Held S))
-      → prefix_len (λ (s : Bare). not (s.dev == dev)) (seats_of seen held) ≡ prefix_len (λ (h : Held S). not (h.dev == dev)) held
+  prefix_is : (dev : ℕ) (held : List (OpenSeat S))
+      → prefix_len (λ (s : SeatState). not (s.dev == dev)) (seats_of seen held) ≡ prefix_len (λ (h : OpenSeat S). not (h.dev == dev)) held
   prefix_is dev [] = refl
   prefix_is dev (h ∷ hs) = ap (λ (n : ℕ). cond (not (h.dev == dev)) (1 + n) 0) (prefix_is dev hs)
 
-  pub place_is : (dev : ℕ) (held : List (Held S)) → place_of dev (seats_of seen held) ≡ position (λ (h : Held S). h.dev == dev) held
-  place_is dev held = rw (prefix_is dev held, length-map held (bare_of seen)) refl
+  pub place_is : (dev : ℕ) (held : List (OpenSeat S)) → place_of dev (seats_of seen held) ≡ position (λ (h : OpenSeat S). h.dev == dev) held
+  place_is dev held = rw (prefix_is dev held, length-map held (seat_state_of seen)) refl
 
-  pub get_is : {B : Type 0} (f : Held S → B) (held : List (Held S)) (i : ℕ) (h : Held S) → i < length held → h ≡ slice_index_or held i h
+  pub get_is : {B : Type 0} (f : OpenSeat S → B) (held : List (OpenSeat S)) (i : ℕ) (h : OpenSeat S) → i < length held → h ≡ slice_index_or held i h
       → slice_get (map f held) i ≡ Some (f h)
   get_is f [] i h l e = absurd (omega arith)
   get_is f (x ∷ xs) zero h l e = ap (λ y. Some (f y)) (sym e)
   get_is f (x ∷ xs) (suc i) h l e = get_is f xs i h (omega arith) e
 
   -- the seat that was found is at that device
-  pub dev_is : (dev i : ℕ) (held : List (Held S)) (h : Held S) → Some i ≡ place_of dev (seats_of seen held) → i < length held → h ≡ slice_index_or held i h
+  pub dev_is : (dev i : ℕ) (held : List (OpenSeat S)) (h : OpenSeat S) → Some i ≡ place_of dev (seats_of seen held) → i < length held
+      → h ≡ slice_index_or held i h
       → h.dev ≡ dev
-  dev_is dev i held h at l e = placed_at dev (seats_of seen held) i (bare_of seen h) (sym at) (get_is (bare_of seen) held i h l e)
+  dev_is dev i held h at l e = placed_at dev (seats_of seen held) i (seat_state_of seen h) (sym at) (get_is (seat_state_of seen) held i h l e)
 
-  map_remove : {B : Type 0} (f : Held S → B) (held : List (Held S)) (i : ℕ) → map f (remove held i) ≡ remove (map f held) i
+  map_remove : {B : Type 0} (f : OpenSeat S → B) (held : List (OpenSeat S)) (i : ℕ) → map f (remove held i) ≡ remove (map f held) i
   map_remove f [] zero = refl
   map_remove f [] (suc i) = refl
   map_remove f (x ∷ xs) zero = refl
   map_remove f (x ∷ xs) (suc i) = ap (λ ys. f x ∷ ys) (map_remove f xs i)
 
-  closed_at : (front : Front) (m : Machine) (base : ClientRecord) (i : ℕ) (held held' : List (Held S)) (h : Held S) (p : Option ℕ)
+  closed_at : (front : Front) (m : Machine) (base : ClientRecord) (i : ℕ) (held held' : List (OpenSeat S)) (h : OpenSeat S) (p : Option ℕ)
       → Some i ≡ p → i < length held → h ≡ slice_index_or held i h → held' ≡ remove held i
       → close_at front m (with_seats (seats_of seen held) base) p
       ≡ record { reply = zero_reply; machine = machine_after_close front m h.dev (seen h.seat).number; client = with_seats (seats_of seen held') base }
   closed_at front m base i held held' h p at l e gone =
       ap (λ q. close_at front m (with_seats (seats_of seen held) base) q) (sym at)
-      ∙ ap (λ s. close_seat front m (with_seats (seats_of seen held) base) i s) (get_is (bare_of seen) held i h l e)
-      ∙ ap (λ (bs : List Bare). record { reply = zero_reply; machine = machine_after_close front m h.dev (seen h.seat).number; client = with_seats bs base })
-      (sym (ap (λ hs. seats_of seen hs) gone ∙ map_remove (bare_of seen) held i))
+      ∙ ap (λ s. close_seat front m (with_seats (seats_of seen held) base) i s) (get_is (seat_state_of seen) held i h l e)
+      ∙ ap (λ (bs : List SeatState). record
+      { reply = zero_reply; machine = machine_after_close front m h.dev (seen h.seat).number; client = with_seats bs base })
+      (sym (ap (λ hs. seats_of seen hs) gone ∙ map_remove (seat_state_of seen) held i))
 
-  pub closes : (front : Front) (told told' : Option Machine) (base : ClientRecord) (dev i : ℕ) (held held' : List (Held S)) (h : Held S)
+  pub closes : (front : Front) (told told' : Option Machine) (base : ClientRecord) (dev i : ℕ) (held held' : List (OpenSeat S)) (h : OpenSeat S)
       → Some i ≡ place_of dev (seats_of seen held) → i < length held → h ≡ slice_index_or held i h → held' ≡ remove held i
       → IfSome told (λ m. told' ≡ Some (machine_after_close front m h.dev (seen h.seat).number))
       → IfSome told (λ m. Comes m (with_seats (seats_of seen held) base)
@@ -102,43 +104,45 @@ module _ {S : Type 0} (seen : S → SeatRecord) where
   closes front (Some m) told' base dev i held held' h at l e gone t =
       (machine_after_close front m h.dev (seen h.seat).number, t, closed_at front m base i held held' h _ at l e gone)
 
-  pub leaves : (base : ClientRecord) (dev i : ℕ) (held held' : List (Held S)) → Some i ≡ place_of dev (seats_of seen held) → held' ≡ remove held i
+  pub leaves : (base : ClientRecord) (dev i : ℕ) (held held' : List (OpenSeat S)) → Some i ≡ place_of dev (seats_of seen held) → held' ≡ remove held i
       → LeavesBy dev (with_seats (seats_of seen held) base) (traces_of seen held) (Ok tt) (with_seats (seats_of seen held') base) (traces_of seen held')
   leaves base dev i held held' at gone = (
     i,
     sym at,
-    ap (λ hs. with_seats (seats_of seen hs) base) gone ∙ ap (λ (bs : List Bare). with_seats bs base) (map_remove (bare_of seen) held i),
+    ap (λ hs. with_seats (seats_of seen hs) base) gone ∙ ap (λ (bs : List SeatState). with_seats bs base) (map_remove (seat_state_of seen) held i),
     ap (λ hs. traces_of seen hs) gone ∙ map_remove (trace_of seen) held i,
   )
 
-  map_set : {B : Type 0} (f : Held S → B) (held : List (Held S)) (i : ℕ) (y : Held S) → map f (slice_set held i y) ≡ slice_set (map f held) i (f y)
+  map_set : {B : Type 0} (f : OpenSeat S → B) (held : List (OpenSeat S)) (i : ℕ) (y : OpenSeat S) → map f (slice_set held i y) ≡ slice_set (map f held) i (f y)
   map_set f [] zero y = refl
   map_set f [] (suc i) y = refl
   map_set f (x ∷ xs) zero y = refl
   map_set f (x ∷ xs) (suc i) y = ap (λ ys. f x ∷ ys) (map_set f xs i y)
 
-  pub apart_removed : (held held' : List (Held S)) (i : ℕ) → are_apart (seats_of seen held) ≡ true → held' ≡ remove held i
+  pub apart_removed : (held held' : List (OpenSeat S)) (i : ℕ) → are_apart (seats_of seen held) ≡ true → held' ≡ remove held i
       → are_apart (seats_of seen held') ≡ true
   apart_removed held held' i a e =
-      rw (e, map_remove (bare_of seen) held i)
+      rw (e, map_remove (seat_state_of seen) held i)
       (are_apart_by (remove (seats_of seen held) i) (apart_kept i (seats_of seen held) (apart_by (seats_of seen held) a)))
 
-  pub map_set_same : {B : Type 0} (f : Held S → B) (held : List (Held S)) (i : ℕ) (y h : Held S) → i < length held → h ≡ slice_index_or held i h → f y ≡ f h
+  pub map_set_same : {B : Type 0} (f : OpenSeat S → B) (held : List (OpenSeat S)) (i : ℕ) (y h : OpenSeat S) → i < length held → h ≡ slice_index_or held i h
+      → f y ≡ f h
       → map f (slice_set held i y) ≡ map f held
   map_set_same f [] i y h l e same = absurd (omega arith)
   map_set_same f (x ∷ xs) zero y h l e same = ap (λ z. z ∷ map f xs) (same ∙ ap f e)
   map_set_same f (x ∷ xs) (suc i) y h l e same = ap (λ ys. f x ∷ ys) (map_set_same f xs i y h (omega arith) e same)
 
-  served_at : (front : Front) (dev asked i : ℕ) (told told' : Option Machine) (base : ClientRecord) (held : List (Held S)) (h h' : Held S) (reply : Reply)
+  served_at : (front : Front) (dev asked i : ℕ) (told told' : Option Machine) (base : ClientRecord) (held : List (OpenSeat S)) (h h' : OpenSeat S)
+      (reply : Reply)
       → place_of dev (seats_of seen held) ≡ Some i → i < length held → h ≡ slice_index_or held i h
-      → ReadServed front asked told told' (bare_of seen h) (trace_of seen h) (trace_of seen h') reply
+      → ReadServed front asked told told' (seat_state_of seen h) (trace_of seen h) (trace_of seen h') reply
       → ReadServedAt front dev asked told told' (with_seats (seats_of seen held) base) (traces_of seen held) (traces_of seen (slice_set held i h')) reply
   served_at front dev asked i told told' base held h h' reply at l e r =
       record { exact = by told r.exact; moves = moved (place_of dev (seats_of seen held)) at; whole = r.whole }
     where
       by : (told : Option Machine)
           → IfSome told (λ m. (n : Machine) × (told' ≡ Some n)
-          × ((client : ClientRecord) → read_at_seat front m client (bare_of seen h) asked ≡ record { reply = reply; machine = n; client = client }))
+          × ((client : ClientRecord) → read_at_seat front m client (seat_state_of seen h) asked ≡ record { reply = reply; machine = n; client = client }))
           → IfSome told (λ m. (n : Machine) × (told' ≡ Some n)
           × (read_at front m (with_seats (seats_of seen held) base) asked (place_of dev (seats_of seen held))
           ≡ record { reply = reply; machine = n; client = with_seats (seats_of seen held) base }))
@@ -147,15 +151,15 @@ module _ {S : Type 0} (seen : S → SeatRecord) where
         x.0,
         x.1,
         ap (λ p. read_at front m (with_seats (seats_of seen held) base) asked p) at
-            ∙ ap (λ s. read_seat front m (with_seats (seats_of seen held) base) asked s) (get_is (bare_of seen) held i h l e)
+            ∙ ap (λ s. read_seat front m (with_seats (seats_of seen held) base) asked s) (get_is (seat_state_of seen) held i h l e)
             ∙ x.2 (with_seats (seats_of seen held) base),
       )
 
       moved : (p : Option ℕ) → p ≡ Some i → ReadsBy front asked (seats_of seen held) (traces_of seen held) p reply (traces_of seen (slice_set held i h'))
       moved None c = absurd (cc)
       moved (Some j) c = let same : j ≡ i = cc in record {
-        s = bare_of seen h;
-        at = rw same (get_is (bare_of seen) held i h l e);
+        s = seat_state_of seen h;
+        at = rw same (get_is (seat_state_of seen) held i h l e);
         trace = trace_of seen h;
         before = rw same (get_is (trace_of seen) held i h l e);
         trace' = trace_of seen h';
@@ -163,10 +167,10 @@ module _ {S : Type 0} (seen : S → SeatRecord) where
         reads = r.moves;
       }
 
-  pub reads_at : (front : Front) (dev asked i : ℕ) (told told' : Option Machine) (base : ClientRecord) (held : List (Held S)) (h h' : Held S)
+  pub reads_at : (front : Front) (dev asked i : ℕ) (told told' : Option Machine) (base : ClientRecord) (held : List (OpenSeat S)) (h h' : OpenSeat S)
       (before after : List ℕ) (r : Result Took Mem)
       → Some i ≡ place_of dev (seats_of seen held) → i < length held → h ≡ slice_index_or held i h
-      → ReadHeld front asked told told' (bare_of seen h) (trace_of seen h) (trace_of seen h') before after r
+      → ReadHeld front asked told told' (seat_state_of seen h) (trace_of seen h) (trace_of seen h') before after r
       → ReadAt front dev asked told told' (with_seats (seats_of seen held) base) (traces_of seen held) (traces_of seen (slice_set held i h')) before after r
   reads_at front dev asked i told told' base held h h' before after (Ok Scan) at l e r =
       (r.0, r.1, r.2, served_at front dev asked i told told' base held h h' r.0 (sym at) l e r.3)
@@ -176,50 +180,53 @@ module _ {S : Type 0} (seen : S → SeatRecord) where
       (r.0, served_at front dev asked i told told' base held h h' _ (sym at) l e r.1)
   reads_at front dev asked i told told' base held h h' before after (Err fault) at l e r = (r.0, r.1, map_set_same (trace_of seen) held i h' h l e r.2)
 
-  pub writes_at : (front : Front) (told told' : Option Machine) (base : ClientRecord) (dev i : ℕ) (payload : List ℕ) (held : List (Held S)) (h : Held S)
+  pub writes_at : (front : Front) (told told' : Option Machine) (base : ClientRecord) (dev i : ℕ) (payload : List ℕ) (held : List (OpenSeat S)) (h : OpenSeat S)
       (reply : Reply)
       → Some i ≡ place_of dev (seats_of seen held) → i < length held → h ≡ slice_index_or held i h
-      → WritesHeld front payload told (bare_of seen h) reply told'
+      → WritesHeld front payload told (seat_state_of seen h) reply told'
       → IfSome told (λ m. Comes m (with_seats (seats_of seen held) base)
       (write_at_place front m (with_seats (seats_of seen held) base) payload (place_of dev (seats_of seen held))) reply told'
       (with_seats (seats_of seen held) base))
   writes_at front None told' base dev i payload held h reply at l e w = tt
   writes_at front (Some m) told' base dev i payload held h reply at l e w =
       let client = with_seats (seats_of seen held) base in
-      let is : write_at_place front m client payload (place_of dev (seats_of seen held)) ≡ write_at_seat front m client payload (Some (bare_of seen h))
+      let is : write_at_place front m client payload (place_of dev (seats_of seen held)) ≡ write_at_seat front m client payload (Some (seat_state_of seen h))
       =
       ap (λ (p : Option ℕ). write_at_place front m client payload p) (sym at)
-      ∙ ap (λ (s : Option Bare). write_at_seat front m client payload s) (get_is (bare_of seen) held i h l e) in
+      ∙ ap (λ (s : Option SeatState). write_at_seat front m client payload s) (get_is (seat_state_of seen) held i h l e) in
       subst (λ (a : Acted). Comes m client a reply told' client) (sym is) (w client)
 
   -- a seat that changed nothing but its trace
-  pub apart_set : (held : List (Held S)) (i : ℕ) (y h : Held S) → i < length held → h ≡ slice_index_or held i h → bare_of seen y ≡ bare_of seen h
+  pub apart_set : (held : List (OpenSeat S)) (i : ℕ) (y h : OpenSeat S) → i < length held → h ≡ slice_index_or held i h
+      → seat_state_of seen y ≡ seat_state_of seen h
       → are_apart (seats_of seen held) ≡ true → are_apart (seats_of seen (slice_set held i y)) ≡ true
-  apart_set held i y h l e same a = rw (map_set_same (bare_of seen) held i y h l e same) a
+  apart_set held i y h l e same a = rw (map_set_same (seat_state_of seen) held i y h l e same) a
 
   -- a seat under another mask
-  pub apart_under_mask : (held : List (Held S)) (i : ℕ) (y h : Held S) → i < length held → h ≡ slice_index_or held i h → y.dev ≡ h.dev
+  pub apart_under_mask : (held : List (OpenSeat S)) (i : ℕ) (y h : OpenSeat S) → i < length held → h ≡ slice_index_or held i h → y.dev ≡ h.dev
       → are_apart (seats_of seen held) ≡ true → are_apart (seats_of seen (slice_set held i y)) ≡ true
   apart_under_mask held i y h l e same a =
-      rw (map_set (bare_of seen) held i y)
-      (are_apart_by (slice_set (seats_of seen held) i (bare_of seen y))
-      (apart_under i (seats_of seen held) (bare_of seen h) (bare_of seen y) (get_is (bare_of seen) held i h l e) same (apart_by (seats_of seen held) a)))
+      rw (map_set (seat_state_of seen) held i y)
+      (are_apart_by (slice_set (seats_of seen held) i (seat_state_of seen y))
+      (apart_under i (seats_of seen held) (seat_state_of seen h) (seat_state_of seen y) (get_is (seat_state_of seen) held i h l e) same
+      (apart_by (seats_of seen held) a)))
 
-  remask_found : (front : Front) (m : Machine) (base : ClientRecord) (dev i : ℕ) (text : List ℕ) (held : List (Held S)) (h : Held S)
+  remask_found : (front : Front) (m : Machine) (base : ClientRecord) (dev i : ℕ) (text : List ℕ) (held : List (OpenSeat S)) (h : OpenSeat S)
       → Some i ≡ place_of dev (seats_of seen held) → i < length held → h ≡ slice_index_or held i h → true ≡ is_plugged m dev
       → remask_at front m (with_seats (seats_of seen held) base) text dev
-      ≡ remask_seat front m (with_seats (seats_of seen held) base) text i (Some (bare_of seen h))
+      ≡ remask_seat front m (with_seats (seats_of seen held) base) text i (Some (seat_state_of seen h))
   remask_found front m base dev i text held h at l e plugged =
       let client = with_seats (seats_of seen held) base in
       ap (λ (b : Bool). cond b (remask_place front m client text (place_of dev (seats_of seen held))) (refused ENODEV m client)) (sym plugged)
       ∙ ap (λ (p : Option ℕ). remask_place front m client text p) (sym at)
-      ∙ ap (λ (s : Option Bare). remask_seat front m client text i s) (get_is (bare_of seen) held i h l e)
+      ∙ ap (λ (s : Option SeatState). remask_seat front m client text i s) (get_is (seat_state_of seen) held i h l e)
 
-  pub remask_comes : (front : Front) (told told' : Option Machine) (base : ClientRecord) (dev i : ℕ) (text : List ℕ) (held : List (Held S)) (h h' : Held S)
+  pub remask_comes : (front : Front) (told told' : Option Machine) (base : ClientRecord) (dev i : ℕ) (text : List ℕ) (held : List (OpenSeat S))
+      (h h' : OpenSeat S)
       (r : Result ⊤ No)
       → Some i ≡ place_of dev (seats_of seen held) → i < length held → h ≡ slice_index_or held i h → IfSome told (λ m. true ≡ is_plugged m dev)
-      → RemaskMoves front text (bare_of seen h) (trace_of seen h) r (bare_of seen h') (trace_of seen h')
-      → IfSome told (λ m. RemaskTold front text m (bare_of seen h) r told' (bare_of seen h'))
+      → RemaskMoves front text (seat_state_of seen h) (trace_of seen h) r (seat_state_of seen h') (trace_of seen h')
+      → IfSome told (λ m. RemaskTold front text m (seat_state_of seen h) r told' (seat_state_of seen h'))
       → IfSome told (λ m. Comes m (with_seats (seats_of seen held) base) (remask_at front m (with_seats (seats_of seen held) base) text dev)
       (reply_by r) told' (with_seats (seats_of seen (slice_set held i h')) base))
   remask_comes front None told' base dev i text held h h' r at l e plugged moves t = tt
@@ -227,28 +234,29 @@ module _ {S : Type 0} (seen : S → SeatRecord) where
     t.0,
     t.1,
     remask_found front m base dev i text held h at l e plugged ∙ t.2 (with_seats (seats_of seen held) base) i
-        ∙ ap (λ (bs : List Bare). record { reply = zero_reply; machine = t.0; client = with_seats bs base }) (sym (map_set (bare_of seen) held i h')),
+        ∙ ap (λ (bs : List SeatState). record { reply = zero_reply; machine = t.0; client = with_seats bs base })
+        (sym (map_set (seat_state_of seen) held i h')),
   )
   remask_comes front (Some m) told' base dev i text held h h' (Err (NoErrno x)) at l e plugged moves t = (
     t.0,
     t.1,
     remask_found front m base dev i text held h at l e plugged ∙ t.2 (with_seats (seats_of seen held) base) i
-        ∙ ap (λ (bs : List Bare). record { reply = Refusal x; machine = t.0; client = with_seats bs base })
-        (sym (map_set_same (bare_of seen) held i h' h l e moves.0)),
+        ∙ ap (λ (bs : List SeatState). record { reply = Refusal x; machine = t.0; client = with_seats bs base })
+        (sym (map_set_same (seat_state_of seen) held i h' h l e moves.0)),
   )
   remask_comes front (Some m) told' base dev i text held h h' (Err NoMem) at l e plugged moves t =
-      (t, ap (λ (bs : List Bare). with_seats bs base) (map_set_same (bare_of seen) held i h' h l e moves.0))
+      (t, ap (λ (bs : List SeatState). with_seats bs base) (map_set_same (seat_state_of seen) held i h' h l e moves.0))
 
-  pub remasks_by : (front : Front) (base : ClientRecord) (dev i : ℕ) (text : List ℕ) (held : List (Held S)) (h h' : Held S) (r : Result ⊤ No)
+  pub remasks_by : (front : Front) (base : ClientRecord) (dev i : ℕ) (text : List ℕ) (held : List (OpenSeat S)) (h h' : OpenSeat S) (r : Result ⊤ No)
       → Some i ≡ place_of dev (seats_of seen held) → i < length held → h ≡ slice_index_or held i h
-      → RemaskMoves front text (bare_of seen h) (trace_of seen h) r (bare_of seen h') (trace_of seen h')
+      → RemaskMoves front text (seat_state_of seen h) (trace_of seen h) r (seat_state_of seen h') (trace_of seen h')
       → RemasksBy front dev text (with_seats (seats_of seen held) base) (traces_of seen held) r (with_seats (seats_of seen (slice_set held i h')) base)
       (traces_of seen (slice_set held i h'))
   remasks_by front base dev i text held h h' (Ok done) at l e j =
-      let here = get_is (bare_of seen) held i h l e in
-      let its = placed_at dev (seats_of seen held) i (bare_of seen h) (sym at) here in
+      let here = get_is (seat_state_of seen) held i h l e in
+      let its = placed_at dev (seats_of seen held) i (seat_state_of seen h) (sym at) here in
       record {
-        s = bare_of seen h;
+        s = seat_state_of seen h;
         i = i;
         mask = j.0;
         waiting = j.1;
@@ -257,7 +265,9 @@ module _ {S : Type 0} (seen : S → SeatRecord) where
         at = sym at;
         here = here;
         wanted = rw its at j.2;
-        under = ap (λ (bs : List Bare). with_seats bs base) (map_set (bare_of seen) held i h' ∙ ap (λ (s : Bare). slice_set (seats_of seen held) i s) j.3);
+        under =
+            ap (λ (bs : List SeatState). with_seats bs base)
+            (map_set (seat_state_of seen) held i h' ∙ ap (λ (s : SeatState). slice_set (seats_of seen held) i s) j.3);
         told = map_set (trace_of seen) held i h';
         fresh = begun (trace_of seen h) (trace_of seen h') j.4;
       }
@@ -265,8 +275,11 @@ module _ {S : Type 0} (seen : S → SeatRecord) where
       begun : (a b : Option Trace) → b ≡ option_map (λ (x : Trace). first_trace) a → b ≡ option_map (λ (x : Trace). first_trace) b
       begun None b is = rw is refl
       begun (Some x) b is = rw is refl
-  remasks_by front base dev i text held h h' (Err why) at l e j =
-      (ap (λ (bs : List Bare). with_seats bs base) (map_set_same (bare_of seen) held i h' h l e j.0), map_set_same (trace_of seen) held i h' h l e j.1)
+  remasks_by front base dev i text held h h' (Err why) at l e j = (
+    ap (λ (bs : List SeatState). with_seats bs base) (map_set_same (seat_state_of seen) held i h' h l e j.0),
+    map_set_same (trace_of seen) held i h' h l e
+        j.1,
+  )
 
   -- what a connection has is seated
   pub seated : (front : Front) (d : Client S) → IsClient seen front d → AreSeated (seats_of seen d.held.items) (traces_of seen d.held.items)
@@ -274,15 +287,15 @@ module _ {S : Type 0} (seen : S → SeatRecord) where
       record {
         apart = apart_by (seats_of seen d.held.items) is.apart;
         told = length-map d.held.items (trace_of seen)
-            ∙ sym (length-map d.held.items (bare_of seen));
+            ∙ sym (length-map d.held.items (seat_state_of seen));
       }
 
-  closed_last : (front : Front) (m : Machine) (xs : List Bare) (s : Bare)
+  closed_last : (front : Front) (m : Machine) (xs : List SeatState) (s : SeatState)
       → all_closed front m (xs ++ s ∷ []) ≡ all_closed front (machine_after_close front m s.dev s.number) xs
   closed_last front m [] s = refl
   closed_last front m (x ∷ xs) s = ap (λ n. machine_after_close front n x.dev x.number) (closed_last front m xs s)
 
-  closing_one : (front : Front) (m n : Machine) (t t' : Option Machine) (first before after : List (Held S)) (h : Held S)
+  closing_one : (front : Front) (m n : Machine) (t t' : Option Machine) (first before after : List (OpenSeat S)) (h : OpenSeat S)
       → before ≡ after ++ h ∷ [] → t ≡ Some n → all_closed front n (seats_of seen before) ≡ all_closed front m (seats_of seen first)
       → IfSome t (λ k. t' ≡ Some (machine_after_close front k h.dev (seen h.seat).number))
       → (k : Machine) × (t' ≡ Some k) × (all_closed front k (seats_of seen after) ≡ all_closed front m (seats_of seen first))
@@ -290,11 +303,11 @@ module _ {S : Type 0} (seen : S → SeatRecord) where
       let now : t' ≡ Some (machine_after_close front n h.dev (seen h.seat).number) = rw told at close in (
         machine_after_close front n h.dev (seen h.seat).number,
         now,
-        sym (closed_last front n (seats_of seen after) (bare_of seen h))
-            ∙ ap (λ d. all_closed front n d) (sym (ap (λ hs. seats_of seen hs) split ∙ one_more_held (bare_of seen) after h)) ∙ same,
+        sym (closed_last front n (seats_of seen after) (seat_state_of seen h))
+            ∙ ap (λ d. all_closed front n d) (sym (ap (λ hs. seats_of seen hs) split ∙ one_more_held (seat_state_of seen) after h)) ∙ same,
       )
 
-  pub closing_more : (front : Front) (told t t' : Option Machine) (first before after : List (Held S)) (h : Held S)
+  pub closing_more : (front : Front) (told t t' : Option Machine) (first before after : List (OpenSeat S)) (h : OpenSeat S)
       → before ≡ after ++ h ∷ []
       → IfSome told (λ m. (n : Machine) × (t ≡ Some n) × (all_closed front n (seats_of seen before) ≡ all_closed front m (seats_of seen first)))
       → IfSome t (λ k. t' ≡ Some (machine_after_close front k h.dev (seen h.seat).number))

@@ -15,11 +15,11 @@ use Rattle.iiod_session.specs.declared.iio.Took.{Took}
 use Rattle.iiod_session.specs.declared.iio.Took.TheVariants.{Scan, Empty, Gone}
 use Rattle.iiod_session.specs.declared.manner.Manner.{Manner}
 use Rattle.iiod_session.specs.declared.manner.Manner.TheVariants.{Script, Server}
-use Rattle.iiod_session.specs.declared.manner.Performed.{Performed}
-use Rattle.iiod_session.specs.declared.manner.Performed.TheVariants.{Done, Waits}
+use Rattle.iiod_session.specs.declared.manner.Progress.{Progress}
+use Rattle.iiod_session.specs.declared.manner.Progress.TheVariants.{Done, Waits}
 use Rattle.iiod_session.specs.Acts.{Acted, Acts, act, at_device, refused, open_at, close_at, read_at, read_buffer_at, read_attribute_at, ev_close_known, ev_open_known, ev_read_known, get_trigger_at, remask_known, set_buffers_at, set_trigger_known, where_known, write_buffer_at, zero_reply}
 use Rattle.iiod_session.specs.Answers.{IsAt}
-use Rattle.iiod_session.specs.Client.{Bare, ClientRecord, place_of, with_count, with_holding, without_holding}
+use Rattle.iiod_session.specs.Client.{SeatState, ClientRecord, place_of, with_count, with_holding, without_holding}
 use Rattle.iio_core.specs.Front.{Front, find_device, kind_at}
 use Rattle.iio_core.specs.Machine.{Machine}
 use Rattle.iiod_session.specs.Moves.{Accepts, AnswersAlone, AnswersAs, IsOrShort, Moves, ReadsBy, Serves, at_known, at_seat}
@@ -79,12 +79,12 @@ short_place : (p : Option ℕ) → IfSome (at_seat p) (λ answer. IsOrShort answ
 short_place None = inr refl
 short_place (Some i) = tt
 
-pub short_seat : (seats : List Bare) (o : Option ℕ) → IfSome (at_known (λ dev. at_seat (place_of dev seats)) o) (λ answer. IsOrShort answer NoMemory)
+pub short_seat : (seats : List SeatState) (o : Option ℕ) → IfSome (at_known (λ dev. at_seat (place_of dev seats)) o) (λ answer. IsOrShort answer NoMemory)
 short_seat seats None = inr refl
 short_seat seats (Some dev) = short_place (place_of dev seats)
 
 -- ... in that of a READBUF's, for which an output device is asked
-short_reader : (front : Front) (seats : List Bare) (o : Option ℕ)
+short_reader : (front : Front) (seats : List SeatState) (o : Option ℕ)
     → IfSome (at_known (λ dev. cond (is_output (kind_at front dev)) None (at_seat (place_of dev seats))) o) (λ answer. IsOrShort answer NoMemory)
 short_reader front seats None = inr refl
 short_reader front seats (Some dev) = by (is_output (kind_at front dev))
@@ -341,7 +341,7 @@ short_answer item manner = tt
 
 pub finished : (manner : Manner) (front : Front) (told told' : Option Machine) (client : ClientRecord) (traces : List (Option Trace)) (item : Item)
     (client' : ClientRecord) (traces' : List (Option Trace))
-    (before after : List ℕ) (reply : Reply) (r : Result Performed Mem)
+    (before after : List ℕ) (reply : Reply) (r : Result Progress Mem)
     → Serves front told client traces item reply told' client' traces'
     → IfOk r (λ p. p ≡ Done) → OnOk r (after ≡ before ++ text_of reply) → OnOk r (IsAllowed manner reply) → IsAnswerOf item manner reply
     → IfOk r (Performs manner front told told' client traces item client' traces' before after)
@@ -386,7 +386,7 @@ unread_answer device asked manner e (inr is) = rw is (found_answer device asked 
 answered : (manner : Manner) (front : Front) (told told' : Option Machine) (client client' : ClientRecord) (traces traces' : List (Option Trace))
     (device : List ℕ)
     (asked dev : ℕ)
-    (before mid after : List ℕ) (took : Result Took Mem) (p : Performed)
+    (before mid after : List ℕ) (took : Result Took Mem) (p : Progress)
     → find_device front device ≡ Some dev → is_output (kind_at front dev) ≡ false → client' ≡ client
     → ReadAt front dev asked told told' client traces traces' before mid took
     → AnswersRead manner dev took mid after p
@@ -433,7 +433,7 @@ answered manner front told told' client client' traces traces' device asked dev 
 pub answers : (manner : Manner) (front : Front) (told told' : Option Machine) (client client' : ClientRecord) (traces traces' : List (Option Trace))
     (device : List ℕ)
     (asked dev : ℕ)
-    (before mid after : List ℕ) (took : Result Took Mem) (r : Result Performed Mem)
+    (before mid after : List ℕ) (took : Result Took Mem) (r : Result Progress Mem)
     → find_device front device ≡ Some dev → is_output (kind_at front dev) ≡ false → client' ≡ client
     → ReadAt front dev asked told told' client traces traces' before mid took
     → IfOk r (AnswersRead manner dev took mid after)

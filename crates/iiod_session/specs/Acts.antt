@@ -18,8 +18,8 @@ use Rattle.iiod_session.specs.declared.client.TheConstants.{MAX_BUFFERS}
 use Rattle.iiod_session.specs.Attributes.{Assignment, Named, buffer_number, found, is_of_buffer, text_of_value, write_found}
 use Rattle.iio_core.specs.Front.{Front, channel_count, find_device, find_trigger, kind_at, shape_at, size_at, trigger_name}
 use Rattle.iio_core.specs.Machine.{Machine, is_plugged, lost_of, queue_of, with_queue}
-use Rattle.iio_core.specs.Calls.{Outcome, machine_after_close, ev_close_of, ev_open_of, ev_read_of, open_of, read_attr_of, remask_of, set_trigger_of, trigger_of, write_attr_of, write_scans_of}
-use Rattle.iiod_session.specs.Client.{Wanted, Bare, ClientRecord, wanted_of, mask_wanted, buffers_of, bare_id, bare_remasked, place_of, with_count, with_holding, with_seats, without_holding}
+use Rattle.iio_core.specs.Calls.{CallResult, machine_after_close, ev_close_of, ev_open_of, ev_read_of, open_of, read_attr_of, remask_of, set_trigger_of, trigger_of, write_attr_of, write_scans_of}
+use Rattle.iiod_session.specs.Client.{Wanted, SeatState, ClientRecord, wanted_of, mask_wanted, buffers_of, seat_state_id, seat_state_remasked, place_of, with_count, with_holding, with_seats, without_holding}
 use Rattle.iiod_session.specs.Reading.{most_scans}
 
 -- an answer, and what stands then
@@ -72,7 +72,7 @@ open_at front m client dev samples text cyclic =
 
 -- ---- CLOSE
 
-abbrev pub close_seat : Front → Machine → ClientRecord → ℕ → Option Bare → Acted
+abbrev pub close_seat : Front → Machine → ClientRecord → ℕ → Option SeatState → Acted
 close_seat front m client i None = refused EBADF m client
 close_seat front m client i (Some s) =
     record { reply = zero_reply; machine = machine_after_close front m s.dev s.number; client = with_seats (remove client.seats i) client }
@@ -84,18 +84,19 @@ close_at front m client (Some i) = close_seat front m client i (slice_get client
 -- ---- REMASK
 
 -- the seat in place i under its new mask
-abbrev pub remasked_seat : ClientRecord → ℕ → Bare → ℕ → Machine → Result ℕ Errno → Acted
+abbrev pub remasked_seat : ClientRecord → ℕ → SeatState → ℕ → Machine → Result ℕ Errno → Acted
 remasked_seat client i s mask m (Err e) = refused e m client
 remasked_seat client i s mask m (Ok waiting) =
-    record { reply = zero_reply; machine = m; client = with_seats (slice_set client.seats i (bare_remasked mask waiting s)) client }
+    record { reply = zero_reply; machine = m; client = with_seats (slice_set client.seats i (seat_state_remasked mask waiting s)) client }
 
 -- a REMASK, by what its text asks for
-abbrev pub remask_wanted : Front → Machine → ClientRecord → ℕ → Bare → Result ℕ Errno → Acted
+abbrev pub remask_wanted : Front → Machine → ClientRecord → ℕ → SeatState → Result ℕ Errno → Acted
 remask_wanted front m client i s (Err e) = refused e m client
-remask_wanted front m client i s (Ok mask) = let o = remask_of front m s.dev (bare_id s) mask s.capacity in remasked_seat client i s mask o.machine o.answer
+remask_wanted front m client i s (Ok mask) =
+    let o = remask_of front m s.dev (seat_state_id s) mask s.capacity in remasked_seat client i s mask o.machine o.answer
 
 -- a REMASK at the seat in place i
-abbrev pub remask_seat : Front → Machine → ClientRecord → List ℕ → ℕ → Option Bare → Acted
+abbrev pub remask_seat : Front → Machine → ClientRecord → List ℕ → ℕ → Option SeatState → Acted
 remask_seat front m client text i None = refused EBADF m client
 remask_seat front m client text i (Some s) = remask_wanted front m client i s (mask_wanted (shape_at front s.dev) s.capacity text)
 
@@ -107,22 +108,22 @@ remask_place front m client text (Some i) = remask_seat front m client text i (s
 -- ---- READBUF
 
 -- the answer to a READBUF by the scans that wait, at most `want`
-abbrev pub read_scans_of : Front → Machine → ClientRecord → Bare → ℕ → ℕ → List (List ℕ) → Acted
+abbrev pub read_scans_of : Front → Machine → ClientRecord → SeatState → ℕ → ℕ → List (List ℕ) → Acted
 read_scans_of front m client s want asked [] = refused (if is_plugged m s.dev then EAGAIN else ENODEV) m client
 read_scans_of front m client s want asked (x ∷ xs) = record {
   reply = Block (channel_count front s.dev) s.mask (x ∷ xs) asked;
-  machine = with_queue m s.dev (bare_id s) (x ∷ xs) (drop want (queue_of m s.dev (bare_id s)));
+  machine = with_queue m s.dev (seat_state_id s) (x ∷ xs) (drop want (queue_of m s.dev (seat_state_id s)));
   client = client;
 }
 
 -- nothing where less than one scan is asked for
-abbrev pub read_at_seat : Front → Machine → ClientRecord → Bare → ℕ → Acted
+abbrev pub read_at_seat : Front → Machine → ClientRecord → SeatState → ℕ → Acted
 read_at_seat front m client s asked =
     if nat_lt asked (size_at front s.dev s.mask) then only zero_reply m client
     else let want = most_scans asked (size_at front s.dev s.mask) s.capacity in
-    read_scans_of front m client s want asked (take want (queue_of m s.dev (bare_id s)))
+    read_scans_of front m client s want asked (take want (queue_of m s.dev (seat_state_id s)))
 
-abbrev pub read_seat : Front → Machine → ClientRecord → ℕ → Option Bare → Acted
+abbrev pub read_seat : Front → Machine → ClientRecord → ℕ → Option SeatState → Acted
 read_seat front m client asked None = refused EBADF m client
 read_seat front m client asked (Some s) = read_at_seat front m client s asked
 
@@ -137,7 +138,7 @@ abbrev pub altered : (ClientRecord → ClientRecord) → ClientRecord → Machin
 altered change client m (Ok done) = record { reply = zero_reply; machine = m; client = change client }
 altered change client m (Err e) = refused e m client
 
-abbrev pub settled : ClientRecord → Outcome ⊤ → Acted
+abbrev pub settled : ClientRecord → CallResult ⊤ → Acted
 settled client o = altered (λ d. d) client o.machine o.answer
 
 -- a command that is refused where the device is unplugged
@@ -192,9 +193,9 @@ abbrev pub written_scans : ClientRecord → Machine → Result ℕ Errno → Act
 written_scans client m (Ok taken) = only (Number (pos taken)) m client
 written_scans client m (Err e) = refused e m client
 
-abbrev pub write_at_seat : Front → Machine → ClientRecord → List ℕ → Option Bare → Acted
+abbrev pub write_at_seat : Front → Machine → ClientRecord → List ℕ → Option SeatState → Acted
 write_at_seat front m client payload None = refused EBADF m client
-write_at_seat front m client payload (Some s) = let o = write_scans_of front m s.dev (bare_id s) payload in written_scans client o.machine o.answer
+write_at_seat front m client payload (Some s) = let o = write_scans_of front m s.dev (seat_state_id s) payload in written_scans client o.machine o.answer
 
 abbrev pub write_at_place : Front → Machine → ClientRecord → List ℕ → Option ℕ → Acted
 write_at_place front m client payload None = refused EBADF m client
@@ -240,10 +241,10 @@ ev_close_known front m client dev = where_known (is_input (kind_at front dev)) m
 -- ---- READ and WRITE
 
 -- a buffer's attribute
-abbrev pub buffer_text : Machine → Attr → Bare → List ℕ
-buffer_text m a s = decimal (buffer_number a s.capacity (length (queue_of m s.dev (bare_id s))) (lost_of m s.dev (bare_id s)) s.discarded)
+abbrev pub buffer_text : Machine → Attr → SeatState → List ℕ
+buffer_text m a s = decimal (buffer_number a s.capacity (length (queue_of m s.dev (seat_state_id s))) (lost_of m s.dev (seat_state_id s)) s.discarded)
 
-abbrev pub read_buffer_attribute : Machine → ClientRecord → Attr → Option Bare → Acted
+abbrev pub read_buffer_attribute : Machine → ClientRecord → Attr → Option SeatState → Acted
 read_buffer_attribute m client a None = refused EBADF m client
 read_buffer_attribute m client a (Some s) = only (Value (buffer_text m a s)) m client
 
@@ -288,7 +289,7 @@ write_attribute_at front m client place name payload dev =
 -- ---- the end of a connection
 
 -- the state once all seats are closed, and all holdings of events have ended, the last one first
-abbrev pub all_closed : Front → Machine → List Bare → Machine
+abbrev pub all_closed : Front → Machine → List SeatState → Machine
 all_closed front m [] = m
 all_closed front m (s ∷ ss) = machine_after_close front (all_closed front m ss) s.dev s.number
 

@@ -11,7 +11,7 @@ use Rattle.iio_layout.specs.Layout.{scan_size}
 use Rattle.iio_layout.specs.Shape.{ShapeRecord, count_of}
 use Rattle.iiod_session.specs.declared.client.BuffersCount.{BuffersCount}
 use Rattle.iiod_session.specs.declared.client.Client.{Client}
-use Rattle.iiod_session.specs.declared.client.Held.{Held}
+use Rattle.iiod_session.specs.declared.client.OpenSeat.{OpenSeat}
 use Rattle.iiod_session.specs.declared.client.TheConstants.{FIRST_BUFFERS}
 use Rattle.iio_core.specs.Front.{Front, kind_at, size_at}
 use Rattle.iio_core.specs.Machine.{MemberId}
@@ -19,7 +19,7 @@ use Rattle.iio_core.specs.Opening.{asked_refusals, is_excess, mask_refusals}
 use Rattle.iiod_session.specs.Seat.{SeatRecord, Trace, MayOpen, IsOwned}
 
 -- a seat of a connection as the told state knows it
-pub record Bare : Type 0 where
+pub record SeatState : Type 0 where
   pub dev : ℕ
   pub number : ℕ
   pub mask : ℕ
@@ -28,26 +28,26 @@ pub record Bare : Type 0 where
   pub discarded : ℕ
 
 -- whose queue it is
-abbrev pub bare_id : Bare → MemberId
-bare_id s = record { number = s.number; mask = s.mask }
+abbrev pub seat_state_id : SeatState → MemberId
+seat_state_id s = record { number = s.number; mask = s.mask }
 
 pub record ClientRecord : Type 0 where
   pub who : ℕ
-  pub seats : List Bare
+  pub seats : List SeatState
   pub buffers : List BuffersCount
   pub holdings : List ℕ
 
 -- the seat at a device, by its place in the list
-abbrev pub place_of : ℕ → List Bare → Option ℕ
-place_of dev seats = position (λ (s : Bare). s.dev == dev) seats
+abbrev pub place_of : ℕ → List SeatState → Option ℕ
+place_of dev seats = position (λ (s : SeatState). s.dev == dev) seats
 
 -- whether there is a seat at a device
-abbrev pub has_seat : ℕ → List Bare → Bool
+abbrev pub has_seat : ℕ → List SeatState → Bool
 has_seat dev [] = false
 has_seat dev (s ∷ ss) = (s.dev == dev) || has_seat dev ss
 
 -- whether no two seats are at one device
-abbrev pub are_apart : List Bare → Bool
+abbrev pub are_apart : List SeatState → Bool
 are_apart [] = true
 are_apart (s ∷ ss) = not (has_seat s.dev ss) && are_apart ss
 
@@ -56,7 +56,7 @@ abbrev pub buffers_of : ℕ → List BuffersCount → ℕ
 buffers_of dev [] = FIRST_BUFFERS
 buffers_of dev (b ∷ bs) = if b.dev == dev then b.count else buffers_of dev bs
 
-abbrev pub with_seats : List Bare → ClientRecord → ClientRecord
+abbrev pub with_seats : List SeatState → ClientRecord → ClientRecord
 with_seats seats client = record client { seats = seats }
 
 -- the buffers count of a device is set
@@ -105,8 +105,8 @@ abbrev pub more_discarded : ℕ → ℕ → ℕ
 more_discarded n waiting = min (n + waiting) (2 ^ 64 - 1)
 
 -- a seat under another mask: the scans that waited are discarded and counted
-abbrev pub bare_remasked : (mask waiting : ℕ) → Bare → Bare
-bare_remasked mask waiting s = record s { mask = mask; discarded = more_discarded s.discarded waiting }
+abbrev pub seat_state_remasked : (mask waiting : ℕ) → SeatState → SeatState
+seat_state_remasked mask waiting s = record s { mask = mask; discarded = more_discarded s.discarded waiting }
 
 -- a device whose events can be held: an input device that is there
 pub record IsHolding (front : Front) (dev : ℕ) : Type 0 where
@@ -116,29 +116,29 @@ pub record IsHolding (front : Front) (dev : ℕ) : Type 0 where
 -- ---- a connection's seats as these lists
 
 module _ {S : Type 0} (seen : S → SeatRecord) where
-  abbrev pub bare_of : Held S → Bare
-  bare_of h = record { dev = h.dev; number = (seen h.seat).number; mask = h.mask.bits; capacity = h.capacity; discarded = h.discarded }
+  abbrev pub seat_state_of : OpenSeat S → SeatState
+  seat_state_of h = record { dev = h.dev; number = (seen h.seat).number; mask = h.mask.bits; capacity = h.capacity; discarded = h.discarded }
 
-  abbrev pub trace_of : Held S → Option Trace
+  abbrev pub trace_of : OpenSeat S → Option Trace
   trace_of h = (seen h.seat).trace
 
-  abbrev pub seats_of : List (Held S) → List Bare
-  seats_of held = map bare_of held
+  abbrev pub seats_of : List (OpenSeat S) → List SeatState
+  seats_of held = map seat_state_of held
 
-  abbrev pub traces_of : List (Held S) → List (Option Trace)
+  abbrev pub traces_of : List (OpenSeat S) → List (Option Trace)
   traces_of held = map trace_of held
 
   abbrev pub client_of : Client S → ClientRecord
   client_of d = record { who = d.who; seats = seats_of d.held.items; buffers = d.buffers.items; holdings = d.holdings.items }
 
   -- a seat is owned at its device, with its mask and the capacity of its OPEN, and its size is that of the mask's scans
-  pub record IsHeld (front : Front) (h : Held S) : Type 0 where
+  pub record IsHeld (front : Front) (h : OpenSeat S) : Type 0 where
     pub opened : MayOpen front h.dev h.mask.bits h.capacity
     pub sized : h.size ≡ size_at front h.dev h.mask.bits
     pub some : 1 ≤ h.size
     pub owned : IsOwned front h.dev h.mask.bits h.capacity (seen h.seat)
 
-  abbrev pub AllHeld : Front → List (Held S) → Type 0
+  abbrev pub AllHeld : Front → List (OpenSeat S) → Type 0
   AllHeld front held = All (IsHeld front) held
 
   -- each seat is, no two are at one device, and events are held of input devices that are there

@@ -4,7 +4,7 @@ use Rattle.std.specs.Option.{option_map_or}
 use Rattle.iiod_grammar.specs.Command.{Open, ReadBuf, Remask}
 use Rattle.iiod_grammar.specs.Stream.{Item, Said}
 use Rattle.iiod_reply.specs.Reply.{Reply, Number, Block}
-use Rattle.iiod_session.specs.Client.{Bare}
+use Rattle.iiod_session.specs.Client.{SeatState}
 use Rattle.iio_core.specs.Front.{Front, find_device}
 use Rattle.iiod_session.specs.Seat.{Trace}
 
@@ -28,7 +28,7 @@ given_after front dev items replies given = given
 -- ---- seats and their traces
 
 -- what the seat at a device tells
-abbrev pub trace_at : ℕ → List Bare → List (Option Trace) → Option Trace
+abbrev pub trace_at : ℕ → List SeatState → List (Option Trace) → Option Trace
 trace_at dev (s ∷ ss) (t ∷ ts) = if s.dev == dev then t else trace_at dev ss ts
 trace_at dev seats traces = None
 
@@ -38,7 +38,7 @@ given_in None = []
 given_in (Some t) = t.given
 
 -- for each device whose seat tells: the scans that it gave are those before and those of the answers
-abbrev pub GivenIs : Front → List Item → List Reply → (seats : List Bare) → (traces : List (Option Trace)) → (seats' : List Bare)
+abbrev pub GivenIs : Front → List Item → List Reply → (seats : List SeatState) → (traces : List (Option Trace)) → (seats' : List SeatState)
     → (traces' : List (Option Trace))
     → Type 0
 GivenIs front items replies seats traces seats' traces' = (dev : ℕ) (t : Trace) → trace_at dev seats' traces' ≡ Some t

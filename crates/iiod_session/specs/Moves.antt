@@ -14,7 +14,7 @@ use Rattle.iiod_session.specs.Acts.{Acts, end_reply, help_reply, left_client, tr
 use Rattle.iio_core.specs.Front.{Front, channel_count, find_device, kind_at, shape_at, size_at}
 use Rattle.iio_core.specs.Machine.{Machine}
 use Rattle.iiod_session.specs.Seat.{Trace, after_nothing, first_trace}
-use Rattle.iiod_session.specs.Client.{Bare, ClientRecord, IsWanted, bare_remasked, buffers_of, place_of, with_count, with_holding, with_seats, without_holding}
+use Rattle.iiod_session.specs.Client.{SeatState, ClientRecord, IsWanted, seat_state_remasked, buffers_of, place_of, with_count, with_holding, with_seats, without_holding}
 use Rattle.iiod_session.specs.Reading.{Reads, most_scans}
 
 -- what a READBUF's answer says of the trace of its seat: its scans are those by which the trace grew
@@ -26,15 +26,16 @@ ReadsAs channels mask want asked (Refusal ENODEV) trace trace' = trace' ≡ opti
 ReadsAs channels mask want asked reply trace trace' = ⊥
 
 -- what a READBUF makes of a seat of the connection
-abbrev pub ReadMoves : Front → Bare → ℕ → Reply → Option Trace → Option Trace → Type 0
+abbrev pub ReadMoves : Front → SeatState → ℕ → Reply → Option Trace → Option Trace → Type 0
 ReadMoves front s asked reply trace trace' = MatchBool (nat_lt asked (size_at front s.dev s.mask))
     ((reply ≡ zero_reply) × (trace' ≡ trace))
     (ReadsAs (channel_count front s.dev) s.mask (most_scans asked (size_at front s.dev s.mask) s.capacity) asked reply trace trace')
 
 -- at the seat in place i
-pub record ReadsAt (front : Front) (asked : ℕ) (seats : List Bare) (traces : List (Option Trace)) (i : ℕ) (reply : Reply) (traces' : List (Option Trace)) : Type
+pub record ReadsAt (front : Front) (asked : ℕ) (seats : List SeatState) (traces : List (Option Trace)) (i : ℕ) (reply : Reply) (traces' : List (Option Trace)) :
+    Type
     0 where
-  pub s : Bare
+  pub s : SeatState
   pub at : slice_get seats i ≡ Some s
   pub trace : Option Trace
   pub before : slice_get traces i ≡ Some trace
@@ -42,11 +43,11 @@ pub record ReadsAt (front : Front) (asked : ℕ) (seats : List Bare) (traces : L
   pub after : traces' ≡ slice_set traces i trace'
   pub reads : ReadMoves front s asked reply trace trace'
 
-abbrev pub ReadsBy : Front → ℕ → List Bare → List (Option Trace) → Option ℕ → Reply → List (Option Trace) → Type 0
+abbrev pub ReadsBy : Front → ℕ → List SeatState → List (Option Trace) → Option ℕ → Reply → List (Option Trace) → Type 0
 ReadsBy front asked seats traces None reply traces' = (reply ≡ Refusal EBADF) × (traces' ≡ traces)
 ReadsBy front asked seats traces (Some i) reply traces' = ReadsAt front asked seats traces i reply traces'
 
-abbrev pub ReadsFrom : Front → ℕ → List Bare → List (Option Trace) → Option ℕ → Reply → List (Option Trace) → Type 0
+abbrev pub ReadsFrom : Front → ℕ → List SeatState → List (Option Trace) → Option ℕ → Reply → List (Option Trace) → Type 0
 ReadsFrom front asked seats traces None reply traces' = (reply ≡ Refusal ENODEV) × (traces' ≡ traces)
 ReadsFrom front asked seats traces (Some dev) reply traces' = MatchBool (is_output (kind_at front dev))
     (((reply ≡ Refusal ENODEV) ⊎ (reply ≡ Refusal ENOSYS)) × (traces' ≡ traces))
@@ -56,7 +57,7 @@ ReadsFrom front asked seats traces (Some dev) reply traces' = MatchBool (is_outp
 -- buffers count of the device. Nothing was taken of it yet
 pub record Joins (front : Front) (device : List ℕ) (samples : ℕ) (text : List ℕ) (cyclic : Bool) (client : ClientRecord) (traces : List (Option Trace))
     (client' : ClientRecord) (traces' : List (Option Trace)) : Type 0 where
-  pub s : Bare
+  pub s : SeatState
   pub t : Option Trace
   pub named : find_device front device ≡ Some s.dev
   pub free : place_of s.dev client.seats ≡ None
@@ -80,7 +81,7 @@ pub record Leaves (front : Front) (device : List ℕ) (client : ClientRecord) (t
 -- a seat of the device under another mask, that of the REMASK's text, with its capacity as it was; what it tells begins anew
 pub record RemasksAt (front : Front) (dev : ℕ) (text : List ℕ) (client : ClientRecord) (traces : List (Option Trace)) (client' : ClientRecord)
     (traces' : List (Option Trace)) : Type 0 where
-  pub s : Bare
+  pub s : SeatState
   pub i : ℕ
   pub mask : ℕ
   pub waiting : ℕ
@@ -89,7 +90,7 @@ pub record RemasksAt (front : Front) (dev : ℕ) (text : List ℕ) (client : Cli
   pub at : place_of dev client.seats ≡ Some i
   pub here : slice_get client.seats i ≡ Some s
   pub wanted : mask_of text (count_of (shape_at front dev)) ≡ Some mask
-  pub under : client' ≡ with_seats (slice_set client.seats i (bare_remasked mask waiting s)) client
+  pub under : client' ≡ with_seats (slice_set client.seats i (seat_state_remasked mask waiting s)) client
   pub told : traces' ≡ slice_set traces i t
   pub fresh : t ≡ option_map (λ (x : Trace). first_trace) t
 

@@ -14,12 +14,12 @@ use Rattle.iiod_session.specs.declared.iio.Took.{Took}
 use Rattle.iiod_session.specs.declared.iio.Took.TheVariants.{Scan, Empty, Gone}
 use Rattle.iiod_session.specs.declared.manner.Manner.{Manner}
 use Rattle.iiod_session.specs.declared.manner.Manner.TheVariants.{Script, Server}
-use Rattle.iiod_session.specs.declared.manner.Performed.{Performed}
-use Rattle.iiod_session.specs.declared.manner.Performed.TheVariants.{Done, Waits}
+use Rattle.iiod_session.specs.declared.manner.Progress.{Progress}
+use Rattle.iiod_session.specs.declared.manner.Progress.TheVariants.{Done, Waits}
 use Rattle.iio_core.specs.Front.{Front, find_device, kind_at, shape_at}
 use Rattle.iio_core.specs.Machine.{Machine}
 use Rattle.iiod_session.specs.Seat.{Trace, first_trace}
-use Rattle.iiod_session.specs.Client.{Bare, ClientRecord, IsWanted, Wanted, bare_remasked, buffers_of, place_of, with_seats}
+use Rattle.iiod_session.specs.Client.{SeatState, ClientRecord, IsWanted, Wanted, seat_state_remasked, buffers_of, place_of, with_seats}
 use Rattle.iiod_session.specs.Acts.{Acted, read_at, read_at_seat, remask_seat, write_at_seat, zero_reply}
 use Rattle.iiod_session.specs.Moves.{ReadMoves, ReadsBy, RemasksAt, Serves}
 
@@ -90,7 +90,7 @@ RemasksBy front dev text client traces (Ok done) client' traces' = RemasksAt fro
 RemasksBy front dev text client traces (Err e) client' traces' = (client' ≡ client) × (traces' ≡ traces)
 
 -- the seat itself, over a told state: what a REMASK of it makes, in whatever place it stands
-abbrev pub RemaskTold : Front → List ℕ → Machine → Bare → Result ⊤ No → Option Machine → Bare → Type 0
+abbrev pub RemaskTold : Front → List ℕ → Machine → SeatState → Result ⊤ No → Option Machine → SeatState → Type 0
 RemaskTold front text m s (Ok done) told s' = (n : Machine) × (told ≡ Some n)
     × ((client : ClientRecord) (i : ℕ) → remask_seat front m client text i (Some s)
     ≡ record { reply = zero_reply; machine = n; client = with_seats (slice_set client.seats i s') client })
@@ -99,9 +99,9 @@ RemaskTold front text m s (Err (NoErrno e)) told s' = (n : Machine) × (told ≡
 RemaskTold front text m s (Err NoMem) told s' = told ≡ Some m
 
 -- ... and over any Iio
-abbrev pub RemaskMoves : Front → List ℕ → Bare → Option Trace → Result ⊤ No → Bare → Option Trace → Type 0
+abbrev pub RemaskMoves : Front → List ℕ → SeatState → Option Trace → Result ⊤ No → SeatState → Option Trace → Type 0
 RemaskMoves front text s trace (Ok done) s' trace' = (mask waiting : ℕ)
-    × (mask_of text (count_of (shape_at front s.dev)) ≡ Some mask) × (s' ≡ bare_remasked mask waiting s)
+    × (mask_of text (count_of (shape_at front s.dev)) ≡ Some mask) × (s' ≡ seat_state_remasked mask waiting s)
     × (trace' ≡ option_map (λ (x : Trace). first_trace) trace)
 RemaskMoves front text s trace (Err e) s' trace' = (s' ≡ s) × (trace' ≡ trace)
 
@@ -113,21 +113,21 @@ taken_by (Ok taken) = Number (pos taken)
 taken_by (Err why) = reply_by (Err why)
 
 -- at a seat, over a told state
-abbrev pub WritesHeld : Front → (payload : List ℕ) → Option Machine → Bare → Reply → Option Machine → Type 0
+abbrev pub WritesHeld : Front → (payload : List ℕ) → Option Machine → SeatState → Reply → Option Machine → Type 0
 WritesHeld front payload told s reply told' =
     IfSome told (λ m. (client : ClientRecord) → Comes m client (write_at_seat front m client payload (Some s)) reply told' client)
 
 -- ---- READBUF
 
 -- at a seat: over a told state, and over any Iio
-pub record ReadServed (front : Front) (asked : ℕ) (told told' : Option Machine) (s : Bare) (trace trace' : Option Trace) (reply : Reply) : Type 0 where
+pub record ReadServed (front : Front) (asked : ℕ) (told told' : Option Machine) (s : SeatState) (trace trace' : Option Trace) (reply : Reply) : Type 0 where
   pub exact : IfSome told (λ m. (n : Machine) × (told' ≡ Some n)
       × ((client : ClientRecord) → read_at_seat front m client s asked ≡ record { reply = reply; machine = n; client = client }))
   pub moves : ReadMoves front s asked reply trace trace'
   pub whole : IsWhole reply
 
 -- by the first take's answer. Before memory ran out nothing had changed
-abbrev pub ReadHeld : Front → ℕ → Option Machine → Option Machine → Bare → Option Trace → Option Trace → List ℕ → List ℕ → Result Took Mem → Type 0
+abbrev pub ReadHeld : Front → ℕ → Option Machine → Option Machine → SeatState → Option Trace → Option Trace → List ℕ → List ℕ → Result Took Mem → Type 0
 ReadHeld front asked told told' s trace trace' before after (Ok Scan) =
     (reply : Reply) × (after ≡ before ++ text_of reply) × IsFound reply × ReadServed front asked told told' s trace trace' reply
 ReadHeld front asked told told' s trace trace' before after (Ok Empty) =
@@ -177,7 +177,7 @@ IsReadOf front dev item = ⊥
 
 -- the item was answered, or it is a READBUF for which nothing waits, and is tried again
 abbrev pub Performs : Manner → Front → Option Machine → Option Machine → ClientRecord → List (Option Trace) → Item → ClientRecord → List (Option Trace) → List ℕ
-    → List ℕ → Performed → Type 0
+    → List ℕ → Progress → Type 0
 Performs manner front told told' client traces item client' traces' before after Done =
     (reply : Reply) × (after ≡ before ++ text_of reply) × IsAllowed manner reply × IsAnswerOf item manner reply
     × Serves front told client traces item reply told' client' traces'
@@ -185,7 +185,7 @@ Performs manner front told told' client traces item client' traces' before after
     (after ≡ before) × (manner ≡ Server) × IsReadOf front dev item × Serves front told client traces item (Refusal EAGAIN) told' client' traces'
 
 -- the rest of READBUF's answer
-abbrev pub AnswersRead : Manner → ℕ → Result Took Mem → List ℕ → List ℕ → Performed → Type 0
+abbrev pub AnswersRead : Manner → ℕ → Result Took Mem → List ℕ → List ℕ → Progress → Type 0
 AnswersRead manner dev (Ok Scan) before after p = (after ≡ before) × (p ≡ Done)
 AnswersRead manner dev (Ok Gone) before after p = (after ≡ before ++ text_of (Refusal ENODEV)) × (p ≡ Done)
 AnswersRead Server dev (Ok Empty) before after p = (after ≡ before) × (p ≡ Waits dev)

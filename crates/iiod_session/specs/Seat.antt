@@ -9,7 +9,7 @@ use Rattle.iiod_session.specs.declared.iio.Took.{Took}
 use Rattle.iiod_session.specs.declared.iio.Took.TheVariants.{Scan, Empty, Gone}
 use Rattle.iio_core.specs.Front.{Front, channel_count, shape_at, size_at}
 use Rattle.iio_core.specs.Machine.{Machine, MemberId, is_plugged, queue_of, with_queue}
-use Rattle.iio_core.specs.Calls.{Outcome}
+use Rattle.iio_core.specs.Calls.{CallResult}
 
 -- what a seat tells, if anything: the scans that it gave, how many of its takes found nothing, and whether the last of
 -- these found the device unplugged
@@ -83,7 +83,7 @@ Remasks front dev mask (Err refusal) old new = new ≡ old
 
 -- ---- what a call answers over a told state. Want of memory is free, and changes nothing
 
-abbrev pub Answers : {A : Type 0} → Outcome A → Machine → Result A No → Option Machine → Type 0
+abbrev pub Answers : {A : Type 0} → CallResult A → Machine → Result A No → Option Machine → Type 0
 Answers o m (Ok x) told = (o.answer ≡ Ok x) × (told ≡ Some o.machine)
 Answers o m (Err (NoErrno e)) told = (o.answer ≡ Err e) × (told ≡ Some o.machine)
 Answers o m (Err NoMem) told = told ≡ Some m

@@ -6,10 +6,10 @@ ghost use Rattle.iiod_session.specs.Answers.{Fits, IsLong, Prints, answer_by, re
 ghost use Rattle.iiod_session.specs.Performs.{AnswersInRoom, IsAllowed, reply_by};
 ghost use Rattle.iiod_session.specs.declared.answers.TheConstants.{ANSWER_ROOM, SHORT_ANSWER};
 ghost use Rattle.iiod_session.specs.declared.manner.Manner.{Manner};
-ghost use Rattle.iiod_session.specs.declared.manner.Performed.{Performed};
+ghost use Rattle.iiod_session.specs.declared.manner.Progress.{Progress};
 
 use crate::iio::{Iio, No};
-use crate::manner::{Manner, Performed};
+use crate::manner::{Manner, Progress};
 use iio_attr::Name;
 use iio_base::Mem;
 use iio_event::EventData;
@@ -121,14 +121,14 @@ pub(crate) fn push_no(manner: Manner, no: No, out: &mut Vec<u8>) -> Result<(), M
 }
 
 /// `push_no`, as the end of a command.
-pub(crate) fn finish(manner: Manner, no: No, out: &mut Vec<u8>) -> Result<Performed, Mem>
-    ensures done { IfOk result (λ p. p ≡ Performed.Done) }
+pub(crate) fn finish(manner: Manner, no: No, out: &mut Vec<u8>) -> Result<Progress, Mem>
+    ensures done { IfOk result (λ p. p ≡ Progress.Done) }
     ensures text { OnOk result (out.new.items ≡ out.old.items ++ text_of (reply_by (Err no))) }
     ensures allowed { OnOk result (IsAllowed manner (reply_by (Err no))) }
     ensures answers { AnswersInRoom manner out.old.items (vec_capacity out.old) result }
 {
     push_no(manner, no, out)?;
-    Ok(Performed::Done)
+    Ok(Progress::Done)
 }
 
 // A text that is a line of its own. After `Mem`, `out` is unchanged.

@@ -7,7 +7,7 @@ ghost use Rattle.iiod_grammar.specs.View.{place_view, target_view};
 ghost use Rattle.iiod_session.specs.Acts.{read_attribute_at, read_buffer_attribute_at, read_device_attribute, write_attribute_at};
 ghost use Rattle.iiod_session.specs.Answers.{Fits, IsText, ServesBy, reply_of};
 ghost use Rattle.iiod_session.specs.Attributes.{buffer_number};
-ghost use Rattle.iiod_session.specs.Client.{ClientRecord, IsClient, IsHeld, bare_of, client_of, place_of, trace_of, traces_of};
+ghost use Rattle.iiod_session.specs.Client.{ClientRecord, IsClient, IsHeld, seat_state_of, client_of, place_of, trace_of, traces_of};
 ghost use Rattle.iio_core.specs.Machine.{lost_of, queue_of};
 ghost use Rattle.iiod_session.specs.Performs.{Comes};
 ghost use Rattle.iiod_session.specs.Seat.{seat_id};
@@ -15,7 +15,7 @@ ghost use Rattle.iiod_session.specs.Target.{MayRead};
 ghost use Rattle.iiod_session.specs.Targets.{named_of_code, written_by};
 
 use crate::answers::{Answer, answered};
-use crate::client::{Client, Held};
+use crate::client::{Client, OpenSeat};
 use crate::iio::{Iio, No};
 use crate::kinds::kind_of;
 use crate::seats;
@@ -49,11 +49,11 @@ fn read_device<I: Iio>(alloc: Global, iio: &mut I, dev: u32, target: Named) -> R
 }
 
 // A number of a seat's queue.
-fn buffer_number<I: Iio>(iio: &mut I, h: &mut Held<I::Seat>, attribute: Attr) -> u64
+fn buffer_number<I: Iio>(iio: &mut I, h: &mut OpenSeat<I::Seat>, attribute: Attr) -> u64
     requires { IsHeld I.seen (I.front (I.kept iio.old)) h.old }
     ensures kept { I.kept iio.new ≡ I.kept iio.old }
     ensures held { IsHeld I.seen (I.front (I.kept iio.new)) h.new }
-    ensures bare { bare_of I.seen h.new ≡ bare_of I.seen h.old }
+    ensures bare { seat_state_of I.seen h.new ≡ seat_state_of I.seen h.old }
     ensures trace { trace_of I.seen h.new ≡ trace_of I.seen h.old }
     ensures value { IfSome (I.told iio.old) (λ m. result ≡ buffer_number attribute h.old.capacity
         (length (queue_of m h.old.dev (seat_id (I.seen h.old.seat)))) (lost_of m h.old.dev (seat_id (I.seen h.old.seat))) h.old.discarded) }

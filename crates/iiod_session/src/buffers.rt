@@ -14,7 +14,7 @@ use crate::answers::{Answer, finish};
 use crate::client::{BuffersCount, Client, MAX_BUFFERS};
 use crate::iio::{Iio, No, Took};
 use crate::kinds::{is_input, unknown_refusal};
-use crate::manner::{Manner, Performed};
+use crate::manner::{Manner, Progress};
 use crate::seats::{read_at, remask_at, write_at};
 use iio_base::Mem;
 use iio_text::Errno;
@@ -50,7 +50,7 @@ pub(crate) fn read_buffer<I: Iio>(
     device: &[u8],
     asked: u32,
     out: &mut Vec<u8>,
-) -> Result<Performed, Mem>
+) -> Result<Progress, Mem>
     requires client { IsClient I.seen (I.front (I.kept iio.old)) client.old }
     ensures kept { I.kept iio.new ≡ I.kept iio.old }
     ensures client { IsClient I.seen (I.front (I.kept iio.new)) client.new }
@@ -78,15 +78,15 @@ fn finish_read(
     dev: u32,
     took: Result<Took, Mem>,
     out: &mut Vec<u8>,
-) -> Result<Performed, Mem>
+) -> Result<Progress, Mem>
     ensures read { IfOk result (AnswersRead manner dev took out.old.items out.new.items) }
     ensures answers { manner ≡ Manner.Server → HasRoomAfter took out.old.items (vec_capacity out.old) → IsOk result }
 {
     match took {
-        Ok(Took::Scan) => Ok(Performed::Done),
+        Ok(Took::Scan) => Ok(Progress::Done),
         Ok(Took::Gone) => finish(manner, No::Errno(Errno::ENODEV), out),
         Ok(Took::Empty) => match manner {
-            Manner::Server => Ok(Performed::Waits(dev)),
+            Manner::Server => Ok(Progress::Waits(dev)),
             Manner::Script => finish(manner, No::Errno(Errno::EAGAIN), out),
         },
         Err(Mem) => finish(manner, No::Mem, out),

@@ -11,7 +11,7 @@ pub const MAX_BUFFERS: u32 = 64;
 /// A seat, with its device, the mask of its OPEN or of the last REMASK, the capacity of its OPEN, the bytes of its scans, and
 /// how many scans REMASKs discarded.
 #[derive(Drop)]
-pub(crate) struct Held<S> {
+pub(crate) struct OpenSeat<S> {
     pub(crate) dev: u32,
     pub(crate) mask: Mask,
     pub(crate) capacity: u32,
@@ -31,7 +31,7 @@ pub(crate) struct BuffersCount {
 #[derive(Drop)]
 pub(crate) struct Client<S> {
     pub(crate) who: u32,
-    pub(crate) held: Vec<Held<S>>,
+    pub(crate) held: Vec<OpenSeat<S>>,
     pub(crate) buffers: Vec<BuffersCount>,
     pub(crate) holdings: Vec<u32>,
 }

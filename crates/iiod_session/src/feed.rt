@@ -22,7 +22,7 @@ use crate::buffers::read_buffer;
 use crate::client::Client;
 use crate::iio::Iio;
 use crate::leave::leave;
-use crate::manner::{Going, Manner, Performed};
+use crate::manner::{Going, Manner, Progress};
 use crate::pending_write::PendingWrite;
 use crate::perform::{perform, perform_refused, perform_streamed, perform_written};
 use crate::watch::{Seen, Watch, count_of};
@@ -140,8 +140,8 @@ fn hear_read<I: Iio, W: Watch<I>>(
     };
     watch.before(iio, client.who, &Seen::Command(command));
     match read_buffer(manner, client, iio, device, asked, out)? {
-        Performed::Done => Ok(Going::On),
-        Performed::Waits(dev) => {
+        Progress::Done => Ok(Going::On),
+        Progress::Waits(dev) => {
             pending.keep_read(device, asked)?;
             Ok(Going::Waits(dev))
         }
@@ -169,8 +169,8 @@ fn hear_again<I: Iio, W: Watch<I>>(
         (stream_by going lines pending.now) going) }
 {
     match read_buffer(manner, client, iio, pending.device(), pending.asked(), out)? {
-        Performed::Done => Ok(Going::On),
-        Performed::Waits(dev) => Ok(Going::Waits(dev)),
+        Progress::Done => Ok(Going::On),
+        Progress::Waits(dev) => Ok(Going::Waits(dev)),
     }
 }
 
@@ -236,7 +236,7 @@ fn hear_payload<I: Iio, W: Watch<I>>(
     payload: &[u8],
     pending: &PendingWrite,
     out: &mut Vec<u8>,
-) -> Result<Performed, Mem>
+) -> Result<Progress, Mem>
     requires client { IsClient I.seen (I.front (I.kept iio.old)) client.old }
     ensures kept { I.kept iio.new ≡ I.kept iio.old }
     ensures client { IsClient I.seen (I.front (I.kept iio.new)) client.new }

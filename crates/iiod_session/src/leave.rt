@@ -4,18 +4,18 @@ ghost use Rattle.std.specs.Prelude.{◌≡◌, All, [], Some, IfSome};
 ghost use Rattle.iiod_session.specs.Acts.{all_closed, all_released, left_client, left_machine};
 ghost use Rattle.iiod_session.specs.Client.{AllHeld, IsClient, IsHolding, client_of, seats_of};
 
-use crate::client::{Client, Held};
+use crate::client::{Client, OpenSeat};
 use crate::iio::Iio;
 
 // Closes each seat, the last one first.
-fn close_all<I: Iio>(held: &mut Vec<Held<I::Seat>>, iio: &mut I)
+fn close_all<I: Iio>(held: &mut Vec<OpenSeat<I::Seat>>, iio: &mut I)
     requires { AllHeld I.seen (I.front (I.kept iio.old)) held.old.items }
     ensures kept { I.kept iio.new ≡ I.kept iio.old }
     ensures none { held.new.items ≡ [] }
     ensures told { IfSome (I.told iio.old) (λ m. I.told iio.new ≡ Some (all_closed (I.front (I.kept iio.old)) m (seats_of I.seen held.old.items))) }
 {
     while let Some(h) = held.pop() {
-        let Held {
+        let OpenSeat {
             dev,
             mask: _,
             capacity: _,

@@ -11,7 +11,7 @@ pub enum Manner {
 
 /// What became of a command.
 #[derive(Clone, Copy, Debug, PartialEq, Eq)]
-pub(crate) enum Performed {
+pub(crate) enum Progress {
     /// It was answered.
     Done,
     /// It is a READBUF that found nothing at the device of that number.

@@ -7,7 +7,7 @@ ghost use Rattle.iiod_session.specs.Answers.{Fits, IsAt, ServesBy};
 ghost use Rattle.iiod_session.specs.Client.{IsClient, client_of, traces_of};
 ghost use Rattle.iiod_session.specs.Performs.{AnswersInRoom, Performs};
 ghost use Rattle.iiod_session.specs.Session.{IsAtOnce};
-ghost use Rattle.iiod_session.specs.declared.manner.Performed.{Performed};
+ghost use Rattle.iiod_session.specs.declared.manner.Progress.{Progress};
 
 use crate::answers::{ANSWER_ROOM, Answer, answered, finish, push_answer, push_no};
 use crate::attributes::{read_attribute_at, write_attribute};
@@ -15,7 +15,7 @@ use crate::buffers::{remask_known, set_buffers_at, write_buffer};
 use crate::client::Client;
 use crate::events::{ev_close_known, ev_open_known, ev_read_known};
 use crate::iio::{Iio, No};
-use crate::manner::{Manner, Performed};
+use crate::manner::{Manner, Progress};
 use crate::seats::{close_at, open_at};
 use crate::triggers::{get_trigger_at, set_trigger_known};
 use iio_base::Mem;
@@ -132,7 +132,7 @@ pub(crate) fn perform<I: Iio>(
     ensures client { IsClient I.seen (I.front (I.kept iio.new)) client.new }
     ensures served { OnOk result (Performs manner (I.front (I.kept iio.old)) (I.told iio.old) (I.told iio.new)
         (client_of I.seen client.old) (traces_of I.seen client.old.held.items) (Said (Ok (command_view command.now)))
-        (client_of I.seen client.new) (traces_of I.seen client.new.held.items) out.old.items out.new.items Performed.Done) }
+        (client_of I.seen client.new) (traces_of I.seen client.new.held.items) out.old.items out.new.items Progress.Done) }
     ensures answers { AnswersInRoom manner out.old.items (vec_capacity out.old) result }
 {
     if out.reserve(ANSWER_ROOM).is_err() {
@@ -149,14 +149,14 @@ pub(crate) fn perform_refused<I: Iio>(
     iio: &I,
     why: Refused,
     out: &mut Vec<u8>,
-) -> Result<Performed, Mem>
+) -> Result<Progress, Mem>
     ensures served { IfOk result (Performs manner (I.front (I.kept iio.now)) (I.told iio.now) (I.told iio.now)
         (client_of I.seen client.now) (traces_of I.seen client.now.held.items) (Said (Err why))
         (client_of I.seen client.now) (traces_of I.seen client.now.held.items) out.old.items out.new.items) }
     ensures answers { AnswersInRoom manner out.old.items (vec_capacity out.old) result }
 {
     match why {
-        Refused::Empty => Ok(Performed::Done),
+        Refused::Empty => Ok(Progress::Done),
         Refused::Unknown | Refused::Shape | Refused::Number => {
             finish(manner, No::Errno(Errno::EINVAL), out)
         }
@@ -173,11 +173,11 @@ pub(crate) fn perform_written<I: Iio>(
     target: Option<(Place<'_>, Option<&[u8]>)>,
     payload: &[u8],
     out: &mut Vec<u8>,
-) -> Result<Performed, Mem>
+) -> Result<Progress, Mem>
     requires client { IsClient I.seen (I.front (I.kept iio.old)) client.old }
     ensures kept { I.kept iio.new ≡ I.kept iio.old }
     ensures client { IsClient I.seen (I.front (I.kept iio.new)) client.new }
-    ensures done { IfOk result (λ p. p ≡ Performed.Done) }
+    ensures done { IfOk result (λ p. p ≡ Progress.Done) }
     ensures served { IfOk result (Performs manner (I.front (I.kept iio.old)) (I.told iio.old) (I.told iio.new)
         (client_of I.seen client.old) (traces_of I.seen client.old.held.items)
         (Written device.now (option_map target_view target.entry) payload.now)
@@ -189,7 +189,7 @@ pub(crate) fn perform_written<I: Iio>(
     }
     let answer = write_attribute(client, iio, device, target, payload);
     push_answer(manner, iio, answer, out)?;
-    Ok(Performed::Done)
+    Ok(Progress::Done)
 }
 
 /// A WRITEBUF is performed with its payload, and answered at the end of `out`, as by [`perform`].
@@ -200,11 +200,11 @@ pub(crate) fn perform_streamed<I: Iio>(
     device: &[u8],
     payload: &[u8],
     out: &mut Vec<u8>,
-) -> Result<Performed, Mem>
+) -> Result<Progress, Mem>
     requires client { IsClient I.seen (I.front (I.kept iio.old)) client.old }
     ensures kept { I.kept iio.new ≡ I.kept iio.old }
     ensures client { IsClient I.seen (I.front (I.kept iio.new)) client.new }
-    ensures done { IfOk result (λ p. p ≡ Performed.Done) }
+    ensures done { IfOk result (λ p. p ≡ Progress.Done) }
     ensures served { IfOk result (Performs manner (I.front (I.kept iio.old)) (I.told iio.old) (I.told iio.new)
         (client_of I.seen client.old) (traces_of I.seen client.old.held.items) (Streamed device.now payload.now)
         (client_of I.seen client.new) (traces_of I.seen client.new.held.items) out.old.items out.new.items) }
@@ -215,5 +215,5 @@ pub(crate) fn perform_streamed<I: Iio>(
     }
     let answer = write_buffer(client, iio, device, payload);
     push_answer(manner, iio, answer, out)?;
-    Ok(Performed::Done)
+    Ok(Progress::Done)
 }

@@ -5,17 +5,17 @@ ghost use Rattle.std.specs.List.{position};
 ghost use Rattle.iiod_session.specs.Acts.{close_at, joined_at, open_at, remask_at, write_at_place};
 ghost use Rattle.iio_desc.specs.Kind.{is_input, is_output};
 ghost use Rattle.iio_core.specs.Front.{kind_at, size_at};
-ghost use Rattle.iiod_session.specs.Client.{IsClient, IsHeld, bare_of, buffers_of, client_of, place_of, seats_of, trace_of, traces_of};
+ghost use Rattle.iiod_session.specs.Client.{IsClient, IsHeld, seat_state_of, buffers_of, client_of, place_of, seats_of, trace_of, traces_of};
 ghost use Rattle.iiod_session.specs.Performs.{Comes, JoinsBy, LeavesBy, OpensBy, ReadAt, ReadHeld, RemaskMoves, RemaskTold, RemasksBy, WritesHeld, reply_by, taken_by};
 ghost use Rattle.iio_core.specs.Calls.{open_of};
 ghost use Rattle.iiod_session.specs.Seat.{Answers, IsNew, MayOpen, number_by};
 ghost use Rattle.iiod_session.specs.Wanted.{wanted_of_code};
 ghost use Rattle.iio_text.specs.declared.errors.Errno.{Errno};
-ghost use Rattle.iiod_session.specs.declared.client.Held.{Held};
+ghost use Rattle.iiod_session.specs.declared.client.OpenSeat.{OpenSeat};
 ghost use Rattle.iiod_session.specs.declared.iio.No.{No};
 
 use crate::answers::push_refusal;
-use crate::client::{BuffersCount, Client, FIRST_BUFFERS, Held};
+use crate::client::{BuffersCount, Client, FIRST_BUFFERS, OpenSeat};
 use crate::iio::{Iio, No, Took};
 use crate::reading::read_sized;
 use crate::wanted::{Wanted, mask_wanted_by, wanted_by};
@@ -25,15 +25,15 @@ use iio_text::Errno;
 use iiod_reply::number;
 
 /// The place of the seat at a device.
-pub(crate) fn find_held<S>(held: &[Held<S>], dev: u32) -> Option<usize>
-    ensures place { result ≡ position (λ (h : Held S). h.dev == dev) held.now }
+pub(crate) fn find_held<S>(held: &[OpenSeat<S>], dev: u32) -> Option<usize>
+    ensures place { result ≡ position (λ (h : OpenSeat S). h.dev == dev) held.now }
     ensures within { IfSome result (λ i. i < length held.now) }
 {
     held.iter().position(|h| h.dev == dev)
 }
 
 /// The place of the seat at a device, as the seats are seen.
-pub(crate) fn place<I: Iio>(_iio: &I, held: &[Held<I::Seat>], dev: u32) -> Option<usize>
+pub(crate) fn place<I: Iio>(_iio: &I, held: &[OpenSeat<I::Seat>], dev: u32) -> Option<usize>
     ensures place { result ≡ place_of dev (seats_of I.seen held.now) }
     ensures within { IfSome result (λ i. i < length held.now) }
 {
@@ -107,7 +107,7 @@ fn join<I: Iio>(
     match open_seat(iio, dev, mask, capacity, cyclic) {
         Err(no) => Err(no),
         Ok(seat) => {
-            client.held.push_reserved(Held {
+            client.held.push_reserved(OpenSeat {
                 dev,
                 mask,
                 capacity,
@@ -176,7 +176,7 @@ pub(crate) fn close_at<I: Iio>(
     match place(iio, &client.held, dev) {
         None => Err(No::Errno(Errno::EBADF)),
         Some(i) => {
-            let Held {
+            let OpenSeat {
                 dev: at,
                 mask: _,
                 capacity: _,
@@ -191,16 +191,16 @@ pub(crate) fn close_at<I: Iio>(
 }
 
 // REMASK at a seat: its mask is exchanged, and what its queue held is counted as discarded.
-fn remask_held<I: Iio>(iio: &mut I, h: &mut Held<I::Seat>, text: &[u8]) -> Result<(), No>
+fn remask_held<I: Iio>(iio: &mut I, h: &mut OpenSeat<I::Seat>, text: &[u8]) -> Result<(), No>
     requires held { IsHeld I.seen (I.front (I.kept iio.old)) h.old }
     requires input { is_input (kind_at (I.front (I.kept iio.old)) h.old.dev) ≡ true }
     ensures kept { I.kept iio.new ≡ I.kept iio.old }
     ensures held { IsHeld I.seen (I.front (I.kept iio.new)) h.new }
     ensures dev { h.new.dev ≡ h.old.dev }
-    ensures told { IfSome (I.told iio.old) (λ m. RemaskTold (I.front (I.kept iio.old)) text.now m (bare_of I.seen h.old)
-        result (I.told iio.new) (bare_of I.seen h.new)) }
-    ensures moves { RemaskMoves (I.front (I.kept iio.old)) text.now (bare_of I.seen h.old) (trace_of I.seen h.old)
-        result (bare_of I.seen h.new) (trace_of I.seen h.new) }
+    ensures told { IfSome (I.told iio.old) (λ m. RemaskTold (I.front (I.kept iio.old)) text.now m (seat_state_of I.seen h.old)
+        result (I.told iio.new) (seat_state_of I.seen h.new)) }
+    ensures moves { RemaskMoves (I.front (I.kept iio.old)) text.now (seat_state_of I.seen h.old) (trace_of I.seen h.old)
+        result (seat_state_of I.seen h.new) (trace_of I.seen h.new) }
 {
     let wanted = match mask_wanted_by(iio.shape(h.dev), h.capacity, text) {
         Err(errno) => return Err(No::Errno(errno)),
@@ -248,7 +248,7 @@ pub(crate) fn remask_at<I: Iio>(
 // READBUF at a seat.
 fn read_held<I: Iio>(
     iio: &mut I,
-    h: &mut Held<I::Seat>,
+    h: &mut OpenSeat<I::Seat>,
     asked: u32,
     out: &mut Vec<u8>,
 ) -> Result<Took, Mem>
@@ -256,9 +256,9 @@ fn read_held<I: Iio>(
     requires read { is_output (kind_at (I.front (I.kept iio.old)) h.old.dev) ≡ false }
     ensures kept { I.kept iio.new ≡ I.kept iio.old }
     ensures held { IsHeld I.seen (I.front (I.kept iio.new)) h.new }
-    ensures bare { bare_of I.seen h.new ≡ bare_of I.seen h.old }
+    ensures bare { seat_state_of I.seen h.new ≡ seat_state_of I.seen h.old }
     ensures read { ReadHeld (I.front (I.kept iio.old)) asked (I.told iio.old) (I.told iio.new)
-        (bare_of I.seen h.old) (trace_of I.seen h.old) (trace_of I.seen h.new) out.old.items out.new.items result }
+        (seat_state_of I.seen h.old) (trace_of I.seen h.old) (trace_of I.seen h.new) out.old.items out.new.items result }
     ensures capacity { vec_capacity out.old ≤ vec_capacity out.new }
 {
     if asked < h.size {
@@ -304,15 +304,15 @@ pub(crate) fn read_at<I: Iio>(
 }
 
 // WRITEBUF at a seat.
-fn write_held<I: Iio>(iio: &mut I, h: &mut Held<I::Seat>, payload: &[u8]) -> Result<u32, No>
+fn write_held<I: Iio>(iio: &mut I, h: &mut OpenSeat<I::Seat>, payload: &[u8]) -> Result<u32, No>
     requires held { IsHeld I.seen (I.front (I.kept iio.old)) h.old }
     requires written { is_output (kind_at (I.front (I.kept iio.old)) h.old.dev) ≡ true }
     ensures kept { I.kept iio.new ≡ I.kept iio.old }
     ensures held { IsHeld I.seen (I.front (I.kept iio.new)) h.new }
-    ensures bare { bare_of I.seen h.new ≡ bare_of I.seen h.old }
+    ensures bare { seat_state_of I.seen h.new ≡ seat_state_of I.seen h.old }
     ensures trace { trace_of I.seen h.new ≡ trace_of I.seen h.old }
     ensures within { IfOk result (λ taken. taken ≤ length payload.now) }
-    ensures told { WritesHeld (I.front (I.kept iio.old)) payload.now (I.told iio.old) (bare_of I.seen h.old) (taken_by result) (I.told iio.new) }
+    ensures told { WritesHeld (I.front (I.kept iio.old)) payload.now (I.told iio.old) (seat_state_of I.seen h.old) (taken_by result) (I.told iio.new) }
 {
     iio.write_scans(h.dev, &mut h.seat, payload)
 }

@@ -1,6 +1,6 @@
 use Rattle.std.proofs.Common.{ap, rules, List}
 use Rattle.std.proofs.lemmas.List.Elements.{All-set}
-use Rattle.iiod_session.specs.Client.{Bare, IsHeld, bare_of, client_of, trace_of, with_seats}
+use Rattle.iiod_session.specs.Client.{SeatState, IsHeld, seat_state_of, client_of, trace_of, with_seats}
 use Rattle.iiod_session.proofs.AttributeLaws.{counted, held_under}
 use Rattle.iiod_session.proofs.SeatsLaws.{apart_set, map_set_same}
 use Rattle.iiod_session.proofs.attributes.read_buffer.Goals as goal
@@ -18,8 +18,8 @@ returns-in-Some-clause-client g c = record {
 
 pub returns-in-Some-clause-same : goal.returns-in-Some-clause-same
 returns-in-Some-clause-same g c =
-    ap (λ (bs : List Bare). with_seats bs (client_of g.I.Iio.seen c.args.client.now))
-    (map_set_same g.I.Iio.seen (bare_of g.I.Iio.seen) c.args.client.now.held.items c.in-Some.i c.buffer_number.new.h c.index_mut.result.now (search rules)
+    ap (λ (bs : List SeatState). with_seats bs (client_of g.I.Iio.seen c.args.client.now))
+    (map_set_same g.I.Iio.seen (seat_state_of g.I.Iio.seen) c.args.client.now.held.items c.in-Some.i c.buffer_number.new.h c.index_mut.result.now (search rules)
     c.index_mut.ensures.value c.buffer_number.ensures.bare)
 
 pub returns-in-Some-clause-traces : goal.returns-in-Some-clause-traces

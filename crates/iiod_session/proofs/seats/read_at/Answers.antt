@@ -4,7 +4,7 @@ use Rattle.iio_text.specs.declared.errors.Errno.TheVariants.{EBADF}
 use Rattle.iiod_reply.specs.Reply.{Refusal}
 use Rattle.iio_desc.specs.Kind.{is_output}
 use Rattle.iio_core.specs.Front.{kind_at}
-use Rattle.iiod_session.specs.Client.{Bare, IsHeld, bare_of, client_of, with_seats}
+use Rattle.iiod_session.specs.Client.{SeatState, IsHeld, seat_state_of, client_of, with_seats}
 use Rattle.iiod_session.proofs.SeatsLaws.{apart_set, dev_is, map_set_same, read_nowhere, reads_at}
 use Rattle.iiod_session.proofs.seats.read_at.Goals as goal
 
@@ -24,8 +24,8 @@ returns-in-Some-clause-client g c = record {
 
 pub returns-in-Some-clause-same : goal.returns-in-Some-clause-same
 returns-in-Some-clause-same g c =
-    ap (λ (bs : List Bare). with_seats bs (client_of g.I.Iio.seen c.args.client.now))
-    (map_set_same g.I.Iio.seen (bare_of g.I.Iio.seen) c.args.client.now.held.items c.in-Some.i c.read_held.new.h c.index_mut.result.now (search rules)
+    ap (λ (bs : List SeatState). with_seats bs (client_of g.I.Iio.seen c.args.client.now))
+    (map_set_same g.I.Iio.seen (seat_state_of g.I.Iio.seen) c.args.client.now.held.items c.in-Some.i c.read_held.new.h c.index_mut.result.now (search rules)
     c.index_mut.ensures.value c.read_held.ensures.bare)
 
 pub returns-in-Some-clause-read : goal.returns-in-Some-clause-read

@@ -1,6 +1,6 @@
 use Rattle.std.proofs.Common.{rules, refl}
 use Rattle.iiod_session.specs.Acts.{zero_reply}
-use Rattle.iiod_session.specs.Client.{bare_of}
+use Rattle.iiod_session.specs.Client.{seat_state_of}
 use Rattle.iiod_session.proofs.HeldLaws.{id_is, served_less, read_ends}
 use Rattle.iiod_session.proofs.seats.read_held.Goals as goal
 
@@ -9,5 +9,5 @@ returns-then-asked-h-clause-read g c = (zero_reply, search rules, tt, served_les
 
 pub returns-clause-read : goal.returns-clause-read
 returns-clause-read g c =
-    read_ends _ _ (bare_of g.I.Iio.seen c.args.h.now) _ _ _ _ _ _ _
-    (id_is (bare_of g.I.Iio.seen c.args.h.now) (g.I.Iio.seen c.args.h.now.seat) refl c.requires.held.owned.under) (search rules) c.read_sized.ensures.ends
+    read_ends _ _ (seat_state_of g.I.Iio.seen c.args.h.now) _ _ _ _ _ _ _
+    (id_is (seat_state_of g.I.Iio.seen c.args.h.now) (g.I.Iio.seen c.args.h.now.seat) refl c.requires.held.owned.under) (search rules) c.read_sized.ensures.ends

@@ -2,7 +2,7 @@ use Rattle.std.proofs.Common.{ℕ, ◌∙◌, List, ap, rules}
 use Rattle.std.proofs.lemmas.List.Elements.{All-set}
 use Rattle.iio_desc.specs.Kind.{is_output}
 use Rattle.iio_core.specs.Front.{kind_at}
-use Rattle.iiod_session.specs.Client.{Bare, IsHeld, bare_of, client_of, trace_of, with_seats}
+use Rattle.iiod_session.specs.Client.{SeatState, IsHeld, seat_state_of, client_of, trace_of, with_seats}
 use Rattle.iiod_session.proofs.SeatsLaws.{apart_set, dev_is, map_set_same, writes_at}
 use Rattle.iiod_session.proofs.seats.write_at.Goals as goal
 
@@ -19,8 +19,8 @@ returns-clause-client g c = record {
 
 pub returns-clause-same : goal.returns-clause-same
 returns-clause-same g c =
-    ap (λ (bs : List Bare). with_seats bs (client_of g.I.Iio.seen c.args.client.now))
-    (map_set_same g.I.Iio.seen (bare_of g.I.Iio.seen) c.args.client.now.held.items c.in-Some.i c.write_held.new.h c.index_mut.result.now (search rules)
+    ap (λ (bs : List SeatState). with_seats bs (client_of g.I.Iio.seen c.args.client.now))
+    (map_set_same g.I.Iio.seen (seat_state_of g.I.Iio.seen) c.args.client.now.held.items c.in-Some.i c.write_held.new.h c.index_mut.result.now (search rules)
     c.index_mut.ensures.value c.write_held.ensures.bare)
 
 pub returns-clause-traces : goal.returns-clause-traces

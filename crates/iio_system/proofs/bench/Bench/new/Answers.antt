@@ -16,7 +16,7 @@ use Rattle.iio_system.specs.Places.{trigger_of}
 use Rattle.iio_core.specs.Trigger.{first_trigger, Trigger}
 use Rattle.iio_system.specs.Station.{any_front, any_station, stations_by}
 use Rattle.iio_system.proofs.AnyLemmas.{members_as}
-use Rattle.iio_system.proofs.FirstLemmas.{AreBare, AreFresh, added_heads, added_stations, first_averaged, first_bare, first_bases, first_bench, first_fresh, first_told, firsts_few, formed_more}
+use Rattle.iio_system.proofs.FirstLemmas.{AreBare, AreFresh, added_heads, added_stations, first_averaged, first_seat_state, first_bases, first_bench, first_fresh, first_told, firsts_few, formed_more}
 use Rattle.iio_system.proofs.ListLemmas.{length_map_is}
 use Rattle.iio_system.proofs.OpenLemmas.{averaged_as}
 use Rattle.iio_system.proofs.ToldLemmas.{machine_by}
@@ -81,7 +81,7 @@ invariant_of-result g c =
     added_heads c.desc.inside.devices.items c.desc.inside.outputs.items c.desc.inside.averages.items _ _ _ formed c.in_ok-devices.ensures.fronts
     c.in_ok-add_outputs.ensures.fronts
     c.in_ok-add_averages.ensures.fronts in
-    let bare = first_bare drivers c.desc.inside.devices.items c.desc.inside.outputs.items c.desc.inside.averages.items in
+    let bare = first_seat_state drivers c.desc.inside.devices.items c.desc.inside.outputs.items c.desc.inside.averages.items in
     let many : length c.add_outputs.new.devices.items ≡ length c.desc.inside.devices.items + length c.desc.inside.outputs.items =
     (let a = ap (λ (hs : List DeviceHead). length hs) heads in let b = length_map_is any_front c.add_outputs.new.devices.items in
     let d =

@@ -5,7 +5,7 @@ use Rattle.iio_desc.specs.Kind.{Kind}
 use Rattle.iio_core.specs.Front.{kind_at, shape_at}
 use Rattle.iio_core.specs.Machine.{Station, with_station}
 use Rattle.iio_device.specs.Plug.{driver_of}
-use Rattle.iio_core.specs.Moves.{kind_sensed, look_made}
+use Rattle.iio_core.specs.Moves.{kind_sensed, station_after_look}
 use Rattle.iio_system.specs.Bench.{machine_of, triggers_of}
 use Rattle.iio_system.specs.Station.{any_front, any_station, captures_by}
 use Rattle.iio_system.proofs.ListLemmas.{element_at, map_same, numbered_after}
@@ -37,9 +37,9 @@ returns-clause-told g c =
     let shape =
     shape_is any_front c.args.self.now.context.items c.args.self.now.described.items c.args.self.now.devices.items c.args.dev c.index_mut.result.now at in
     told_changed (any_station drive) c.args.self.now.clock _ c.args.self.now.devices.items c.args.dev c.index_mut.result.now c.sense.new.self at
-    (look_made (any_front c.index_mut.result.now).shape c.args.t)
+    (station_after_look (any_front c.index_mut.result.now).shape c.args.t)
     (rw (to_z-of_z w64 c.args.t c.ranges.t) at c.sense.ensures.station)
-    ∙ ap (λ (s : ShapeRecord). with_station (look_made s c.args.t) c.args.dev
+    ∙ ap (λ (s : ShapeRecord). with_station (station_after_look s c.args.t) c.args.dev
     (machine_of drive c.args.self.now)) (sym shape)
 
 pub returns-clause-answer : goal.returns-clause-answer
