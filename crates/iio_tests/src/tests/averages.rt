@@ -105,6 +105,21 @@ fn check_join(
     Ok(())
 }
 
+// A member leaves, where it is there.
+fn check_leave(
+    rt: &impl Abort,
+    device: &mut Average,
+    number: u32,
+    size: usize,
+    most: u64,
+    is_there: bool,
+)
+    requires { AreTested most size device.old.seats }
+    ensures { AreTested most size device.new.seats }
+{
+    assert_eq!(rt; device.leave(number), is_there);
+}
+
 // A capture is added, and that many members are offered a mean, if any is made.
 fn check_add(
     rt: &impl Abort,
@@ -241,10 +256,11 @@ fn window_anew(rt: HostRuntime) -> Result<(), Fail> {
     check_join(&rt, &mut device, 5, 4, 0, 0)?;
     check_add(&rt, &mut device, [100, 0, 100], 1000, 4, 0, None);
     check_join(&rt, &mut device, 5, 4, 1, 1)?;
-    assert!(rt; device.leave(0));
+    check_leave(&rt, &mut device, 0, 4, 1, true);
     assert_eq!(rt; (device.waiting(0), device.lost(0)), (None, None));
     check_add(&rt, &mut device, [100, 0, 100], 2000, 4, 1, None);
-    assert!(rt; device.leave(1) && !device.leave(1));
+    check_leave(&rt, &mut device, 1, 4, 2, true);
+    check_leave(&rt, &mut device, 1, 4, 2, false);
     check_join(&rt, &mut device, 5, 4, 2, 0)?;
     check_add(&rt, &mut device, [1, 0, -1], 3000, 4, 2, None);
     check_add(&rt, &mut device, [1, 0, -1], 4000, 4, 3, None);
