@@ -5,6 +5,7 @@ pub mod Trigger
 pub mod Machine
 pub mod Faults
 pub mod Opening
+pub mod Commands
 pub mod Calls
 pub mod Moves
 pub mod Devices

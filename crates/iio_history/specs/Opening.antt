@@ -16,6 +16,7 @@ use Rattle.iio_device.specs.Active.{is_without_union}
 use Rattle.iio_device.specs.Site.{is_empty}
 use Rattle.iio_kfifo.specs.declared.limits.TheConstants.{MAX_BYTES}
 use Rattle.iio_core.specs.Attached.{Attachment, has_no_place}
+use Rattle.iio_core.specs.Commands.{settrig_answer}
 use Rattle.iio_core.specs.Front.{first_front}
 use Rattle.iio_core.specs.Opening.{is_excess, asked_refusals, mask_refusals, join_refusals, Host, host_by, inner_host, own_host}
 use Rattle.iio_history.specs.Who.{Who}
@@ -110,9 +111,4 @@ trigger_named s (Some name) = do
 
 -- the answer to a SETTRIG of a device: its new trigger
 abbrev pub trigger_answer : Setup → Outline → Option (List ℕ) → Result (Option ℕ) Errno
-trigger_answer s o name = do
-  plugged ← ensure o.site.plugged ENODEV
-  own ← ensure (not (is_average o.kind)) ENOSYS
-  trigger ← trigger_named s name
-  free ← ensure (is_empty o.masks) EBUSY
-  Ok trigger
+trigger_answer s o name = settrig_answer o.kind o.site.plugged (is_empty o.masks) (trigger_named s name)

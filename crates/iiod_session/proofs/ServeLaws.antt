@@ -3,8 +3,10 @@ use Rattle.std.proofs.Common.{◌≡◌, ◌⊎◌, ℕ, ◌+◌, ◌≤◌, Boo
 use Rattle.std.specs.Prelude.{⊤}
 use Rattle.iio_base.specs.declared.Mem.{Mem}
 use Rattle.iio_text.specs.declared.errors.Errno.{Errno}
-use Rattle.iio_text.specs.declared.errors.Errno.TheVariants.{EAGAIN, EBADF, ENODEV, ENOSYS}
-use Rattle.iio_desc.specs.Kind.{is_output}
+use Rattle.iio_text.specs.declared.errors.Errno.TheVariants.{EAGAIN, EBADF, EBUSY, ENODEV, ENOSYS}
+use Rattle.iio_base.specs.Refusals.{ensure, ◌>>=◌}
+use Rattle.iio_desc.specs.Kind.{is_average, is_output}
+use Rattle.iio_device.specs.Site.{is_empty}
 use Rattle.iiod_grammar.specs.Command.{Command, Open, Close, Read, ReadBuf, GetTrig, SetTrig, SetBuffers, Remask, EvOpen, EvRead, EvClose}
 use Rattle.iiod_grammar.specs.Stream.{Item, Said, Streamed}
 use Rattle.iiod_reply.specs.Reply.{Reply, Nothing, Number, Refusal, Line, Value, Raw, Block, NoMemory, text_of}
@@ -17,14 +19,15 @@ use Rattle.iiod_session.specs.declared.manner.Manner.{Manner}
 use Rattle.iiod_session.specs.declared.manner.Manner.TheVariants.{Script, Server}
 use Rattle.iiod_session.specs.declared.manner.Progress.{Progress}
 use Rattle.iiod_session.specs.declared.manner.Progress.TheVariants.{Done, Waits}
-use Rattle.iiod_session.specs.Acts.{Acted, Acts, act, at_device, refused, open_at, close_at, read_at, read_buffer_at, read_attribute_at, ev_close_known, ev_open_known, ev_read_known, get_trigger_at, remask_known, set_buffers_at, set_trigger_known, where_known, write_buffer_at, zero_reply}
+use Rattle.iiod_session.specs.Acts.{Acted, Acts, act, altered, at_device, refused, retriggered, settled, open_at, close_at, read_at, read_buffer_at, read_attribute_at, ev_close_known, ev_open_known, ev_read_known, get_trigger_at, remask_known, set_buffers_at, set_trigger_at, trigger_named, where_known, write_buffer_at, zero_reply}
 use Rattle.iiod_session.specs.Answers.{IsAt}
 use Rattle.iiod_session.specs.Client.{SeatState, ClientRecord, place_of, with_count, with_holding, without_holding}
 use Rattle.iio_core.specs.Front.{Front, find_device, kind_at}
-use Rattle.iio_core.specs.Machine.{Machine}
+use Rattle.iio_core.specs.Machine.{Machine, is_plugged, station_at, with_site}
+use Rattle.iio_core.specs.Calls.{CallResult, set_trigger_of, unless}
 use Rattle.iiod_session.specs.Moves.{Accepts, AnswersAlone, AnswersAs, IsOrShort, Moves, ReadsBy, Serves, at_known, at_seat}
 use Rattle.iiod_session.specs.Performs.{AnswersRead, Comes, HasRoomAfter, IsAllowed, IsAnswerOf, IsFound, IsWhole, LeavesBy, OpensBy, Performs, ReadAt, ReadServedAt, RemasksBy, client_by, reply_by, taken_by}
-use Rattle.iiod_session.specs.Seat.{Trace}
+use Rattle.iiod_session.specs.Seat.{Answers, Trace}
 
 -- an outcome that is the item's
 pub comes_acts : (front : Front) (m : Machine) (client client' : ClientRecord) (item : Item) (o : Acted) (reply : Reply) (told' : Option Machine)
@@ -107,7 +110,7 @@ on_device front m client (Open device samples text cyclic) = λ dev. open_at fro
 on_device front m client (Close device) = λ dev. close_at front m client (place_of dev client.seats)
 on_device front m client (Read device place name) = λ dev. read_attribute_at front m client place name dev
 on_device front m client (GetTrig device) = λ dev. get_trigger_at front m client dev
-on_device front m client (SetTrig device name) = λ dev. set_trigger_known front m client name dev
+on_device front m client (SetTrig device name) = λ dev. set_trigger_at front m client name dev
 on_device front m client (SetBuffers device n) = λ dev. set_buffers_at m client n dev
 on_device front m client (Remask device text) = λ dev. remask_known front m client text dev
 on_device front m client (EvOpen device) = λ dev. ev_open_known front m client dev
@@ -122,7 +125,7 @@ act_at front m client o (Open device samples text cyclic) e = ap (λ x. at_devic
 act_at front m client o (Close device) e = ap (λ x. at_device m client (λ dev. close_at front m client (place_of dev client.seats)) x) (sym e)
 act_at front m client o (Read device place name) e = ap (λ x. at_device m client (λ dev. read_attribute_at front m client place name dev) x) (sym e)
 act_at front m client o (GetTrig device) e = ap (λ x. at_device m client (λ dev. get_trigger_at front m client dev) x) (sym e)
-act_at front m client o (SetTrig device name) e = ap (λ x. at_device m client (λ dev. set_trigger_known front m client name dev) x) (sym e)
+act_at front m client o (SetTrig device name) e = ap (λ x. at_device m client (λ dev. set_trigger_at front m client name dev) x) (sym e)
 act_at front m client o (SetBuffers device n) e = ap (λ x. at_device m client (λ dev. set_buffers_at m client n dev) x) (sym e)
 act_at front m client o (Remask device text) e = ap (λ x. at_device m client (λ dev. remask_known front m client text dev) x) (sym e)
 act_at front m client o (EvOpen device) e = ap (λ x. at_device m client (λ dev. ev_open_known front m client dev) x) (sym e)
@@ -444,10 +447,44 @@ answers manner front told told' client client' traces traces' device asked dev b
 
 -- ---- SETTRIG
 
+-- the call of a device that is plugged and has a trigger of its own answers the rest
+retriggers : (m : Machine) (client : ClientRecord) (dev : ℕ) (to : Option ℕ) (alone : Bool) → is_plugged m dev ≡ true
+    → is_empty (station_at m dev).members ≡ alone
+    → retriggered m client dev (ensure alone EBUSY >>= (λ free. Ok to)) ≡ settled client (set_trigger_of m dev to)
+unfolding set_trigger_of station_at is_plugged
+retriggers m client dev to alone plugged is =
+    sym (ap (λ (p : Bool). answered (ensure p ENODEV >>= (λ here. ensure (is_empty (station_at m dev).members) EBUSY))) plugged
+    ∙ ap (λ (b : Bool). answered (ensure b EBUSY)) is ∙ same alone)
+  where
+    answered : Result ⊤ Errno → Acted
+    answered r = settled client (unless (with_site (λ site. record site { trigger = to })) dev m r)
+
+    same : (b : Bool) → answered (ensure b EBUSY) ≡ retriggered m client dev (ensure b EBUSY >>= (λ free. Ok to))
+    same true = refl
+    same false = refl
+
+-- a call whose answer is the command's
+comes_by : (m : Machine) (client : ClientRecord) (acted : Acted) (o : CallResult ⊤) (r : Result ⊤ No) (told' : Option Machine) → acted ≡ settled client o
+    → Answers o m r told' → Comes m client acted (reply_by r) told' client
+comes_by m client acted o (Ok done) told' is a = (o.machine, a.1, is ∙ ap (altered (λ d. d) client o.machine) a.0)
+comes_by m client acted o (Err (NoErrno e)) told' is a = (o.machine, a.1, is ∙ ap (altered (λ d. d) client o.machine) a.0)
+comes_by m client acted o (Err NoMem) told' is a = (a, refl)
+
+pub set_found : (front : Front) (told told' : Option Machine) (client : ClientRecord) (name : Option (List ℕ)) (dev : ℕ) (to : Option ℕ) (p : Bool)
+    (r : Result ⊤ No)
+    → IfSome told (λ m. p ≡ is_plugged m dev) → p ≡ true → is_average (kind_at front dev) ≡ false → trigger_named front name ≡ Ok to
+    → IfSome told (λ m. Answers (set_trigger_of m dev to) m r told')
+    → IfSome told (λ m. Comes m client (set_trigger_at front m client name dev) (reply_by r) told' client)
+set_found front None told' client name dev to p r plugged here own named answers = tt
+set_found front (Some m) told' client name dev to p r plugged here own named answers =
+    let at = sym plugged ∙ here in
+    comes_by m client (set_trigger_at front m client name dev) (set_trigger_of m dev to) r told'
+    (rw (own, named, at) (retriggers m client dev to (is_empty (station_at m dev).members) at refl)) answers
+
 pub serves_set_trigger : (front : Front) (told told' : Option Machine) (client : ClientRecord) (traces : List (Option Trace)) (device : List ℕ)
     (name : Option (List ℕ)) (dev : ℕ) (r : Result ⊤ No)
     → Some dev ≡ find_device front device
-    → IfSome told (λ m. Comes m client (set_trigger_known front m client name dev) (reply_by r) told' client)
+    → IfSome told (λ m. Comes m client (set_trigger_at front m client name dev) (reply_by r) told' client)
     → Serves front told client traces (Said (Ok (SetTrig device name))) (reply_by r) told' client traces
 serves_set_trigger front told told' client traces device name dev r e c =
     serves_at front told told' client client traces traces (SetTrig device name) dev (reply_by r) e (rw (sym e) tt)

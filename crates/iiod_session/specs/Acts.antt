@@ -7,7 +7,8 @@ use Rattle.iio_text.specs.declared.errors.Errno.{Errno}
 use Rattle.iio_text.specs.declared.errors.Errno.TheVariants.{EAGAIN, EBADF, EINVAL, ENODEV, ENOENT, ENOSYS}
 use Rattle.iio_attr.specs.declared.attributes.Attr.{Attr}
 use Rattle.iio_attr.specs.declared.values.Value.{Value as AttrValue}
-use Rattle.iio_desc.specs.Kind.{is_average, is_input, is_output}
+use Rattle.iio_desc.specs.Kind.{is_input, is_output}
+use Rattle.iio_device.specs.Site.{is_empty}
 use Rattle.iio_event.specs.Code.{event_bytes}
 use Rattle.iio_event.specs.declared.event.EventData.{EventData}
 use Rattle.iiod_grammar.specs.declared.command.Refused.TheVariants.{Empty}
@@ -17,8 +18,9 @@ use Rattle.iiod_reply.specs.Reply.{Reply, Nothing, Number, Refusal, Line, Value,
 use Rattle.iiod_session.specs.declared.client.TheConstants.{MAX_BUFFERS}
 use Rattle.iiod_session.specs.Attributes.{Assignment, Named, buffer_number, found, is_of_buffer, text_of_value, write_found}
 use Rattle.iio_core.specs.Front.{Front, channel_count, find_device, find_trigger, kind_at, shape_at, size_at, trigger_name}
-use Rattle.iio_core.specs.Machine.{Machine, is_plugged, lost_of, queue_of, with_queue}
-use Rattle.iio_core.specs.Calls.{CallResult, machine_after_close, ev_close_of, ev_open_of, ev_read_of, open_of, read_attr_of, remask_of, set_trigger_of, trigger_of, write_attr_of, write_scans_of}
+use Rattle.iio_core.specs.Machine.{Machine, is_plugged, lost_of, queue_of, station_at, with_queue, with_site, with_station}
+use Rattle.iio_core.specs.Commands.{settrig_answer}
+use Rattle.iio_core.specs.Calls.{CallResult, machine_after_close, ev_close_of, ev_open_of, ev_read_of, open_of, read_attr_of, remask_of, trigger_of, write_attr_of, write_scans_of}
 use Rattle.iiod_session.specs.Client.{Wanted, SeatState, ClientRecord, wanted_of, mask_wanted, buffers_of, seat_state_id, seat_state_remasked, place_of, with_count, with_holding, with_seats, without_holding}
 use Rattle.iiod_session.specs.Reading.{most_scans}
 
@@ -181,12 +183,14 @@ trigger_named front (Some name) = do
   t ← ok_or (find_trigger front name) ENOENT
   Ok (Some t)
 
-abbrev pub set_found : Machine → ClientRecord → ℕ → Result (Option ℕ) Errno → Acted
-set_found m client dev (Ok trigger) = settled client (set_trigger_of m dev trigger)
-set_found m client dev (Err e) = refused e m client
+abbrev pub retriggered : Machine → ClientRecord → ℕ → Result (Option ℕ) Errno → Acted
+retriggered m client dev (Ok trigger) = only zero_reply (with_station (with_site (λ site. record site { trigger = trigger })) dev m) client
+retriggered m client dev (Err e) = refused e m client
 
 abbrev pub set_trigger_at : Front → Machine → ClientRecord → Option (List ℕ) → ℕ → Acted
-set_trigger_at front m client name dev = if_plugged m client dev (set_found m client dev (trigger_named front name))
+set_trigger_at front m client name dev =
+    retriggered m client dev
+    (settrig_answer (kind_at front dev) (is_plugged m dev) (is_empty (station_at m dev).members) (trigger_named front name))
 
 -- WRITEBUF is answered by the number of bytes that were taken
 abbrev pub written_scans : ClientRecord → Machine → Result ℕ Errno → Acted
@@ -225,9 +229,6 @@ ev_close_at m client dev = if_plugged m client dev (let o = ev_close_of m dev cl
 
 abbrev pub remask_known : Front → Machine → ClientRecord → List ℕ → ℕ → Acted
 remask_known front m client text dev = where_known (is_input (kind_at front dev)) m client dev (remask_at front m client text dev)
-
-abbrev pub set_trigger_known : Front → Machine → ClientRecord → Option (List ℕ) → ℕ → Acted
-set_trigger_known front m client name dev = where_known (not (is_average (kind_at front dev))) m client dev (set_trigger_at front m client name dev)
 
 abbrev pub ev_open_known : Front → Machine → ClientRecord → ℕ → Acted
 ev_open_known front m client dev = where_known (is_input (kind_at front dev)) m client dev (ev_open_at m client dev)
@@ -334,7 +335,7 @@ act front m client (Written device (Some target) payload) =
     at_device m client (λ dev. write_attribute_at front m client target.0 target.1 payload dev) (find_device front device)
 act front m client (Streamed device payload) = at_device m client (write_buffer_at front m client payload) (find_device front device)
 act front m client (Said (Ok (GetTrig device))) = at_device m client (get_trigger_at front m client) (find_device front device)
-act front m client (Said (Ok (SetTrig device name))) = at_device m client (set_trigger_known front m client name) (find_device front device)
+act front m client (Said (Ok (SetTrig device name))) = at_device m client (set_trigger_at front m client name) (find_device front device)
 act front m client (Said (Ok (SetBuffers device n))) = at_device m client (set_buffers_at m client n) (find_device front device)
 act front m client (Said (Ok (Remask device text))) = at_device m client (remask_known front m client text) (find_device front device)
 act front m client (Said (Ok (EvOpen device))) = at_device m client (ev_open_known front m client) (find_device front device)

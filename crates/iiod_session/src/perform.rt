@@ -17,7 +17,7 @@ use crate::events::{ev_close_known, ev_open_known, ev_read_known};
 use crate::iio::{Iio, No};
 use crate::manner::{Manner, Progress};
 use crate::seats::{close_at, open_at};
-use crate::triggers::{get_trigger_at, set_trigger_known};
+use crate::triggers::{get_trigger_at, set_trigger_at};
 use iio_base::Mem;
 use iio_text::Errno;
 use iiod_grammar::{Command, Place, Refused};
@@ -55,7 +55,7 @@ fn at_device<I: Iio>(
                 alloc, client, iio, dev, place, attr,
             ),
             Command::GetTrig { .. } => get_trigger_at(iio, dev),
-            Command::SetTrig { trigger, .. } => answered(0, set_trigger_known(iio, dev, trigger)),
+            Command::SetTrig { trigger, .. } => answered(0, set_trigger_at(iio, dev, trigger)),
             Command::SetBuffers { count, .. } => answered(
                 0,
                 set_buffers_at(client, iio, dev, count),

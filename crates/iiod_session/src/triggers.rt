@@ -1,17 +1,14 @@
 //! The commands of triggers: SETTRIG and GETTRIG.
 
-ghost use Rattle.std.specs.Prelude.{◌≡◌, ◌<◌, false, length, IfOk, IfSome};
+ghost use Rattle.std.specs.Prelude.{◌≡◌, ◌<◌, length, IfOk, IfSome};
 ghost use Rattle.std.specs.Option.{option_copied};
-ghost use Rattle.iio_desc.specs.Kind.{is_average};
-ghost use Rattle.iiod_session.specs.Acts.{get_trigger_at, set_trigger_at, set_trigger_known, trigger_named};
+ghost use Rattle.iiod_session.specs.Acts.{get_trigger_at, set_trigger_at, trigger_named};
 ghost use Rattle.iiod_session.specs.Answers.{IsTrigger, reply_of};
 ghost use Rattle.iiod_session.specs.Client.{ClientRecord};
-ghost use Rattle.iio_core.specs.Front.{kind_at};
 ghost use Rattle.iiod_session.specs.Performs.{Comes, reply_by};
 
 use crate::answers::Answer;
 use crate::iio::{Iio, No};
-use crate::kinds::unknown_refusal;
 use iio_text::Errno;
 
 // The number of the trigger that a SETTRIG names, or none where it names none.
@@ -28,10 +25,9 @@ fn named_trigger<I: Iio>(iio: &I, name: Option<&[u8]>) -> Result<Option<u32>, Er
     }
 }
 
-// SETTRIG at a device that is no averaging device.
-fn set_trigger_at<I: Iio>(iio: &mut I, dev: u32, name: Option<&[u8]>) -> Result<(), No>
+/// SETTRIG at the device of that number: an averaging device has no trigger of its own.
+pub(crate) fn set_trigger_at<I: Iio>(iio: &mut I, dev: u32, name: Option<&[u8]>) -> Result<(), No>
     requires dev { dev < length (I.front (I.kept iio.old)).devices }
-    requires own { is_average (kind_at (I.front (I.kept iio.old)) dev) ≡ false }
     ensures kept { I.kept iio.new ≡ I.kept iio.old }
     ensures told { (client : ClientRecord) → IfSome (I.told iio.old) (λ m. Comes m client
         (set_trigger_at (I.front (I.kept iio.old)) m client (option_copied name.entry) dev) (reply_by result) (I.told iio.new) client) }
@@ -39,27 +35,13 @@ fn set_trigger_at<I: Iio>(iio: &mut I, dev: u32, name: Option<&[u8]>) -> Result<
     if !iio.plugged(dev) {
         return Err(No::Errno(Errno::ENODEV));
     }
+    if iio.is_average(dev) {
+        return Err(No::Errno(Errno::ENOSYS));
+    }
     match named_trigger(iio, name) {
         Err(errno) => Err(No::Errno(errno)),
         Ok(trigger) => iio.set_trigger(dev, trigger),
     }
-}
-
-/// SETTRIG at the device of that number, of whichever kind: an averaging device has no trigger of its own.
-pub(crate) fn set_trigger_known<I: Iio>(
-    iio: &mut I,
-    dev: u32,
-    name: Option<&[u8]>,
-) -> Result<(), No>
-    requires dev { dev < length (I.front (I.kept iio.old)).devices }
-    ensures kept { I.kept iio.new ≡ I.kept iio.old }
-    ensures told { (client : ClientRecord) → IfSome (I.told iio.old) (λ m. Comes m client
-        (set_trigger_known (I.front (I.kept iio.old)) m client (option_copied name.entry) dev) (reply_by result) (I.told iio.new) client) }
-{
-    if iio.is_average(dev) {
-        return Err(No::Errno(unknown_refusal(iio, dev)));
-    }
-    set_trigger_at(iio, dev, name)
 }
 
 /// GETTRIG at the device of that number: 0 where it has no trigger.

@@ -53,9 +53,9 @@ pub returns-in-SetTrig-clause-served : goal.returns-in-SetTrig-clause-served
 returns-in-SetTrig-clause-served g c =
     let here = rw (c.in-Some.is, c.in-SetTrig.is) at c.requires.at in
     rw (c.in-SetTrig.is, c.answered-in-SetTrig.ensures.value)
-    (by_zero _ _ _ _ _ _ _ _ c.set_trigger_known.result
-    (serves_set_trigger _ _ _ _ _ _ _ c.in-Some.dev c.set_trigger_known.result here
-    (c.set_trigger_known.ensures.told (client_of g.I.Iio.seen c.args.client.now))))
+    (by_zero _ _ _ _ _ _ _ _ c.set_trigger_at.result
+    (serves_set_trigger _ _ _ _ _ _ _ c.in-Some.dev c.set_trigger_at.result here
+    (c.set_trigger_at.ensures.told (client_of g.I.Iio.seen c.args.client.now))))
 
 pub returns-in-SetBuffers-clause-served : goal.returns-in-SetBuffers-clause-served
 returns-in-SetBuffers-clause-served g c =
