@@ -249,12 +249,6 @@ module _ {Q : Type 0} (taken lost size capacity : Q → ℕ) (offer_gives : Q �
       scan_found-size shape (unwrap_or (bits_of active) 0) m.mask.bits union groups sound.grouped.each (sound.grouped.there k d within) sized
       ∙ sym ((sound.each k d within).sized)
 
-  pub all_fewer : (shape : ShapeRecord) (active : Option Mask) (captures next : ℕ) (members : List (Membership Q)) (groups : List GroupRecord)
-      → captures < 18446744073709551615
-      → IsSound taken lost size shape active captures next members groups
-      → All (λ (m : Membership Q). taken m.tail + lost m.tail < 18446744073709551615) members
-  all_fewer shape active captures next members groups few sound = λ k d within. let counted = (sound.each k d within).counted in omega (arith, few, counted)
-
   -- each member's mask lies within the active one
   pub member_within : (shape : ShapeRecord) (active : Option Mask) (captures next : ℕ) (members : List (Membership Q)) (groups : List GroupRecord)
       → IsSound taken lost size shape active captures next members groups

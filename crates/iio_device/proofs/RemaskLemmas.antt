@@ -1,10 +1,9 @@
 -- What a member's exchange of its mask keeps.
-use Rattle.std.proofs.Common.{◌≡◌, ◌==◌, ◌||◌, ℕ, ◌+◌, ◌^◌, ◌<◌, Bool, true, false, not, zero, suc, List, [], ◌∷◌, ◌++◌, length, map, filter, take, drop, get_or, slice_set, slice_index_or, Option, Some, None, Err, IfSome, IfNone, subst, refl, sym, ap, ◌∙◌, arith}
+use Rattle.std.proofs.Common.{◌≡◌, ◌==◌, ◌||◌, ℕ, ◌+◌, ◌^◌, ◌<◌, Bool, true, false, not, zero, suc, List, [], ◌∷◌, ◌++◌, length, map, filter, take, drop, get_or, slice_set, slice_index_or, Option, Some, None, IfSome, IfNone, subst, refl, sym, ap, ◌∙◌, arith}
 use Rattle.std.specs.List.{All, IsDistinct}
 use Rattle.std.proofs.lemmas.List.{length-append, map-append, take_more}
 use Rattle.std.proofs.lemmas.List.Elements.{All-cons, All-head, All-tail, All-map, All-push, All-weaker, All-filter, filter-append, filter_passes}
 use Rattle.std.proofs.lemmas.List.Folds.{list_any-append}
-use Rattle.iio_base.specs.Refusals.{first_refusal, unless_refused}
 use Rattle.iio_mask.specs.Mask.{is_within, union_of, union_of_all}
 use Rattle.iio_mask.specs.declared.Mask.{Mask}
 use Rattle.iio_mask.proofs.UnionLemmas.{union_of_all-more}
@@ -12,11 +11,9 @@ use Rattle.iio_layout.specs.Active.{active_of, has_data}
 use Rattle.iio_layout.specs.Layout.{scan_size}
 use Rattle.iio_layout.specs.Shape.{ShapeRecord, count_of}
 use Rattle.iio_device.specs.declared.membership.Membership.{Membership}
-use Rattle.iio_device.specs.declared.roster.RemaskFault.{RemaskFault}
-use Rattle.iio_device.specs.declared.roster.RemaskFault.TheVariants.{BadMask, Gone, NoUnion, NotLive}
 use Rattle.iio_device.specs.Groups.{GroupRecord, IsGroup, has_group, remade}
 use Rattle.iio_device.specs.Members.{is_wanted, mask_of, masks_of, without}
-use Rattle.iio_device.specs.Remasking.{IsRemaskRefusal, begun_anew, remasked}
+use Rattle.iio_device.specs.Remasking.{begun_anew, remasked}
 use Rattle.iio_device.specs.Roster.{with_group}
 use Rattle.iio_device.specs.Sound.{AreGroups, IsMember, IsSound, bits_of}
 use Rattle.iio_device.proofs.ApartLemmas.{AreDistinct, changed_is, distinct_filter, distinct_map, distinct_push, eq_same, kept_key, none_fewer, removed_is}
@@ -279,34 +276,3 @@ module _ {Q : Type 0} (taken lost size : Q → ℕ) (shape : ShapeRecord) (old :
   anew_members =
       is ∙ changed_is (λ (m : Membership Q). m.number) (begun_anew mask captures tail) members k was sound.numbers within (at_itself members k d within)
       ∙ ap (λ n. remasked n mask captures tail members) at
-
--- ---- refusals
-
-abbrev pub faults : (gone dead bad without_union : Bool) → List (Bool × RemaskFault)
-faults gone dead bad without_union = (gone, Gone) ∷ (dead, NotLive) ∷ (bad, BadMask) ∷ (without_union, NoUnion) ∷ []
-
--- where no fault applies, want of memory alone is left
-pub only_memory : (gone dead bad without_union : Bool) → first_refusal (faults gone dead bad without_union) ≡ None
-    → first_refusal ((dead, NotLive) ∷ (without_union, NoUnion) ∷ []) ≡ None
-only_memory true d b u h = cc
-only_memory false true b u h = cc
-only_memory false false true u h = cc
-only_memory false false false true h = cc
-only_memory false false false false h = refl
-
-pub is_good : (gone dead bad without_union : Bool) → first_refusal (faults gone dead bad without_union) ≡ None → bad ≡ false
-is_good true d b u h = cc
-is_good false true b u h = cc
-is_good false false true u h = cc
-is_good false false false u h = refl
-
--- a refusal for memory, where no other applies
-pub refused : (fault : RemaskFault) (here stated : Option RemaskFault) → IsRemaskRefusal fault here → here ≡ None → stated ≡ None → IsRemaskRefusal fault stated
-refused fault None None is h k = is
-refused fault (Some x) stated is h k = cc
-refused fault None (Some x) is h k = cc
-
--- a check that didn't pass has its refusal
-pub refused_as : (fault : RemaskFault) (stated : Option RemaskFault) → Err fault ≡ unless_refused (tt {0}) stated → IsRemaskRefusal fault stated
-refused_as fault None h = cc
-refused_as fault (Some x) h = cc

@@ -32,8 +32,3 @@ get_map_from f k (x ∷ xs) (suc j) y is =
     let rest = get_map_from f (suc k) xs j y is in
     let place : j + suc k ≡ suc j + k = omega arith in
     (rest.0, rest.1, rest.2 ∙ ap (λ (n : ℕ). f n rest.0) place)
-
--- where a map changes one place alone, it sets that place
-pub map_from_kept : {A : Type 0} (f : ℕ → A → A) (k : ℕ) (xs : List A) → AtEach (λ j x. f j x ≡ x) k xs → map_from f k xs ≡ xs
-map_from_kept f k [] kept = refl
-map_from_kept f k (x ∷ xs) kept = ap (λ y. y ∷ map_from f (suc k) xs) kept.0 ∙ ap (λ ys. x ∷ ys) (map_from_kept f (suc k) xs kept.1)

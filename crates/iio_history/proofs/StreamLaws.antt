@@ -1,28 +1,20 @@
 -- What a connection sent: what more bytes make whole goes by what was begun alone.
-use Rattle.std.proofs.Common.{◌≡◌, ℕ, ◌||◌, Bool, true, false, List, [], ◌∷◌, ◌++◌, map, Option, None, Some, is_some, cond, refl, sym, ap, ◌∙◌}
-use Rattle.std.proofs.lemmas.List.{map-append, append_assoc}
+use Rattle.std.proofs.Common.{◌≡◌, ℕ, ◌||◌, Bool, true, false, List, [], ◌∷◌, ◌++◌, map, Some, is_some, cond, refl, sym, ap, ◌∙◌}
+use Rattle.std.proofs.lemmas.List.{map-append}
 use Rattle.std.specs.Str.{bytes_eq}
 use Rattle.std.proofs.lemmas.Slice.Eq.{bytes_eq-Decides}
-use Rattle.iiod_grammar.specs.Stream.{Item, Scanner, InLine, after_byte, items_from, scanner_after, items_of}
+use Rattle.iiod_grammar.specs.Stream.{Scanner, InLine, after_byte, scanner_after}
 use Rattle.iio_history.specs.Event.{Event, Arrived}
 use Rattle.iio_history.specs.Registry.{Setup, ConnectionRecord, Registry, user_named}
 use Rattle.iio_history.specs.Fold.{user_after, newcomers, new_user, users_after, registry_after}
 use Rattle.iio_history.specs.Told.{Line, user_of, line_told, stream_of, begun_of}
 use Rattle.iio_history.specs.Machine.{begun_after, line_after, new_line}
-use Rattle.iio_history.specs.Transcript.{line_named, begun_by}
 
 -- ---- bytes
 
 begun_more : (s : Scanner) (before bytes : List ℕ) → scanner_after s (before ++ bytes) ≡ scanner_after (scanner_after s before) bytes
 begun_more s [] bytes = refl
 begun_more s (b ∷ bs) bytes = begun_more (after_byte s b).next bs bytes
-
-items_more : (s : Scanner) (before bytes : List ℕ) → items_from s (before ++ bytes) ≡ items_from s before ++ items_from (scanner_after s before) bytes
-items_more s [] bytes = refl
-items_more s (b ∷ bs) bytes =
-    let one = after_byte s b in
-    ap (λ (items : List Item). one.items ++ items) (items_more one.next bs bytes)
-    ∙ sym (append_assoc one.items (items_from one.next bs) (items_from (scanner_after one.next bs) bytes))
 
 -- ---- connections
 
@@ -124,28 +116,3 @@ lines_are s e h =
 pub users_are : (h : List Event) (us : List ConnectionRecord) → map user_of (map (line_told h) us) ≡ us
 users_are h [] = refl
 users_are h (u ∷ us) = ap (λ (vs : List ConnectionRecord). u ∷ vs) (users_are h us)
-
--- what a connection has begun
-abbrev begun_with : Option Line → Scanner
-begun_with o = elim o [ None ↦ InLine [] | Some l ↦ l.begun ]
-
-begun_in_by : (name : List ℕ) (h : List Event) (us : List ConnectionRecord) → (has_user name us ≡ false → stream_of name h ≡ [])
-    → begun_by name (map (line_told h) us) ≡ begun_of (stream_of name h)
-begun_in_by name h [] absent = ap begun_of (sym (absent refl))
-begun_in_by name h (u ∷ us) absent = by_name (bytes_eq u.who name) refl absent (λ a. begun_in_by name h us a)
-  where
-    by_name : (x : Bool) → bytes_eq u.who name ≡ x → (is_some (cond x (Some u) (user_named name us)) ≡ false → stream_of name h ≡ [])
-        → ((has_user name us ≡ false → stream_of name h ≡ []) → begun_with (line_named name (map (line_told h) us)) ≡ begun_of (stream_of name h))
-        → begun_with (cond x (Some (line_told h u)) (line_named name (map (line_told h) us))) ≡ begun_of (stream_of name h)
-    by_name true is absent rest = ap (λ (w : List ℕ). begun_of (stream_of w h)) ((bytes_eq-Decides u.who name).0 is)
-    by_name false is absent rest = rest absent
-
-pub begun_in_is : (s : Setup) (h : List Event) (name : List ℕ) → begun_by name (map (line_told h) (registry_after s h).users) ≡ begun_of (stream_of name h)
-begun_in_is s h name = begun_in_by name h (registry_after s h).users (absent_sent s h name)
-
--- the items that further bytes make whole are those of the whole stream beyond those before
-pub new_items : (s : Setup) (h : List Event) (name bytes : List ℕ)
-    → items_of (stream_of name h ++ bytes) ≡ items_of (stream_of name h) ++ items_from (begun_by name (map (line_told h) (registry_after s h).users)) bytes
-new_items s h name bytes =
-    items_more (InLine []) (stream_of name h) bytes
-    ∙ ap (λ (begun : Scanner). items_of (stream_of name h) ++ (items_from begun bytes)) (sym (begun_in_is s h name))

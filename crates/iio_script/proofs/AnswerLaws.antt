@@ -70,10 +70,6 @@ takes_unended drivers input front h left is cut follows =
 pub unended_none : (drivers : ℕ) (input : List ℕ) → TakesUnended drivers input (Some input)
 unended_none drivers input = record { count = 0; rest = refl; before = 0; near = omega arith; head = refl }
 
-pub unended_first : (drivers : ℕ) (left : Option (List ℕ)) → IfSome left (λ input. TakesUnended drivers input left)
-unended_first drivers None = tt
-unended_first drivers (Some input) = unended_none drivers input
-
 -- ---- the script
 
 -- more was written

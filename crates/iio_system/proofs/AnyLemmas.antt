@@ -4,7 +4,6 @@ use Rattle.std.specs.Prelude.{◌==◌, ◌&&◌, not}
 use Rattle.iio_base.specs.Refusals.{first_refusal, unless_refused}
 use Rattle.iio_text.specs.declared.errors.Errno.{Errno}
 use Rattle.iio_layout.specs.Shape.{ShapeRecord}
-use Rattle.iio_desc.specs.Description.{DeviceHead}
 use Rattle.iio_desc.specs.Kind.{Kind, Input, Output, Average, is_average, is_input, is_output, is_over}
 use Rattle.iio_sensor.specs.Driver.{Driver}
 use Rattle.iio_device.specs.declared.plug.Plug.{Plug}
@@ -18,12 +17,9 @@ use Rattle.iio_core.specs.Machine.{Machine, Station, station_at, with_station, a
 use Rattle.iio_core.proofs.PlaceLists.{placed_from}
 use Rattle.iio_system.specs.declared.any_device.AnyDevice.{AnyDevice}
 use Rattle.iio_system.specs.declared.any_device.AnyDevice.TheVariants as any
-use Rattle.iio_system.specs.declared.out_device.OutDevice.{OutDevice}
-use Rattle.iio_system.specs.OutStation.{KeepsOut}
 use Rattle.iio_system.specs.Places.{is_hosted}
 use Rattle.iio_system.specs.Averages.{has_inner}
-use Rattle.iio_system.specs.Acting.{Keeps, KeepsCaptures}
-use Rattle.iio_system.specs.Station.{KeepsFront, KeepsHead, any_station, view_by}
+use Rattle.iio_system.specs.Station.{any_station}
 
 -- ---- maps with places
 
@@ -111,40 +107,7 @@ module _ (front : Front) (dev : ℕ) (plain : is_average (kind_at front dev) ≡
 
 -- ---- devices
 
-head_by : (n n' : List ℕ) (s s' : ShapeRecord) → n' ≡ n → s' ≡ s
-    → (let x : DeviceHead = record { name = n'; kind = Input; shape = s' } in x) ≡ (let y : DeviceHead = record { name = n; kind = Input; shape = s } in y)
-head_by n n' s s' name shape =
-    ap (λ (m : List ℕ). (let x : DeviceHead = record { name = m; kind = Input; shape = s' } in x)) name
-    ∙ ap (λ (z : ShapeRecord). (let x : DeviceHead = record { name = n; kind = Input; shape = z } in x)) shape
-
 module _ {X : Type 0} {V : X → Type 0} where
-  -- an input device keeps what its view keeps
-  abbrev pub InputKeeps : (Plug X V → Driver) → (x y : AnyDevice X V) → Type 0
-  InputKeeps drive (any.Input d) (any.Input d') = Keeps (view_by drive d.device) (view_by drive d'.device)
-  InputKeeps drive x y = ⊥
-
-  abbrev pub InputKeepsAll : (Plug X V → Driver) → (x y : AnyDevice X V) → Type 0
-  InputKeepsAll drive (any.Input d) (any.Input d') = KeepsCaptures (view_by drive d.device) (view_by drive d'.device)
-  InputKeepsAll drive x y = ⊥
-
-  pub keeps_head : (drive : Plug X V → Driver) (x y : AnyDevice X V) → InputKeeps drive x y → KeepsHead x y
-  keeps_head drive (any.Input d) (any.Input d') k = record { front = head_by _ _ _ _ k.name k.shape; number = k.number }
-  keeps_head drive (any.Input d) (any.Output y) k = absurd k
-  keeps_head drive (any.Input d) (any.Average y) k = absurd k
-  keeps_head drive (any.Average x) y k = absurd k
-  keeps_head drive (any.Output x) y k = absurd k
-
-  pub keeps_in : (drive : Plug X V → Driver) (x y : AnyDevice X V) → InputKeepsAll drive x y → KeepsFront x y
-  keeps_in drive (any.Input d) (any.Input d') k =
-      record { head = record { front = head_by _ _ _ _ k.device.name k.device.shape; number = k.device.number }; captures = k.captures }
-  keeps_in drive (any.Input d) (any.Output y) k = absurd k
-  keeps_in drive (any.Input d) (any.Average y) k = absurd k
-  keeps_in drive (any.Average x) y k = absurd k
-  keeps_in drive (any.Output x) y k = absurd k
-
-  pub keeps_out : (x y : OutDevice) → KeepsOut x y → KeepsFront {X = X} {V = V} (any.Output x) (any.Output y)
-  keeps_out x y k = record { head = record { front = k.head; number = k.number }; captures = refl }
-
   -- what holds of a device's place holds whatever it samples by
   module _ (p q : Plug X V → Driver) where
     pub attached_as : (t : ℕ) (d : AnyDevice X V) → is_attached t (attachment_of (any_station p d)) ≡ is_attached t (attachment_of (any_station q d))

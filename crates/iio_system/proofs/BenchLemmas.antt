@@ -118,10 +118,6 @@ monitor_stands change st = standing st _ refl refl refl refl (λ j. refl) refl
 pub none_attached : (t : ℕ) (st : Station) → is_empty st.members ≡ true → is_attached t (attachment_of st) ≡ false
 none_attached t st e = rw e (grind arith)
 
-idle_answer : (plugged empty : Bool) (x : ⊤) → cond plugged empty false ≡ true → empty ≡ true
-idle_answer true empty x e = e
-idle_answer false empty x e = absurd (cc)
-
 answered_empty : (st : Station) (x : ⊤) → trigger_answer st ≡ Ok x → is_empty st.members ≡ true
 answered_empty st x e = by st.site.plugged (is_empty st.members) refl refl e
   where

@@ -24,9 +24,6 @@ abbrev pub has_end : List Item → Bool
 has_end [] = false
 has_end (item ∷ items) = is_end item || has_end items
 
-Agrees : Scanned → Type 0
-Agrees x = has_end x.items ≡ is_at_end x.next
-
 payload_is_no_end : (pending : Pending) (payload : List ℕ) → is_end (with_payload pending payload) ≡ false
 payload_is_no_end (OfWrite device target) payload = refl
 payload_is_no_end (OfWriteBuf device) payload = refl

@@ -161,12 +161,6 @@ module _ {X : Type 0} {V : X → Type 0} (driver : Plug X V → Driver) where
     pub text : before ++ texts s m (handlings trigger (entries_at m.triggers trigger)) ≡ now ++ texts s state (handlings trigger entries)
     pub last : steps s m (handlings trigger (entries_at m.triggers trigger)) ≡ steps s state (handlings trigger entries)
 
-  pub left_first : (s : Setup) (m : Told) (trigger high : ℕ) (b : Bench X V) (cs : List (Connection Seat)) (before : List ℕ) → Holds driver s m b cs
-      → InOrder 0 high (entries_at m.triggers trigger)
-      → IsLeft s m trigger 0 high b cs before before
-  left_first s m trigger high b cs before h order =
-      record { state = m; entries = entries_at m.triggers trigger; there = refl; holds = h; order = order; text = refl; last = refl }
-
   module _ (s : Setup) (m : Told) (trigger low high : ℕ) (b : Bench X V) (cs : List (Connection Seat)) (before now : List ℕ)
       (x : IsLeft s m trigger low high b cs before now) where
     left_nothing : x.entries ≡ [] → Plays driver (handlings trigger) s m trigger b cs before now

@@ -1,6 +1,6 @@
 -- A bench as it is made: one device after another.
-use Rattle.std.proofs.Common.{◌≡◌, ℕ, zero, suc, ◌+◌, ◌-◌, ◌^◌, ◌<◌, ◌≤◌, true, false, not, List, [], ◌∷◌, ◌++◌, map, fold, length, slice_get, slice_index_or, take, Option, Some, None, IfSome, option_map, refl, sym, ap, subst, ◌∙◌, arith}
-use Rattle.std.specs.Prelude.{◌||◌, All}
+use Rattle.std.proofs.Common.{◌≡◌, ℕ, zero, suc, ◌+◌, ◌-◌, ◌<◌, ◌≤◌, true, false, not, List, [], ◌∷◌, ◌++◌, map, fold, length, slice_get, slice_index_or, take, Option, Some, None, IfSome, option_map, refl, sym, ap, subst, ◌∙◌, arith}
+use Rattle.std.specs.Prelude.{All}
 use Rattle.std.specs.List.{list_any}
 use Rattle.std.proofs.lemmas.List.{length-append}
 use Rattle.iio_sensor.specs.Driver.{Driver}
@@ -136,10 +136,6 @@ take_next {A} xs n x at = ap (λ (k : ℕ). take k xs) (let one : n + 1 ≡ suc 
 
 -- ---- devices that are added, one after another
 
-nothing_more : {A : Type 0} (xs : List A) → xs ≡ xs ++ []
-nothing_more [] = refl
-nothing_more {A} (x ∷ xs) = ap (λ (ys : List A). x ∷ ys) (nothing_more xs)
-
 append_one : {A : Type 0} (xs ys : List A) (x : A) → (xs ++ x ∷ []) ++ ys ≡ xs ++ x ∷ ys
 append_one [] ys x = refl
 append_one {A} (z ∷ zs) ys x = ap (λ (ws : List A). z ∷ ws) (append_one zs ys x)
@@ -185,22 +181,6 @@ module _ {A : Type 0} where
 
   module _ {E : Type 0} (made : E → Station) (headed : E → DeviceHead) (f : A → Station) (face : A → DeviceHead) (number captures : A → ℕ) (descs : List E)
       (before : List A) where
-    pub none_added : IsNumbered number before → All (λ (d : A). captures d ≡ 0) before → Adding made headed f face number captures descs before [] descs before
-    none_added numbered unmoved =
-        record {
-          whole = refl;
-          many = omega arith;
-          stations = nothing_more (map f before);
-          fronts = nothing_more (map face before);
-          numbered = numbered;
-          unmoved = unmoved;
-        }
-
-    -- where none is left, all were added
-    pub all_added : (done rest : List E) (devices : List A) → Adding made headed f face number captures descs before done rest devices → rest ≡ []
-        → done ≡ descs
-    all_added done rest devices adding none = nothing_more done ∙ ap (λ (xs : List E). done ++ xs) (sym none) ∙ adding.whole
-
     module _ (done rest left : List E) (devices devices' : List A) (x : E) (next : rest ≡ x ∷ left)
         (adding : Adding made headed f face number captures descs before done rest devices) where
       there : done ++ x ∷ left ≡ descs
@@ -209,11 +189,6 @@ module _ {A : Type 0} where
       -- it is one of the description's, and there is a number for it
       pub one_next : (P : E → Type 0) → All P descs → P x
       one_next P all = left_of P done (x ∷ left) (subst (λ (xs : List E). All P xs) (sym there) all) 0 x (omega arith)
-
-      pub few_next : (n : ℕ) → length before + length descs ≤ n → length devices < n
-      few_next n few =
-          let all : length done + length (x ∷ left) ≡ length descs = sym (length-append done (x ∷ left)) ∙ ap (λ (xs : List E). length xs) there in
-          omega (arith, few, all, adding.many)
 
       pub added : (d : A) → devices' ≡ devices ++ d ∷ [] → f d ≡ made x → face d ≡ headed x → number d ≡ length devices → captures d ≡ 0
           → Adding made headed f face number captures descs before (done ++ x ∷ []) left devices'
@@ -240,14 +215,6 @@ module _ {A : Type 0} where
           })
 
 module _ {A : Type 0} (f : A → Station) (face : A → DeviceHead) (number captures : A → ℕ) (before : List A) where
-  -- an output device has no listed masks
-  pub unlisted_next : (descs done rest left : List OutputRecord) (devices : List A) (x : OutputRecord) → rest ≡ x ∷ left
-      → Adding first_out_station output_head f face number captures descs before done rest devices
-      → All (λ (d : OutputRecord). d.shape.listed ≡ []) descs → x.shape.listed ≡ []
-  unlisted_next descs done rest left devices x next adding all =
-      one_next first_out_station output_head f face number captures descs before done rest left devices devices x next adding
-      (λ (d : OutputRecord). d.shape.listed ≡ []) all
-
   -- the channels of a device that was there before
   pub base_shape : (devices : List A) (more : List DeviceHead) (k : ℕ) (a : A) → map face devices ≡ map face before ++ more → k < length before
       → a ≡ slice_index_or devices k a → shape_in (map face before) k ≡ (face a).shape

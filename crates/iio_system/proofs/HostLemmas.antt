@@ -1,6 +1,6 @@
 -- The trigger by which a member joins, or why there is none.
-use Rattle.std.proofs.Common.{◌≡◌, ℕ, ◌≤◌, true, List, ◌∷◌, slice_get, Option, Some, None, Result, Ok, Err, refl, sym, ap, ◌∙◌}
-use Rattle.std.specs.Prelude.{◌||◌, ⊤}
+use Rattle.std.proofs.Common.{◌≡◌, ℕ, true, List, slice_get, Option, Some, None, Result, Ok, Err, refl, ap, ◌∙◌}
+use Rattle.std.specs.Prelude.{⊤}
 use Rattle.std.specs.Option.{option_map_or}
 use Rattle.iio_base.specs.Refusals.{first_refusal, unless_refused}
 use Rattle.iio_kfifo.specs.Queue.{Queue}
@@ -35,6 +35,3 @@ module _ (states : List State) (d : DeviceView Queue) (mask t : ℕ) (own : d.si
   pub host_ok : (s : State) (u : ⊤) → slice_get states t ≡ Some s → Ok u ≡ joining_of (first_refusal (join_faults d mask (Some s)))
       → first_refusal (faults_at states d mask) ≡ None
   host_ok s u there e = host_there s there ∙ ok_is _ u e
-
-  pub host_may : (s : State) → slice_get states t ≡ Some s → first_refusal (faults_at states d mask) ≡ None → first_refusal (join_faults d mask (Some s)) ≡ None
-  host_may s there e = sym (host_there s there) ∙ e

@@ -1,6 +1,6 @@
 -- Members that come to an input device and go, beside its inner members.
-use Rattle.std.proofs.Common.{◌≡◌, ℕ, ◌+◌, ◌-◌, ◌^◌, ◌<◌, ◌≤◌, Bool, true, false, List, [], ◌∷◌, ◌++◌, map, length, Option, Some, None, Result, Ok, Err, refl, sym, ap, subst, ◌∙◌, arith, cond, option_map}
-use Rattle.std.specs.Prelude.{◌==◌, ◌&&◌, ◌||◌, ◌≢◌, All, bit_or, not, find, is_none, is_some}
+use Rattle.std.proofs.Common.{◌≡◌, ℕ, ◌+◌, ◌-◌, ◌^◌, ◌<◌, Bool, true, false, List, [], ◌∷◌, ◌++◌, map, length, Option, Some, None, Result, Ok, Err, refl, sym, ap, subst, ◌∙◌, arith, cond, option_map}
+use Rattle.std.specs.Prelude.{◌==◌, ◌||◌, All, bit_or, not, find, is_none, is_some}
 use Rattle.std.specs.List.{AllByRecursion, IsDistinct, list_any}
 use Rattle.std.specs.Int.Bits.{or_zero_r}
 use Rattle.std.proofs.lemmas.Bool.{eqb-true}
@@ -24,7 +24,7 @@ use Rattle.iio_text.specs.declared.errors.Errno.{Errno}
 use Rattle.iio_text.specs.declared.errors.Errno.TheVariants.{EBADF, EINVAL, ENODEV}
 use Rattle.iiod_session.specs.declared.iio.No.{No}
 use Rattle.iiod_session.specs.declared.iio.No.TheVariants.{Errno as NoErrno, Mem as NoMem}
-use Rattle.iio_core.specs.Calls.{is_inner_of, station_after_join, station_after_leave, newcomer, station_after_remask, with_mask}
+use Rattle.iio_core.specs.Calls.{is_inner_of, station_after_join, newcomer, station_after_remask, with_mask}
 use Rattle.iio_core.specs.Machine.{Member, Station, is_seat_of, masks_of, member_in, scans_in, without}
 use Rattle.iio_system.specs.declared.in_device.Inner.{Inner}
 use Rattle.iio_system.specs.declared.seat.Seat.{Seat}
@@ -401,12 +401,6 @@ module _ (mask : Mask) (j number : ℕ) (shape : ShapeRecord) (inners : List Inn
         ∙ inner_joined_named mask.bits capacity j inners old below none,
     joins.2 ∙ sym (place_taken_named inners number old trigger),
   )
-
-  -- want of memory changes nothing
-  pub inner_refused : (refusal : No) (old new : Station) (trigger trigger' : State) (capacity : ℕ)
-      → JoinsAny mask capacity false None number shape (Err refusal) old new trigger trigger'
-      → JoinsAny mask capacity false (Some j) number shape (Err refusal) (named inners old) (named inners new) trigger trigger'
-  inner_refused refusal old new trigger trigger' capacity joins = (joins.0, ap (named inners) joins.1, joins.2)
 
 -- ---- the mask of all channels
 

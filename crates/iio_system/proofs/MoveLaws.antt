@@ -1,6 +1,6 @@
 -- What happens to a bench beside its connections' calls is what the history says.
 use Rattle.std.proofs.Common.{◌≡◌, ℕ, zero, suc, ◌+◌, ◌-◌, ◌^◌, ◌<◌, ◌≤◌, ℤ, Bool, true, false, not, List, [], ◌∷◌, ◌++◌, map, length, codes, slice_get, slice_index_or, Option, Some, None, refl, sym, ap, ◌∙◌, subst, append-nil, arith}
-use Rattle.std.specs.Prelude.{◌==◌, ◌&&◌, All, unwrap_or}
+use Rattle.std.specs.Prelude.{◌&&◌, All, unwrap_or}
 use Rattle.std.specs.Option.{option_map_or}
 use Rattle.std.specs.Fmt.{signed_decimal}
 use Rattle.std.proofs.lemmas.Bool.Decides.{nat_tests}
@@ -140,9 +140,6 @@ room_word (Some (Gave gave.Underrun)) members room is = refl
 room_word (Some (Gave gave.Idle)) members room is = refl
 
 -- ---- captures
-
-pub rise_same : (k : ℕ) (old new : List ℕ) → new ≡ old → RiseBy k old new
-rise_same k old new same = λ n all i d less. let h = all i d (subst (λ (ns : List ℕ). i < length ns) same less) in rw same (omega (arith, h))
 
 -- captures that have not come to their end
 pub not_ended : (captures : List ℕ) (dev : ℕ) → All (λ n. n < 2 ^ 64 - 1) captures → option_map_or is_last (slice_get captures dev) false ≡ false

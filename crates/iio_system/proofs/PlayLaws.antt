@@ -1,5 +1,5 @@
 -- What feeds and drops make of a bench and its connections.
-use Rattle.std.proofs.Common.{◌≡◌, ℕ, suc, zero, ◌<◌, ◌≤◌, Bool, true, false, cond, List, [], ◌∷◌, ◌++◌, ◌+◌, nat_lt, length, length-append, map, get_or, set, Option, Some, None, is_some, Result, Ok, Err, OnOk, All, refl, sym, ap, ◌∙◌, subst, arith}
+use Rattle.std.proofs.Common.{◌≡◌, ℕ, suc, zero, ◌<◌, ◌≤◌, Bool, true, false, cond, List, [], ◌∷◌, ◌++◌, ◌+◌, nat_lt, length, length-append, map, get_or, set, Option, Some, None, is_some, Result, Ok, Err, OnOk, refl, sym, ap, ◌∙◌, subst, arith}
 use Rattle.std.specs.List.{position}
 use Rattle.std.proofs.lemmas.Bool.Decides.{nat_tests}
 use Rattle.std.proofs.lemmas.List.Elements.{All-push}
@@ -22,15 +22,14 @@ use Rattle.iio_system.specs.declared.seat.Seat.{Seat}
 use Rattle.iio_system.specs.declared.step.Step.{Step as CodeStep}
 use Rattle.iio_system.specs.declared.step.Step.TheVariants as code
 use Rattle.iio_system.specs.Step.{step_view}
-use Rattle.iio_system.specs.Bench.{Kept, captures_of, front_of, kept_of, machine_of}
+use Rattle.iio_system.specs.Bench.{Kept, front_of, kept_of, machine_of}
 use Rattle.iio_system.specs.Feeding.{AreOwning, Feeds, IsOwning, left_by}
 use Rattle.iio_history.specs.Words.{dropped_word}
 use Rattle.iio_system.specs.Seat.{seen_of}
-use Rattle.iio_system.specs.Standing.{Holds, IsNew, Makes, MakesFeed, MakesStep, RiseBy, has_room, name_by, names_with}
+use Rattle.iio_system.specs.Standing.{Holds, IsNew, Makes, MakesFeed, MakesStep, has_room, name_by, names_with}
 use Rattle.iio_system.specs.System.{Stands}
 use Rattle.iio_system.proofs.DropLaws.{dropped_nowhere, dropped_there}
 use Rattle.iio_system.proofs.FeedLaws.{fed_new, fed_there}
-use Rattle.iio_system.proofs.ItemLemmas.{room_less}
 use Rattle.iio_system.proofs.NameLaws.{is_named, known_at, none_named, room_left, unknown}
 use Rattle.iio_system.proofs.OwnLaws.{with_session}
 
@@ -184,18 +183,3 @@ module _ {X : Type 0} {V : X → Type 0} (driver : Plug X V → Driver) where
       → OnOk r (Makes driver (step_view t) b b' cs cs' before after) → OnOk r (MakesStep driver t b b' cs cs' before after)
   made_step t b b' cs cs' before after (Err e) makes = tt
   made_step t b b' cs cs' before after (Ok x) makes = λ s m room holds. makes s m holds
-
-  pub made_feed : {A : Type 0} (name bytes : List ℕ) (b b' : Bench X V) (cs cs' : List (Connection Seat)) (before after : List ℕ) (r : Result A Mem)
-      → OnOk r (MakesFeed driver name bytes b b' cs cs' before after) → OnOk r (MakesStep driver (code.Feed name bytes) b b' cs cs' before after)
-  made_feed name bytes b b' cs cs' before after (Err e) makes = tt
-  made_feed name bytes b b' cs cs' before after (Ok x) makes =
-      λ s m room holds. makes s m (room_less (suc (length bytes)) (1 + length bytes) m.stations (omega arith) room) holds
-
-pub rise_none : {X : Type 0} {V : X → Type 0} (b b' : Bench X V) → kept_of b' ≡ kept_of b → RiseBy 32 (captures_of b) (captures_of b')
-rise_none b b' kept n all =
-    subst (λ (cs : List ℕ). All (λ (c : ℕ). c ≤ n + 32) cs) (sym (ap (λ (k : Kept). k.captures) kept))
-    (λ i c within. let less = all i c within in omega (arith, less))
-
-pub kept_owned : {X : Type 0} {V : X → Type 0} (b b' : Bench X V) (cs : List (Connection Seat)) → front_of b' ≡ front_of b → AreOwning seen_of (front_of b) cs
-    → AreOwning seen_of (front_of b') cs
-kept_owned b b' cs same owned = subst (λ (f : Front). AreOwning seen_of f cs) (sym same) owned

@@ -5,7 +5,7 @@ use Rattle.std.specs.Option.{option_map_or}
 use Rattle.std.proofs.lemmas.Bool.Decides.{nat_tests}
 use Rattle.iio_base.specs.Refusals.{first_refusal, unless_refused}
 use Rattle.iio_text.specs.declared.errors.Errno.{Errno}
-use Rattle.iio_text.specs.declared.errors.Errno.TheVariants.{EBADF, ENODEV}
+use Rattle.iio_text.specs.declared.errors.Errno.TheVariants.{EBADF}
 use Rattle.iio_mask.specs.declared.Mask.{Mask}
 use Rattle.iio_desc.specs.declared.description.TriggerDesc.{TriggerDesc}
 use Rattle.iio_kfifo.specs.Queue.{Queue}
@@ -14,7 +14,6 @@ use Rattle.iio_device.specs.declared.membership.Membership.{Membership}
 use Rattle.iio_device.specs.declared.plug.Plug.{Plug}
 use Rattle.iio_device.specs.declared.roster.RemaskFault.{RemaskFault}
 use Rattle.iio_device.specs.declared.roster.RemaskFault.TheVariants as fault
-use Rattle.iio_device.specs.declared.roster.RemaskRefused.{RemaskRefused}
 use Rattle.iio_device.specs.Device.{DeviceView, RemasksDevice, is_bad_mask, remask_faults}
 use Rattle.iio_device.specs.Members.{member_of as membership_of}
 use Rattle.iio_device.specs.Site.{is_empty}
@@ -28,12 +27,12 @@ use Rattle.iiod_session.specs.No.{remask_no}
 use Rattle.iiod_session.specs.Seat.{Answers}
 use Rattle.iio_core.specs.Devices.{queue_waits}
 use Rattle.iio_core.proofs.DeviceRemasks.{refusals_are, remasked_is, waited_is}
-use Rattle.iio_system.specs.Acting.{Acts, KeepsCaptures, has_member}
+use Rattle.iio_system.specs.Acting.{Acts, has_member}
 use Rattle.iio_system.specs.Remasking.{remask_answer}
 use Rattle.iio_system.specs.declared.any_device.AnyDevice.{AnyDevice}
 use Rattle.iio_system.specs.Station.{any_front, any_station, member_of, station_of}
 use Rattle.iio_system.proofs.BenchLemmas.{KeepsStanding, acts_stand, inner_mapped, standing}
-use Rattle.iio_system.proofs.IioLemmas.{IsUnder, keeps_along, told_absent}
+use Rattle.iio_system.proofs.IioLemmas.{IsUnder, told_absent}
 use Rattle.iio_system.proofs.ToldLemmas.{fronts_by, machine_by, shape_is, told_acts}
 
 abbrev lost_of : Queue → ℕ
@@ -43,11 +42,6 @@ abbrev bound_of : Queue → ℕ
 bound_of q = q.capacity
 
 -- ---- what it keeps
-
-pub remasks_keep : (n : ℕ) (mask : Mask) (tail : Queue) (r : Result Queue (RemaskRefused Queue)) (v v' : DeviceView Queue)
-    → RemasksDevice lost_of n mask tail r v v' → KeepsCaptures v v'
-remasks_keep n mask tail (Ok q) v v' j = keeps_along v _ v' (record { device = record { name = refl; number = refl; shape = refl }; captures = refl }) j.2
-remasks_keep n mask tail (Err x) v v' j = keeps_along v _ v' (record { device = record { name = refl; number = refl; shape = refl }; captures = refl }) j.2
 
 empty_map : {A B : Type 0} (f : A → B) (xs : List A) → is_empty (map f xs) ≡ is_empty xs
 empty_map f [] = refl
@@ -74,10 +68,6 @@ module _ (id : MemberId) (mask : Mask) (scans : ℕ) (v v' : DeviceView Queue) w
   refused_by : (e : Errno) → answer ≡ Err e → station_of v' ≡ station_of v
       → Acts (station_after_remask id.number mask.bits scans) answer (Err (NoErrno e)) (station_of v) (station_of v')
   refused_by e is same = rw is (refl, same)
-
-  pub gone : v.site.plugged ≡ false → v' ≡ v
-      → Acts (station_after_remask id.number mask.bits scans) answer (Err (NoErrno ENODEV)) (station_of v) (station_of v')
-  gone e same = refused_by ENODEV (rw e refl) (ap station_of same)
 
   pub dead : v.site.plugged ≡ true → has_member id v.standing.members ≡ false → v' ≡ v
       → Acts (station_after_remask id.number mask.bits scans) answer (Err (NoErrno EBADF)) (station_of v) (station_of v')

@@ -3,23 +3,8 @@ use borrow.Rule.Slice.PartMut.{mid_of, put_mid, post_of}
 use lib.Lanes.{chunk, put_chunk}
 use Rattle.std.proofs.Common.{◌≡◌, ◌+◌, ◌-◌, ◌++◌, ◌≤◌, ◌∙◌, ℕ, List, length, take, drop, ap, sym, arith}
 use Rattle.std.proofs.Math.Seq.{take-append-add, take-append_seam}
-use Rattle.std.proofs.lemmas.List.{append_assoc, length-append, length-drop, length-take-le, take-append-drop, take-append-le, take-take, take_all}
+use Rattle.std.proofs.lemmas.List.{append_assoc, length-append, length-drop, length-take-le, take-append-le, take-take, take_all}
 use Rattle.std.proofs.lemmas.Simd.{put_chunk_is}
-
--- of a text that was put after the first bytes, its first bytes
-pub shorter : (before after text name : List ℕ) (at end : ℕ) → at ≤ length before → end ≤ length after → at + length name ≤ end
-    → take end after ≡ take at before ++ text → take (length name) text ≡ name
-    → take (at + length name) after ≡ take at before ++ name
-shorter before after text name at end fits there most put is =
-    let front = take at before in
-    let long : length front ≡ at = length-take-le at before fits in
-    let whole : length (take end after) ≡ end = length-take-le end after there in
-    ap (λ xs. take (at + length name) xs) (sym (take-append-drop end after))
-    ∙ take-append-le (at + length name) (take end after) (drop end after) (omega (arith, most, whole))
-    ∙ ap (λ xs. take (at + length name) xs) put
-    ∙ ap (λ n. take (n + length name) (front ++ text)) (sym long)
-    ∙ take-append-add front text (length name)
-    ∙ ap (λ xs. front ++ xs) is
 
 -- what was printed stands, and the line after it
 pub line_stands : (old more room after final line : List ℕ) (start n end : ℕ) → start ≡ length old → room ≡ take (start + n) old ++ more

@@ -1,11 +1,11 @@
 -- What a guard is told, as the items that it decides of.
-use Rattle.std.proofs.Common.{◌≡◌, ℕ, ◌<◌, ◌≤◌, ◌&&◌, ◌||◌, min, nat_lt, not, Bool, true, false, cond, List, [], ◌∷◌, length, Option, Some, None, Ok, Err, refl, sym, ap, ◌∙◌, arith}
+use Rattle.std.proofs.Common.{◌≡◌, ℕ, ◌<◌, ◌≤◌, ◌&&◌, min, nat_lt, Bool, true, false, cond, List, [], ◌∷◌, length, Option, Some, None, Ok, Err, refl, sym, ap, ◌∙◌, arith}
 use Rattle.std.specs.Str.{bytes_eq}
 use Rattle.std.proofs.lemmas.Bool.Decides.{nat_tests}
 use Rattle.iio_text.specs.declared.errors.Errno.TheVariants.{E2BIG, EFBIG}
 use Rattle.iiod_grammar.specs.declared.command.Command.{Command as CodeCommand}
 use Rattle.iiod_grammar.specs.declared.lines.TheConstants.{MAX_PAYLOAD}
-use Rattle.iiod_grammar.specs.Command.{Command as SaidCommand, Exit, Target, Write, WriteBuf}
+use Rattle.iiod_grammar.specs.Command.{Command as SaidCommand, Exit, Write, WriteBuf}
 use Rattle.iiod_grammar.specs.Stream.{Item, Said, Written, Streamed, End, items_from}
 use Rattle.iiod_grammar.specs.View.{command_view}
 use Rattle.iiod_session.specs.declared.watch.Seen.TheVariants.{Command, Refused, TooLong}
@@ -80,18 +80,6 @@ long_parts o (Said (Err why)) told = absurd told
 long_parts o (Said (Ok said)) told = absurd told
 long_parts o (Written device target payload) told = absurd told
 long_parts o (Streamed device payload) told = absurd told
-
--- what a WRITE or WRITEBUF is told of: its payload, or the end where that is too large
-payload_item : (o : Opens) (item : Item) (b : Bool) → may_part o item ≡ true → (not b || o.none) ≡ may_part o (cond b (End (Some EFBIG)) item)
-payload_item o item true may = refl
-payload_item o item false may = sym may
-
-pub write_parts : (o : Opens) (device : List ℕ) (target : Option Target) (count : ℕ)
-    → (not (nat_lt MAX_PAYLOAD count) || o.none) ≡ may_part o (item_by (Write device target count))
-write_parts o device target count = payload_item o (Written device target []) (nat_lt MAX_PAYLOAD count) refl
-
-pub stream_parts : (o : Opens) (device : List ℕ) (count : ℕ) → (not (nat_lt MAX_PAYLOAD count) || o.none) ≡ may_part o (item_by (WriteBuf device count))
-stream_parts o device count = payload_item o (Streamed device []) (nat_lt MAX_PAYLOAD count) refl
 
 within : (n most : ℕ) → nat_lt most (min n most) ≡ false
 within n most = let least : min n most ≤ most = omega arith in grind (arith, nat_tests, least)

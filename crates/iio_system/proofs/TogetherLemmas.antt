@@ -12,9 +12,6 @@ module _ {D : Type 0} (R : ℕ → D → D → Type 0) where
     pub done : (k : ℕ) (d d' : D) → k < i → slice_get old k ≡ Some d → slice_get new k ≡ Some d' → R k d d'
     pub rest : (k : ℕ) → i ≤ k → slice_get new k ≡ slice_get old k
 
-  pub partly_none : (old : List D) → Partly 0 old old
-  partly_none old = record { same = refl; done = λ k d d' less. absurd (omega (arith, less)); rest = λ k less. refl }
-
   pub partly_all : (i : ℕ) (old new : List D) → length old ≤ i → Partly i old new → Together R old new
   partly_all i old new all p =
       record { same = p.same; each = λ k d d' at at'. p.done k d d' (let within = inside old k d at in omega (arith, within, all)) at at' }

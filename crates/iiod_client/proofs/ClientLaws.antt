@@ -12,7 +12,7 @@ use Rattle.iiod_client.specs.Answer.{IsAnswer}
 use Rattle.iiod_client.specs.Ask.{Wanted, batch, question, size_for, open_line, readbuf_line, close_line, exit_line}
 use Rattle.iiod_client.specs.Awaited.{Plain, Scans}
 use Rattle.iiod_client.specs.ClientEnd.{EndsRefused, EndsEarly, EndsRefusing, Ends}
-use Rattle.iiod_client.specs.Exchange.{Fails, Exchanges, Reads, ReadsAll, Breaks, BreaksOf, Refuses}
+use Rattle.iiod_client.specs.Exchange.{Fails, Exchanges, Reads, Breaks, BreaksOf, Refuses}
 use Rattle.iiod_client.specs.Point.{Point, Goes, Stops, Heard, Wrote, WroteFront, point}
 use Rattle.iiod_client.specs.Printed.{scan_lines, refused_line}
 use Rattle.iiod_client.specs.Talk.{Read, AreReads, Stage, Reading, Closing, Leaving, IsStage, heard_at, said_before, line_at, sent_at, printed_at, awaits, got_by, heard_of, sent_for, printed_for}
@@ -280,10 +280,6 @@ batch_fails w reads got e a b c are same less g r = by e r
     by Malformed f = plain Malformed f
     by Cut f = plain Cut f
 
-pub all_read : (w : Wanted) (reads : List Read) (a b : Point) → AreReads w reads → got_by w reads ≡ w.scans
-    → Goes a (heard_of reads) (sent_for w reads) (printed_for w reads) b → ReadsAll {A = ⊤} w (Ok tt) a b
-all_read w reads a b are all g = (reads, (are, all), g)
-
 -- ---- the printing of a refusal
 
 pub refusal_ends : (w : Wanted) (n : ℕ) (end : ClientEnd) (a : Point) (l : Option (List ℕ)) (p : List ℕ) (s o t : Option (List ℕ))
@@ -327,12 +323,3 @@ refusal_ends w n end a l p s o t r is whole part = by end is whole
     by Memory is whole = inr stop
     by Malformed is whole = absurd is
     by Cut is whole = absurd is
-
-pub breaks_end : (w : Wanted) (end : ClientEnd) (a b : Point) → ((n : ℕ) → end ≡ Refused n → ⊥) → Breaks w end a b → Ends w end a b
-breaks_end w Done a b other f = absurd f
-breaks_end w (Refused n) a b other f = absurd (other n refl)
-breaks_end w LinkFault a b other f = f
-breaks_end w WriteFault a b other f = inl f
-breaks_end w Memory a b other f = inl f
-breaks_end w Malformed a b other f = f
-breaks_end w Cut a b other f = f

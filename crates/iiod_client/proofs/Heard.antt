@@ -33,13 +33,6 @@ heard_front a b x h = by a.left a.pending b.left b.pending h
     by None p m q h = tt
     by (Some xs) p m q (ys, e, f) = (q ++ ys, f)
 
-pub front_less : (a : Point) (x y : List ℕ) → HeardFront a (x ++ y) → HeardFront a x
-front_less a x y h = by a.left a.pending h
-  where
-    by : (l : Option (List ℕ)) (p : List ℕ) → HeardFront (point l p None None) (x ++ y) → HeardFront (point l p None None) x
-    by None p h = tt
-    by (Some xs) p (more, e) = (y ++ more, e ∙ append_assoc x y more)
-
 -- a front of what is heard next
 pub front_more : (a b : Point) (x y : List ℕ) → Heard a x b → HeardFront b y → HeardFront a (x ++ y)
 front_more a b x y h k = by a.left a.pending b.left b.pending h k
@@ -56,9 +49,6 @@ front_more a b x y h k = by a.left a.pending b.left b.pending h k
 pub wrote_none : (o : Option (List ℕ)) → Wrote o [] o
 wrote_none None = tt
 wrote_none (Some ys) = ap (λ (zs : List ℕ). Some zs) (sym (append-nil ys))
-
-pub wrote_same : (o p : Option (List ℕ)) → p ≡ o → Wrote o [] p
-wrote_same o p e = subst (λ (x : Option (List ℕ)). Wrote o [] x) (sym e) (wrote_none o)
 
 pub wrote_more : (a b c : Option (List ℕ)) (x y : List ℕ) → Wrote a x b → Wrote b y c → Wrote a (x ++ y) c
 wrote_more None b c x y h k = tt

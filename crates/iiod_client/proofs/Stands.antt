@@ -1,6 +1,6 @@
 -- What further bytes do to where an answer stands.
-use Rattle.std.proofs.Common.{◌≡◌, ◌≢◌, inl, inr, ℕ, ◌+◌, ◌<◌, ◌≤◌, List, [], ◌∷◌, ◌++◌, length, Some, Result, Ok, Err, true, refl, sym, ap, subst, ◌∙◌, arith, append_assoc, append-nil, length-append}
-use Rattle.std.specs.Prelude.{is_err, IsOk, OnErr, OnOk}
+use Rattle.std.proofs.Common.{◌≡◌, ◌≢◌, inl, inr, ℕ, ◌+◌, ◌≤◌, List, [], ◌∷◌, ◌++◌, length, Some, Result, Ok, Err, true, refl, sym, ap, subst, ◌∙◌, arith, append_assoc, append-nil, length-append}
+use Rattle.std.specs.Prelude.{is_err, OnErr}
 use Rattle.std.specs.List.{AllByRecursion, flat_map}
 use Rattle.std.proofs.lemmas.Bool.{ne_eqb, eq-eqb}
 use Rattle.iio_text.specs.Numbers.{number_of}
@@ -89,26 +89,6 @@ none_begun q text body (inl none) e = none.0
 none_begun q text body (inr b) e = absurd (omega (arith, blocks_some q text body b, ap length e))
 
 -- ---- a byte of a line
-
-pub length_byte : (q : Asked) (line body text : List ℕ) (b : ℕ) → InLength q line body text → b ≢ 10 → length line < 32
-    → InLength q (line ++ b ∷ []) body (text ++ b ∷ [])
-length_byte q line body text b s other room = record {
-  blocks = s.blocks;
-  begins = s.begins;
-  short = s.short;
-  begun = record { few = omega (arith, room, length-append line (b ∷ [])); no_lf = no_lf_more line b s.begun.no_lf other };
-  text_is = ap (λ xs. xs ++ b ∷ []) s.text_is ∙ append_assoc s.blocks line (b ∷ []);
-}
-
-pub mask_byte : (q : Asked) (n : ℕ) (line body text : List ℕ) (b : ℕ) → InMask q n line body text → b ≢ 10 → length line < 32
-    → InMask q n (line ++ b ∷ []) body (text ++ b ∷ [])
-mask_byte q n line body text b s other room = record {
-  first = s.first;
-  is_first = s.is_first;
-  begun = record { few = omega (arith, room, length-append line (b ∷ [])); no_lf = no_lf_more line b s.begun.no_lf other };
-  none = s.none;
-  text_is = ap (λ xs. xs ++ b ∷ []) s.text_is ∙ append_assoc (line_text s.first) line (b ∷ []);
-}
 
 pub length_long : (q : Asked) (line body text : List ℕ) (b : ℕ) → InLength q line body text → b ≢ 10 → length line ≡ 32 → IsMalformed q (text ++ b ∷ [])
 length_long q line body text b s other full = inr (inr (inl (record {
@@ -266,16 +246,6 @@ line_end Done q line body text p m d s a = absurd cc
 line_end (Refused n) q line body text p m d s a = absurd cc
 line_end Malformed q line body text p m d s a = absurd cc
 
-pub line_byte : (at : Place) (q : Asked) (line body text : List ℕ) (b : ℕ) → state_of at ≡ More → ((missing : ℕ) → at ≡ Data missing → ⊥)
-    → StandsAt at q line body text → b ≢ 10 → length line < 32
-    → StandsAt at q (line ++ b ∷ []) body (text ++ b ∷ [])
-line_byte Length q line body text b m d s other room = length_byte q line body text b s other room
-line_byte (Mask n) q line body text b m d s other room = mask_byte q n line body text b s other room
-line_byte (Data n) q line body text b m d s other room = absurd (d n refl)
-line_byte Done q line body text b m d s other room = absurd cc
-line_byte (Refused n) q line body text b m d s other room = absurd cc
-line_byte Malformed q line body text b m d s other room = absurd cc
-
 pub line_long : (at : Place) (q : Asked) (line body text : List ℕ) (b : ℕ) → state_of at ≡ More → ((missing : ℕ) → at ≡ Data missing → ⊥)
     → StandsAt at q line body text → b ≢ 10 → length line ≡ 32
     → IsMalformed q (text ++ b ∷ [])
@@ -359,10 +329,6 @@ is_length_line Malformed q line said body heard p m d k e f a = absurd cc
 pub on_err : {A E : Type 0} (r : Result A E) (P : Type 0) → is_err r ≡ true → OnErr r P → P
 on_err (Ok x) P e p = absurd (cc)
 on_err (Err x) P e p = p
-
-pub on_ok : {A E : Type 0} (r : Result A E) (P : Type 0) → IsOk r → OnOk r P → P
-on_ok (Ok x) P e p = p
-on_ok (Err x) P e p = absurd (cc)
 
 pub on_err_at : {A E : Type 0} (r : Result A E) (y : E) (P : Type 0) → r ≡ Err y → P → OnErr r P
 on_err_at {A} {E} r y P e p = subst (λ (x : Result A E). OnErr x P) (sym e) p

@@ -6,8 +6,8 @@ use Rattle.iio_core.specs.Front.{Front}
 use Rattle.iiod_connection.specs.declared.session_end.SessionEnd.{SessionEnd}
 use Rattle.iiod_connection.specs.declared.session_end.SessionEnd.TheVariants.{Eof, Ended, LinkFault, Memory}
 use Rattle.iiod_connection.specs.Place.{Place}
-use Rattle.iiod_connection.specs.SessionEnd.{Ends, Hears, Sends}
-use Rattle.iiod_connection.specs.Talks.{IsCut, IsLast, SendsAll, SoFar, Talks, Turns, Wrote}
+use Rattle.iiod_connection.specs.SessionEnd.{Ends}
+use Rattle.iiod_connection.specs.Talks.{IsCut, IsLast, SendsAll, SoFar, Talks, Turns}
 use Rattle.iiod_connection.proofs.TalkLaws.{append_nil, sends_none, sends_on, take_drop, turns_cut}
 
 cut_none : (left : Option (List ℕ)) → IsCut left [] left
@@ -47,48 +47,11 @@ so_more front front2 a m b left written mid mid2 right right2 new new2 piece n o
       cut = subst (λ (o : Option (List ℕ)). IsCut left (s.heard ++ take n piece) o) (sym f) (cut_more_of left mid right s.heard piece n s.cut t);
     }
 
-hears_all : (left mid right : Option (List ℕ)) (heard piece : List ℕ) (n : ℕ) → n ≡ 0 → IsCut left heard mid → IfSome mid (λ xs. Takes xs piece n right)
-    → IfSome mid (λ xs. xs ≡ []) → Hears Eof left heard right
-hears_all None mid right heard piece n none c t end = tt
-hears_all (Some xs) mid right heard piece n none (more, whole, rest) t end =
-    let k = took more piece n mid right rest t in
-    let empty : more ≡ [] = subst (λ (o : Option (List ℕ)). IfSome o (λ ys. ys ≡ [])) rest end in
-    (whole ∙ ap (λ (zs : List ℕ). heard ++ zs) empty ∙ append_nil heard, k.rest ∙ ap (λ (i : ℕ). Some (drop i more)) none ∙ ap (λ (zs : List ℕ). Some zs) empty)
-
--- the end of what comes
-pub so_eof : (front : Front) (a b : Place) (left written mid mid2 right right2 : Option (List ℕ)) (piece : List ℕ) (n : ℕ) → n ≡ 0 → b.stream.items ≡ []
-    → SoFar front a left written b mid mid2 → IfSome mid (λ xs. Takes xs piece n right) → IfSome mid (λ xs. xs ≡ []) → right2 ≡ mid2
-    → Ends (Talks front a) Eof left written right right2 b
-so_eof front a b left written mid mid2 right right2 piece n none settled s t end e = record {
-  heard = s.heard;
-  said = s.sends.said;
-  says = s.sends.talks;
-  hears = hears_all left mid right s.heard piece n none s.cut t end;
-  sends = subst (λ (o : Option (List ℕ)). Wrote written s.sends.said o) (sym e) s.sends.wrote;
-  leaves = settled;
-}
-
 -- a front part of what came was heard
 hears_front : (left right : Option (List ℕ)) (bytes p q : List ℕ) → bytes ≡ p ++ q → IsCut left bytes right
     → IfSome left (λ xs. (more : List ℕ) × (xs ≡ p ++ more))
 hears_front None right bytes p q f c = tt
 hears_front (Some xs) right bytes p q f (more, whole, rest) = (q ++ more, whole ∙ ap (λ (zs : List ℕ). zs ++ more) f ∙ append_assoc p q more)
-
-sends_front : (written written' : Option (List ℕ)) (said : List ℕ) → Wrote written said written' → Sends LinkFault written said written'
-sends_front None written' said w = tt
-sends_front (Some ys) written' said w = record { sent = said; rest = []; whole = sym (append_nil said); appended = w }
-
--- a recv that failed
-pub so_fault : (front : Front) (a b : Place) (left written mid mid2 right right2 : Option (List ℕ)) → SoFar front a left written b mid mid2 → right2 ≡ mid2
-    → Ends (Talks front a) LinkFault left written right right2 b
-so_fault front a b left written mid mid2 right right2 s e = record {
-  heard = s.heard;
-  said = s.sends.said;
-  says = s.sends.talks;
-  hears = hears_front left mid s.heard s.heard [] (sym (append_nil s.heard)) s.cut;
-  sends = sends_front written right2 s.sends.said (subst (λ (o : Option (List ℕ)). Wrote written s.sends.said o) (sym e) s.sends.wrote);
-  leaves = tt;
-}
 
 -- a turn that ended
 ends_so : (front : Front) (a b : Place) (bytes : List ℕ) (left written right new new2 : Option (List ℕ)) (end : SessionEnd) → IsCut left bytes right

@@ -2,7 +2,6 @@
 use Rattle.std.proofs.Common.{◌≡◌, ℕ, zero, suc, ◌<◌, ◌≤◌, ◌-◌, List, [], ◌∷◌, ◌++◌, length, take, drop, Option, Some, None, IfSome, Result, Ok, Err, refl, sym, ap, subst, ◌∙◌, arith, append_assoc}
 use Rattle.std.specs.Prelude.{true, false, ⊤, is_err, OnErr, OnOk}
 use Rattle.std.proofs.Math.Seq.{take-add}
-use Rattle.std.proofs.lemmas.List.{take_all}
 use Rattle.std.proofs.lemmas.List.Quantifiers.{position-Some}
 use Rattle.iiod_grammar.specs.Command.{ReadBuf}
 use Rattle.iiod_grammar.specs.Scans.{scan_on}
@@ -198,8 +197,3 @@ part_err front front2 a m b bytes done until old mid new e same few t v =
     let whole : bytes ≡ (take done bytes ++ part) ++ drop until bytes =
     take_drop until bytes ∙ ap (λ (ys : List ℕ). ys ++ drop until bytes) (up_to bytes done until few) in
     turns_cut front a m b bytes (take done bytes) part (drop until bytes) old mid new e whole t (subst (λ (f : Front). Turns f m part mid b new (Err e)) same v)
-
--- all parts
-pub parts_done : (front : Front) (a b : Place) (bytes : List ℕ) (done : ℕ) (old new : Option (List ℕ)) → length bytes ≤ done
-    → SendsAll front a (take done bytes) old b new → SendsAll front a bytes old b new
-parts_done front a b bytes done old new few t = subst (λ (ys : List ℕ). SendsAll front a ys old b new) (take_all done bytes few) t

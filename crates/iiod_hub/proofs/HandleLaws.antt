@@ -36,7 +36,3 @@ module _ (taken lost size capacity : WriterEnd → ℕ) (offer_gives : WriterEnd
   swept t0 t1 t2 trigger k h p q =
       let e : k + 1 ≡ suc k = omega arith in
       rw e (after t0 t1 t2 _ _ (λ b c. Swept taken lost size capacity offer_gives trigger (suc k) b c) (λ b m c x y. (m, x, (h, y))) p q)
-
-pub left_by : {O : Type 0} (t0 t1 : Option Told) (R : Told → O → Told → Type 0) (o : O) → Moves t0 t1 (λ b c. R b o c) → Moves t0 t1 (λ b c. (x : O) × R b x c)
-left_by None t1 R o p = tt
-left_by (Some b) t1 R o p = (p.0, p.1, (o, p.2))

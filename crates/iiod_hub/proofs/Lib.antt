@@ -2,4 +2,3 @@ mod HandleLaws
 mod OpenLaws
 mod RemaskLaws
 mod SeatLaws
-mod TickLaws

@@ -52,9 +52,6 @@ some_read b want count r q r' before after a t more =
 
 -- ---- traces
 
-abbrev trace_of : HubSeat → Trace
-trace_of s = record { given = received_of s.reader; empties = s.empties; gone = s.gone }
-
 pub mid_is : (s : HubSeat) (r : ReaderEnd) (scans : List (List ℕ)) → size_of r ≡ size_of s.reader → received_of r ≡ received_of s.reader ++ scans
     → seen_of (record s { reader = r })
     ≡ record (seen_of s) { trace = Some (after_scans scans (record { given = received_of s.reader; empties = s.empties; gone = s.gone })) }

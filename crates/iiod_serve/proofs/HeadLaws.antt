@@ -121,10 +121,6 @@ nothing : (before : Option (List ℕ)) → WritesText before before []
 nothing None = tt
 nothing (Some xs) = ap Some (sym (append-nil xs))
 
--- for a description that was read
-pub prints_read : (before : Option (List ℕ)) → (text : List ℕ) × WritesText before before text × Prints (only_ending script.Finished) status.Done text
-prints_read before = ([], nothing before, record { end = tt; ends = refl; printed = refl })
-
 -- where memory ran out, whatever the outcome
 pub prints_none : (outcome : Outcome) (before : Option (List ℕ)) → (text : List ℕ) × WritesText before before text × Prints outcome status.Memory text
 prints_none outcome before = ([], nothing before, record { rest = outcome.printed; parts = refl })
@@ -161,19 +157,6 @@ refused_stops line why status.ReadFault text f = tt
 refused_stops line why status.WriteFault text f = tt
 refused_stops line why status.Memory text f = tt
 
-cut_stops : (st : Status) (text : List ℕ) → Prints (only_ending script.TooLong) st text → IsStop st
-cut_stops status.Done text f = absurd (let is = f.ends in cc)
-cut_stops status.Usage text f = f
-cut_stops (status.Refused n w) text f = tt
-cut_stops status.TooLong text f = tt
-cut_stops status.ReadFault text f = tt
-cut_stops status.WriteFault text f = tt
-cut_stops status.Memory text f = tt
-
 pub stops_at : (line : ℕ) (why : Why) (st : Status) (before after : Option (List ℕ))
     → ((text : List ℕ) × WritesText before after text × Prints (only_ending (script.Refused line why)) st text) → IsStop st
 stops_at line why st before after prints = refused_stops line why st prints.0 prints.2
-
-pub stops_cut : (st : Status) (before after : Option (List ℕ)) → ((text : List ℕ) × WritesText before after text × Prints (only_ending script.TooLong) st text)
-    → IsStop st
-stops_cut st before after prints = cut_stops st prints.0 prints.2

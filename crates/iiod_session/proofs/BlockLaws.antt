@@ -1,12 +1,11 @@
 -- The room that a block takes, and the block that stands once there was room for it.
-use Rattle.std.proofs.Common.{◌≡◌, ℕ, ◌+◌, ◌*◌, ◌/◌, ◌^◌, ◌<◌, ◌≤◌, nat_le, nat_lt, List, [], ◌∷◌, ◌++◌, min, length, take, drop, append_assoc, length-append, Result, Ok, Err, IsOk, refl, sym, ap, ◌∙◌, arith}
+use Rattle.std.proofs.Common.{◌≡◌, ℕ, ◌+◌, ◌*◌, ◌^◌, ◌<◌, ◌≤◌, nat_le, nat_lt, List, [], ◌∷◌, ◌++◌, length, take, drop, append_assoc, length-append, Result, Ok, Err, IsOk, refl, sym, ap, ◌∙◌, arith}
 use Rattle.std.specs.Prelude.{⊤, pos}
 use Rattle.std.specs.Fmt.{decimal}
 use Rattle.std.specs.Int.{byte_len, w32, w64, to_be_bytes}
 use Rattle.std.proofs.Math.Seq.{drop-append_seam, drop-append-add, take-append_seam}
 use Rattle.std.proofs.lemmas.Bool.{cond_both}
 use Rattle.std.proofs.lemmas.Fmt.{length-decimal-le}
-use Rattle.std.proofs.lemmas.Nat.{le-div}
 use Rattle.iio_base.specs.declared.Mem.{Mem}
 use Rattle.iio_mask.specs.Text.{digit_count, digits_of, mask_text}
 use Rattle.iiod_reply.specs.Reply.{block_text, closing_text, head_length, head_text, number_text, Appends, AppendsRoom, FitsInRoom}
@@ -92,7 +91,3 @@ closed channels mask came asked old scans new ended capacity r many short is roo
     let fits : length new + length closing ≤ capacity = omega (arith, size, room, length-head channels mask came short, length-closing came asked) in
     appended closing new ended capacity r a f fits ∙ ap (λ xs. xs ++ closing) is ∙ append_assoc old (head ++ scans) closing
     ∙ ap (λ xs. old ++ xs) (append_assoc head scans closing) ∙ ap (λ n. old ++ (head_text channels mask n ++ (scans ++ closing_text n asked))) many
-
--- at least one scan is wanted
-pub some_wanted : (asked size capacity : ℕ) → 1 ≤ size → size ≤ asked → 1 ≤ capacity → 1 ≤ min (asked / size) capacity
-some_wanted asked size capacity some most room = let q = le-div 1 asked size (omega arith) (omega arith) in omega (arith, q, room)

@@ -36,7 +36,7 @@ use Rattle.iiod_session.specs.PendingWrite.{PendingRecord, pending_of}
 use Rattle.iiod_session.specs.Performs.{IsAllowed, IsReadOf, Performs}
 use Rattle.iiod_session.specs.Run.{State, CarriesBy, FedBy}
 use Rattle.iiod_session.specs.Seat.{SeatRecord}
-use Rattle.iiod_session.specs.Session.{IsAtOnce, IsKept, IsPlain, IsReady, piece_by, stream_by, unread_of}
+use Rattle.iiod_session.specs.Session.{IsAtOnce, IsKept, IsPlain, piece_by, stream_by, unread_of}
 use Rattle.iiod_session.specs.Watch.{Hears, Tells, is_waiting, waits_in}
 use Rattle.iiod_session.proofs.WatchLaws.{scene}
 use Rattle.iiod_session.proofs.FeedLaws.{fed_more, fed_none, fed_one, fed_then, feeds_more, feeds_of, feeds_on, feeds_then, goes_on}
@@ -122,13 +122,6 @@ ended_line makes manner front a b w v error all before after lines pending (Ok E
 ended_line makes manner front a b w v error all before after lines pending (Ok On) is e f = cc
 ended_line makes manner front a b w v error all before after lines pending (Ok (Waits dev)) is e f = cc
 ended_line makes manner front a b w v error all before after lines pending (Err fault) is e f = tt
-
-pub ended_ready : (lines : LinesRecord) (pending : PendingRecord) (r : Result Going Mem) → IfOk r (λ going. going ≡ Ended)
-    → IfOk r (λ going. IsReady going lines pending)
-ended_ready lines pending (Ok Ended) e = tt
-ended_ready lines pending (Ok On) e = cc
-ended_ready lines pending (Ok (Waits dev)) e = cc
-ended_ready lines pending (Err fault) e = tt
 
 -- ---- lines
 
@@ -375,19 +368,6 @@ kept_feeds {S} {Answered} {Unanswered} manner front a b all before after bytes h
     subst (λ x. CarriesBy Answered Unanswered manner front a x before after b (scan_on (stream_by going lines kept) left) going) (sym same)
     (subst (λ bs. CarriesBy Answered Unanswered manner front a (scan_on all whole) before after b (scan_on (stream_by going lines kept) bs) going) (sym unread)
     (unread_feeds manner front a b (scan_on all whole) before after whole taken going lines kept on f))
-
-pub none_left : (bytes : List ℕ) (taken : ℕ) (going : Going) (lines : LinesRecord) (kept : PendingRecord)
-    → (going ≡ On → (taken ≡ length bytes) × ((stream_by On lines kept).items ≡ []))
-    → going ≡ On → (scan_on (stream_by going lines kept) (unread_of going taken bytes)).items ≡ []
-none_left bytes taken On lines kept on e = ap (λ (s : Scanned). s.items) (scan_nil (stream_by On lines kept)) ∙ (on refl).1
-none_left bytes taken (Waits dev) lines kept on e = cc
-none_left bytes taken Ended lines kept on e = cc
-
-pub kept_by : (bytes : List ℕ) (taken : ℕ) (going : Going) (lines : LinesRecord) (pending : PendingRecord) → IsReady going lines pending
-    → IsKept going lines pending (unread_of going taken bytes)
-kept_by bytes taken On lines pending r = (r, refl)
-kept_by bytes taken (Waits dev) lines pending r = r
-kept_by bytes taken Ended lines pending r = tt
 
 -- ---- a command of the code
 

@@ -1,5 +1,4 @@
 pub mod BlockLaws
-pub mod QueueLaws
 pub mod SeatsLaws
 pub mod HeldLaws
 pub mod ServeLaws

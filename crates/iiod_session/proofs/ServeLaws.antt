@@ -336,12 +336,6 @@ short_read front told told' client client' traces traces' device asked t d s =
 
 -- ---- the end of an item
 
--- want of memory is an answer in any case
-pub short_answer : (item : Item) (manner : Manner) → IsAnswerOf item manner NoMemory
-short_answer (Said (Ok (ReadBuf device asked))) Script = tt
-short_answer (Said (Ok (ReadBuf device asked))) Server = tt
-short_answer item manner = tt
-
 pub finished : (manner : Manner) (front : Front) (told told' : Option Machine) (client : ClientRecord) (traces : List (Option Trace)) (item : Item)
     (client' : ClientRecord) (traces' : List (Option Trace))
     (before after : List ℕ) (reply : Reply) (r : Result Progress Mem)
