@@ -5,7 +5,7 @@ use Rattle.iio_history.specs.Input.{input_limit}
 use Rattle.iio_history.specs.Outcome.{outcome_of}
 use Rattle.iio_history.specs.Script.{Ending, Finished}
 use Rattle.iio_history.specs.Script as ending
-use Rattle.iio_system.specs.declared.tally.Tally.{Tally}
+use Rattle.iio_kinds.specs.declared.tally.Tally.{Tally}
 use Rattle.iio_system.specs.Tally.{tally_of}
 use Rattle.iio_script.specs.declared.stop.Stop.{Stop}
 use Rattle.iio_script.specs.declared.stop.Stop.TheVariants.{Refused}

@@ -3,7 +3,7 @@ use Rattle.std.specs.Prelude.{ℕ, List, [], ◌++◌, codes}
 use Rattle.std.specs.Fmt.{decimal}
 use Rattle.iio_history.specs.Outcome.{Outcome}
 use Rattle.iio_history.specs.Script.{Finished}
-use Rattle.iio_system.specs.declared.tally.Tally.{Tally}
+use Rattle.iio_kinds.specs.declared.tally.Tally.{Tally}
 use Rattle.iio_system.specs.Tally.{tally_of}
 use Rattle.iio_script.specs.declared.status.Status.{Status}
 use Rattle.iio_script.specs.declared.status.Status.TheVariants.{Done, WriteFault, Memory}

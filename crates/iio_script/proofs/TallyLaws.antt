@@ -11,7 +11,7 @@ use Rattle.iio_history.specs.Registry.{Setup}
 use Rattle.iio_history.specs.Script.{Ending, Finished, Script, TooLong, script_from}
 use Rattle.iio_history.specs.Script as ending
 use Rattle.iio_system.specs.declared.system.System.{System}
-use Rattle.iio_system.specs.declared.tally.Tally.{Tally}
+use Rattle.iio_kinds.specs.declared.tally.Tally.{Tally}
 use Rattle.iio_system.specs.Standing.{StandsFor}
 use Rattle.iio_system.specs.Tally.{tally_of}
 use Rattle.iio_script.specs.declared.opening.Opening.TheVariants as read

@@ -8,7 +8,7 @@ use Rattle.iio_history.specs.Script.{Script, Finished, script_from}
 use Rattle.iio_history.specs.Script as ending
 use Rattle.iio_history.specs.Transcript.{with_steps}
 use Rattle.iio_history.specs.Summary.{Summary, summary_in, summary_of}
-use Rattle.iio_system.specs.declared.tally.Tally.{Tally}
+use Rattle.iio_kinds.specs.declared.tally.Tally.{Tally}
 use Rattle.iio_system.specs.Tally.{tally_of}
 use Rattle.iio_script.specs.declared.stop.Stop.{Stop}
 use Rattle.iio_script.specs.declared.stop.Stop.TheVariants.{Refused, Mem}

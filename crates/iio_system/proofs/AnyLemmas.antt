@@ -15,11 +15,11 @@ use Rattle.iio_core.specs.Calls.{CallResult, all_joined, machine_after_close, in
 use Rattle.iio_core.specs.Front.{Front, kind_at, shape_at}
 use Rattle.iio_core.specs.Machine.{Machine, Station, station_at, with_station, attachment_of, masks_of}
 use Rattle.iio_core.proofs.PlaceLists.{placed_from}
-use Rattle.iio_system.specs.declared.any_device.AnyDevice.{AnyDevice}
-use Rattle.iio_system.specs.declared.any_device.AnyDevice.TheVariants as any
-use Rattle.iio_system.specs.Places.{is_hosted}
-use Rattle.iio_system.specs.Averages.{has_inner}
-use Rattle.iio_system.specs.Station.{any_station}
+use Rattle.iio_kinds.specs.declared.any_device.AnyDevice.{AnyDevice}
+use Rattle.iio_kinds.specs.declared.any_device.AnyDevice.TheVariants as any
+use Rattle.iio_kinds.specs.Places.{is_hosted}
+use Rattle.iio_kinds.specs.Inner.{has_inner}
+use Rattle.iio_kinds.specs.Station.{any_station}
 
 -- ---- maps with places
 

@@ -5,10 +5,12 @@ use Rattle.iio_desc.specs.Description.{DeviceHead}
 use Rattle.iio_desc.specs.Kind.{Kind, Input, Output, Average, is_average}
 use Rattle.iio_core.specs.Machine.{Station, no_station, station_in}
 use Rattle.iio_core.specs.Lists.{map_from}
-use Rattle.iio_system.specs.Averages.{HasInner, IsAveraged, has_inner, kind_in}
-use Rattle.iio_system.specs.Places.{is_hosted}
+use Rattle.iio_system.specs.Averages.{HasInner, IsAveraged, kind_in}
+use Rattle.iio_kinds.specs.Inner.{has_inner}
+use Rattle.iio_kinds.specs.Places.{is_hosted}
 use Rattle.iio_system.proofs.ListLemmas.{map_same}
-use Rattle.iio_system.proofs.BenchLemmas.{KeepsInner, KeepsStanding, stands_same}
+use Rattle.iio_kinds.proofs.StandingLemmas.{KeepsInner, KeepsStanding}
+use Rattle.iio_system.proofs.BenchLemmas.{stands_same}
 
 -- ---- numbers and places
 

@@ -20,47 +20,14 @@ use Rattle.iiod_session.specs.declared.iio.Took.TheVariants.{Scan, Empty, Gone}
 use Rattle.iio_core.specs.Attached.{is_attached}
 use Rattle.iio_core.specs.Machine.{Member, MemberId, Station, is_id_of, with_scans, with_site, attachment_of}
 use Rattle.iio_core.specs.Calls.{is_inner_of, trigger_answer}
-use Rattle.iio_system.specs.Acting.{Acts, TakesAt, TakesScansAt}
-use Rattle.iio_system.specs.Averages.{has_inner}
-use Rattle.iio_system.specs.Places.{IsBench, IsTrigger, has_in_hand, hosts, is_hosted, places_from}
+use Rattle.iio_kinds.specs.Acting.{Acts, TakesAt, TakesScansAt}
+use Rattle.iio_kinds.specs.Inner.{has_inner}
+use Rattle.iio_system.specs.Triggers.{IsBench, IsTrigger, places_from}
+use Rattle.iio_kinds.specs.Places.{has_in_hand, hosts, is_hosted}
 use Rattle.iio_trigger.specs.Trigger.{with_place, without_place}
 use Rattle.iio_system.proofs.ListLemmas.{after_set, length_after, map_same, set_same}
 use Rattle.iio_system.proofs.PlaceLemmas.{places_attached, places_detached, places_kept, places_none}
-
--- a device that keeps its place at each trigger
-pub record KeepsPlace (st st' : Station) : Type 0 where
-  pub attached : (t : ℕ) → is_attached t (attachment_of st') ≡ is_attached t (attachment_of st)
-  pub attachment : st'.site.attachment ≡ st.site.attachment
-
--- ... and what averaging devices have to do with, but for captures
-pub record KeepsInner (st st' : Station) : Type 0 where
-  pub place : KeepsPlace st st'
-  pub hosted : (n : ℕ) → is_hosted n st ≡ true → is_hosted n st' ≡ true
-  pub plugged : st'.site.plugged ≡ st.site.plugged
-  pub empty : is_empty st'.members ≡ is_empty st.members
-  pub inner : (j : ℕ) → has_inner j st' ≡ has_inner j st
-
--- ... and makes no capture
-pub record KeepsStanding (st st' : Station) : Type 0 where
-  pub inner : KeepsInner st st'
-  pub captures : st'.captures ≡ st.captures
-
-pub inner_kept : (st st' : Station) → st'.site.trigger ≡ st.site.trigger → st'.site.attachment ≡ st.site.attachment → st'.site.plugged ≡ st.site.plugged
-    → is_empty st'.members ≡ is_empty st.members
-    → ((j : ℕ) → has_inner j st' ≡ has_inner j st) → KeepsInner st st'
-inner_kept st st' trigger attachment plugged empty inner = record {
-  place = record { attached = λ t. rw (trigger, empty) refl; attachment = attachment };
-  hosted = λ n h. rw (trigger, empty) h;
-  plugged = plugged;
-  empty = empty;
-  inner = inner;
-}
-
-pub standing : (st st' : Station) → st'.site.trigger ≡ st.site.trigger → st'.site.attachment ≡ st.site.attachment → st'.site.plugged ≡ st.site.plugged
-    → is_empty st'.members ≡ is_empty st.members
-    → ((j : ℕ) → has_inner j st' ≡ has_inner j st) → st'.captures ≡ st.captures → KeepsStanding st st'
-standing st st' trigger attachment plugged empty inner captures =
-    record { inner = inner_kept st st' trigger attachment plugged empty inner; captures = captures }
+use Rattle.iio_kinds.proofs.StandingLemmas.{KeepsPlace, KeepsStanding, standing}
 
 pub stands_same : (st st' : Station) → st' ≡ st → KeepsStanding st st'
 stands_same st st' e = rw e (standing st st refl refl refl refl (λ j. refl) refl)

@@ -5,24 +5,23 @@ use Rattle.std.specs.Option.{option_map_or}
 use Rattle.iio_layout.specs.Shape.{ShapeRecord}
 use Rattle.iio_desc.specs.declared.description.TriggerDesc.{TriggerDesc}
 use Rattle.iio_desc.specs.Kind.{Kind}
-use Rattle.iio_kfifo.specs.Queue.{Queue}
 use Rattle.iio_trigger.specs.declared.Polled.{Polled}
 use Rattle.iio_trigger.specs.Trigger.{Handed, Polls, State}
-use Rattle.iio_device.specs.Device.{DeviceView, after_sense, at_site}
 use Rattle.iio_device.specs.Sensing.{sensed, with_sensed}
-use Rattle.iio_device.specs.Site.{at_place, unplugged}
+use Rattle.iio_device.specs.Site.{at_place}
 use Rattle.iio_core.specs.Attached.{entries_from}
 use Rattle.iio_core.specs.Machine.{Station, with_site, attachments_of}
 use Rattle.iio_core.specs.Trigger.{trigger_after_poll, trigger_after_handling, Trigger, entry_of, trigger_in, first_trigger, poll_answer, entries_at, missed_at}
 use Rattle.iio_core.specs.Moves.{station_after_look}
-use Rattle.iio_system.specs.Acting.{Keeps, KeepsCaptures}
 use Rattle.iio_core.specs.declared.became.Became.{Became}
-use Rattle.iio_system.specs.Handling.{is_last, entry_became}
-use Rattle.iio_system.specs.Places.{IsBench, IsTrigger, trigger_of}
-use Rattle.iio_system.specs.Station.{station_of}
+use Rattle.iio_kinds.specs.Handling.{is_last, entry_became}
+use Rattle.iio_system.specs.Triggers.{IsBench, IsTrigger}
+use Rattle.iio_kinds.specs.Places.{trigger_of}
 use Rattle.iio_system.proofs.ListLemmas.{after_set, map_at, map_changed, map_same}
-use Rattle.iio_system.proofs.BenchLemmas.{KeepsStanding, standing, stands_along, stands_same}
-use Rattle.iio_system.proofs.TriggerLemmas.{off_sound, off_told, poll_answers, poll_places, poll_sound, poll_told, without}
+use Rattle.iio_kinds.proofs.StandingLemmas.{KeepsStanding, standing}
+use Rattle.iio_system.proofs.BenchLemmas.{stands_along, stands_same}
+use Rattle.iio_system.proofs.TriggerLemmas.{off_sound, off_told, poll_answers, poll_places, poll_sound, poll_told}
+use Rattle.iio_kinds.proofs.DueLemmas.{without}
 
 -- one trigger has changed
 pub bench_triggered : (triggers : List TriggerDesc) (states : List State) (sts : List Station) (t : ℕ) (s s' : State) → IsBench triggers states sts
@@ -61,41 +60,6 @@ module _ (triggers : List TriggerDesc) (states : List State) (sts : List Station
 
 -- ---- thresholds
 
-sense_by : (b : Bool) (v v' w : DeviceView Queue) → v' ≡ cond b w v → station_of v' ≡ cond b (station_of w) (station_of v)
-sense_by true v v' w e = ap station_of e
-sense_by false v v' w e = ap station_of e
-
-pub sense_station : (t : ℤ) (v v' : DeviceView Queue) → v' ≡ after_sense t v → station_of v' ≡ station_after_look v.standing.shape t (station_of v)
-sense_station t v v' e = sense_by v.site.plugged v v' _ e
-
-sense_keeps_by : (b : Bool) (v v' w : DeviceView Queue) → w.name ≡ v.name → w.number ≡ v.number → w.standing.shape ≡ v.standing.shape → v' ≡ cond b w v
-    → Keeps v v'
-sense_keeps_by true v v' w name number shape e =
-    record {
-      name = ap (λ (x : DeviceView Queue). x.name) e ∙ name;
-      number = ap (λ (x : DeviceView Queue). x.number) e ∙ number;
-      shape =
-          ap (λ (x : DeviceView Queue). x.standing.shape) e ∙ shape;
-    }
-sense_keeps_by false v v' w name number shape e =
-    record {
-      name = ap (λ (x : DeviceView Queue). x.name) e;
-      number = ap (λ (x : DeviceView Queue). x.number) e;
-      shape =
-          ap (λ (x : DeviceView Queue). x.standing.shape) e;
-    }
-
-pub sense_keeps : (t : ℤ) (v v' : DeviceView Queue) → v' ≡ after_sense t v → Keeps v v'
-sense_keeps t v v' e = sense_keeps_by v.site.plugged v v' _ refl refl refl e
-
-sense_captures_by : (b : Bool) (v v' w : DeviceView Queue) → w.standing.captures ≡ v.standing.captures → v' ≡ cond b w v
-    → v'.standing.captures ≡ v.standing.captures
-sense_captures_by true v v' w same e = ap (λ (x : DeviceView Queue). x.standing.captures) e ∙ same
-sense_captures_by false v v' w same e = ap (λ (x : DeviceView Queue). x.standing.captures) e
-
-pub sense_captures : (t : ℤ) (v v' : DeviceView Queue) → v' ≡ after_sense t v → v'.standing.captures ≡ v.standing.captures
-sense_captures t v v' e = sense_captures_by v.site.plugged v v' _ refl e
-
 sensed_stands_by : (b : Bool) (st w : Station) → KeepsStanding st w → KeepsStanding st (cond b w st)
 sensed_stands_by true st w k = k
 sensed_stands_by false st w k = stands_same st st refl
@@ -104,23 +68,6 @@ pub sense_stands : (shape : ShapeRecord) (t : ℤ) (st st' : Station) → st' �
 sense_stands shape t st st' e =
     stands_along st (station_after_look shape t st) st'
     (sensed_stands_by st.site.plugged st (with_site (with_sensed (sensed shape t st.site)) st) (standing st _ refl refl refl refl (λ j. refl) refl)) e
-
--- ---- unplugging
-
-pub unplug_keeps : (v v' : DeviceView Queue) → v' ≡ at_site (unplugged v.site) v → Keeps v v'
-unplug_keeps v v' e =
-    record {
-      name = ap (λ (x : DeviceView Queue). x.name) e;
-      number = ap (λ (x : DeviceView Queue). x.number) e;
-      shape =
-          ap (λ (x : DeviceView Queue). x.standing.shape) e;
-    }
-
-pub sense_keeps_all : (t : ℤ) (v v' : DeviceView Queue) → v' ≡ after_sense t v → KeepsCaptures v v'
-sense_keeps_all t v v' e = record { device = sense_keeps t v v' e; captures = sense_captures t v v' e }
-
-pub unplug_keeps_all : (v v' : DeviceView Queue) → v' ≡ at_site (unplugged v.site) v → KeepsCaptures v v'
-unplug_keeps_all v v' e = record { device = unplug_keeps v v' e; captures = ap (λ (x : DeviceView Queue). x.standing.captures) e }
 
 -- ---- entries
 

@@ -26,13 +26,14 @@ use Rattle.iio_probe.specs.Devices.{first_devices, first_driver}
 use Rattle.iio_core.specs.Trigger.{Trigger, first_trigger}
 use Rattle.iio_system.specs.First.{first_state, first_station, mean_head_over, mean_station_over, means_over}
 use Rattle.iio_system.specs.Averages.{HasBases, IsAveraged, IsBase, kind_in, shape_in}
-use Rattle.iio_system.specs.MeanStation.{first_mean_station, new_mean_station}
-use Rattle.iio_system.specs.OutStation.{first_out_station}
-use Rattle.iio_system.specs.Places.{IsBench, IsNumbered, has_in_hand, places_from, trigger_of}
-use Rattle.iio_system.specs.declared.in_device.InDevice.{InDevice}
-use Rattle.iio_system.specs.declared.in_device.Inner.{Inner}
-use Rattle.iio_system.specs.Inner.{with_inner_name}
-use Rattle.iio_system.specs.Station.{in_station, member_of, station_by, station_of, view_by}
+use Rattle.iio_kinds.specs.MeanStation.{first_mean_station, new_mean_station}
+use Rattle.iio_kinds.specs.OutStation.{first_out_station}
+use Rattle.iio_system.specs.Triggers.{IsBench, IsNumbered, places_from}
+use Rattle.iio_kinds.specs.Places.{has_in_hand, trigger_of}
+use Rattle.iio_kinds.specs.declared.in_device.InDevice.{InDevice}
+use Rattle.iio_kinds.specs.declared.in_device.Inner.{Inner}
+use Rattle.iio_kinds.specs.Inner.{with_inner_name}
+use Rattle.iio_kinds.specs.Station.{in_station, member_of, station_by, station_of, view_by}
 use Rattle.iio_system.proofs.ListLemmas.{length_map_is, map_append}
 use Rattle.iio_system.proofs.AverageLemmas.{average_there}
 use Rattle.iio_system.proofs.BenchLemmas.{none_attached, on_one}

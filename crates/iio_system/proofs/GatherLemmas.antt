@@ -16,14 +16,16 @@ use Rattle.iio_core.specs.Lists.{map_from}
 use Rattle.iio_core.specs.Moves.{Capture, station_after_gathering, station_after_mean, offered_to, unplugs, machine_after_unplugging, entry_at, capture_at, capture_in, station_after_entry, is_due, machine_after_entry}
 use Rattle.iio_core.proofs.PlaceLists.{same_number}
 use Rattle.iio_system.specs.Averages.{HasInner, IsAveraged, kind_in}
-use Rattle.iio_system.specs.Handling.{is_last}
-use Rattle.iio_system.specs.Places.{IsBench, is_hosted, places_from}
-use Rattle.iio_system.proofs.ListLemmas.{is_empty-map}
-use Rattle.iio_system.proofs.BenchLemmas.{KeepsInner, KeepsPlace, inner_kept, inner_mapped}
+use Rattle.iio_kinds.specs.Handling.{is_last}
+use Rattle.iio_system.specs.Triggers.{IsBench, places_from}
+use Rattle.iio_kinds.specs.Places.{is_hosted}
+use Rattle.iio_kinds.proofs.EmptyLemmas.{is_empty-map}
+use Rattle.iio_kinds.proofs.StandingLemmas.{KeepsInner, KeepsPlace, inner_kept}
+use Rattle.iio_system.proofs.BenchLemmas.{inner_mapped}
 use Rattle.iio_system.proofs.AverageLemmas.{average_there, averaged_each, each_from, same_or}
 use Rattle.iio_system.proofs.AnyLemmas.{kept_from}
-use Rattle.iio_system.proofs.HandleLemmas.{entry_kept, offered_inner, current_kept}
-use Rattle.iio_system.proofs.AnyCalls.{either}
+use Rattle.iio_system.proofs.EntryLemmas.{entry_kept, offered_inner, current_kept}
+use Rattle.iio_kinds.proofs.AnyCalls.{either}
 
 -- ---- lists, element by element
 

@@ -2,8 +2,8 @@
 use Rattle.std.proofs.Common.{◌≡◌, ◌⊎◌, ℕ, zero, suc, ◌<◌, Bool, true, false, List, [], ◌∷◌, ◌++◌, map, length, set, slice_get, get_or, Some, None, inl, inr, refl, sym, ap, ◌∙◌, arith, filter, cond, not}
 use Rattle.std.specs.Prelude.{find}
 use Rattle.std.proofs.lemmas.Option.{slice_get_read}
-use Rattle.iio_device.specs.Site.{at_place, is_empty}
-use Rattle.iio_system.specs.Places.{IsNumbered}
+use Rattle.iio_device.specs.Site.{at_place}
+use Rattle.iio_system.specs.Triggers.{IsNumbered}
 
 module _ {A : Type 0} where
   -- an element once another was written
@@ -37,10 +37,6 @@ module _ {A : Type 0} where
           → cond (not b) (x ∷ filter (λ x. not (p x)) xs) (filter (λ x. not (p x)) xs) ≡ x ∷ xs
       by true e h = absurd (cc)
       by false e h = ap (λ (ys : List A). x ∷ ys) (h e)
-
-  pub empty_list : (xs : List A) → is_empty xs ≡ true → xs ≡ []
-  empty_list [] e = refl
-  empty_list (x ∷ xs) e = absurd (cc)
 
   pub length_after : (xs : List A) (i : ℕ) (x : A) → length (set xs i x) ≡ length xs
   length_after [] i x = refl
@@ -82,10 +78,6 @@ module _ {A : Type 0} where
 
     pub within_map : (xs : List A) (i : ℕ) → i < length (map f xs) → i < length xs
     within_map xs i h = rw (length_map_is xs) at h
-
-    pub is_empty-map : (xs : List A) → is_empty (map f xs) ≡ is_empty xs
-    is_empty-map [] = refl
-    is_empty-map (x ∷ xs) = refl
 
     pub map_append : (xs ys : List A) → map f (xs ++ ys) ≡ map f xs ++ map f ys
     map_append [] ys = refl

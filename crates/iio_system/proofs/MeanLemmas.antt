@@ -20,13 +20,14 @@ use Rattle.iio_core.specs.Machine.{Machine, Member, Station, masks_of, no_statio
 use Rattle.iio_core.specs.Opening.{join_refusals, Host, inner_host, own_host}
 use Rattle.iio_core.specs.Lists.{map_from}
 use Rattle.iio_core.proofs.PlaceLists.{itself, placed_from, same_number, twice_from}
-use Rattle.iio_system.specs.Averages.{HasInner, has_inner}
-use Rattle.iio_system.specs.Faults.{any_refusals, lacks_place}
-use Rattle.iio_system.specs.Places.{IsBench}
+use Rattle.iio_system.specs.Averages.{HasInner}
+use Rattle.iio_kinds.specs.Inner.{has_inner}
+use Rattle.iio_kinds.specs.Faults.{any_refusals, lacks_place}
+use Rattle.iio_system.specs.Triggers.{IsBench}
 use Rattle.iio_system.proofs.ListLemmas.{after_set, length_after, same_element}
 use Rattle.iio_system.proofs.PlaceLemmas.{places_none}
 use Rattle.iio_system.proofs.AverageLemmas.{from_each}
-use Rattle.iio_system.proofs.JoinLemmas.{lacks_is}
+use Rattle.iio_system.proofs.RefusalLemmas.{lacks_is}
 use Rattle.iio_system.proofs.OpenLemmas.{attached_plugged, some_more}
 
 -- ---- the machine

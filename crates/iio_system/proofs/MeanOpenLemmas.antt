@@ -28,16 +28,18 @@ use Rattle.iio_core.specs.Machine.{Machine, Member, Station, masks_of, station_a
 use Rattle.iio_core.specs.Opening.{join_refusals, inner_host}
 use Rattle.iiod_session.specs.Seat.{Answers, IsNew, number_by as number_of}
 use Rattle.iio_core.proofs.PlaceLists.{same_number}
-use Rattle.iio_system.specs.declared.any_device.AnyDevice.{AnyDevice}
-use Rattle.iio_system.specs.declared.any_device.AnyDevice.TheVariants as any
+use Rattle.iio_kinds.specs.declared.any_device.AnyDevice.{AnyDevice}
+use Rattle.iio_kinds.specs.declared.any_device.AnyDevice.TheVariants as any
 use Rattle.iio_system.specs.declared.bench.Bench.{Bench}
-use Rattle.iio_system.specs.declared.seat.Seat.{Seat}
-use Rattle.iio_system.specs.Averages.{HasInner, IsAveraged, has_inner, kind_in}
+use Rattle.iio_kinds.specs.declared.seat.Seat.{Seat}
+use Rattle.iio_system.specs.Averages.{HasInner, IsAveraged, kind_in}
+use Rattle.iio_kinds.specs.Inner.{has_inner}
 use Rattle.iio_system.specs.Bench.{front_of, triggers_of}
-use Rattle.iio_system.specs.Faults.{HasJoined, HostsAny, IsServedAlone, JoinsMean, MayHaveInner, any_refusals, lacks_place}
-use Rattle.iio_system.specs.Places.{IsBench, IsNumbered, hosts, is_hosted, place_left, place_taken}
+use Rattle.iio_kinds.specs.Faults.{HasJoined, HostsAny, IsServedAlone, JoinsMean, MayHaveInner, any_refusals, lacks_place}
+use Rattle.iio_system.specs.Triggers.{IsBench, IsNumbered}
+use Rattle.iio_kinds.specs.Places.{hosts, is_hosted, place_left, place_taken}
 use Rattle.iio_system.specs.Seat.{seen_of}
-use Rattle.iio_system.specs.Station.{KeepsHead, any_front, any_station, base_of, number_by, stations_by}
+use Rattle.iio_kinds.specs.Station.{KeepsHead, any_front, any_station, base_of, number_by, stations_by}
 use Rattle.iio_system.proofs.ListLemmas.{element_at, length_after, length_map_is, map_at, map_same, numbered_after, same_element, set_same, within_map}
 use Rattle.iio_system.proofs.BenchLemmas.{bench_by, hosted_is}
 use Rattle.iio_system.proofs.AverageLemmas.{average_other, averaged_pair, get_here, get_there, got_there, here_is, input_plain, set_twice}

@@ -1,5 +1,5 @@
 -- OPEN and CLOSE at a bench.
-use Rattle.std.proofs.Common.{◌≡◌, ℕ, zero, suc, ◌+◌, ◌*◌, ◌<◌, ◌≤◌, ◌^◌, Bool, true, false, List, [], ◌∷◌, ◌++◌, map, filter, length, set, slice_get, Option, Some, None, IfOk, Result, Ok, Err, refl, sym, ap, subst, ◌∙◌, arith, cond, option_map}
+use Rattle.std.proofs.Common.{◌≡◌, ℕ, zero, suc, ◌+◌, ◌*◌, ◌<◌, ◌≤◌, ◌^◌, Bool, true, false, List, [], ◌∷◌, ◌++◌, map, filter, length, set, slice_get, Option, Some, None, IfOk, Result, Ok, Err, refl, sym, ap, subst, ◌∙◌, arith, cond}
 use Rattle.std.specs.Prelude.{◌==◌, ◌&&◌, ◌||◌, ◌-◌, is_none, not, ℤ, nat_lt}
 use Rattle.std.specs.List.{list_any}
 use Rattle.std.specs.Option.{option_map_or}
@@ -17,15 +17,12 @@ use Rattle.iio_layout.specs.Layout.{scan_size}
 use Rattle.iio_layout.specs.Shape.{ShapeRecord, count_of, stamp_formats}
 use Rattle.iio_derive.specs.Window.{full_mask}
 use Rattle.iio_desc.specs.declared.description.TriggerDesc.{TriggerDesc}
-use Rattle.iio_kfifo.specs.Queue.{Queue}
 use Rattle.iio_kfifo.specs.declared.limits.TheConstants.{MAX_BYTES}
 use Rattle.iio_sensor.specs.Driver.{Driver}
 use Rattle.iio_trigger.specs.declared.rows.Place.{Place}
 use Rattle.iio_trigger.specs.Trigger.{State, with_place, without_place}
-use Rattle.iio_device.specs.declared.membership.Membership.{Membership}
 use Rattle.iio_device.specs.declared.plug.Plug.{Plug}
-use Rattle.iio_device.specs.Device.{DeviceView, LeavesDevice, has_no_place}
-use Rattle.iio_device.specs.Members.{member_of as membership_of}
+use Rattle.iio_device.specs.Device.{has_no_place}
 use Rattle.iio_device.specs.Site.{Site, attached, is_empty, no_driver}
 use Rattle.iiod_session.specs.declared.iio.No.{No}
 use Rattle.iiod_session.specs.declared.iio.No.TheVariants.{Errno as NoErrno, Mem as NoMem}
@@ -38,24 +35,24 @@ use Rattle.iio_desc.specs.Kind.{Kind, Input, Output, Average, is_average}
 use Rattle.iio_core.specs.Machine.{Machine, Member, Station, is_seat_of, no_station, station_at, station_in, with_station, attachment_of, masks_of}
 use Rattle.iio_core.specs.Calls.{machine_after_close, inner_gone, is_inner_of, station_after_join, station_after_leave, newcomer, open_of, open_refusals, trigger_by, trigger_of as trigger_told_of, unless}
 use Rattle.iiod_session.specs.Seat.{Answers, IsNew, MayOpen, number_by as number_of}
-use Rattle.iio_core.specs.Devices.{queue_waits}
-use Rattle.iio_core.proofs.DeviceLaws.{left_is as plain_left}
-use Rattle.iio_system.specs.declared.any_device.AnyDevice.{AnyDevice}
-use Rattle.iio_system.specs.declared.any_device.AnyDevice.TheVariants as any
-use Rattle.iio_system.specs.declared.seat.Seat.{Seat}
-use Rattle.iio_system.specs.Acting.{KeepsCaptures}
-use Rattle.iio_system.specs.Faults.{HostsAny, JoinsAny, any_refusals, lacks_place}
-use Rattle.iio_system.specs.Averages.{IsAveraged, has_inner, kind_in}
-use Rattle.iio_system.specs.MeanStation.{mean_station}
-use Rattle.iio_system.specs.OutStation.{out_station}
-use Rattle.iio_system.specs.Places.{IsBench, IsNumbered, hosts, is_hosted, place_left, places_from, trigger_of}
+use Rattle.iio_kinds.specs.declared.any_device.AnyDevice.{AnyDevice}
+use Rattle.iio_kinds.specs.declared.any_device.AnyDevice.TheVariants as any
+use Rattle.iio_kinds.specs.declared.seat.Seat.{Seat}
+use Rattle.iio_kinds.specs.Faults.{HostsAny, JoinsAny, any_refusals, lacks_place}
+use Rattle.iio_system.specs.Averages.{IsAveraged, kind_in}
+use Rattle.iio_kinds.specs.Inner.{has_inner}
+use Rattle.iio_kinds.specs.MeanStation.{mean_station}
+use Rattle.iio_kinds.specs.OutStation.{out_station}
+use Rattle.iio_system.specs.Triggers.{IsBench, IsNumbered, places_from}
+use Rattle.iio_kinds.specs.Places.{hosts, is_hosted, place_left, trigger_of}
 use Rattle.iio_system.specs.Seat.{seen_of}
-use Rattle.iio_system.specs.Station.{KeepsHead, any_front, any_station, base_of, in_station, member_of, number_by, station_of, stations_by}
-use Rattle.iio_system.proofs.ListLemmas.{at_place_same, empty_list, is_empty-map, length_map_is, map_at, same_element}
-use Rattle.iio_system.proofs.BenchLemmas.{KeepsPlace, KeepsRest, KeepsStanding, bench_attached, bench_by, bench_detached, bench_stays, hosted_is, none_attached, stands_same}
+use Rattle.iio_kinds.specs.Station.{KeepsHead, any_front, any_station, base_of, in_station, number_by, stations_by}
+use Rattle.iio_system.proofs.ListLemmas.{at_place_same, length_map_is, map_at, same_element}
+use Rattle.iio_kinds.proofs.EmptyLemmas.{empty_list}
+use Rattle.iio_kinds.proofs.StandingLemmas.{KeepsPlace, KeepsStanding}
+use Rattle.iio_system.proofs.BenchLemmas.{KeepsRest, bench_attached, bench_by, bench_detached, bench_stays, hosted_is, none_attached, stands_same}
 use Rattle.iio_system.proofs.AverageLemmas.{KeepsBase, averaged_by, averaged_each, averaged_plain, averaged_stands, here_is}
-use Rattle.iio_system.proofs.IioLemmas.{keeps_along}
-use Rattle.iio_system.proofs.JoinLemmas.{refusals_any}
+use Rattle.iio_system.proofs.RefusalLemmas.{refusals_any}
 use Rattle.iio_system.proofs.AnyLemmas.{attached_as, attachment_as, closed_alone, hosted_as, inner_as, made_as, members_as, open_alone, plugged_as}
 use Rattle.iio_system.proofs.ToldLemmas.{fronts_by, kind_is, machine_by, shape_is, station_is, told_changed, told_same}
 
@@ -81,41 +78,6 @@ pub as_many : (triggers : List TriggerDesc) (states : List State) → map (λ (s
     → length states ≡ length triggers
 as_many triggers states e =
     sym (length_map_is (λ (s : State). s.places) states) ∙ ap (λ (ns : List ℕ). length ns) e ∙ length_map_is (λ (t : TriggerDesc). t.places) triggers
-
--- ---- what a leave keeps of an input device
-
-pub leaves_keep : (n : ℕ) (r : Option Queue) (v v' : DeviceView Queue) (s s' : State) → LeavesDevice (λ (q : Queue). q.lost) n r v v' s s' → KeepsCaptures v v'
-leaves_keep n (Some q) v v' s s' j = keeps_along v _ v' (record { device = record { name = refl; number = refl; shape = refl }; captures = refl }) j.1
-leaves_keep n None v v' s s' j = keeps_along v _ v' (record { device = record { name = refl; number = refl; shape = refl }; captures = refl }) j.1
-
-pub left_is : (n : ℕ) (r : Option Queue) (v v' : DeviceView Queue) (s s' : State) → LeavesDevice (λ (q : Queue). q.lost) n r v v' s s'
-    → station_of v' ≡ station_after_leave n (station_of v)
-left_is n r v v' s s' j = sym (plain_left (λ (q : Queue). q.lost) (λ q. q.capacity) queue_waits n r v v' s s' j).1
-
-or_not : (b : Bool) → (b || not b) ≡ true
-or_not true = refl
-or_not false = refl
-
-none_of : (n : ℕ) (q : Queue) (ms : List (Membership Queue)) → option_map (λ (m : Membership Queue). m.tail) (membership_of n ms) ≡ Some q → is_empty ms ≡ false
-none_of n q [] e = absurd (cc)
-none_of n q (m ∷ ms) e = refl
-
-place_by : (number number' : ℕ) (b : Bool) (s s' : State) → number' ≡ number → s' ≡ cond b (record s { attached = without_place number' s.attached }) s
-    → s' ≡ cond (not b) s (record s { attached = without_place number s.attached })
-place_by number number' true s s' same e = e ∙ ap (λ (n : ℕ). (let x : State = record s { attached = without_place n s.attached } in x)) same
-place_by number number' false s s' same e = e
-
-pub left_place : (n : ℕ) (r : Option Queue) (v v' : DeviceView Queue) (s s' : State) → LeavesDevice (λ (q : Queue). q.lost) n r v v' s s'
-    → s' ≡ place_left v.number (station_of v) (station_of v') s
-left_place n None v v' s s' j =
-    j.2 ∙ sym (ap (λ (x : DeviceView Queue). place_left v.number (station_of v) (station_of x) s) j.1
-    ∙ ap (λ (b : Bool). cond b s (record s { attached = without_place v.number s.attached })) (or_not (is_empty (map member_of v.standing.members))))
-left_place n (Some q) v v' s s' j =
-    let some : is_empty (map member_of v.standing.members) ≡ false = is_empty-map member_of v.standing.members ∙ none_of n q v.standing.members j.0 in
-    let number : v'.number ≡ v.number = ap (λ (x : DeviceView Queue). x.number) j.1 in
-    place_by v.number v'.number (is_empty v'.standing.members) s s' number j.2
-    ∙ ap (λ (b : Bool). cond (not b) s (record s { attached = without_place v.number s.attached })) (sym (is_empty-map member_of v'.standing.members))
-    ∙ ap (λ (b : Bool). cond (b || not (is_empty (map member_of v'.standing.members))) s (record s { attached = without_place v.number s.attached })) (sym some)
 
 -- ---- places
 
@@ -372,6 +334,7 @@ module _ {X : Type 0} {V : X → Type 0} (drive : Plug X V → Driver) where
   sound_any triggers states ds sound = sound_as (λ p. no_driver) drive triggers states ds sound
 
   -- a device that is no averaging one is hosted
+
   module _ (triggers first : ℕ) (ds : List (AnyDevice X V)) (averaged : IsAveraged triggers first (map any_front ds) (stations_by (λ p. no_driver) ds)) (k : ℕ)
       (d : AnyDevice X V) (at : slice_get ds k ≡ Some d)
       (plain : is_average (any_front d).kind ≡ false) where
@@ -399,6 +362,7 @@ module _ {X : Type 0} {V : X → Type 0} (drive : Plug X V → Driver) where
       hosted_within (length states) t (any_station drive d) (sym own) (hosted_by_states triggers states ds first sound averaged k d at plain)
 
   -- ---- OPEN
+
   module _ (context : List ℕ) (triggers : List TriggerDesc) (states : List State) (ds : List (AnyDevice X V)) (clock : ℤ) (k capacity : ℕ) (cyclic : Bool)
       (d : AnyDevice X V)
       (sound : IsBench triggers states (stations_by (λ p. no_driver) ds)) (numbered : IsNumbered number_by ds) (at : slice_get ds k ≡ Some d) where
@@ -478,6 +442,7 @@ module _ {X : Type 0} {V : X → Type 0} (drive : Plug X V → Driver) where
         ap (λ (b : Bool). first_refusal (any_refusals b (any_front d).kind (any_front d).shape (any_station drive d) mask)) (sym lacks) ∙ hosts.2
 
   -- ---- what holds after a join and a leave
+
   module _ (triggers : List TriggerDesc) (states : List State) (ds : List (AnyDevice X V)) (k t : ℕ) (d d' : AnyDevice X V) (s s' : State)
       (sound : IsBench triggers states (stations_by (λ p. no_driver) ds)) (numbered : IsNumbered number_by ds) (at : slice_get ds k ≡ Some d)
       (there : slice_get states t ≡ Some s)
@@ -503,6 +468,7 @@ module _ {X : Type 0} {V : X → Type 0} (drive : Plug X V → Driver) where
         (subst (λ (i : ℕ). s' ≡ place_left i (any_station drive d) (any_station drive d') s) (numbered k d at) after))
 
   -- ---- what averaging devices have to do with, after a call at a device that is no averaging one
+
   module _ (triggers first : ℕ) (ds : List (AnyDevice X V)) (k : ℕ) (d d' : AnyDevice X V)
       (averaged : IsAveraged triggers first (map any_front ds) (stations_by (λ p. no_driver) ds)) (at : slice_get ds k ≡ Some d)
       (plain : is_average (any_front d).kind ≡ false) (keeps : KeepsHead d d') where
@@ -528,6 +494,7 @@ module _ {X : Type 0} {V : X → Type 0} (drive : Plug X V → Driver) where
         (record { plugged = kept.plugged; inner = kept.inner; captures = kept.captures })
 
   -- a join and a leave of a connection
+
   module _ (triggers first : ℕ) (ds : List (AnyDevice X V)) (k t : ℕ) (d d' : AnyDevice X V)
       (averaged : IsAveraged triggers first (map any_front ds) (stations_by (λ p. no_driver) ds)) (at : slice_get ds k ≡ Some d)
       (plain : is_average (any_front d).kind ≡ false) (keeps : KeepsHead d d') (own : (any_station drive d).site.trigger ≡ Some t) (within : t < triggers) where
@@ -562,6 +529,7 @@ module _ {X : Type 0} {V : X → Type 0} (drive : Plug X V → Driver) where
         })
 
   -- ---- CLOSE
+
   module _ (context : List ℕ) (triggers : List TriggerDesc) (ds : List (AnyDevice X V)) (clock : ℤ) (ts : List Trigger) (k : ℕ) (d : AnyDevice X V)
       (at : slice_get ds k ≡ Some d) (plain : is_average (any_front d).kind ≡ false) (n : ℕ) where
     closed_is : machine_after_close (fronts_by any_front context triggers ds) (machine_by (any_station drive) clock ts ds) k n

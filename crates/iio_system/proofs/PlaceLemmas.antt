@@ -6,7 +6,8 @@ use Rattle.iio_trigger.specs.declared.rows.Place.{Place}
 use Rattle.iio_trigger.specs.Trigger.{Handed, entries_at, holds_place, with_place, without_place}
 use Rattle.iio_core.specs.Attached.{attached_count, entries_from, is_attached}
 use Rattle.iio_core.specs.Machine.{Station, attachment_of, attachments_of}
-use Rattle.iio_system.specs.Places.{handed_of, places_from}
+use Rattle.iio_kinds.specs.Places.{handed_of}
+use Rattle.iio_system.specs.Triggers.{places_from}
 
 module _ (trigger : ℕ) where
   -- whether a device is attached to it

@@ -18,9 +18,8 @@ use Rattle.iio_history.specs.Transcript.{Drop, Feed, printed}
 use Rattle.iio_history.proofs.BenchLists.{name_same}
 use Rattle.iio_system.specs.declared.bench.Bench.{Bench}
 use Rattle.iio_system.specs.declared.connection.Connection.{Connection}
-use Rattle.iio_system.specs.declared.seat.Seat.{Seat}
+use Rattle.iio_kinds.specs.declared.seat.Seat.{Seat}
 use Rattle.iio_system.specs.declared.step.Step.{Step as CodeStep}
-use Rattle.iio_system.specs.declared.step.Step.TheVariants as code
 use Rattle.iio_system.specs.Step.{step_view}
 use Rattle.iio_system.specs.Bench.{Kept, front_of, kept_of, machine_of}
 use Rattle.iio_system.specs.Feeding.{AreOwning, Feeds, IsOwning, left_by}

@@ -17,7 +17,7 @@ use Rattle.iio_worlds.specs.Bystanders.{may_say}
 use Rattle.iio_worlds.specs.Stance.{Opens, item_meets, items_meet, may_part, opens_by}
 use Rattle.iio_system.specs.declared.connection.Connection.{Connection}
 use Rattle.iio_system.specs.declared.guard.Guard.{Guard}
-use Rattle.iio_system.specs.declared.seat.Seat.{Seat}
+use Rattle.iio_kinds.specs.declared.seat.Seat.{Seat}
 use Rattle.iio_system.specs.Guard.{MeetsBeside, TellsAll, Watches, connections_of, client_by, client_named, clients_besides, guards, item_by, opens_at}
 use Rattle.iio_system.specs.Seat.{seen_of}
 

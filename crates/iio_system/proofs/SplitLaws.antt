@@ -11,7 +11,7 @@ use Rattle.iio_history.specs.Transcript.{Feed}
 use Rattle.iio_history.proofs.BenchLists.{name_same}
 use Rattle.iio_system.specs.declared.bench.Bench.{Bench}
 use Rattle.iio_system.specs.declared.connection.Connection.{Connection}
-use Rattle.iio_system.specs.declared.seat.Seat.{Seat}
+use Rattle.iio_kinds.specs.declared.seat.Seat.{Seat}
 use Rattle.iio_system.specs.Bench.{front_of, kept_of, machine_of}
 use Rattle.iio_system.specs.Feeding.{AreOwning, Feeds, IsOwning}
 use Rattle.iio_system.specs.Seat.{seen_of}

@@ -8,9 +8,9 @@ use Rattle.iio_device.specs.declared.plug.Plug.{Plug}
 use Rattle.iio_core.specs.Machine.{Station, with_site}
 use Rattle.iio_core.specs.Moves.{Capture}
 use Rattle.iio_device.specs.Site.{unplugged}
-use Rattle.iio_system.specs.declared.any_device.AnyDevice.{AnyDevice}
+use Rattle.iio_kinds.specs.declared.any_device.AnyDevice.{AnyDevice}
 use Rattle.iio_system.specs.Averages.{HasBases}
-use Rattle.iio_system.specs.Station.{KeepsFront, any_front, any_station, full_scan_by}
+use Rattle.iio_kinds.specs.Station.{KeepsFront, any_front, any_station, full_scan_by}
 use Rattle.iio_system.specs.Together.{AreGathered, IsGathered, IsUnplugged, scan_at, with_capture}
 use Rattle.iio_system.proofs.OpenLemmas.{kind_there}
 

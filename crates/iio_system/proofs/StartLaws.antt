@@ -28,8 +28,8 @@ use Rattle.iio_history.proofs.BenchSizes.{sizes_from}
 use Rattle.iio_system.specs.declared.bench.Bench.{Bench}
 use Rattle.iio_system.specs.Bench.{front_of, machine_of}
 use Rattle.iio_system.specs.First.{first_machine, first_station}
-use Rattle.iio_system.specs.MeanStation.{first_mean_station}
-use Rattle.iio_system.specs.OutStation.{first_out_station}
+use Rattle.iio_kinds.specs.MeanStation.{first_mean_station}
+use Rattle.iio_kinds.specs.OutStation.{first_out_station}
 use Rattle.iio_system.specs.Standing.{Holds}
 use Rattle.iio_system.proofs.OpenLemmas.{full_has}
 

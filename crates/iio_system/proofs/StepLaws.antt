@@ -23,12 +23,12 @@ use Rattle.iio_history.proofs.BenchKept.{room_after}
 use Rattle.iio_history.proofs.TranscriptLaws.{lines_are, state_is}
 use Rattle.iio_system.specs.declared.bench.Bench.{Bench}
 use Rattle.iio_system.specs.declared.connection.Connection.{Connection}
-use Rattle.iio_system.specs.declared.seat.Seat.{Seat}
+use Rattle.iio_kinds.specs.declared.seat.Seat.{Seat}
 use Rattle.iio_system.specs.declared.step.Step.{Step as CodeStep}
 use Rattle.iio_system.specs.declared.step.Step.TheVariants as code
 use Rattle.iio_system.specs.declared.system.System.{System}
 use Rattle.iio_system.specs.Standing.{Holds, MakesStep, RiseBy, StandsFor}
-use Rattle.iio_system.specs.Station.{any_station}
+use Rattle.iio_kinds.specs.Station.{any_station}
 use Rattle.iio_system.specs.Step.{cost_of, step_view}
 use Rattle.iio_system.proofs.ItemLemmas.{items_few, room_less}
 use Rattle.iio_system.proofs.MoveLaws.{machine_told as same_machine}

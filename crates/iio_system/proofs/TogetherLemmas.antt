@@ -1,7 +1,7 @@
 -- Several devices that change one after another.
 use Rattle.std.proofs.Common.{◌≡◌, ◌⊎◌, ℕ, zero, suc, ◌+◌, ◌<◌, ◌≤◌, All, List, [], ◌∷◌, length, map, set, slice_get, Some, inl, inr, refl, sym, ap, subst, ◌∙◌, arith}
 use Rattle.iio_core.specs.Lists.{map_from}
-use Rattle.iio_system.specs.Places.{IsNumbered}
+use Rattle.iio_system.specs.Triggers.{IsNumbered}
 use Rattle.iio_system.specs.Together.{Together}
 use Rattle.iio_system.proofs.ListLemmas.{after_set, length_after}
 

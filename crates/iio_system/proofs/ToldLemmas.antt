@@ -29,7 +29,7 @@ use Rattle.iio_core.specs.Machine.{Machine, MemberId, Station, is_plugged, lost_
 use Rattle.iio_core.specs.Calls.{ev_close_of, ev_open_answer, ev_open_of, ev_read_answer, ev_read_of, holds_events, is_asking, read_attr_of, set_trigger_of, trigger_answer, unless, write_attr_of, write_scans_at, write_scans_of, writes}
 use Rattle.iiod_session.specs.Reading.{TakesScans}
 use Rattle.iiod_session.specs.Seat.{Answers, SeatRecord, Takes, seat_id}
-use Rattle.iio_system.specs.Acting.{Acts, Reads, TakesAt, TakesScansAt, Turns, lost_in}
+use Rattle.iio_kinds.specs.Acting.{Acts, Reads, TakesAt, TakesScansAt, Turns, lost_in}
 use Rattle.iio_system.proofs.ListLemmas.{map_at, map_changed, map_same}
 
 -- a machine of devices

@@ -18,14 +18,14 @@ use Rattle.iio_core.specs.Front.{Front, kind_at, shape_at}
 use Rattle.iio_core.specs.Machine.{Machine, Member, Station, station_in, with_site}
 use Rattle.iio_core.specs.Moves.{Capture, station_after_gathering, unplugs, machine_after_unplugging, entry_at, capture_at, capture_in, entry_answer, station_after_entry, is_due, machine_after_entry}
 use Rattle.iio_core.proofs.PlaceLists.{itself, same_number}
-use Rattle.iio_system.specs.declared.any_device.AnyDevice.{AnyDevice}
+use Rattle.iio_kinds.specs.declared.any_device.AnyDevice.{AnyDevice}
 use Rattle.iio_core.specs.declared.became.Became.{Became}
 use Rattle.iio_core.specs.declared.became.Became.TheVariants.{Asked, Gave}
 use Rattle.iio_system.specs.Averages.{HasBases, IsAveraged, kind_in, shape_in}
-use Rattle.iio_system.specs.Handling.{IsRoom, IsScanOf, IsTakenWhole, entry_capture, entry_station, has_inner, is_last, entry_became, unless_ended}
-use Rattle.iio_system.specs.Places.{IsBench, IsNumbered}
-use Rattle.iio_system.specs.declared.any_device.AnyDevice.TheVariants as any
-use Rattle.iio_system.specs.Station.{KeepsFront, KeepsHead, any_front, any_station, captures_by, full_scan_by, number_by, room_by, stations_by}
+use Rattle.iio_kinds.specs.Handling.{IsRoom, IsScanOf, IsTakenWhole, entry_capture, entry_station, has_inner, is_last, entry_became, unless_ended}
+use Rattle.iio_system.specs.Triggers.{IsBench, IsNumbered}
+use Rattle.iio_kinds.specs.declared.any_device.AnyDevice.TheVariants as any
+use Rattle.iio_kinds.specs.Station.{KeepsFront, KeepsHead, any_front, any_station, captures_by, full_scan_by, number_by, room_by, stations_by}
 use Rattle.iio_system.specs.Together.{AfterEntry, AreGathered, AreUnplugged, CanGather, IsReady, OnCapture, gathers, scan_at, with_capture}
 use Rattle.iio_system.proofs.ListLemmas.{after_set, length_after, length_map_is, map_at, map_same, numbered_after}
 use Rattle.iio_system.proofs.FiringLemmas.{room_is}
@@ -35,7 +35,7 @@ use Rattle.iio_system.proofs.GatherLemmas.{averaged_handled, averaged_unplugged,
 use Rattle.iio_system.proofs.OpenLemmas.{averaged_as, kind_there, sound_any, sound_as}
 use Rattle.iio_system.proofs.TogetherLemmas.{map_together, map_unmoved, numbered_together}
 use Rattle.iio_system.proofs.ToldLemmas.{fronts_by, kind_is, machine_by, shape_is, station_is}
-use Rattle.iio_system.proofs.AnyCalls.{either}
+use Rattle.iio_kinds.proofs.AnyCalls.{either}
 
 -- ---- one device in a handling
 

@@ -1,14 +1,13 @@
 -- An averaging device and its base. (This project's own.)
-use Rattle.std.specs.Prelude.{◌≡◌, ℕ, ◌-◌, ◌^◌, ◌<◌, ◌≤◌, not, Bool, true, false, List, length, Some, slice_get}
-use Rattle.std.specs.List.{list_any}
+use Rattle.std.specs.Prelude.{◌≡◌, ℕ, ◌-◌, ◌^◌, ◌<◌, ◌≤◌, not, true, false, List, length, Some, slice_get}
 use Rattle.std.specs.Option.{option_map_or}
 use Rattle.iio_layout.specs.Shape.{ShapeRecord}
 use Rattle.iio_desc.specs.Description.{DeviceHead, no_shape, shape_of_means}
 use Rattle.iio_desc.specs.Kind.{Kind, Input, Average, is_average}
 use Rattle.iio_device.specs.Site.{is_empty}
-use Rattle.iio_core.specs.Calls.{is_inner_of}
 use Rattle.iio_core.specs.Machine.{Station, station_in}
-use Rattle.iio_system.specs.Places.{is_hosted}
+use Rattle.iio_kinds.specs.Places.{is_hosted}
+use Rattle.iio_kinds.specs.Inner.{has_inner}
 
 -- the kind and the shape of a device, as a front has them
 abbrev pub kind_in : List DeviceHead → ℕ → Kind
@@ -16,10 +15,6 @@ kind_in heads dev = option_map_or (λ (d : DeviceHead). d.kind) (slice_get heads
 
 abbrev pub shape_in : List DeviceHead → ℕ → ShapeRecord
 shape_in heads dev = option_map_or (λ (d : DeviceHead). d.shape) (slice_get heads dev) no_shape
-
--- whether a device has the inner member of averaging device j
-abbrev pub has_inner : ℕ → Station → Bool
-has_inner j st = list_any (is_inner_of j) st.members
 
 -- a device that one of that shape can average: an input device before number `first`
 pub record IsBase (first : ℕ) (heads : List DeviceHead) (means : ShapeRecord) (base : ℕ) : Type 0 where

@@ -7,9 +7,9 @@ use Rattle.iio_core.specs.Front.{Front}
 use Rattle.iio_core.specs.Machine.{Machine}
 use Rattle.iio_core.specs.Trigger.{Trigger}
 use Rattle.iio_system.specs.declared.bench.Bench.{Bench}
-use Rattle.iio_system.specs.Handling.{is_last}
-use Rattle.iio_system.specs.Places.{trigger_of}
-use Rattle.iio_system.specs.Station.{any_front, captures_by, room_by, stations_by}
+use Rattle.iio_kinds.specs.Handling.{is_last}
+use Rattle.iio_kinds.specs.Places.{trigger_of}
+use Rattle.iio_kinds.specs.Station.{any_front, captures_by, room_by, stations_by}
 
 -- the front, and how many captures each device has made
 pub record Kept : Type 0 where

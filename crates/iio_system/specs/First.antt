@@ -12,8 +12,8 @@ use Rattle.iio_core.specs.Machine.{Machine, Station, new_station}
 use Rattle.iio_layout.specs.Shape.{ShapeRecord}
 use Rattle.iio_core.specs.Trigger.{first_trigger}
 use Rattle.iio_system.specs.Averages.{shape_in}
-use Rattle.iio_system.specs.MeanStation.{first_mean_station, new_mean_station}
-use Rattle.iio_system.specs.OutStation.{first_out_station}
+use Rattle.iio_kinds.specs.MeanStation.{first_mean_station, new_mean_station}
+use Rattle.iio_kinds.specs.OutStation.{first_out_station}
 
 -- an input device: no member yet, the trigger and the attributes of its description
 abbrev pub first_station : List Driver → DeviceRecord → Station

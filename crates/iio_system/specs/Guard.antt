@@ -19,7 +19,7 @@ use Rattle.iio_worlds.specs.Stance.{Opens, item_meets, items_meet, opens_by, own
 use Rattle.iio_system.specs.declared.connection.Connection.{Connection}
 use Rattle.iio_system.specs.declared.guard.Guard.{Guard}
 use Rattle.iio_system.specs.declared.others.Others.{Others}
-use Rattle.iio_system.specs.declared.seat.Seat.{Seat}
+use Rattle.iio_kinds.specs.declared.seat.Seat.{Seat}
 use Rattle.iio_system.specs.Connection.{IsHearing}
 use Rattle.iio_system.specs.Seat.{seen_of}
 

@@ -1,14 +1,5 @@
-pub mod Inner
-pub mod Taking
-pub mod Seated
-pub mod OutStation
-pub mod MeanStation
-pub mod Station
-pub mod Places
+pub mod Triggers
 pub mod Averages
-pub mod Faults
-pub mod Acting
-pub mod Handling
 pub mod Together
 pub mod Seat
 pub mod Bench
@@ -21,4 +12,3 @@ pub mod Guard
 pub mod Standing
 pub mod Moves
 pub mod Tally
-pub mod Remasking

@@ -10,7 +10,7 @@ use Rattle.iio_history.specs.Told.{Told}
 use Rattle.iio_history.specs.Played.{steps, texts}
 use Rattle.iio_system.specs.declared.bench.Bench.{Bench}
 use Rattle.iio_system.specs.declared.connection.Connection.{Connection}
-use Rattle.iio_system.specs.declared.seat.Seat.{Seat}
+use Rattle.iio_kinds.specs.declared.seat.Seat.{Seat}
 use Rattle.iio_system.specs.Standing.{Holds}
 
 -- no capture is a device's last

@@ -1,7 +1,7 @@
 -- A seat at a bench, as an `Iio` says what it is: it tells nothing.
 use Rattle.std.specs.Prelude.{None}
 use Rattle.iiod_session.specs.Seat.{SeatRecord}
-use Rattle.iio_system.specs.declared.seat.Seat.{Seat}
+use Rattle.iio_kinds.specs.declared.seat.Seat.{Seat}
 
 abbrev pub seen_of : Seat → SeatRecord
 seen_of s = record { number = s.number; mask = s.mask.bits; size = s.size; capacity = s.capacity; trace = None }

@@ -15,7 +15,7 @@ use Rattle.iio_history.specs.Played.{state_after, step_lines}
 use Rattle.iio_worlds.specs.Stance.{step_meets}
 use Rattle.iio_system.specs.declared.bench.Bench.{Bench}
 use Rattle.iio_system.specs.declared.connection.Connection.{Connection}
-use Rattle.iio_system.specs.declared.seat.Seat.{Seat}
+use Rattle.iio_kinds.specs.declared.seat.Seat.{Seat}
 use Rattle.iio_system.specs.declared.step.Step.{Step as CodeStep}
 use Rattle.iio_system.specs.declared.step.Step.TheVariants as code
 use Rattle.iio_system.specs.declared.system.System.{System}

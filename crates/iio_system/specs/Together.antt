@@ -11,12 +11,12 @@ use Rattle.iio_device.specs.Site.{is_empty, unplugged}
 use Rattle.iio_core.specs.Machine.{Station, with_site}
 use Rattle.iio_core.specs.Moves.{Capture, station_after_gathering}
 use Rattle.iio_device.specs.declared.handling.Handled.TheVariants.{Captured}
-use Rattle.iio_system.specs.declared.any_device.AnyDevice.{AnyDevice}
+use Rattle.iio_kinds.specs.declared.any_device.AnyDevice.{AnyDevice}
 use Rattle.iio_core.specs.declared.became.Became.{Became}
 use Rattle.iio_core.specs.declared.became.Became.TheVariants.{Asked}
 use Rattle.iio_system.specs.Averages.{HasBases}
-use Rattle.iio_system.specs.Handling.{IsScanOf, is_last}
-use Rattle.iio_system.specs.Station.{KeepsFront, any_front, any_station, full_scan_by}
+use Rattle.iio_kinds.specs.Handling.{IsScanOf, is_last}
+use Rattle.iio_kinds.specs.Station.{KeepsFront, any_front, any_station, full_scan_by}
 
 -- each device, by its number, is as this says
 pub record Together {D : Type 0} (R : ℕ → D → D → Type 0) (old new : List D) : Type 0 where

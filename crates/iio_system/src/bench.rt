@@ -4,11 +4,11 @@ ghost use Rattle.std.specs.Prelude.{length, map};
 ghost use Rattle.std.proofs.Props.{props};
 ghost use Rattle.iio_device.specs.Site.{no_driver};
 ghost use Rattle.iio_system.specs.Averages.{IsAveraged};
-ghost use Rattle.iio_system.specs.Places.{IsBench, IsNumbered};
-ghost use Rattle.iio_system.specs.Station.{any_front, number_by, stations_by};
+ghost use Rattle.iio_system.specs.Triggers.{IsBench, IsNumbered};
+ghost use Rattle.iio_kinds.specs.Station.{any_front, number_by, stations_by};
 
-use crate::any_device::AnyDevice;
 use iio_desc::TriggerDesc;
+use iio_kinds::AnyDevice;
 use iio_sensor::Sensor;
 use iio_trigger::Trigger;
 use std::alloc::Global;

@@ -8,7 +8,7 @@ ghost use Rattle.iio_core.specs.Machine.{is_plugged, station_at};
 ghost use Rattle.iio_core.specs.Moves.{entry_in, kind_sensed, machine_after_entry, machine_after_look, machine_after_poll, machine_after_unplugging, polled_answer, taken_off};
 ghost use Rattle.iio_core.specs.Trigger.{entries_at, first_due};
 ghost use Rattle.iio_system.specs.Bench.{captures_of, front_of, has_ended, machine_of, room_at, triggers_of};
-ghost use Rattle.iio_system.specs.Handling.{IsRoom, counted, entry_became, unless_ended};
+ghost use Rattle.iio_kinds.specs.Handling.{IsRoom, counted, entry_became, unless_ended};
 
 use crate::bench::Bench;
 use crate::together::{gather, unplug_all};

@@ -16,8 +16,8 @@ ghost use Rattle.iio_system.specs.Seat.{seen_of};
 
 use crate::bench::Bench;
 use crate::others::Others;
-use crate::seat::Seat;
 use iio_attr::Name;
+use iio_kinds::Seat;
 use iiod_grammar::{Command, MAX_PAYLOAD};
 use iiod_session::{Iio, Seen, Session, Watch};
 

@@ -4,16 +4,15 @@ ghost use Rattle.std.specs.Prelude.{◌≡◌, ◌<◌, IfSome, length};
 ghost use Rattle.std.specs.List.{position};
 ghost use Rattle.std.specs.Str.{bytes_eq};
 ghost use Rattle.iio_desc.specs.Description.{trigger_number};
-ghost use Rattle.iio_system.specs.Station.{any_front};
+ghost use Rattle.iio_kinds.specs.Station.{any_front};
 
-use crate::any_device::AnyDevice;
 use crate::bench::Bench;
 use crate::opening::{close_any, open_any};
-use crate::seat::Seat;
 use iio_attr::{Attr, Name, Value};
 use iio_desc::TriggerDesc;
 use iio_device::Plug;
 use iio_event::EventData;
+use iio_kinds::{AnyDevice, Seat};
 use iio_layout::{Shape, scan_size};
 use iio_mask::Mask;
 use iio_sensor::Sensor;

@@ -6,7 +6,7 @@ ghost use Rattle.iio_desc.specs.declared.limits.TheConstants.{MAX_DEVICES};
 ghost use Rattle.iio_core.specs.Front.{device_name, trigger_name};
 ghost use Rattle.iio_history.specs.Transcript.{Fire, Handle, Poll, Sense, SetClock, Unplug, printed};
 ghost use Rattle.iio_system.specs.declared.connection.Connection.{Connection};
-ghost use Rattle.iio_system.specs.declared.seat.Seat.{Seat};
+ghost use Rattle.iio_kinds.specs.declared.seat.Seat.{Seat};
 ghost use Rattle.iio_system.specs.Bench.{captures_of, front_of, room_at};
 ghost use Rattle.iio_history.specs.Words.{became_word};
 ghost use Rattle.iio_system.specs.Moves.{CanGoOn, HandlesAll, HandlesOne};

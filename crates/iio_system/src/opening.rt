@@ -13,13 +13,13 @@ ghost use Rattle.iio_core.specs.Front.{kind_at, shape_at};
 ghost use Rattle.iio_core.specs.Machine.{station_at};
 ghost use Rattle.iiod_session.specs.Seat.{Answers, IsNew, MayOpen, number_by};
 ghost use Rattle.iio_system.specs.Bench.{front_of, kept_of, machine_of};
-ghost use Rattle.iio_system.specs.Faults.{HostsAny, IsServedAlone};
+ghost use Rattle.iio_kinds.specs.Faults.{HostsAny, IsServedAlone};
 ghost use Rattle.iio_system.specs.Seat.{seen_of};
-ghost use Rattle.iio_system.specs.Station.{base_of};
+ghost use Rattle.iio_kinds.specs.Station.{base_of};
 
 use crate::bench::Bench;
-use crate::seat::Seat;
 use iio_device::Plug;
+use iio_kinds::Seat;
 use iio_layout::{Shape, scan_size};
 use iio_mask::Mask;
 use iio_sensor::Sensor;

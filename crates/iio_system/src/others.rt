@@ -6,7 +6,7 @@ ghost use Rattle.iio_system.specs.Guard.{connection_named, connections_of, clien
 ghost use Rattle.iio_system.specs.Seat.{seen_of};
 
 use crate::connection::Connection;
-use crate::seat::Seat;
+use iio_kinds::Seat;
 use iiod_session::Session;
 
 /// All connections but one: those before it, and those after it.

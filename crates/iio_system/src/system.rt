@@ -9,7 +9,9 @@ ghost use Rattle.iio_system.specs.Seat.{seen_of};
 
 use crate::bench::Bench;
 use crate::connection::Connection;
-use crate::seat::Seat;
+use iio_device::Plug;
+use iio_kinds::{Seat, Tally, devices_tally};
+use iio_sensor::Sensor;
 use std::alloc::Global;
 
 /// The devices of a description, and the connections of a script that use them, in the order of their first feeds.
@@ -28,12 +30,24 @@ pub struct System {
 }
 
 impl System {
-    ghost use Rattle.std.specs.Prelude.{◌≡◌};
+    ghost use Rattle.std.specs.Prelude.{◌≡◌, List};
+    ghost use Rattle.iio_history.specs.Event.{Event};
+    ghost use Rattle.iio_history.specs.Registry.{Setup};
+    ghost use Rattle.iio_history.specs.Summary.{summary_of};
+    ghost use Rattle.iio_system.specs.Standing.{StandsFor};
+    ghost use Rattle.iio_system.specs.Tally.{tally_of};
 
     /// How many steps were made, and how many bytes were fed, in one number.
     pub fn used(&self) -> u64
         ensures { result ≡ self.now.used }
     {
         self.used
+    }
+
+    /// What was counted over the steps that were made.
+    pub fn tally(&self) -> Tally
+        ensures { (s : Setup) (h : List Event) → StandsFor ⟦<Plug as Sensor>⟧.driver s h self.now → result ≡ tally_of (summary_of s h) }
+    {
+        devices_tally(&self.bench.devices)
     }
 }

@@ -4,11 +4,11 @@ ghost use Rattle.std.specs.Prelude.{◌≡◌, ◌≤◌, All, length};
 ghost use Rattle.iio_desc.specs.Kind.{is_unplugged_by};
 ghost use Rattle.iio_desc.specs.declared.limits.TheConstants.{MAX_DEVICES};
 ghost use Rattle.iio_system.specs.Together.{AfterEntry, AreGathered, AreUnplugged, CanGather, IsGathered, IsReady, OnCapture, scan_at};
-ghost use Rattle.iio_system.specs.Station.{any_front};
+ghost use Rattle.iio_kinds.specs.Station.{any_front};
 
-use crate::any_device::AnyDevice;
 use iio_core::Became;
 use iio_device::{Handled, Plug};
+use iio_kinds::AnyDevice;
 use iio_sensor::Sensor;
 
 // A device takes a capture of that base, as its scan of all channels, where it is over it and has a member.

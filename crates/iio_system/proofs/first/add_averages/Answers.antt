@@ -3,10 +3,10 @@ use Rattle.iio_desc.specs.Description.{AverageRecord, shape_of_means}
 use Rattle.iio_desc.specs.WellFormed.{IsWellFormedAverage}
 use Rattle.iio_device.specs.Plug.{driver_of}
 use Rattle.iio_layout.specs.Shape.{ShapeRecord}
-use Rattle.iio_system.specs.declared.any_device.AnyDevice.TheVariants as any
+use Rattle.iio_kinds.specs.declared.any_device.AnyDevice.TheVariants as any
 use Rattle.iio_system.specs.First.{mean_head_over, mean_station_over, means_over}
-use Rattle.iio_system.specs.MeanStation.{means_head, new_mean_station}
-use Rattle.iio_system.specs.Station.{any_front, any_station, captures_by, number_by}
+use Rattle.iio_kinds.specs.MeanStation.{means_head, new_mean_station}
+use Rattle.iio_kinds.specs.Station.{any_front, any_station, captures_by, number_by}
 use Rattle.iio_system.proofs.FirstLemmas.{added, base_shape, formed_next}
 use Rattle.iio_system.proofs.first.add_averages.Goals as goal
 

@@ -1,7 +1,7 @@
 use Rattle.std.proofs.Common.{map}
 use Rattle.iio_device.specs.Plug.{driver_of}
 use Rattle.iio_system.specs.First.{mean_head_over, mean_station_over}
-use Rattle.iio_system.specs.Station.{any_front, any_station, captures_by, number_by}
+use Rattle.iio_kinds.specs.Station.{any_front, any_station, captures_by, number_by}
 use Rattle.iio_system.proofs.FirstLemmas.{Adding}
 use Rattle.iio_system.proofs.first.add_averages.Given as goal
 

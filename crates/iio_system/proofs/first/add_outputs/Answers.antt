@@ -1,9 +1,9 @@
 use Rattle.std.proofs.Common.{refl, ◌∙◌}
 use Rattle.iio_desc.specs.Description.{output_head}
 use Rattle.iio_device.specs.Plug.{driver_of}
-use Rattle.iio_system.specs.OutStation.{first_out_station}
-use Rattle.iio_system.specs.declared.any_device.AnyDevice.TheVariants as any
-use Rattle.iio_system.specs.Station.{any_front, any_station, captures_by, number_by}
+use Rattle.iio_kinds.specs.OutStation.{first_out_station}
+use Rattle.iio_kinds.specs.declared.any_device.AnyDevice.TheVariants as any
+use Rattle.iio_kinds.specs.Station.{any_front, any_station, captures_by, number_by}
 use Rattle.iio_system.proofs.FirstLemmas.{added}
 use Rattle.iio_system.proofs.first.add_outputs.Goals as goal
 

@@ -1,7 +1,7 @@
 use Rattle.std.proofs.Common.{ap, ◌∙◌}
 use Rattle.iio_device.specs.Plug.{driver_of}
-use Rattle.iio_system.specs.declared.any_device.AnyDevice.TheVariants as any
-use Rattle.iio_system.specs.Station.{any_front, any_station, captures_by, head_by, number_by, station_by}
+use Rattle.iio_kinds.specs.declared.any_device.AnyDevice.TheVariants as any
+use Rattle.iio_kinds.specs.Station.{any_front, any_station, captures_by, head_by, number_by, station_by}
 use Rattle.iio_system.proofs.FirstLemmas.{in_first, pushed}
 use Rattle.iio_system.proofs.first.as_inputs.Goals as goal
 

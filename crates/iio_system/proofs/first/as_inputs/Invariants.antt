@@ -1,6 +1,6 @@
 use Rattle.std.proofs.Common.{◌≡◌, map}
 use Rattle.iio_device.specs.Plug.{driver_of}
-use Rattle.iio_system.specs.Station.{any_front, captures_by, head_by, number_by, station_by, stations_by}
+use Rattle.iio_kinds.specs.Station.{any_front, captures_by, head_by, number_by, station_by, stations_by}
 use Rattle.iio_system.proofs.first.as_inputs.Given as goal
 
 abbrev pub invariant-loop-device : goal.invariant-loop-device

@@ -1,7 +1,7 @@
 use Rattle.std.proofs.Common.{map, ◌∙◌}
 use Rattle.iio_device.specs.declared.plug.Plug.TheVariants.{Given}
 use Rattle.iio_device.specs.Plug.{driver_of}
-use Rattle.iio_system.specs.Station.{captures_by, number_by, view_by}
+use Rattle.iio_kinds.specs.Station.{captures_by, number_by, view_by}
 use Rattle.iio_system.proofs.FirstLemmas.{captures_made, fronts_made, numbered_made, stations_made}
 use Rattle.iio_system.proofs.first.inputs_of.Goals as goal
 

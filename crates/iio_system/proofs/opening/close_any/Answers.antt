@@ -1,6 +1,6 @@
 use Rattle.std.proofs.Common.{◌∙◌, ap, sym}
 use Rattle.iio_desc.specs.Kind.{is_average}
-use Rattle.iio_system.specs.Station.{any_front, base_of}
+use Rattle.iio_kinds.specs.Station.{any_front, base_of}
 use Rattle.iio_system.proofs.ListLemmas.{element_at}
 use Rattle.iio_system.proofs.OpenLemmas.{plain_of}
 use Rattle.iio_system.proofs.ToldLemmas.{kind_is}

@@ -2,8 +2,8 @@ use Rattle.std.proofs.Common.{◌∙◌, ◌<◌, ℕ, true, false, ap, refl, su
 use Rattle.std.proofs.lemmas.Option.{slice_get_read}
 use Rattle.iio_desc.specs.Kind.{is_input}
 use Rattle.iio_device.specs.Plug.{driver_of}
-use Rattle.iio_system.specs.Places.{trigger_of}
-use Rattle.iio_system.specs.Station.{any_front, any_station, number_by}
+use Rattle.iio_kinds.specs.Places.{trigger_of}
+use Rattle.iio_kinds.specs.Station.{any_front, any_station, number_by}
 use Rattle.iio_system.proofs.ListLemmas.{map_same, within_map}
 use Rattle.iio_system.proofs.IioLemmas.{device_keeps}
 use Rattle.iio_system.proofs.MeanOpenLemmas.{asked_left, base_inside, base_there, base_on, holds_gone, holds_left, holds_off, input_base, mean_read, pair_after, pair_there, told_gone, told_left, told_off}

@@ -1,8 +1,8 @@
 use Rattle.std.proofs.Common.{◌∙◌, ◌<◌, length, refl, subst, sym}
 use Rattle.std.proofs.lemmas.Option.{slice_get_read}
 use Rattle.iio_device.specs.Plug.{driver_of}
-use Rattle.iio_system.specs.Places.{trigger_of}
-use Rattle.iio_system.specs.Station.{any_front, any_station, number_by}
+use Rattle.iio_kinds.specs.Places.{trigger_of}
+use Rattle.iio_kinds.specs.Station.{any_front, any_station, number_by}
 use Rattle.iio_system.proofs.ListLemmas.{element_at, map_same, numbered_after}
 use Rattle.iio_system.proofs.IioLemmas.{device_keeps}
 use Rattle.iio_system.proofs.OpenLemmas.{as_many, averaged_leaves, leaves_tell, own_along, plain_at, sound_leaves, told_leaves, told_none, within_states}

@@ -8,9 +8,9 @@ use Rattle.iio_layout.specs.Active.{has_data}
 use Rattle.iio_layout.specs.Layout.{scan_size}
 use Rattle.iio_layout.specs.Shape.{ShapeRecord}
 use Rattle.iio_core.specs.Calls.{has_no_number}
-use Rattle.iio_system.specs.Faults.{HasJoined}
-use Rattle.iio_system.specs.Places.{trigger_of}
-use Rattle.iio_system.specs.Station.{any_front, any_station, base_of, number_by}
+use Rattle.iio_kinds.specs.Faults.{HasJoined}
+use Rattle.iio_kinds.specs.Places.{trigger_of}
+use Rattle.iio_kinds.specs.Station.{any_front, any_station, base_of, number_by}
 use Rattle.iio_system.proofs.ListLemmas.{map_same, within_map}
 use Rattle.iio_system.proofs.IioLemmas.{device_keeps}
 use Rattle.iio_system.proofs.MeanOpenLemmas.{base_inside, base_there, full_fits, has_joined, holds_first, holds_same, holds_undone, hosts_here, input_base, may_have_inner, mean_again, mean_read, mean_seat, none_told, once_bytes, pair_after, pair_there, read_again, same_mean, shape_base, told_first_ends, told_first_goes, told_mem, told_undone}

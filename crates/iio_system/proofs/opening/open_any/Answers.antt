@@ -8,7 +8,7 @@ use Rattle.iio_core.specs.Machine.{Station}
 use Rattle.iiod_session.specs.Seat.{Answers, number_by}
 use Rattle.iio_system.specs.Bench.{front_of, machine_of}
 use Rattle.iio_system.specs.Seat.{seen_of}
-use Rattle.iio_system.specs.Station.{any_front, any_station, base_of}
+use Rattle.iio_kinds.specs.Station.{any_front, any_station, base_of}
 use Rattle.iio_system.proofs.ListLemmas.{element_at}
 use Rattle.iio_system.proofs.MeanOpenLemmas.{empty_then, never_cyclic, no_longer_empty}
 use Rattle.iio_system.proofs.OpenLemmas.{average_of, plain_of}

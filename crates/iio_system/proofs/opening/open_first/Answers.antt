@@ -6,8 +6,8 @@ use Rattle.iio_kfifo.specs.declared.limits.TheConstants.{MAX_BYTES}
 use Rattle.iio_layout.specs.Active.{has_data}
 use Rattle.iio_layout.specs.Layout.{scan_size}
 use Rattle.iio_layout.specs.Shape.{ShapeRecord, count_of}
-use Rattle.iio_system.specs.Places.{is_hosted}
-use Rattle.iio_system.specs.Station.{any_station}
+use Rattle.iio_kinds.specs.Places.{is_hosted}
+use Rattle.iio_kinds.specs.Station.{any_station}
 use Rattle.iio_system.proofs.MeanOpenLemmas.{alone_told, base_first, base_inside, hosts_triggers, input_base, mean_unread, shape_base, told_first_refused}
 use Rattle.iio_system.proofs.OpenLemmas.{hosted_by_states, sized_along}
 use Rattle.iio_system.proofs.opening.open_first.Goals as goal

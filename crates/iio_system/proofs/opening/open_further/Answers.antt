@@ -1,7 +1,7 @@
 use Rattle.std.proofs.Common.{◌≡◌, ◌∙◌, true, false, subst, sym}
 use Rattle.iio_device.specs.Plug.{driver_of}
 use Rattle.iio_core.specs.Calls.{has_no_number}
-use Rattle.iio_system.specs.Station.{any_front, any_station}
+use Rattle.iio_kinds.specs.Station.{any_front, any_station}
 use Rattle.iio_system.proofs.IioLemmas.{device_keeps}
 use Rattle.iio_system.proofs.MeanOpenLemmas.{holds_further, mean_seat, none_told, over_read, same_read, told_further, told_further_ends, told_further_gone}
 use Rattle.iio_system.proofs.OpenLemmas.{average_of, open_bytes, open_fits}

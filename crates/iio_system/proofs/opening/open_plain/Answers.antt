@@ -3,8 +3,8 @@ use Rattle.std.specs.Prelude.{◌&&◌, not}
 use Rattle.std.proofs.lemmas.Option.{slice_get_read}
 use Rattle.iio_desc.specs.Kind.{Kind, is_output}
 use Rattle.iio_device.specs.Plug.{driver_of}
-use Rattle.iio_system.specs.Places.{is_hosted, trigger_of}
-use Rattle.iio_system.specs.Station.{any_front, any_station, number_by}
+use Rattle.iio_kinds.specs.Places.{is_hosted, trigger_of}
+use Rattle.iio_kinds.specs.Station.{any_front, any_station, number_by}
 use Rattle.iio_system.proofs.ListLemmas.{element_at, map_same, numbered_after}
 use Rattle.iio_system.proofs.IioLemmas.{device_keeps}
 use Rattle.iio_system.proofs.OpenLemmas.{as_many, averaged_joins, hosted_by_states, hosts_along, joins_tell, open_bytes, open_fits, open_joins, open_may, open_refused, open_seat, plain_at, sized_along, sound_joins}

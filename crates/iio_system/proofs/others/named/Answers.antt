@@ -1,7 +1,7 @@
 use Rattle.std.proofs.Common.{true, false, List, sym, ◌∙◌, arith}
 use Rattle.std.proofs.lemmas.List.{at_drop_all}
 use Rattle.iio_system.specs.declared.connection.Connection.{Connection}
-use Rattle.iio_system.specs.declared.seat.Seat.{Seat}
+use Rattle.iio_kinds.specs.declared.seat.Seat.{Seat}
 use Rattle.iio_system.specs.Guard.{connection_named}
 use Rattle.iio_system.proofs.BesideLaws.{named_on}
 use Rattle.iio_system.proofs.others.named.Goals as goal

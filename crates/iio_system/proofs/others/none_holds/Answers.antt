@@ -2,7 +2,7 @@ use Rattle.std.proofs.Common.{true, false, List, sym, ◌∙◌, arith}
 use Rattle.std.proofs.lemmas.List.{at_drop_all}
 use Rattle.iio_worlds.specs.Stance.{none_seated}
 use Rattle.iio_system.specs.declared.connection.Connection.{Connection}
-use Rattle.iio_system.specs.declared.seat.Seat.{Seat}
+use Rattle.iio_kinds.specs.declared.seat.Seat.{Seat}
 use Rattle.iio_system.specs.Guard.{clients_besides}
 use Rattle.iio_system.specs.Seat.{seen_of}
 use Rattle.iio_system.proofs.BesideLaws.{none_on}

@@ -4,7 +4,7 @@ use Rattle.iio_scan_type.specs.Format.{size_of}
 use Rattle.iio_layout.specs.Shape.{ShapeRecord}
 use Rattle.iio_layout.specs.declared.channel.Channel.{Channel}
 use Rattle.iio_desc.specs.Description.{DeviceHead}
-use Rattle.iio_system.specs.Station.{any_front}
+use Rattle.iio_kinds.specs.Station.{any_front}
 use Rattle.iio_system.proofs.ListLemmas.{within_map}
 use Rattle.iio_system.proofs.StartLaws.{every_size, front_at}
 use Rattle.iio_system.proofs.steps.look_at_sizes.Goals as goal

@@ -2,7 +2,7 @@ use Rattle.std.proofs.Common.{ℕ, ◌<◌, ◌≤◌, All, map, slice_index_or}
 use Rattle.iio_scan_type.specs.Format.{size_of}
 use Rattle.iio_layout.specs.declared.channel.Channel.{Channel}
 use Rattle.iio_desc.specs.Description.{DeviceHead}
-use Rattle.iio_system.specs.Station.{any_front}
+use Rattle.iio_kinds.specs.Station.{any_front}
 use Rattle.iio_system.proofs.steps.look_at_sizes.Given as goal
 
 abbrev pub invariant-loop-device : goal.invariant-loop-device

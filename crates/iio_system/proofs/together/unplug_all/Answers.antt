@@ -2,7 +2,7 @@ use Rattle.std.proofs.Common.{◌<◌, length, refl, sym, ap, ◌∙◌, arith}
 use Rattle.std.proofs.lemmas.Option.{slice_get_read}
 use Rattle.iio_desc.specs.Kind.{is_unplugged_by}
 use Rattle.iio_device.specs.Plug.{driver_of}
-use Rattle.iio_system.specs.Station.{any_front}
+use Rattle.iio_kinds.specs.Station.{any_front}
 use Rattle.iio_system.specs.Together.{IsUnplugged}
 use Rattle.iio_system.proofs.ListLemmas.{same_element}
 use Rattle.iio_system.proofs.SplitLemmas.{goes_too, stays_here}

@@ -9,9 +9,9 @@ use Rattle.iio_core.specs.Machine.{Station, station_at, Machine}
 use Rattle.iio_core.specs.Trigger.{entry_of, entries_at, Trigger}
 use Rattle.iio_core.specs.Moves.{entry_in, machine_after_entry, taken_off}
 use Rattle.iio_system.specs.Bench.{has_ended, triggers_of, machine_of}
-use Rattle.iio_system.specs.Handling.{IsRoom, counted, is_last, unless_ended}
-use Rattle.iio_system.specs.Places.{trigger_of}
-use Rattle.iio_system.specs.Station.{any_front, any_station, captures_by, room_by, stations_by}
+use Rattle.iio_kinds.specs.Handling.{IsRoom, counted, is_last, unless_ended}
+use Rattle.iio_kinds.specs.Places.{trigger_of}
+use Rattle.iio_kinds.specs.Station.{any_front, any_station, captures_by, room_by, stations_by}
 use Rattle.iio_system.proofs.ListLemmas.{element_at, map_changed}
 use Rattle.iio_system.proofs.FiringLemmas.{ended_here, entry_answer_is, entry_bench, entry_here, entry_triggers}
 use Rattle.iio_system.proofs.OpenLemmas.{as_many}

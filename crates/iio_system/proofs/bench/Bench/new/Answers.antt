@@ -11,10 +11,10 @@ use Rattle.iio_core.specs.Front.{Front, first_front}
 use Rattle.iio_core.specs.Machine.{Machine, Station}
 use Rattle.iio_system.specs.Averages.{HasBases}
 use Rattle.iio_system.specs.First.{first_machine, first_state, first_station}
-use Rattle.iio_system.specs.OutStation.{first_out_station}
-use Rattle.iio_system.specs.Places.{trigger_of}
+use Rattle.iio_kinds.specs.OutStation.{first_out_station}
+use Rattle.iio_kinds.specs.Places.{trigger_of}
 use Rattle.iio_core.specs.Trigger.{first_trigger, Trigger}
-use Rattle.iio_system.specs.Station.{any_front, any_station, stations_by}
+use Rattle.iio_kinds.specs.Station.{any_front, any_station, stations_by}
 use Rattle.iio_system.proofs.AnyLemmas.{members_as}
 use Rattle.iio_system.proofs.FirstLemmas.{AreBare, AreFresh, added_heads, added_stations, first_averaged, first_seat_state, first_bases, first_bench, first_fresh, first_told, firsts_few, formed_more}
 use Rattle.iio_system.proofs.ListLemmas.{length_map_is}

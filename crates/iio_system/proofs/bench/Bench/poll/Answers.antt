@@ -4,7 +4,7 @@ use Rattle.std.proofs.lemmas.Option.{slice_get_read}
 use Rattle.iio_core.specs.Trigger.{Trigger}
 use Rattle.iio_device.specs.Plug.{driver_of}
 use Rattle.iio_device.specs.Site.{no_driver}
-use Rattle.iio_system.specs.Station.{any_station, stations_by}
+use Rattle.iio_kinds.specs.Station.{any_station, stations_by}
 use Rattle.iio_system.proofs.FiringLemmas.{poll_answer_is, poll_bench, poll_triggers}
 use Rattle.iio_system.proofs.OpenLemmas.{as_many, sound_any}
 use Rattle.iio_system.proofs.ToldLemmas.{machine_by}

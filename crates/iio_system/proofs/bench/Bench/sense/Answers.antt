@@ -7,7 +7,7 @@ use Rattle.iio_core.specs.Machine.{Station, with_station}
 use Rattle.iio_device.specs.Plug.{driver_of}
 use Rattle.iio_core.specs.Moves.{kind_sensed, station_after_look}
 use Rattle.iio_system.specs.Bench.{machine_of, triggers_of}
-use Rattle.iio_system.specs.Station.{any_front, any_station, captures_by}
+use Rattle.iio_kinds.specs.Station.{any_front, any_station, captures_by}
 use Rattle.iio_system.proofs.ListLemmas.{element_at, map_same, numbered_after}
 use Rattle.iio_system.proofs.IioLemmas.{averaged_kept, fronts_keep, sound_kept}
 use Rattle.iio_system.proofs.FiringLemmas.{sense_stands}

@@ -7,7 +7,7 @@ use Rattle.iio_device.specs.Site.{no_driver}
 use Rattle.iio_core.specs.Front.{Front}
 use Rattle.iio_core.specs.Machine.{is_plugged}
 use Rattle.iio_system.specs.Bench.{machine_of}
-use Rattle.iio_system.specs.Station.{any_front, any_station, captures_by, number_by}
+use Rattle.iio_kinds.specs.Station.{any_front, any_station, captures_by, number_by}
 use Rattle.iio_system.proofs.ListLemmas.{element_at, length_map_is}
 use Rattle.iio_system.proofs.TogetherLemmas.{map_unmoved, numbered_together}
 use Rattle.iio_system.proofs.ToldLemmas.{fronts_by, kind_is, plugged_is}

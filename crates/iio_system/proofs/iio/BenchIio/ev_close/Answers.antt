@@ -1,6 +1,6 @@
 use Rattle.std.proofs.Common.{ap, sym, ◌∙◌}
 use Rattle.iio_desc.specs.Kind.{is_input}
-use Rattle.iio_system.specs.Station.{any_front}
+use Rattle.iio_kinds.specs.Station.{any_front}
 use Rattle.iio_device.specs.Plug.{driver_of}
 use Rattle.iio_system.proofs.ListLemmas.{element_at, numbered_after}
 use Rattle.iio_system.proofs.IioLemmas.{averaged_kept, device_keeps, ev_close_kept, sound_kept}

@@ -1,7 +1,7 @@
 use Rattle.std.specs.Str.{bytes_eq}
 use Rattle.iio_desc.specs.Description.{DeviceHead}
 use Rattle.iio_core.specs.Front.{find_device}
-use Rattle.iio_system.specs.Station.{any_front}
+use Rattle.iio_kinds.specs.Station.{any_front}
 use Rattle.iio_system.proofs.IioLemmas.{position_seen}
 use Rattle.iio_system.proofs.iio.BenchIio.find.Goals as goal
 

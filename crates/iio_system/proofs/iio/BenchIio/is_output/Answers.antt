@@ -1,6 +1,6 @@
 use Rattle.std.proofs.Common.{◌∙◌, ap, sym}
 use Rattle.iio_desc.specs.Kind.{is_output}
-use Rattle.iio_system.specs.Station.{any_front}
+use Rattle.iio_kinds.specs.Station.{any_front}
 use Rattle.iio_system.proofs.ListLemmas.{element_at}
 use Rattle.iio_system.proofs.ToldLemmas.{kind_is}
 use Rattle.iio_system.proofs.iio.BenchIio.is_output.Goals as goal

@@ -2,7 +2,7 @@ use Rattle.iio_device.specs.Plug.{driver_of}
 use Rattle.std.proofs.Common.{rules, ◌≡◌, ◌∙◌, of_z, to_z, w64}
 use Rattle.iio_system.proofs.ListLemmas.{element_at, numbered_after}
 use Rattle.iio_system.proofs.IioLemmas.{averaged_kept, device_keeps, may_read, read_kept, sound_kept}
-use Rattle.iio_system.specs.Station.{any_front, any_station}
+use Rattle.iio_kinds.specs.Station.{any_front, any_station}
 use Rattle.iio_system.proofs.ToldLemmas.{kind_is, shape_is, told_read}
 use Rattle.iio_system.proofs.iio.BenchIio.read_attr.Goals as goal
 

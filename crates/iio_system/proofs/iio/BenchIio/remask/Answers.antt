@@ -3,12 +3,12 @@ use Rattle.iio_desc.specs.Kind.{is_input}
 use Rattle.iio_device.specs.Plug.{driver_of}
 use Rattle.iio_layout.specs.Layout.{scan_size}
 use Rattle.iio_layout.specs.Shape.{ShapeRecord}
-use Rattle.iio_system.specs.Acting.{id_of}
-use Rattle.iio_system.specs.Station.{any_front}
+use Rattle.iio_kinds.specs.Acting.{id_of}
+use Rattle.iio_kinds.specs.Station.{any_front}
 use Rattle.iio_system.proofs.ListLemmas.{element_at, numbered_after}
 use Rattle.iio_system.proofs.IioLemmas.{averaged_kept, device_keeps, sound_kept}
 use Rattle.iio_system.proofs.OpenLemmas.{open_bytes, open_fits}
-use Rattle.iio_system.proofs.RemaskLemmas.{remask_kept, told_remask}
+use Rattle.iio_system.proofs.RemaskedLemmas.{remask_kept, told_remask}
 use Rattle.iio_system.proofs.ToldLemmas.{kind_is, shape_is}
 use Rattle.iio_system.proofs.iio.BenchIio.remask.Goals as goal
 

@@ -1,5 +1,5 @@
 use Rattle.std.proofs.Common.{◌∙◌, sym}
-use Rattle.iio_system.specs.Station.{any_front}
+use Rattle.iio_kinds.specs.Station.{any_front}
 use Rattle.iio_system.proofs.ListLemmas.{element_at}
 use Rattle.iio_system.proofs.ToldLemmas.{shape_is}
 use Rattle.iio_system.proofs.iio.BenchIio.shape.Goals as goal

@@ -1,9 +1,9 @@
 use Rattle.std.proofs.Common.{◌∙◌, refl, sym, ap}
 use Rattle.iio_device.specs.Plug.{driver_of}
 use Rattle.iio_desc.specs.Kind.{is_output}
-use Rattle.iio_system.specs.Acting.{id_of}
+use Rattle.iio_kinds.specs.Acting.{id_of}
 use Rattle.iio_system.specs.Seat.{seen_of}
-use Rattle.iio_system.specs.Station.{any_front, any_station}
+use Rattle.iio_kinds.specs.Station.{any_front, any_station}
 use Rattle.iio_system.proofs.ListLemmas.{element_at, numbered_after}
 use Rattle.iio_system.proofs.IioLemmas.{averaged_kept, device_keeps, sound_kept, take_scans_kept}
 use Rattle.iio_system.proofs.ToldLemmas.{kind_is, size_is, told_take_scans}

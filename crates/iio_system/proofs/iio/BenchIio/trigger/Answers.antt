@@ -3,7 +3,7 @@ use Rattle.std.proofs.lemmas.Option.{slice_get_read}
 use Rattle.iio_desc.specs.Kind.{is_average}
 use Rattle.iio_device.specs.Plug.{driver_of}
 use Rattle.iio_system.specs.Bench.{front_of, machine_of}
-use Rattle.iio_system.specs.Station.{any_front, any_station}
+use Rattle.iio_kinds.specs.Station.{any_front, any_station}
 use Rattle.iio_system.proofs.ListLemmas.{element_at}
 use Rattle.iio_system.proofs.AnyLemmas.{trigger_told}
 use Rattle.iio_system.proofs.OpenLemmas.{base_within, mean_of, mean_trigger, plain_of}

@@ -1,7 +1,7 @@
 use Rattle.iio_device.specs.Plug.{driver_of}
 use Rattle.iio_system.proofs.ListLemmas.{element_at, numbered_after}
 use Rattle.iio_system.proofs.IioLemmas.{averaged_kept, device_keeps, is_written, sound_kept, write_kept}
-use Rattle.iio_system.specs.Station.{any_front}
+use Rattle.iio_kinds.specs.Station.{any_front}
 use Rattle.iio_system.proofs.ToldLemmas.{kind_is, shape_is, told_write}
 use Rattle.iio_system.proofs.iio.BenchIio.write_attr.Goals as goal
 

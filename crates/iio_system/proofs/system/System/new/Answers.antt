@@ -4,7 +4,7 @@ use Rattle.iio_device.specs.declared.plug.Plug.TheVariants.{Given}
 use Rattle.iio_device.specs.Plug.{driver_of}
 use Rattle.iio_core.specs.Front.{Front}
 use Rattle.iio_history.specs.Bench.{Every, HasDeviceSizes}
-use Rattle.iio_system.specs.Station.{any_front, captures_by}
+use Rattle.iio_kinds.specs.Station.{any_front, captures_by}
 use Rattle.iio_system.proofs.StartLaws.{holds_first, none_within, room_first, some_channels}
 use Rattle.iio_system.proofs.system.System.new.Goals as goal
 

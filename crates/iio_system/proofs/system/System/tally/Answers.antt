@@ -1,6 +1,6 @@
 use Rattle.std.proofs.Common.{◌∙◌, ap}
 use Rattle.iio_device.specs.Plug.{driver_of}
-use Rattle.iio_system.specs.Tally.{devices_tally}
+use Rattle.iio_kinds.specs.Tally.{devices_tally}
 use Rattle.iio_system.proofs.TallyLaws.{tally_told}
 use Rattle.iio_system.proofs.system.System.tally.Goals as goal
 

@@ -1,0 +1,38 @@
+use Rattle.iio_device.specs.Plug.{driver_of}
+use Rattle.iio_kinds.specs.Station.{station_by}
+use Rattle.std.specs.Prelude.{◌==◌}
+use Rattle.iio_event.specs.Monitor.{after_read}
+use Rattle.iio_device.specs.Site.{with_monitor}
+use Rattle.iio_core.specs.Calls.{ev_read_answer}
+use Rattle.std.proofs.Common.{refl}
+use Rattle.iio_core.specs.Machine.{with_site}
+use Rattle.iio_kinds.proofs.InnerLemmas.{acts_named, acts_stay, facts_same, named}
+use Rattle.iio_kinds.proofs.KeepLemmas.{keeps_captures}
+use Rattle.iio_kinds.proofs.in_device.InDevice.ev_read.Goals as goal
+
+pub returns-clause-acts : goal.returns-clause-acts
+returns-clause-acts g c =
+    let drive = driver_of (λ b. (g.dyn-1.0.entry b.vtable).1.driver b.value) in
+    acts_named c.args.self.now.inners.items (with_site (with_monitor (after_read (λ a b. a == b) c.args.who)))
+    (ev_read_answer c.args.who (station_by drive c.args.self.now.device))
+    (ev_read_answer c.args.who (named c.args.self.now.inners.items (station_by drive c.args.self.now.device))) c.ev_read.result
+    (station_by drive c.args.self.now.device) (station_by drive c.ev_read.new.device)
+    (refl) refl c.ev_read.ensures.acts
+
+pub returns-clause-keeps : goal.returns-clause-keeps
+returns-clause-keeps g c =
+    let drive = driver_of (λ b. (g.dyn-1.0.entry b.vtable).1.driver b.value) in
+    keeps_captures drive _ _ c.ev_read.ensures.keeps
+
+pub invariant_of-self : goal.invariant_of-self
+invariant_of-self g c =
+    let drive = driver_of (λ b. (g.dyn-1.0.entry b.vtable).1.driver b.value) in
+    record {
+      sound =
+          facts_same c.args.self.now.device.core.roster.shape c.ev_read.new.device.core.roster.shape c.args.self.now.inners.items c.args.self.now.room.items
+          c.args.self.now.device.core.roster.members.items c.ev_read.new.device.core.roster.members.items
+          c.ev_read.ensures.keeps.device.shape
+          (acts_stay (with_site (with_monitor (after_read (λ a b. a == b) c.args.who))) (ev_read_answer c.args.who (station_by drive c.args.self.now.device))
+          c.ev_read.result (station_by drive c.args.self.now.device) (station_by drive c.ev_read.new.device) (λ st. refl) c.ev_read.ensures.acts)
+          c.args.self.now.sound;
+    }

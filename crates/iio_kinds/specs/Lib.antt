@@ -1,0 +1,12 @@
+pub mod Inner
+pub mod Taking
+pub mod Seated
+pub mod OutStation
+pub mod MeanStation
+pub mod Station
+pub mod Places
+pub mod Faults
+pub mod Acting
+pub mod Handling
+pub mod Tally
+pub mod Remasking

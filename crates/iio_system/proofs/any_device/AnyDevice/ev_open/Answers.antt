@@ -1,5 +1,0 @@
-use Rattle.iio_system.proofs.KeepLemmas.{keeps_input}
-use Rattle.iio_system.proofs.any_device.AnyDevice.ev_open.Goals as goal
-
-pub returns-clause-keeps : goal.returns-clause-keeps
-returns-clause-keeps g c = rw c.in-Input.is (keeps_input _ _ c.ev_open.ensures.keeps)

@@ -1,8 +1,0 @@
-use Rattle.iio_system.proofs.KeepLemmas.{keeps_input, keeps_output}
-use Rattle.iio_system.proofs.any_device.AnyDevice.leave.Goals as goal
-
-pub returns-in-Input-clause-keeps : goal.returns-in-Input-clause-keeps
-returns-in-Input-clause-keeps g c = rw c.in-Input.is (keeps_input _ _ c.leave.ensures.keeps)
-
-pub returns-in-Output-clause-keeps : goal.returns-in-Output-clause-keeps
-returns-in-Output-clause-keeps g c = rw c.in-Output.is (keeps_output _ _ c.leave-in-Output.ensures.keeps)

@@ -1,5 +1,0 @@
-use Rattle.iio_system.proofs.KeepLemmas.{keeps_input}
-use Rattle.iio_system.proofs.any_device.AnyDevice.remask.Goals as goal
-
-pub returns-clause-keeps : goal.returns-clause-keeps
-returns-clause-keeps g c = rw c.in-Input.is (keeps_input _ _ c.remask.ensures.keeps)

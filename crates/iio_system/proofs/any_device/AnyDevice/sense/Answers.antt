@@ -1,5 +1,0 @@
-use Rattle.iio_system.proofs.KeepLemmas.{keeps_input}
-use Rattle.iio_system.proofs.any_device.AnyDevice.sense.Goals as goal
-
-pub returns-in-Input-clause-keeps : goal.returns-in-Input-clause-keeps
-returns-in-Input-clause-keeps g c = rw c.in-Input.is (keeps_input _ _ c.sense.ensures.keeps)

@@ -1,6 +1,0 @@
-use Rattle.std.proofs.Common.{◌≡◌, take}
-use Rattle.iio_system.specs.Tally.{devices_tally}
-use Rattle.iio_system.proofs.tally.devices_tally.Given as goal
-
-abbrev pub invariant-loop-device : goal.invariant-loop-device
-invariant-loop-device g l = l.tally ≡ devices_tally (take l.device-index l.devices)
