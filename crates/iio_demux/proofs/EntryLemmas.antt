@@ -1,8 +1,12 @@
 -- The entries of the channels before a channel: one channel more, and where they lie.
-use Rattle.std.proofs.Common.{◌≡◌, ℕ, zero, suc, ◌+◌, ◌≤◌, max, true, false, cond, List, [], ◌∷◌, ◌++◌, map, filter, refl, sym, ap, ◌∙◌, inl, inr, arith, add-one, IsTrue}
-use Rattle.std.specs.Int.{next_multiple_of}
+use Rattle.std.proofs.Common.{◌≡◌, ℕ, zero, suc, ◌+◌, ◌-◌, ◌/◌, ◌%◌, ◌^◌, ◌≤◌, max, Bool, true, false, cond, List, [], ◌∷◌, ◌++◌, map, filter, refl, sym, ap, ◌∙◌, inl, inr, arith, add-one, IsTrue}
+use Rattle.std.specs.Prelude.{◌==◌}
+use Rattle.std.specs.Int.{bit_at, next_multiple_of}
 use Rattle.std.specs.List.{range_with_len}
 use Rattle.std.proofs.lemmas.Bool.{cases_Bool, false≢true}
+use Rattle.std.proofs.lemmas.Bool.Decides.{nat_tests}
+use Rattle.std.proofs.lemmas.Nat.{shr-shr}
+use Rattle.std.proofs.Math.Nat.{zero-div}
 use Rattle.std.proofs.lemmas.List.{map-append, append-nil}
 use Rattle.std.proofs.lemmas.List.Elements.{filter-append}
 use Rattle.iio_mask.specs.Mask.{has}
@@ -52,6 +56,58 @@ largest_more shape mask n largest size selected is_largest is_size = rw (is_larg
 pub largest_same : (shape : ShapeRecord) (mask n largest : ℕ) → has mask n ≡ false → largest ≡ largest_below (formats_of shape) mask n
     → largest ≡ largest_below (formats_of shape) mask (n + 1)
 largest_same shape mask n largest other is_largest = rw (is_largest, add-one, other) (omega arith)
+
+-- ---- past the last channel
+
+-- no channel from channel n on is in a mask below 2 ^ n
+pub ended : (mask n : ℕ) (ends : Bool) → ends ≡ (mask / 2 ^ n == 0) → ends ≡ true → (k : ℕ) → n ≤ k → has mask k ≡ false
+ended mask n ends is_end is k later =
+    let least : mask / 2 ^ n ≡ 0 = grind (arith, nat_tests) in
+    let sum : n + (k - n) ≡ k = omega arith in
+    let none : mask / 2 ^ k ≡ 0 =
+    ap (λ i. mask / 2 ^ i) (sym sum) ∙ sym (shr-shr mask n (k - n)) ∙ ap (λ m. m / 2 ^ (k - n)) least ∙ zero-div (2 ^ (k - n)) in
+    let bit : bit_at mask k ≡ 0 = ap (λ m. m % 2) none in
+    rw bit refl
+
+-- so they have no entries
+entries_past : (shape : ShapeRecord) (active buffer n d m : ℕ) → m ≡ n + d → ((k : ℕ) → n ≤ k → has buffer k ≡ false)
+    → channel_entries shape active buffer n ≡ channel_entries shape active buffer m
+entries_past shape active buffer n zero m is none = let same : n ≡ m = omega arith in ap (channel_entries shape active buffer) same
+entries_past shape active buffer n (suc d) m is none =
+    let next : n + d + 1 ≡ m = omega arith in
+    entries_past shape active buffer n d (n + d) refl none ∙ entries_same shape active buffer (n + d) (none (n + d) (omega arith))
+    ∙ ap (channel_entries shape active buffer) next
+
+pub entries_rest : (shape : ShapeRecord) (active buffer n : ℕ) → n ≤ count_of shape → ((k : ℕ) → n ≤ k → has buffer k ≡ false)
+    → channel_entries shape active buffer n ≡ channel_entries shape active buffer (count_of shape)
+entries_rest shape active buffer n within none = entries_past shape active buffer n (count_of shape - n) (count_of shape) (omega arith) none
+
+-- and take no room
+end_past : (shape : ShapeRecord) (mask n d m : ℕ) → m ≡ n + d → ((k : ℕ) → n ≤ k → has mask k ≡ false)
+    → end_below (formats_of shape) mask n ≡ end_below (formats_of shape) mask m
+end_past shape mask n zero m is none = let same : n ≡ m = omega arith in ap (end_below (formats_of shape) mask) same
+end_past shape mask n (suc d) m is none =
+    let next : n + d + 1 ≡ m = omega arith in
+    end_past shape mask n d (n + d) refl none
+    ∙ end_same shape mask (n + d) (end_below (formats_of shape) mask (n + d)) (none (n + d) (omega arith)) refl
+    ∙ ap (end_below (formats_of shape) mask) next
+
+largest_past : (shape : ShapeRecord) (mask n d m : ℕ) → m ≡ n + d → ((k : ℕ) → n ≤ k → has mask k ≡ false)
+    → largest_below (formats_of shape) mask n ≡ largest_below (formats_of shape) mask m
+largest_past shape mask n zero m is none = let same : n ≡ m = omega arith in ap (largest_below (formats_of shape) mask) same
+largest_past shape mask n (suc d) m is none =
+    let next : n + d + 1 ≡ m = omega arith in
+    largest_past shape mask n d (n + d) refl none
+    ∙ largest_same shape mask (n + d) (largest_below (formats_of shape) mask (n + d)) (none (n + d) (omega arith)) refl
+    ∙ ap (largest_below (formats_of shape) mask) next
+
+pub size_rest : (shape : ShapeRecord) (mask n end largest size : ℕ) → n ≤ count_of shape → ((k : ℕ) → n ≤ k → has mask k ≡ false)
+    → end ≡ end_below (formats_of shape) mask n → largest ≡ largest_below (formats_of shape) mask n → size ≡ next_multiple_of end largest
+    → size ≡ scan_size shape mask
+size_rest shape mask n end largest size within none is_end is_largest is_size =
+    let ends = is_end ∙ end_past shape mask n (count_of shape - n) (count_of shape) (omega arith) none in
+    let largest_is = is_largest ∙ largest_past shape mask n (count_of shape - n) (count_of shape) (omega arith) none in
+    is_size ∙ rw (ends, largest_is) refl
 
 -- a channel that isn't in the active mask isn't in the buffer's
 pub outside : (active buffer n : ℕ) → ((c : ℕ) → IsTrue (has buffer c) → IsTrue (has active c)) → has active n ≡ false → has buffer n ≡ false

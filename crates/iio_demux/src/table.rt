@@ -1,6 +1,6 @@
 //! The copy table of one buffer.
 
-ghost use Rattle.std.specs.Prelude.{◌≡◌, ◌≢◌, ℕ, ℤ, ◌+◌, ◌-◌, ◌^◌, ◌<◌, ◌≤◌, ◌++◌, true, IfOk, IsTrue, List, [], ◌∷◌, length, slice_index, vec_capacity, vec_len};
+ghost use Rattle.std.specs.Prelude.{◌≡◌, ◌≢◌, ℕ, ℤ, ◌+◌, ◌-◌, ◌/◌, ◌^◌, ◌==◌, ◌<◌, ◌≤◌, ◌++◌, true, IfOk, IsTrue, List, [], ◌∷◌, length, slice_index, vec_capacity, vec_len};
 ghost use Rattle.std.specs.Int.{IsPowerOfTwo, next_multiple_of};
 ghost use Rattle.iio_mask.specs.Mask.{has, is_within};
 ghost use Rattle.iio_scan_type.specs.declared.TheConstants.{MAX_CHANNEL_SIZE};
@@ -10,7 +10,7 @@ ghost use Rattle.iio_layout.specs.Shape.{count_of, width_of};
 ghost use Rattle.iio_demux.specs.Table.{AreInOrder, AreMerged, channel_entries, continues, copied, covers, merged, source_of, table_of};
 
 use iio_base::Mem;
-use iio_layout::{MAX_CHANNELS, Shape, aligned};
+use iio_layout::{MAX_CHANNELS, Shape, aligned, scan_size};
 use iio_mask::Mask;
 use iio_scan_type::MAX_CHANNEL_SIZE;
 use std::alloc::Global;
@@ -105,13 +105,15 @@ impl Table {
             active_size: 0,
             buffer_size: 0,
         };
-        table.remake(shape, active, buffer);
+        table.remake(shape, active, scan_size(shape, active), buffer);
         Ok(table)
     }
 
-    /// Makes the table that `build` would make of these masks, in the memory of this one.
-    pub fn remake(&mut self, shape: &Shape, active: Mask, buffer: Mask)
+    /// Makes the table that `build` would make of these masks, in the memory of this one. A scan under the mask `active` has
+    /// `size` bytes.
+    pub fn remake(&mut self, shape: &Shape, active: Mask, size: u32, buffer: Mask)
         requires below { active.bits < 2 ^ count_of shape.now }
+        requires size { size ≡ scan_size shape.now active.bits }
         requires within { is_within buffer.bits active.bits ≡ true }
         ensures table { self.new ≡ table_of shape.now active.bits buffer.bits }
         ensures scans { (values : List ℤ) (t : ℤ) → length values ≡ width_of shape.now
@@ -120,9 +122,8 @@ impl Table {
         let holds = buffer.within(active);
         prove!(holds);
         self.entries.clear();
-        let sizes = push_entries(shape, active, buffer, &mut self.entries);
-        self.active_size = sizes.active;
-        self.buffer_size = sizes.buffer;
+        self.buffer_size = push_entries(shape, active, buffer, &mut self.entries);
+        self.active_size = size;
     }
 
     /// Writes the buffer's scan: each entry's bytes of the active scan at their place, and zero bytes elsewhere,
@@ -174,13 +175,6 @@ fn push_merged(entries: &mut Vec<Entry>, entry: Entry)
     entries.push_reserved(entry);
 }
 
-// The sizes of a table's two scans.
-#[derive(Clone, Copy)]
-struct Sizes {
-    active: u32,
-    buffer: u32,
-}
-
 // The size of a scan whose last channel ends at byte `end` and whose largest has `largest` bytes. Without a channel both are 0,
 // and so is the size.
 fn padded_size(end: u32, largest: u32) -> u32
@@ -195,29 +189,37 @@ fn padded_size(end: u32, largest: u32) -> u32
     aligned(end, largest)
 }
 
-// Lists the entries of all channels of the buffer's mask, each of which is in the active mask, and answers the sizes of the
-// scans.
-fn push_entries(shape: &Shape, active: Mask, buffer: Mask, entries: &mut Vec<Entry>) -> Sizes
+// Whether channel `c` and those after it aren't in the mask.
+fn ends_before(mask: Mask, c: u32) -> bool
+    requires { c < 64 }
+    ensures { result ≡ (mask.bits / 2 ^ c == 0) }
+{
+    mask.bits >> c == 0
+}
+
+// Lists the entries of all channels of the buffer's mask, each of which is in the active mask, and answers the size of the
+// buffer's scan. Past the last of these channels nothing is looked at.
+fn push_entries(shape: &Shape, active: Mask, buffer: Mask, entries: &mut Vec<Entry>) -> u32
     requires within { (c : ℕ) → IsTrue (has buffer.bits c) → IsTrue (has active.bits c) }
     requires none { entries.old.items ≡ [] }
     requires room { MAX_CHANNELS ≤ vec_capacity entries.old }
     ensures items { entries.new.items ≡ merged (channel_entries shape.now active.bits buffer.bits (count_of shape.now)) }
-    ensures active { result.active ≡ scan_size shape.now active.bits }
-    ensures buffer { result.buffer ≡ scan_size shape.now buffer.bits }
+    ensures size { result ≡ scan_size shape.now buffer.bits }
     ensures capacity { vec_capacity entries.new ≡ vec_capacity entries.old }
 {
     let mut active_end: u32 = 0;
-    let mut active_largest: u32 = 0;
     let mut buffer_end: u32 = 0;
     let mut buffer_largest: u32 = 0;
     for c in 0..shape.count() {
+        if ends_before(buffer, c) {
+            return padded_size(buffer_end, buffer_largest);
+        }
         if !active.contains(c) {
             continue;
         }
         let length = shape.scan_type(c).size();
         let from = aligned(active_end, length);
         active_end = from + length;
-        active_largest = active_largest.max(length);
         if buffer.contains(c) {
             let to = aligned(buffer_end, length);
             buffer_end = to + length;
@@ -225,10 +227,7 @@ fn push_entries(shape: &Shape, active: Mask, buffer: Mask, entries: &mut Vec<Ent
             push_merged(entries, Entry { from, to, length });
         }
     }
-    Sizes {
-        active: padded_size(active_end, active_largest),
-        buffer: padded_size(buffer_end, buffer_largest),
-    }
+    padded_size(buffer_end, buffer_largest)
 }
 
 // Writes what the entries make of the active scan.

@@ -10,7 +10,7 @@ ghost use Rattle.iio_device.specs.Groups.{GroupRecord, IsGroup, has_group, laid_
 
 use iio_base::Mem;
 use iio_demux::Table;
-use iio_layout::Shape;
+use iio_layout::{Shape, scan_size};
 use iio_mask::Mask;
 use std::alloc::Global;
 use std::marker::Model;
@@ -45,13 +45,14 @@ impl Group {
         Ok(Group { mask, table, scan })
     }
 
-    /// Makes the table again, for another active mask.
-    fn remake(&mut self, shape: &Shape, active: Mask)
+    // Makes the table again, for another active mask, under which a scan has `size` bytes.
+    fn remake(&mut self, shape: &Shape, active: Mask, size: u32)
         requires below { active.bits < 2 ^ count_of shape.now }
+        requires size { size ≡ scan_size shape.now active.bits }
         requires within { is_within self.old.mask active.bits ≡ true }
         ensures { self.new ≡ remade shape.now active.bits self.old }
     {
-        self.table.remake(shape, active, self.mask);
+        self.table.remake(shape, active, size, self.mask);
     }
 
     /// Lays out the scan of the active one, where the group isn't of the active mask itself.
@@ -93,8 +94,9 @@ pub(crate) fn remake_all(groups: &mut Vec<Group>, shape: &Shape, active: Mask)
     ensures remade { groups.new.items ≡ map (remade shape.now active.bits) groups.old.items }
     ensures capacity { vec_capacity groups.new ≡ vec_capacity groups.old }
 {
+    let size = scan_size(shape, active);
     for i in 0..groups.len() {
-        groups[i].remake(shape, active);
+        groups[i].remake(shape, active, size);
     }
 }
 

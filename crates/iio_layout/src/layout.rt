@@ -90,13 +90,12 @@ fn extent_of(shape: &Shape, mask: Mask) -> Extent
     let mut end: u32 = 0;
     let mut largest: u32 = 0;
     for c in 0..shape.count() {
-        let size = shape.scan_type(c).size();
-        let after = aligned(end, size) + size;
-        let larger = largest.max(size);
-        if mask.contains(c) {
-            end = after;
-            largest = larger;
+        if !mask.contains(c) {
+            continue;
         }
+        let size = shape.scan_type(c).size();
+        end = aligned(end, size) + size;
+        largest = largest.max(size);
     }
     Extent { end, largest }
 }

@@ -42,7 +42,7 @@ fn remade(alloc: Global, shape: &Shape, active: Mask, buffer: Mask) -> Result<Ta
     requires same { is_within active.bits active.bits ≡ true }
 {
     let mut table = Table::build(alloc, shape, active, active)?;
-    table.remake(shape, active, buffer);
+    table.remake(shape, active, scan_size(shape, active), buffer);
     Ok(table)
 }
 

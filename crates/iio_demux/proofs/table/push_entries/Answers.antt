@@ -6,7 +6,7 @@ use Rattle.iio_layout.specs.Layout.{size_at}
 use Rattle.iio_layout.specs.Shape.{formats_of}
 use Rattle.iio_layout.proofs.LayoutLemmas.{max-power}
 use Rattle.iio_demux.specs.Table.{channel_entries, merged}
-use Rattle.iio_demux.proofs.EntryLemmas.{end_more, end_same, entries_same, largest_more, largest_same, outside, pushed_entry}
+use Rattle.iio_demux.proofs.EntryLemmas.{end_more, end_same, ended, entries_rest, entries_same, largest_more, largest_same, outside, pushed_entry, size_rest}
 use Rattle.iio_demux.proofs.table.push_entries.Goals as goal
 use Rattle.iio_demux.proofs.table.push_entries.Goals.{then-contains, else-contains}
 
@@ -21,9 +21,6 @@ loop-c-preserved-then-not-contains c =
     record {
       active_end = end_same shape active n c.loop-c.active_end other c.loop-c.invariant.active_end;
       active_few = omega arith;
-      active_largest = largest_same shape active n c.loop-c.active_largest other c.loop-c.invariant.active_largest;
-      active_most = c.loop-c.invariant.active_most;
-      active_power = c.loop-c.invariant.active_power;
       buffer_end = end_same shape buffer n c.loop-c.buffer_end none c.loop-c.invariant.buffer_end;
       buffer_few = omega arith;
       buffer_largest = largest_same shape buffer n c.loop-c.buffer_largest none c.loop-c.invariant.buffer_largest;
@@ -47,11 +44,7 @@ loop-c-preserved c =
     let from = c.aligned-from.ensures in
     let most = c.size-length.ensures.few in
     let active_end = end_more shape active n c.loop-c.active_end c.aligned-from.result length selected so_far.active_end size from in
-    let active_largest = c.max-active_largest.ensures ∙ largest_more shape active n c.loop-c.active_largest length selected so_far.active_largest size in
-    let active_most : c.max-active_largest.result ≤ MAX_CHANNEL_SIZE = omega (arith, c.max-active_largest.ensures, most, so_far.active_most) in
     let power = c.size-length.ensures.power in
-    let active_power : c.max-active_largest.result ≢ 0 → IsPowerOfTwo c.max-active_largest.result =
-    rw (c.max-active_largest.ensures) (max-power c.loop-c.active_largest length so_far.active_power power) in
     elim c.if-contains.branch [
       | then-contains w ↦
           let own = sym c.contains-in-loop-c.ensures ∙ w.if-contains.true in
@@ -59,9 +52,6 @@ loop-c-preserved c =
           record {
             active_end = active_end;
             active_few = omega (arith, most);
-            active_largest = active_largest;
-            active_most = active_most;
-            active_power = active_power;
             buffer_end = w.buffer_end-is ∙ end_more shape buffer n c.loop-c.buffer_end w.aligned-to.result length own so_far.buffer_end size to;
             buffer_few = omega (arith, most);
             buffer_largest =
@@ -80,9 +70,6 @@ loop-c-preserved c =
           record {
             active_end = active_end;
             active_few = omega (arith, most);
-            active_largest = active_largest;
-            active_most = active_most;
-            active_power = active_power;
             buffer_end = w.buffer_end-is ∙ end_same shape buffer n c.loop-c.buffer_end none so_far.buffer_end;
             buffer_few = omega arith;
             buffer_largest = w.buffer_largest-is ∙ largest_same shape buffer n c.loop-c.buffer_largest none so_far.buffer_largest;
@@ -93,3 +80,16 @@ loop-c-preserved c =
             capacity = rw w.entries-is so_far.capacity;
           }
     ]
+
+-- ---- past the last channel of the buffer's mask
+
+pub returns-then-ends_before-clause-items : goal.returns-then-ends_before-clause-items
+returns-then-ends_before-clause-items c =
+    let none = ended c.args.buffer.bits c.loop-c.c c.ends_before.result c.ends_before.ensures c.if-ends_before.true in
+    c.loop-c.invariant.entries ∙ ap merged (entries_rest c.args.shape.now c.args.active.bits c.args.buffer.bits c.loop-c.c (omega arith) none)
+
+pub returns-then-ends_before-clause-size : goal.returns-then-ends_before-clause-size
+returns-then-ends_before-clause-size c =
+    let none = ended c.args.buffer.bits c.loop-c.c c.ends_before.result c.ends_before.ensures c.if-ends_before.true in
+    size_rest c.args.shape.now c.args.buffer.bits c.loop-c.c c.loop-c.buffer_end c.loop-c.buffer_largest c.padded_size.result (omega arith) none
+    c.loop-c.invariant.buffer_end c.loop-c.invariant.buffer_largest c.padded_size.ensures

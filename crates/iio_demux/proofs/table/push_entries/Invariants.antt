@@ -11,9 +11,6 @@ abbrev pub invariant-loop-c : goal.invariant-loop-c
 invariant-loop-c l = record {
   active_end : l.active_end ≡ end_below (formats_of l.shape) l.active.bits l.c;
   active_few : l.active_end ≤ 32 * l.c;
-  active_largest : l.active_largest ≡ largest_below (formats_of l.shape) l.active.bits l.c;
-  active_most : l.active_largest ≤ MAX_CHANNEL_SIZE;
-  active_power : l.active_largest ≢ 0 → IsPowerOfTwo l.active_largest;
   buffer_end : l.buffer_end ≡ end_below (formats_of l.shape) l.buffer.bits l.c;
   buffer_few : l.buffer_end ≤ 32 * l.c;
   buffer_largest : l.buffer_largest ≡ largest_below (formats_of l.shape) l.buffer.bits l.c;
