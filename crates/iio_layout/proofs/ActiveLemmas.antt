@@ -1,16 +1,18 @@
 -- The active mask has all that is wanted, and no channel that isn't there; where there is one, there is one for fewer.
-use Rattle.std.proofs.Common.{◌≡◌, ◌≢◌, ℕ, suc, ◌*◌, ◌%◌, ◌^◌, ◌<◌, ◌≤◌, ◌==◌, ◌&&◌, ◌||◌, not, Bool, true, false, cond, List, [], ◌∷◌, length, Option, Some, None, is_some, refl, sym, ap, ◌∙◌, inl, inr, arith}
+use Rattle.std.proofs.Common.{◌≡◌, ◌≢◌, ℕ, zero, suc, nat_lt, ◌*◌, ◌%◌, ◌^◌, ◌<◌, ◌≤◌, ◌==◌, ◌&&◌, ◌||◌, not, Bool, true, false, cond, List, [], ◌∷◌, length, Option, Some, None, is_some, refl, sym, ap, ◌∙◌, inl, inr, arith}
 use Rattle.std.specs.Prelude.{find, option_map, All, IsSome}
 use Rattle.std.proofs.Math.Nat.{mod-le}
 use Rattle.std.proofs.Math.Pow.{pow_mono, pow-lt}
-use Rattle.std.proofs.lemmas.Bool.{cases_Bool, cases_eq, ne_eqb}
-use Rattle.std.proofs.lemmas.Nat.Bits.{bit_at-pow_same}
+use Rattle.std.specs.Int.{trailing_zeros, w64}
+use Rattle.std.proofs.lemmas.Bool.{cases_Bool, cases_eq, cases_lt, ne_eqb}
+use Rattle.std.proofs.lemmas.Bool.Decides.{nat_tests}
+use Rattle.std.proofs.lemmas.Nat.Bits.{bit_at-pow_same, bit_at-trailing_zeros, bit_at-zero}
 use Rattle.iio_scan_type.specs.declared.Endian.{Endian}
 use Rattle.iio_mask.specs.Mask.{has, is_within, matching_mask, union_of, without_channel}
 use Rattle.iio_mask.proofs.PlaceLemmas.{has-or, has-within, has-without, is_within-from}
 use Rattle.iio_layout.specs.Shape.{ShapeRecord, count_of, stamp_formats}
-use Rattle.iio_layout.specs.Laws.{count_is}
-use Rattle.iio_layout.specs.Active.{active_of, data_part, with_stamp}
+use Rattle.iio_layout.specs.Laws.{count_is, has_below_at}
+use Rattle.iio_layout.specs.Active.{active_of, data_part, has_below, with_stamp}
 
 -- ---- listed masks
 
@@ -150,3 +152,27 @@ last_bit_below shape n there is =
     one_stamp : (stamp : Option Endian) → is_some stamp ≡ true → length (stamp_formats stamp) ≡ 1
     one_stamp None h = cc
     one_stamp (Some order) h = refl
+
+-- ---- whether there is a data channel
+
+no_channel : (mask n : ℕ) → ((c : ℕ) → c < n → has mask c ≡ false) → has_below mask n ≡ false
+no_channel mask zero none = refl
+no_channel mask (suc n) none = rw (none n (omega arith), no_channel mask n (λ c less. none c (omega (arith, less)))) refl
+
+-- the empty mask has none
+pub none_below : (n : ℕ) → has_below 0 n ≡ false
+none_below n = no_channel 0 n (λ c less. rw (bit_at-zero c) refl)
+
+-- another has one below a number where its first is
+pub first_below : (mask n : ℕ) → 0 < mask → mask < 2 ^ 64 → nat_lt (trailing_zeros w64 mask) n ≡ has_below mask n
+first_below mask n some fits =
+    let lowest = bit_at-trailing_zeros w64 mask some fits in
+    let there : has mask (trailing_zeros w64 mask) ≡ true = rw lowest.1 refl in
+    elim (cases_lt (trailing_zeros w64 mask) n) [
+      | inl below ↦
+          let less : nat_lt (trailing_zeros w64 mask) n ≡ true = grind (arith, nat_tests) in
+          less ∙ sym (has_below_at mask (trailing_zeros w64 mask) n below there)
+      | inr past ↦
+          let more : nat_lt (trailing_zeros w64 mask) n ≡ false = grind (arith, nat_tests) in
+          more ∙ sym (no_channel mask n (λ c less. rw (lowest.2 c (omega (arith, past, less))) refl))
+    ]

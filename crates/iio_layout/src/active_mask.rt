@@ -23,17 +23,14 @@ pub fn active(shape: &Shape, wanted: Mask) -> Option<Mask>
     Some(with_stamp(shape, wanted, asked))
 }
 
-/// Whether a mask has a data channel.
-#[tactic(auto, using(crate::specs::Laws::has_below_at))]
+/// Whether a mask has a data channel: its first channel is one, or none is.
 pub fn has_data(shape: &Shape, mask: Mask) -> bool
     ensures { result ≡ has_data shape.now mask.bits }
 {
-    for c in 0..shape.inputs() {
-        if mask.contains(c) {
-            return true;
-        }
+    if mask.bits == 0 {
+        return false;
     }
-    false
+    mask.bits.trailing_zeros() < shape.inputs()
 }
 
 // The mask without the timestamp's bit.
