@@ -26,6 +26,7 @@ pub mod FedLaws
 pub mod NewLaws
 pub mod FeedingLaws
 pub mod NameLaws
+pub mod ApartLaws
 pub mod ItemLemmas
 pub mod FeedLaws
 pub mod DropLaws

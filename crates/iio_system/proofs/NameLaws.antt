@@ -72,7 +72,7 @@ module _ {S : Type 0} (name : List ℕ) where
 
   -- ---- room
 
-  length_names : (cs : List (Connection S)) → length (map name_by cs) ≡ length cs
+  pub length_names : (cs : List (Connection S)) → length (map name_by cs) ≡ length cs
   length_names [] = refl
   length_names (c ∷ cs) = ap (λ (n : ℕ). suc n) (length_names cs)
 

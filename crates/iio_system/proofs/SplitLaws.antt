@@ -17,7 +17,7 @@ use Rattle.iio_system.specs.Feeding.{AreOwning, Feeds, IsOwning}
 use Rattle.iio_system.specs.Seat.{seen_of}
 use Rattle.iio_system.specs.Standing.{MakesFeed, name_by, names_with}
 use Rattle.iio_system.proofs.NameLaws.{is_named}
-use Rattle.iio_system.proofs.PlayLaws.{feeds_there, names_there}
+use Rattle.iio_system.proofs.PlayLaws.{feeds_there, names_kept, names_there}
 
 -- it stands between these, at the place of that name
 pub record StandsAt (name : List ℕ) (cs before : List (Connection Seat)) (c : Connection Seat) (after : List (Connection Seat)) : Type 0 where
@@ -65,6 +65,10 @@ module _ (name : List ℕ) (cs before : List (Connection Seat)) (c : Connection 
       → map name_by cs' ≡ names_with (map name_by cs) (Feed name bytes)
   names_between c' cs' bytes is same =
       ap (λ (ds : List (Connection Seat)). map name_by ds) (is ∙ sym (put c')) ∙ names_there cs (length before) c c' name bytes at.place there same
+
+  pub kept_between : (c' : Connection Seat) (cs' : List (Connection Seat)) → cs' ≡ before ++ c' ∷ after → c'.name ≡ c.name → map name_by cs' ≡ map name_by cs
+  kept_between c' cs' is same =
+      ap (λ (ds : List (Connection Seat)). map name_by ds) (is ∙ sym (put c')) ∙ names_kept cs (length before) c c' name at.place there same
 
   pub owned_between : (front front' : Front) (c' : Connection Seat) (cs' : List (Connection Seat)) → cs' ≡ before ++ c' ∷ after → front' ≡ front
       → AreOwning seen_of front cs → IsOwning seen_of front' c'.session

@@ -1,5 +1,6 @@
 -- A connection that is fed.
-use Rattle.std.specs.Prelude.{◌≡◌, ℕ, All, Bool, true, false, List, [], ◌∷◌, ◌++◌, Option, Some, None, IfSome, if◌then◌else◌}
+use Rattle.std.specs.Prelude.{◌≡◌, ℕ, ◌<◌, All, Bool, true, false, List, [], ◌∷◌, ◌++◌, length, slice_index_or, Option, Some, None, IfSome, if◌then◌else◌}
+use Rattle.std.specs.Str.{bytes_eq}
 use Rattle.iio_text.specs.Escape.{quoted}
 use Rattle.iiod_grammar.specs.Stream.{AtEnd, Scanner, items_from, scanner_after}
 use Rattle.iiod_session.specs.Acts.{left_machine}
@@ -15,6 +16,12 @@ use Rattle.iio_history.specs.Transcript.{closed_line, printed}
 use Rattle.iio_history.specs.BenchLaw.{heard}
 use Rattle.iio_system.specs.declared.connection.Connection.{Connection}
 use Rattle.iio_system.specs.Connection.{HasHeard, IsHearing}
+
+-- no two connections have one name
+abbrev pub AreApart : {S : Type 0} → List (Connection S) → Type 0
+AreApart {S} connections =
+    (i k : ℕ) (d : Connection S) → k < i → i < length connections
+    → bytes_eq (slice_index_or connections k d).name (slice_index_or connections i d).name ≡ false
 
 -- whether further bytes mean nothing
 abbrev pub is_at_end : Scanner → Bool

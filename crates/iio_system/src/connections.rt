@@ -1,13 +1,13 @@
 //! The connections of a script at the bench.
 
-ghost use Rattle.std.specs.Prelude.{◌≡◌, ◌++◌, ◌<◌, ◌≤◌, true, None, Some, IfOk, OnOk, is_some, length, map, position};
+ghost use Rattle.std.specs.Prelude.{◌≡◌, ◌++◌, ◌<◌, ◌≤◌, true, None, Some, IfOk, OnOk, is_some, length, map, position, slice_index_or};
 ghost use Rattle.std.specs.Str.{bytes_eq};
 ghost use Rattle.iio_history.specs.Script.{max_names};
 ghost use Rattle.iio_history.specs.Transcript.{Drop, Feed};
 ghost use Rattle.iio_system.specs.Bench.{front_of, kept_of, machine_of};
 ghost use Rattle.iiod_session.specs.Acts.{left_machine};
 ghost use Rattle.iiod_session.specs.Client.{IsClient, client_of};
-ghost use Rattle.iio_system.specs.Feeding.{AreOwning, Feeds, IsOwning, left_by};
+ghost use Rattle.iio_system.specs.Feeding.{AreApart, AreOwning, Feeds, IsOwning, left_by};
 ghost use Rattle.iio_system.specs.Guard.{MeetsBeside};
 ghost use Rattle.iio_system.specs.Standing.{IsNew, Makes, MakesFeed, Meets, MeetsFeed, has_room, name_by, names_with};
 ghost use Rattle.iio_system.specs.Seat.{seen_of};
@@ -31,6 +31,30 @@ pub(crate) fn place(connections: &[Connection<Seat>], name: &Name) -> Option<usi
     ensures { result ≡ position (λ c. bytes_eq c.name name.now) connections.now }
 {
     connections.iter().position(|c| c.name.is(name.bytes()))
+}
+
+// Whether the connection of that name stands there.
+fn stands_at(connections: &[Connection<Seat>], at: usize, name: &Name) -> bool
+    ensures within { result ≡ true → at < length connections.now }
+    ensures named { result ≡ true → (d : Connection Seat) → bytes_eq (slice_index_or connections.now at d).name name.now ≡ true }
+{
+    at < connections.len() && connections[at].name.is(name.bytes())
+}
+
+// The place of the connection of that name, where the last one that was fed stands at `last`: it or the next one is fed
+// most often, so they are looked at first.
+fn place_near(connections: &[Connection<Seat>], last: usize, name: &Name) -> Option<usize>
+    requires { AreApart connections.now }
+    ensures { result ≡ position (λ c. bytes_eq c.name name.now) connections.now }
+{
+    if stands_at(connections, last, name) {
+        return Some(last);
+    }
+    let next = last.wrapping_add(1);
+    if stands_at(connections, next, name) {
+        return Some(next);
+    }
+    place(connections, name)
 }
 
 // A connection that sent nothing yet. By its number the devices know whose their events are.
@@ -59,11 +83,13 @@ fn feed_first(
 ) -> Result<(), Mem>
     requires owned { AreOwning seen_of (front_of bench.old) connections.old.items }
     requires few { length connections.old.items ≤ max_names }
+    requires apart { AreApart connections.old.items }
     requires absent { position (λ c. bytes_eq c.name name.now) connections.old.items ≡ None }
     requires taken { has_room (map name_by connections.old.items) name.now ≡ true }
     ensures kept { kept_of bench.new ≡ kept_of bench.old }
     ensures owned { AreOwning seen_of (front_of bench.new) connections.new.items }
     ensures few { length connections.new.items ≤ max_names }
+    ensures apart { AreApart connections.new.items }
     ensures names { OnOk result (map name_by connections.new.items ≡ names_with (map name_by connections.old.items) (Feed name.now bytes.now)) }
     ensures makes { OnOk result
         (MakesFeed ⟦<Plug as Sensor>⟧.driver name.now bytes.now bench.old bench.new connections.old.items connections.new.items out.old.items out.new.items) }
@@ -84,7 +110,7 @@ fn feed_first(
 }
 
 /// Feeds the connection of that name, which comes with its first feed, and appends the lines of the feed. `answers` is
-/// room for the answers.
+/// room for the answers; `last` is where the last one that was fed stands.
 pub(crate) fn feed(
     alloc: Global,
     bench: &mut Bench,
@@ -92,30 +118,34 @@ pub(crate) fn feed(
     name: &Name,
     bytes: &[u8],
     answers: &mut Vec<u8>,
+    last: &mut usize,
     out: &mut Vec<u8>,
 ) -> Result<(), Mem>
     requires owned { AreOwning seen_of (front_of bench.old) connections.old.items }
     requires few { length connections.old.items ≤ max_names }
+    requires apart { AreApart connections.old.items }
     requires taken { has_room (map name_by connections.old.items) name.now ≡ true }
     ensures kept { kept_of bench.new ≡ kept_of bench.old }
     ensures owned { AreOwning seen_of (front_of bench.new) connections.new.items }
     ensures few { length connections.new.items ≤ max_names }
+    ensures apart { AreApart connections.new.items }
     ensures names { OnOk result (map name_by connections.new.items ≡ names_with (map name_by connections.old.items) (Feed name.now bytes.now)) }
     ensures makes { OnOk result
         (MakesFeed ⟦<Plug as Sensor>⟧.driver name.now bytes.now bench.old bench.new connections.old.items connections.new.items out.old.items out.new.items) }
 {
-    match place(connections, name) {
-        Some(at) => feed_at(
-            alloc,
-            bench,
-            &mut Unwatched,
-            &mut connections[at],
-            bytes,
-            answers,
-            out,
-        ),
-        None => feed_first(alloc, bench, connections, name, bytes, answers, out),
-    }
+    let Some(at) = place_near(connections, *last, name) else {
+        return feed_first(alloc, bench, connections, name, bytes, answers, out);
+    };
+    *last = at;
+    feed_at(
+        alloc,
+        bench,
+        &mut Unwatched,
+        &mut connections[at],
+        bytes,
+        answers,
+        out,
+    )
 }
 
 // Feeds a connection, and answers whether what it says keeps to the rules of bystanders beside the watched connection, where
@@ -161,11 +191,13 @@ fn guard_first(
 ) -> Result<bool, Mem>
     requires owned { AreOwning seen_of (front_of bench.old) connections.old.items }
     requires few { length connections.old.items ≤ max_names }
+    requires apart { AreApart connections.old.items }
     requires absent { position (λ c. bytes_eq c.name name.now) connections.old.items ≡ None }
     requires taken { has_room (map name_by connections.old.items) name.now ≡ true }
     ensures kept { kept_of bench.new ≡ kept_of bench.old }
     ensures owned { AreOwning seen_of (front_of bench.new) connections.new.items }
     ensures few { length connections.new.items ≤ max_names }
+    ensures apart { AreApart connections.new.items }
     ensures names { OnOk result (map name_by connections.new.items ≡ names_with (map name_by connections.old.items) (Feed name.now bytes.now)) }
     ensures makes { OnOk result
         (MakesFeed ⟦<Plug as Sensor>⟧.driver name.now bytes.now bench.old bench.new connections.old.items connections.new.items out.old.items out.new.items) }
@@ -203,10 +235,12 @@ pub(crate) fn feed_guarded(
 ) -> Result<bool, Mem>
     requires owned { AreOwning seen_of (front_of bench.old) connections.old.items }
     requires few { length connections.old.items ≤ max_names }
+    requires apart { AreApart connections.old.items }
     requires taken { has_room (map name_by connections.old.items) name.now ≡ true }
     ensures kept { kept_of bench.new ≡ kept_of bench.old }
     ensures owned { AreOwning seen_of (front_of bench.new) connections.new.items }
     ensures few { length connections.new.items ≤ max_names }
+    ensures apart { AreApart connections.new.items }
     ensures names { OnOk result (map name_by connections.new.items ≡ names_with (map name_by connections.old.items) (Feed name.now bytes.now)) }
     ensures makes { OnOk result
         (MakesFeed ⟦<Plug as Sensor>⟧.driver name.now bytes.now bench.old bench.new connections.old.items connections.new.items out.old.items out.new.items) }

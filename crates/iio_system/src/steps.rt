@@ -13,7 +13,7 @@ ghost use Rattle.iio_history.specs.Script.{max_names};
 ghost use Rattle.iio_history.specs.Transcript.{lines_of_step, with_step};
 ghost use Rattle.iio_system.specs.Bench.{captures_of, front_of};
 ghost use Rattle.iio_worlds.specs.Bystanders.{only_bystanders};
-ghost use Rattle.iio_system.specs.Feeding.{AreOwning};
+ghost use Rattle.iio_system.specs.Feeding.{AreApart, AreOwning};
 ghost use Rattle.iio_system.specs.Standing.{CanCapture, IsTaken, MakesStep, MeetsStep, RiseBy, StandsFor, has_room, name_by, names_by, names_with};
 ghost use Rattle.iio_system.specs.Seat.{seen_of};
 ghost use Rattle.iio_kinds.specs.Station.{any_front};
@@ -65,12 +65,14 @@ fn cost_of(step: &Step) -> u64
     }
 }
 
-// A step at a bench and its connections. `answers` is room for the answers to a feed.
+// A step at a bench and its connections. `answers` is room for the answers to a feed; `last` is where the last connection
+// that was fed stands.
 fn perform(
     alloc: Global,
     bench: &mut Bench,
     connections: &mut Vec<Connection<Seat>>,
     answers: &mut Vec<u8>,
+    last: &mut usize,
     step: &Step,
     out: &mut Vec<u8>,
 ) -> Result<(), Mem>
@@ -78,10 +80,12 @@ fn perform(
     requires taken { IsTaken (map name_by connections.old.items) step.now }
     requires owned { AreOwning seen_of (front_of bench.old) connections.old.items }
     requires few { length connections.old.items ≤ max_names }
+    requires apart { AreApart connections.old.items }
     requires captures { CanCapture (captures_of bench.old) }
     ensures front { front_of bench.new ≡ front_of bench.old }
     ensures owned { AreOwning seen_of (front_of bench.new) connections.new.items }
     ensures few { length connections.new.items ≤ max_names }
+    ensures apart { AreApart connections.new.items }
     ensures names { OnOk result (map name_by connections.new.items ≡ names_with (map name_by connections.old.items) (step_view step.now)) }
     ensures captures { RiseBy 32 (captures_of bench.old) (captures_of bench.new) }
     ensures makes { OnOk result
@@ -95,6 +99,7 @@ fn perform(
             name,
             bytes.bytes(),
             answers,
+            last,
             out,
         ),
         Step::Fire(trigger, t) => moves::fire(bench, *trigger, *t, out),
@@ -113,6 +118,7 @@ fn perform_guarded(
     bench: &mut Bench,
     connections: &mut Vec<Connection<Seat>>,
     answers: &mut Vec<u8>,
+    last: &mut usize,
     watched: &[u8],
     step: &Step,
     out: &mut Vec<u8>,
@@ -121,10 +127,12 @@ fn perform_guarded(
     requires taken { IsTaken (map name_by connections.old.items) step.now }
     requires owned { AreOwning seen_of (front_of bench.old) connections.old.items }
     requires few { length connections.old.items ≤ max_names }
+    requires apart { AreApart connections.old.items }
     requires captures { CanCapture (captures_of bench.old) }
     ensures front { front_of bench.new ≡ front_of bench.old }
     ensures owned { AreOwning seen_of (front_of bench.new) connections.new.items }
     ensures few { length connections.new.items ≤ max_names }
+    ensures apart { AreApart connections.new.items }
     ensures names { OnOk result (map name_by connections.new.items ≡ names_with (map name_by connections.old.items) (step_view step.now)) }
     ensures captures { RiseBy 32 (captures_of bench.old) (captures_of bench.new) }
     ensures makes { OnOk result
@@ -144,7 +152,7 @@ fn perform_guarded(
         ),
         Step::Drop(name) => drop_guarded(bench, connections, watched, name, out),
         _ => {
-            perform(alloc, bench, connections, answers, step, out)?;
+            perform(alloc, bench, connections, answers, last, step, out)?;
             Ok(true)
         }
     }
@@ -171,6 +179,7 @@ impl System {
             bench,
             connections: Vec::new(alloc),
             answers: Vec::new(alloc),
+            last: 0,
             used: 0,
         })
     }
@@ -200,6 +209,7 @@ impl System {
             &mut self.bench,
             &mut self.connections,
             &mut self.answers,
+            &mut self.last,
             step,
             out,
         )
@@ -227,6 +237,7 @@ impl System {
             &mut self.bench,
             &mut self.connections,
             &mut self.answers,
+            &mut self.last,
             watched,
             step,
             out,

@@ -4,7 +4,7 @@ ghost use Rattle.std.proofs.Props.{props};
 ghost use Rattle.std.specs.Prelude.{◌*◌, ◌≤◌, All, length};
 ghost use Rattle.iio_history.specs.Script.{max_names};
 ghost use Rattle.iio_system.specs.Bench.{captures_of, front_of};
-ghost use Rattle.iio_system.specs.Feeding.{AreOwning};
+ghost use Rattle.iio_system.specs.Feeding.{AreApart, AreOwning};
 ghost use Rattle.iio_system.specs.Seat.{seen_of};
 
 use crate::bench::Bench;
@@ -22,11 +22,14 @@ pub struct System {
     pub(crate) connections: Vec<Connection<Seat>>,
     // Room for the answers to a feed.
     pub(crate) answers: Vec<u8>,
+    // Where the last connection that was fed stands.
+    pub(crate) last: usize,
     pub(crate) used: u64,
     ghost owned: { AreOwning seen_of (front_of bench) connections.items } by { Prim.hlevel props },
     // A step makes fewer captures of a device than 32.
     ghost counted: { All (λ n. n ≤ 32 * used) (captures_of bench) } by { Prim.hlevel props },
     ghost few: { length connections.items ≤ max_names } by { Prim.hlevel props },
+    ghost apart: { AreApart connections.items } by { Prim.hlevel props },
 }
 
 impl System {

@@ -1,5 +1,6 @@
 use Rattle.std.proofs.Common.{rules, ◌≡◌, [], ◌∷◌, ◌++◌, length, sym, ◌∙◌, subst, ℕ}
 use Rattle.iio_system.specs.Standing.{IsNew}
+use Rattle.iio_system.proofs.ApartLaws.{apart_more}
 use Rattle.iio_system.proofs.PlayLaws.{feeds_new, front_kept, more_fit, more_owned, names_new, on_ok}
 use Rattle.iio_system.proofs.connections.feed_first.Goals as goal
 
@@ -31,3 +32,10 @@ returns-clause-makes g c =
     c.args.bytes.now _ _ c.feed_at-fed.result
     (sym c.requires.absent) (subst (λ (n : ℕ). IsNew c.args.name.now n c.in_ok-connection.connection) many c.in_ok-connection.ensures)
     c.feed_at-fed.ensures.name c.feed_at-fed.ensures.kept c.feed_at-fed.ensures.client c.feed_at-fed.ensures.fed)
+
+pub returns-clause-apart : goal.returns-clause-apart
+returns-clause-apart g c =
+    let items : c.push_reserved.new.self.items ≡ c.args.connections.now.items ++ c.feed_at-fed.new.connection ∷ [] = search rules in
+    rw items
+    (apart_more c.args.connections.now.items c.feed_at-fed.new.connection c.args.name.now (sym c.requires.absent)
+    (c.feed_at-fed.ensures.name ∙ c.in_ok-connection.ensures.name_is) c.requires.apart)

@@ -1,7 +1,8 @@
 use Rattle.std.proofs.Common.{rules}
+use Rattle.iio_system.proofs.ApartLaws.{apart_same}
 use Rattle.iio_system.proofs.GuardedLaws.{meets_between}
 use Rattle.iio_system.proofs.PlayLaws.{front_kept, on_ok}
-use Rattle.iio_system.proofs.SplitLaws.{StandsAt, feeds_between, names_between, owned_between, stands_at, written}
+use Rattle.iio_system.proofs.SplitLaws.{StandsAt, feeds_between, kept_between, names_between, owned_between, stands_at, written}
 use Rattle.iio_system.proofs.connections.feed_guarded.Goals as goal
 
 pub returns-clause-owned : goal.returns-clause-owned
@@ -45,3 +46,15 @@ returns-clause-meets g c =
     (rw (c.in-Some.is, c.deref.ensures.value) at c.place.ensures) in
     meets_between _ c.stance_law.ensures.clients c.args.bench.now _ _ _ _ c.args.watched.now c.args.name.now c.args.bytes.now c.feed_beside.result at
     c.feed_beside.ensures.meets
+
+pub returns-clause-apart : goal.returns-clause-apart
+returns-clause-apart g c =
+    let at : StandsAt c.args.name.now c.args.connections.now.items c.split_at_mut-before.result.0.now c.in-Some-split_first_mut.connection.now
+    c.in-Some-split_first_mut.after.now =
+    stands_at _ _ _ c.split_at_mut-before.result.1.now _ _ c.in-Some.at (search rules) c.in-Some-split_first_mut.ensures.cases.0
+    c.split_at_mut-before.ensures.front_len
+    (rw (c.in-Some.is, c.deref.ensures.value) at c.place.ensures) in
+    apart_same c.args.connections.now.items _
+    (kept_between _ _ _ _ _ at c.feed_beside.new.connection _
+    (written _ _ _ _ _ at c.args.connections.now.len c.feed_beside.new.connection (search rules)) c.feed_beside.ensures.name)
+    c.requires.apart

@@ -1,6 +1,7 @@
 use Rattle.std.proofs.Common.{rules, append-nil, ◌≡◌, [], ◌∷◌, ◌++◌, length, sym, ◌∙◌, subst, ℕ}
 use Rattle.iio_system.specs.Standing.{IsNew}
 use Rattle.iio_system.proofs.GuardedLaws.{meets_new}
+use Rattle.iio_system.proofs.ApartLaws.{apart_more}
 use Rattle.iio_system.proofs.PlayLaws.{feeds_new, front_kept, more_fit, more_owned, names_new, on_ok}
 use Rattle.iio_system.proofs.connections.guard_first.Goals as goal
 
@@ -41,3 +42,10 @@ returns-clause-meets g c =
     c.args.bytes.now c.feed_beside-fed.result
     c.requires.absent (subst (λ (n : ℕ). IsNew c.args.name.now n c.in_ok-connection.connection) many c.in_ok-connection.ensures)
     (rw others at c.feed_beside-fed.ensures.meets)
+
+pub returns-clause-apart : goal.returns-clause-apart
+returns-clause-apart g c =
+    let items : c.push_reserved.new.self.items ≡ c.args.connections.now.items ++ c.feed_beside-fed.new.connection ∷ [] = search rules in
+    rw items
+    (apart_more c.args.connections.now.items c.feed_beside-fed.new.connection c.args.name.now (sym c.requires.absent)
+    (c.feed_beside-fed.ensures.name ∙ c.in_ok-connection.ensures.name_is) c.requires.apart)

@@ -2,6 +2,7 @@ use mir.Syntax.{w64}
 use mir.Val.{SFits}
 use Rattle.std.proofs.Common.{rules}
 use Rattle.std.proofs.lemmas.Int.{to_z-of_z}
+use Rattle.iio_system.proofs.ApartLaws.{apart_same}
 use Rattle.iio_system.proofs.PlayLaws.{made_move, made_step}
 use Rattle.iio_system.proofs.steps.perform.Goals as goal
 
@@ -41,3 +42,6 @@ pub returns-in-Drop-clause-makes : goal.returns-in-Drop-clause-makes
 returns-in-Drop-clause-makes g c =
     made_step _ c.args.step.now c.args.bench.now c.drop_named.new.bench c.args.connections.now.items c.drop_named.new.connections.items _ _ c.drop_named.result
     (rw c.in-Drop.is c.drop_named.ensures.makes)
+
+pub returns-in-Drop-clause-apart : goal.returns-in-Drop-clause-apart
+returns-in-Drop-clause-apart g c = apart_same c.args.connections.now.items _ c.drop_named.ensures.names c.requires.apart

@@ -1,3 +1,4 @@
+use Rattle.iio_system.proofs.ApartLaws.{apart_same}
 use Rattle.iio_system.proofs.GuardedLaws.{met_drop, met_feed, met_other}
 use Rattle.iio_system.proofs.PlayLaws.{made_step}
 use Rattle.iio_system.proofs.steps.perform_guarded.Goals as goal
@@ -21,3 +22,6 @@ pub returns-in_ok-perform-in_default-clause-meets :
     goal.returns-in_ok-perform-in_default-clause-meets
 returns-in_ok-perform-in_default-clause-meets g c =
     met_other _ c.args.watched.now c.args.step.now c.args.bench.now c.args.connections.now.items c.in_default.not-Feed c.in_default.not-Drop
+
+pub returns-in-Drop-clause-apart : goal.returns-in-Drop-clause-apart
+returns-in-Drop-clause-apart g c = apart_same c.args.connections.now.items _ c.drop_guarded.ensures.names c.requires.apart

@@ -1,4 +1,4 @@
-use Rattle.std.proofs.Common.{rules, refl, subst, sym, ◌<◌, All, length, map}
+use Rattle.std.proofs.Common.{rules, arith, refl, subst, sym, ◌<◌, All, length, map}
 use Rattle.iio_desc.specs.Description.{DeviceHead}
 use Rattle.iio_device.specs.declared.plug.Plug.TheVariants.{Given}
 use Rattle.iio_device.specs.Plug.{driver_of}
@@ -13,6 +13,7 @@ invariant_of-result g c = record {
   owned = search rules;
   counted = none_within captures_by 0 c.in_ok-bench.bench.devices.items c.in_ok-bench.ensures.captures;
   few = search rules;
+  apart = rw c.new-2.ensures.items (λ i k d less within. absurd (omega (arith, within)));
 }
 
 pub look_at_sizes-requires : goal.look_at_sizes-requires

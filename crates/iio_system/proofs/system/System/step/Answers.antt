@@ -11,6 +11,7 @@ invariant_of-self g c = record {
       counted_more c.args.step.now c.args.self.now.used c.cost_of.result (captures_of c.args.self.now.bench) (captures_of c.perform.new.bench) c.cost_of.ensures
       c.perform.ensures.captures c.args.self.now.counted;
   few = c.perform.ensures.few;
+  apart = c.perform.ensures.apart;
 }
 
 pub returns-clause-lines : goal.returns-clause-lines
