@@ -37,11 +37,10 @@ fn read_device<I: Iio>(alloc: Global, iio: &mut I, dev: u32, target: Named) -> R
         client) }
     ensures text { IsText result }
 {
-    match iio.read_attr(dev, target.channel, target.attribute) {
-        Err(no) => Err(no),
-        Ok(Value::Int(n)) => Ok(Answer::Int(n)),
-        Ok(Value::Text(name)) => Ok(Answer::Name(name)),
-        Ok(Value::Number(v)) => match print_fixed(alloc, &v) {
+    match iio.read_attr(dev, target.channel, target.attribute)? {
+        Value::Int(n) => Ok(Answer::Int(n)),
+        Value::Text(name) => Ok(Answer::Name(name)),
+        Value::Number(v) => match print_fixed(alloc, &v) {
             Err(Mem) => Err(No::Mem),
             Ok(digits) => Ok(Answer::Fixed(digits)),
         },
@@ -85,10 +84,10 @@ fn read_buffer<I: Iio>(
         (reply_of (I.front (I.kept iio.old)) result) (I.told iio.new) (client_of I.seen client.old)) }
     ensures text { IsText result }
 {
-    match seats::place(iio, &client.held, dev) {
-        None => Err(No::Errno(Errno::EBADF)),
-        Some(i) => Ok(Answer::Count(buffer_number(iio, &mut client.held[i], attribute))),
-    }
+    let Some(i) = seats::place(&client.held, dev) else {
+        return Err(No::Errno(Errno::EBADF));
+    };
+    Ok(Answer::Count(buffer_number(iio, &mut client.held[i], attribute)))
 }
 
 /// READ at the device of that number.
@@ -111,19 +110,15 @@ pub(crate) fn read_attribute_at<I: Iio>(
         (reply_of (I.front (I.kept iio.old)) result) (I.told iio.new) (client_of I.seen client.old)) }
     ensures text { IsText result }
 {
-    let is_open = seats::place(iio, &client.held, dev).is_some();
+    let is_open = seats::place(&client.held, dev).is_some();
     let plugged = iio.plugged(dev);
     let of_buffer = is_of_buffer(place, name);
     let kind = kind_of(iio, dev);
-    match found(kind, iio.shape(dev), plugged, is_open, place, name) {
-        Err(errno) => Err(No::Errno(errno)),
-        Ok(target) => {
-            if of_buffer {
-                read_buffer(client, iio, dev, target.attribute)
-            } else {
-                read_device(alloc, iio, dev, target)
-            }
-        }
+    let target = found(kind, iio.shape(dev), plugged, is_open, place, name)?;
+    if of_buffer {
+        read_buffer(client, iio, dev, target.attribute)
+    } else {
+        read_device(alloc, iio, dev, target)
     }
 }
 
@@ -144,10 +139,8 @@ fn write_attribute_at<I: Iio>(
 {
     let plugged = iio.plugged(dev);
     let kind = kind_of(iio, dev);
-    match write_found(kind, iio.shape(dev), plugged, is_open, place, name, payload) {
-        Err(errno) => Err(No::Errno(errno)),
-        Ok(x) => iio.write_attr(dev, x.target.channel, x.target.attribute, x.value),
-    }
+    let x = write_found(kind, iio.shape(dev), plugged, is_open, place, name, payload)?;
+    iio.write_attr(dev, x.target.channel, x.target.attribute, x.value)
 }
 
 /// WRITE, with its whole payload. `EINVAL` comes where its words name nothing.
@@ -164,15 +157,9 @@ pub(crate) fn write_attribute<I: Iio>(
         (Written device.now (option_map target_view target.entry) payload.now)
         result (I.told iio.new) (client_of I.seen client.now) (traces_of I.seen client.now.held.items) }
 {
-    match target {
-        None => Err(No::Errno(Errno::EINVAL)),
-        Some((place, name)) => match iio.find(device) {
-            None => Err(No::Errno(Errno::ENODEV)),
-            Some(dev) => {
-                let is_open = seats::place(iio, &client.held, dev).is_some();
-                let written = write_attribute_at(iio, dev, is_open, place, name, payload);
-                answered(payload.len(), written)
-            }
-        },
-    }
+    let (place, name) = target.ok_or(Errno::EINVAL)?;
+    let dev = iio.find(device).ok_or(Errno::ENODEV)?;
+    let is_open = seats::place(&client.held, dev).is_some();
+    let written = write_attribute_at(iio, dev, is_open, place, name, payload);
+    answered(payload.len(), written)
 }

@@ -16,6 +16,7 @@ use crate::iio::{Iio, No, Took};
 use crate::kinds::{is_input, unknown_refusal};
 use crate::manner::{Manner, Progress};
 use crate::seats::{read_at, remask_at, write_at};
+use crate::wanted::ensure;
 use iio_base::Mem;
 use iio_text::Errno;
 
@@ -108,15 +109,11 @@ pub(crate) fn set_buffers_at<I: Iio>(
     ensures alters { client_of I.seen client.new ≡ client_by (with_count dev count) (client_of I.seen client.old) result }
     ensures held { client.new.held ≡ client.old.held }
 {
-    if !iio.plugged(dev) {
-        return Err(No::Errno(Errno::ENODEV));
-    }
+    ensure(iio.plugged(dev), Errno::ENODEV)?;
     if count == 0 || count > MAX_BUFFERS {
         return Err(No::Errno(Errno::EINVAL));
     }
-    if client.buffers.reserve(1).is_err() {
-        return Err(No::Mem);
-    }
+    client.buffers.reserve(1)?;
     forget_count(&mut client.buffers, dev);
     client.buffers.push_reserved(BuffersCount { dev, count });
     Ok(())
@@ -149,12 +146,8 @@ fn write_buffer_at<I: Iio>(
         (write_buffer_at (I.front (I.kept iio.old)) m (client_of I.seen client.old) payload.now dev)
         (taken_by result) (I.told iio.new) (client_of I.seen client.old)) }
 {
-    if !iio.plugged(dev) {
-        return Err(No::Errno(Errno::ENODEV));
-    }
-    if !iio.is_output(dev) {
-        return Err(No::Errno(Errno::ENOSYS));
-    }
+    ensure(iio.plugged(dev), Errno::ENODEV)?;
+    ensure(iio.is_output(dev), Errno::ENOSYS)?;
     write_at(client, iio, dev, payload)
 }
 
@@ -174,11 +167,7 @@ pub(crate) fn write_buffer<I: Iio>(
     ensures served { ServesBy (I.front (I.kept iio.old)) (I.told iio.old) (client_of I.seen client.old) (traces_of I.seen client.old.held.items)
         (Streamed device.now payload.now) result (I.told iio.new) (client_of I.seen client.new) (traces_of I.seen client.new.held.items) }
 {
-    match iio.find(device) {
-        None => Err(No::Errno(Errno::ENODEV)),
-        Some(dev) => match write_buffer_at(client, iio, dev, payload) {
-            Err(no) => Err(no),
-            Ok(taken) => Ok(Answer::Number(taken as usize)),
-        },
-    }
+    let dev = iio.find(device).ok_or(Errno::ENODEV)?;
+    let taken = write_buffer_at(client, iio, dev, payload)?;
+    Ok(Answer::Number(taken as usize))
 }

@@ -1,5 +1,7 @@
 //! What a connection has of the devices.
 
+ghost use Rattle.std.specs.Prelude.{◌≡◌};
+
 use iio_mask::Mask;
 
 /// The buffers count of a device of which the connection has set none.
@@ -18,6 +20,24 @@ pub(crate) struct OpenSeat<S> {
     pub(crate) size: u32,
     pub(crate) discarded: u64,
     pub(crate) seat: S,
+}
+
+impl<S> OpenSeat<S> {
+    /// The device's number, and the seat.
+    pub(crate) fn into_seat(self) -> (u32, S)
+        ensures dev { result.0 ≡ self.dev }
+        ensures seat { result.1 ≡ self.seat }
+    {
+        let OpenSeat {
+            dev,
+            mask: _,
+            capacity: _,
+            size: _,
+            discarded: _,
+            seat,
+        } = self;
+        (dev, seat)
+    }
 }
 
 /// How many buffers later OPENs of a device have.

@@ -1,14 +1,16 @@
 //! What a session needs of the devices.
 
-ghost use Rattle.std.specs.Prelude.{◌≡◌, ◌≢◌, ℕ, ◌+◌, ◌*◌, ◌^◌, ◌≤◌, ◌<◌, true, false, length, Option, Some, option_map, vec_capacity, IfOk, IfSome, Ok, Err};
+ghost use Rattle.std.specs.Prelude.{◌≡◌, ◌≢◌, ◌+◌, ◌*◌, ◌≤◌, ◌<◌, true, false, length, Option, Some, option_map, vec_capacity, IfOk, IfSome, Err};
 ghost use Rattle.iiod_session.specs.No.{held_no, holder_no, no_of, raw_no, remask_no};
+ghost use Rattle.iiod_session.specs.declared.iio.No.TheVariants.{Errno as NoErrno, Mem as NoMem};
 
-use iio_attr::{Attr, Scope, Value};
+use iio_attr::{Attr, Value};
 use iio_device::{JoinFault, RawFault, RemaskFault};
 use iio_event::{EventData, Held, NotHolder};
 use iio_layout::Shape;
 use iio_mask::Mask;
 use iio_text::{Errno, Fixed};
+use std::alloc::AllocError;
 
 /// Why a call was refused.
 #[derive(Clone, Copy, Debug, PartialEq, Eq)]
@@ -17,6 +19,22 @@ pub enum No {
     Errno(Errno),
     /// For want of memory.
     Mem,
+}
+
+impl From<Errno> for No {
+    ghost from_gives = { λ errno no. no ≡ NoErrno errno };
+
+    fn from(errno: Errno) -> No {
+        No::Errno(errno)
+    }
+}
+
+impl From<AllocError> for No {
+    ghost from_gives = { λ _ no. no ≡ NoMem };
+
+    fn from(_e: AllocError) -> No {
+        No::Mem
+    }
 }
 
 /// What a fault of joining is answered with.

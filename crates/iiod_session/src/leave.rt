@@ -15,14 +15,7 @@ fn close_all<I: Iio>(held: &mut Vec<OpenSeat<I::Seat>>, iio: &mut I)
     ensures told { IfSome (I.told iio.old) (λ m. I.told iio.new ≡ Some (all_closed (I.front (I.kept iio.old)) m (seats_of I.seen held.old.items))) }
 {
     while let Some(h) = held.pop() {
-        let OpenSeat {
-            dev,
-            mask: _,
-            capacity: _,
-            size: _,
-            discarded: _,
-            seat,
-        } = h;
+        let (dev, seat) = h.into_seat();
         iio.close(dev, seat);
     }
 }

@@ -1,7 +1,6 @@
 //! Scans taken from a seat.
 
-ghost use Rattle.std.specs.Prelude.{◌≡◌, ◌+◌, ◌-◌, ◌*◌, ◌/◌, ◌≤◌, ◌<◌, ◌^◌, ◌++◌, length, take, drop, vec_capacity, true, false, ℕ, IfSome, Some};
-ghost use Rattle.iiod_reply.specs.Reply.{block_text, head_text};
+ghost use Rattle.std.specs.Prelude.{◌≡◌, ◌+◌, ◌*◌, ◌≤◌, ◌<◌, ◌^◌, length, vec_capacity, false};
 ghost use Rattle.iio_desc.specs.Kind.{is_output};
 ghost use Rattle.iio_core.specs.Front.{channel_count, kind_at, size_at};
 ghost use Rattle.iiod_session.specs.Reading.{ReadEnds, ReadsBlock};

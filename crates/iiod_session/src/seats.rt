@@ -1,43 +1,33 @@
 //! A connection's seats: OPEN, CLOSE, REMASK, READBUF and WRITEBUF at the device of a number.
 
-ghost use Rattle.std.specs.Prelude.{◌≡◌, ◌==◌, ◌<◌, ◌≤◌, ◌++◌, ◌&&◌, not, true, false, ℕ, length, IfSome, IfOk, Some, None, Err, is_some, Bool, List, vec_capacity};
-ghost use Rattle.std.specs.List.{position};
+ghost use Rattle.std.specs.Prelude.{◌≡◌, ◌<◌, ◌≤◌, ◌&&◌, not, true, false, length, IfSome, IfOk, None, Err, vec_capacity};
 ghost use Rattle.iiod_session.specs.Acts.{close_at, joined_at, open_at, remask_at, write_at_place};
 ghost use Rattle.iio_desc.specs.Kind.{is_input, is_output};
 ghost use Rattle.iio_core.specs.Front.{kind_at, size_at};
 ghost use Rattle.iiod_session.specs.Client.{IsClient, IsHeld, seat_state_of, buffers_of, client_of, place_of, seats_of, trace_of, traces_of};
 ghost use Rattle.iiod_session.specs.Performs.{Comes, JoinsBy, LeavesBy, OpensBy, ReadAt, ReadHeld, RemaskMoves, RemaskTold, RemasksBy, WritesHeld, reply_by, taken_by};
 ghost use Rattle.iio_core.specs.Calls.{open_of};
-ghost use Rattle.iiod_session.specs.Seat.{Answers, IsNew, MayOpen, number_by};
+ghost use Rattle.iiod_session.specs.Seat.{Answers, IsNew, MayOpen, SeatRecord, number_by};
 ghost use Rattle.iiod_session.specs.Wanted.{wanted_of_code};
 ghost use Rattle.iio_text.specs.declared.errors.Errno.{Errno};
-ghost use Rattle.iiod_session.specs.declared.client.OpenSeat.{OpenSeat};
 ghost use Rattle.iiod_session.specs.declared.iio.No.{No};
 
 use crate::answers::push_refusal;
 use crate::client::{BuffersCount, Client, FIRST_BUFFERS, OpenSeat};
 use crate::iio::{Iio, No, Took};
 use crate::reading::read_sized;
-use crate::wanted::{Wanted, mask_wanted_by, wanted_by};
+use crate::wanted::{Wanted, ensure, mask_wanted_by, wanted_by};
 use iio_base::Mem;
 use iio_mask::Mask;
 use iio_text::Errno;
 use iiod_reply::number;
 
 /// The place of the seat at a device.
-pub(crate) fn find_held<S>(held: &[OpenSeat<S>], dev: u32) -> Option<usize>
-    ensures place { result ≡ position (λ (h : OpenSeat S). h.dev == dev) held.now }
+pub(crate) fn place<S>(held: &[OpenSeat<S>], dev: u32) -> Option<usize>
+    ensures place { (seen : S → SeatRecord) → result ≡ place_of dev (seats_of seen held.now) }
     ensures within { IfSome result (λ i. i < length held.now) }
 {
     held.iter().position(|h| h.dev == dev)
-}
-
-/// The place of the seat at a device, as the seats are seen.
-pub(crate) fn place<I: Iio>(_iio: &I, held: &[OpenSeat<I::Seat>], dev: u32) -> Option<usize>
-    ensures place { result ≡ place_of dev (seats_of I.seen held.now) }
-    ensures within { IfSome result (λ i. i < length held.now) }
-{
-    find_held(held, dev)
 }
 
 // How many buffers an OPEN of a device has.
@@ -96,28 +86,17 @@ fn join<I: Iio>(
     ensures moves { JoinsBy dev (wanted_of_code wanted) (client_of I.seen client.old) (traces_of I.seen client.old.held.items)
         result (client_of I.seen client.new) (traces_of I.seen client.new.held.items) }
 {
-    if client.held.reserve(1).is_err() {
-        return Err(No::Mem);
-    }
-    let Wanted {
-        mask,
-        capacity,
-        size,
-    } = wanted;
-    match open_seat(iio, dev, mask, capacity, cyclic) {
-        Err(no) => Err(no),
-        Ok(seat) => {
-            client.held.push_reserved(OpenSeat {
-                dev,
-                mask,
-                capacity,
-                size,
-                discarded: 0,
-                seat,
-            });
-            Ok(())
-        }
-    }
+    client.held.reserve(1)?;
+    let seat = open_seat(iio, dev, wanted.mask, wanted.capacity, cyclic)?;
+    client.held.push_reserved(OpenSeat {
+        dev,
+        mask: wanted.mask,
+        capacity: wanted.capacity,
+        size: wanted.size,
+        discarded: 0,
+        seat,
+    });
+    Ok(())
 }
 
 /// OPEN. It is refused as by [`wanted_by`], then as by [`Iio::open`], or [`Iio::open_out`] at an output device.
@@ -139,10 +118,10 @@ pub(crate) fn open_at<I: Iio>(
     ensures moves { OpensBy (I.front (I.kept iio.old)) dev samples text.now cyclic (client_of I.seen client.old) (traces_of I.seen client.old.held.items)
         result (client_of I.seen client.new) (traces_of I.seen client.new.held.items) }
 {
-    let is_open = place(iio, &client.held, dev).is_some();
+    let is_open = place(&client.held, dev).is_some();
     let plugged = iio.plugged(dev);
     let buffers = buffers_of(&client.buffers, dev);
-    match wanted_by(
+    let wanted = wanted_by(
         is_open,
         plugged,
         iio.is_output(dev),
@@ -151,10 +130,8 @@ pub(crate) fn open_at<I: Iio>(
         samples,
         text,
         cyclic,
-    ) {
-        Err(errno) => Err(No::Errno(errno)),
-        Ok(wanted) => join(client, iio, dev, wanted, cyclic),
-    }
+    )?;
+    join(client, iio, dev, wanted, cyclic)
 }
 
 /// CLOSE. `EBADF` comes where the connection has no seat at the device.
@@ -173,21 +150,12 @@ pub(crate) fn close_at<I: Iio>(
     ensures moves { LeavesBy dev (client_of I.seen client.old) (traces_of I.seen client.old.held.items)
         result (client_of I.seen client.new) (traces_of I.seen client.new.held.items) }
 {
-    match place(iio, &client.held, dev) {
-        None => Err(No::Errno(Errno::EBADF)),
-        Some(i) => {
-            let OpenSeat {
-                dev: at,
-                mask: _,
-                capacity: _,
-                size: _,
-                discarded: _,
-                seat,
-            } = client.held.remove(i);
-            iio.close(at, seat);
-            Ok(())
-        }
-    }
+    let Some(i) = place(&client.held, dev) else {
+        return Err(No::Errno(Errno::EBADF));
+    };
+    let (at, seat) = client.held.remove(i).into_seat();
+    iio.close(at, seat);
+    Ok(())
 }
 
 // REMASK at a seat: its mask is exchanged, and what its queue held is counted as discarded.
@@ -236,10 +204,8 @@ pub(crate) fn remask_at<I: Iio>(
     ensures moves { RemasksBy (I.front (I.kept iio.old)) dev text.now (client_of I.seen client.old) (traces_of I.seen client.old.held.items)
         result (client_of I.seen client.new) (traces_of I.seen client.new.held.items) }
 {
-    if !iio.plugged(dev) {
-        return Err(No::Errno(Errno::ENODEV));
-    }
-    let Some(i) = place(iio, &client.held, dev) else {
+    ensure(iio.plugged(dev), Errno::ENODEV)?;
+    let Some(i) = place(&client.held, dev) else {
         return Err(No::Errno(Errno::EBADF));
     };
     remask_held(iio, &mut client.held[i], text)
@@ -294,7 +260,7 @@ pub(crate) fn read_at<I: Iio>(
         (client_of I.seen client.old) (traces_of I.seen client.old.held.items) (traces_of I.seen client.new.held.items) out.old.items out.new.items result }
     ensures capacity { vec_capacity out.old ≤ vec_capacity out.new }
 {
-    match place(iio, &client.held, dev) {
+    match place(&client.held, dev) {
         None => {
             push_refusal(out, Errno::EBADF)?;
             Ok(Took::Scan)
@@ -336,7 +302,7 @@ pub(crate) fn write_at<I: Iio>(
         (write_at_place (I.front (I.kept iio.old)) m (client_of I.seen client.old) payload.now (place_of dev (seats_of I.seen client.old.held.items)))
         (taken_by result) (I.told iio.new) (client_of I.seen client.old)) }
 {
-    let Some(i) = place(iio, &client.held, dev) else {
+    let Some(i) = place(&client.held, dev) else {
         return Err(No::Errno(Errno::EBADF));
     };
     write_held(iio, &mut client.held[i], payload)

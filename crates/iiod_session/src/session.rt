@@ -18,7 +18,7 @@ use crate::iio::Iio;
 use crate::leave::leave;
 use crate::manner::{Going, Manner};
 use crate::pending_write::PendingWrite;
-use crate::seats::find_held;
+use crate::seats::place;
 use crate::watch::{Unwatched, Watch};
 use iio_base::Mem;
 use iiod_grammar::Lines;
@@ -206,7 +206,7 @@ impl<S> Session<S> {
     pub fn holds(&self, dev: u32) -> bool
         ensures { (seen : S → SeatRecord) → result ≡ is_some (place_of dev (seats_of seen self.now.client.held.items)) }
     {
-        find_held(&self.client.held, dev).is_some()
+        place(&self.client.held, dev).is_some()
     }
 
     /// Whether it has no seat.

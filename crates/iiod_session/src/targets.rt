@@ -1,6 +1,6 @@
 //! What READ and WRITE name at a device.
 
-ghost use Rattle.std.specs.Prelude.{◌≡◌, Some};
+ghost use Rattle.std.specs.Prelude.{◌≡◌};
 ghost use Rattle.iio_desc.specs.Kind as desc;
 ghost use Rattle.std.specs.Option.{option_copied};
 ghost use Rattle.iiod_grammar.specs.View.{place_view};

@@ -9,6 +9,7 @@ ghost use Rattle.iiod_session.specs.Performs.{Comes, reply_by};
 
 use crate::answers::Answer;
 use crate::iio::{Iio, No};
+use crate::wanted::ensure;
 use iio_text::Errno;
 
 // The number of the trigger that a SETTRIG names, or none where it names none.
@@ -16,12 +17,9 @@ fn named_trigger<I: Iio>(iio: &I, name: Option<&[u8]>) -> Result<Option<u32>, Er
     ensures value { result ≡ trigger_named (I.front (I.kept iio.now)) (option_copied name.entry) }
     ensures within { IfOk result (λ trigger. IfSome trigger (λ t. t < length (I.front (I.kept iio.now)).triggers)) }
 {
-    let Some(name) = name else {
-        return Ok(None);
-    };
-    match iio.find_trigger(name) {
-        None => Err(Errno::ENOENT),
-        Some(trigger) => Ok(Some(trigger)),
+    match name {
+        None => Ok(None),
+        Some(name) => Ok(Some(iio.find_trigger(name).ok_or(Errno::ENOENT)?)),
     }
 }
 
@@ -32,16 +30,10 @@ pub(crate) fn set_trigger_at<I: Iio>(iio: &mut I, dev: u32, name: Option<&[u8]>)
     ensures told { (client : ClientRecord) → IfSome (I.told iio.old) (λ m. Comes m client
         (set_trigger_at (I.front (I.kept iio.old)) m client (option_copied name.entry) dev) (reply_by result) (I.told iio.new) client) }
 {
-    if !iio.plugged(dev) {
-        return Err(No::Errno(Errno::ENODEV));
-    }
-    if iio.is_average(dev) {
-        return Err(No::Errno(Errno::ENOSYS));
-    }
-    match named_trigger(iio, name) {
-        Err(errno) => Err(No::Errno(errno)),
-        Ok(trigger) => iio.set_trigger(dev, trigger),
-    }
+    ensure(iio.plugged(dev), Errno::ENODEV)?;
+    ensure(!iio.is_average(dev), Errno::ENOSYS)?;
+    let trigger = named_trigger(iio, name)?;
+    iio.set_trigger(dev, trigger)
 }
 
 /// GETTRIG at the device of that number: 0 where it has no trigger.
@@ -51,9 +43,7 @@ pub(crate) fn get_trigger_at<I: Iio>(iio: &I, dev: u32) -> Result<Answer, No>
     ensures told { (client : ClientRecord) → IfSome (I.told iio.now) (λ m. Comes m client
         (get_trigger_at (I.front (I.kept iio.now)) m client dev) (reply_of (I.front (I.kept iio.now)) result) (I.told iio.now) client) }
 {
-    if !iio.plugged(dev) {
-        return Err(No::Errno(Errno::ENODEV));
-    }
+    ensure(iio.plugged(dev), Errno::ENODEV)?;
     match iio.trigger(dev) {
         None => Ok(Answer::Number(0)),
         Some(trigger) => Ok(Answer::Trigger(trigger)),

@@ -1,9 +1,8 @@
 //! What an OPEN and a REMASK ask for.
 
-ghost use Rattle.std.specs.Prelude.{◌≡◌, ◌<◌, ◌≤◌, ◌^◌, ℕ, true, IfOk, Ok, Some, false, length};
+ghost use Rattle.std.specs.Prelude.{◌≡◌, ◌<◌, ◌≤◌, ℕ, IfOk, Some, false, length};
 ghost use Rattle.iio_desc.specs.Kind.{Kind, is_output};
 ghost use Rattle.iio_base.specs.Refusals.{ensure};
-ghost use Rattle.iio_layout.specs.Active.{has_data};
 ghost use Rattle.iio_layout.specs.Layout.{scan_size};
 ghost use Rattle.iio_layout.specs.Shape.{count_of};
 ghost use Rattle.iio_mask.specs.Text.{mask_of};
@@ -93,9 +92,7 @@ pub(crate) fn mask_wanted_by(shape: &Shape, capacity: u32, text: &[u8]) -> Resul
     ensures may_open { (front : Front) (dev mask : ℕ) → shape.now ≡ shape_at front dev → MayOpen front dev mask capacity
         → IfOk result (λ x. MayOpen front dev x.mask.bits capacity) }
 {
-    let Some(mask) = Mask::read(text, shape.count()) else {
-        return Err(Errno::EINVAL);
-    };
+    let mask = Mask::read(text, shape.count()).ok_or(Errno::EINVAL)?;
     ensure(has_data(shape, mask), Errno::EINVAL)?;
     let size = scan_size(shape, mask);
     let bytes = u64::from(capacity) * u64::from(size);

@@ -5,8 +5,8 @@ use Rattle.iiod_session.proofs.AttributeLaws.{counted, held_under}
 use Rattle.iiod_session.proofs.SeatsLaws.{apart_set, map_set_same}
 use Rattle.iiod_session.proofs.attributes.read_buffer.Goals as goal
 
-pub returns-in-Some-clause-client : goal.returns-in-Some-clause-client
-returns-in-Some-clause-client g c = record {
+pub returns-clause-client : goal.returns-clause-client
+returns-clause-client g c = record {
   seats = rw c.buffer_number.ensures.kept
       (All-set (IsHeld g.I.Iio.seen (g.I.Iio.front (g.I.Iio.kept c.args.iio.now))) c.args.client.now.held.items c.in-Some.i c.buffer_number.new.h
       (rw c.buffer_number.ensures.kept at c.buffer_number.ensures.held) c.requires.client.seats);
@@ -16,21 +16,22 @@ returns-in-Some-clause-client g c = record {
   holdings = rw c.buffer_number.ensures.kept c.requires.client.holdings;
 }
 
-pub returns-in-Some-clause-same : goal.returns-in-Some-clause-same
-returns-in-Some-clause-same g c =
+pub returns-clause-same : goal.returns-clause-same
+returns-clause-same g c =
     ap (λ (bs : List SeatState). with_seats bs (client_of g.I.Iio.seen c.args.client.now))
     (map_set_same g.I.Iio.seen (seat_state_of g.I.Iio.seen) c.args.client.now.held.items c.in-Some.i c.buffer_number.new.h c.index_mut.result.now (search rules)
     c.index_mut.ensures.value c.buffer_number.ensures.bare)
 
-pub returns-in-Some-clause-traces : goal.returns-in-Some-clause-traces
-returns-in-Some-clause-traces g c =
+pub returns-clause-traces : goal.returns-clause-traces
+returns-clause-traces g c =
     map_set_same g.I.Iio.seen (trace_of g.I.Iio.seen) c.args.client.now.held.items c.in-Some.i c.buffer_number.new.h c.index_mut.result.now (search rules)
     c.index_mut.ensures.value c.buffer_number.ensures.trace
 
-pub returns-in-Some-clause-told : goal.returns-in-Some-clause-told
-returns-in-Some-clause-told g c =
+pub returns-clause-told : goal.returns-clause-told
+returns-clause-told g c =
+    let at = c.place.ensures.place g.I.Iio.seen in
     counted g.I.Iio.seen _ _ (client_of g.I.Iio.seen c.args.client.now) c.args.dev c.in-Some.i _ c.args.attribute c.args.client.now.held.items
     c.index_mut.result.now
-    (search rules) (search rules) c.index_mut.ensures.value
+    (search (rules, at)) (search rules) c.index_mut.ensures.value
     (held_under g.I.Iio.seen _ c.args.client.now.held.items c.in-Some.i c.index_mut.result.now (search rules) c.index_mut.ensures.value c.requires.client.seats)
     c.buffer_number.ensures.value c.buffer_number.ensures.told

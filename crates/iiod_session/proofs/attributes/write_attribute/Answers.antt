@@ -1,18 +1,31 @@
-use Rattle.std.proofs.Common.{rules, sym}
+use Rattle.std.proofs.Common.{◌≡◌, ◌∙◌, None, Some, arith, rules, sym}
+use Rattle.std.proofs.lemmas.Result.{err_from_is_err_and}
+use Rattle.iio_text.specs.declared.errors.Errno.TheVariants.{EINVAL, ENODEV}
 use Rattle.iiod_session.specs.Client.{client_of}
 use Rattle.iiod_session.proofs.AnswerLaws.{by_count, by_no}
 use Rattle.iiod_session.proofs.AttributeLaws.{serves_nameless, serves_unwritten, serves_write_attribute}
 use Rattle.iiod_session.proofs.attributes.write_attribute.Goals as goal
 
-pub returns-in-None-clause-served : goal.returns-in-None-clause-served
-returns-in-None-clause-served g c = rw c.in-None.is (by_no _ _ _ _ _ _ _ _ _ (serves_nameless _ _ _ _ _ _))
+pub returns-in_err-place-clause-served : goal.returns-in_err-place-clause-served
+returns-in_err-place-clause-served g c =
+    let p = err_from_is_err_and c.from_residual.result c.from_residual.ensures.1 in
+    let nameless : c.args.target ≡ None = grind arith in
+    let why : c.in_err-place.field-0.0 ≡ EINVAL = grind arith in
+    rw (p.1, p.2, why, nameless) (by_no _ _ _ _ _ _ _ _ _ (serves_nameless _ _ _ _ _ _))
 
-pub returns-in-None-find-clause-served : goal.returns-in-None-find-clause-served
-returns-in-None-find-clause-served g c = rw c.in-Some.is (by_no _ _ _ _ _ _ _ _ _ (serves_unwritten _ _ _ _ _ _ _ _ (sym (search rules))))
+pub returns-in_err-dev-clause-served : goal.returns-in_err-dev-clause-served
+returns-in_err-dev-clause-served g c =
+    let p = err_from_is_err_and c.from_residual-in_err-dev.result c.from_residual-in_err-dev.ensures.1 in
+    let named : c.args.target ≡ Some (c.in_ok-place.place, c.in_ok-place.name) = grind arith in
+    let none : c.find.result ≡ None = grind arith in
+    let why : c.in_err-dev.field-0.0 ≡ ENODEV = grind arith in
+    rw (p.1, p.2, why, named) (by_no _ _ _ _ _ _ _ _ _ (serves_unwritten _ _ _ _ _ _ _ _ (sym none ∙ c.find.ensures.value)))
 
-pub returns-in-Some-find-clause-served : goal.returns-in-Some-find-clause-served
-returns-in-Some-find-clause-served g c =
+pub returns-clause-served : goal.returns-clause-served
+returns-clause-served g c =
     let told = c.write_attribute_at-written.ensures.told (client_of g.I.Iio.seen c.args.client.now) (search rules) in
-    rw (c.in-Some.is, c.answered.ensures.value)
+    let named : c.args.target ≡ Some (c.in_ok-place.place, c.in_ok-place.name) = grind arith in
+    let found : c.find.result ≡ Some c.in_ok-dev.dev = grind arith in
+    rw (named, c.answered.ensures.value)
     (by_count _ _ _ _ _ _ _ _ _ c.write_attribute_at-written.result
-    (serves_write_attribute _ _ _ _ _ _ _ _ _ _ c.write_attribute_at-written.result (sym (search rules)) told))
+    (serves_write_attribute _ _ _ _ _ _ _ _ _ _ c.write_attribute_at-written.result (sym found ∙ c.find.ensures.value) told))

@@ -9,5 +9,5 @@ loop-h-preserved g c = record {
   held = grind (arith, common_steps);
   told =
       closing_more g.I.Iio.seen (g.I.Iio.front (g.I.Iio.kept c.args.iio.now)) _ _ _ _ _ _ c.in-Some.h c.in-Some.ensures.items c.loop-h.invariant.told
-      (rw c.loop-h.invariant.kept at c.close.ensures.told);
+      (rw (c.loop-h.invariant.kept, c.into_seat-dev.ensures.dev, c.into_seat-dev.ensures.seat) at c.close.ensures.told);
 }

@@ -1,4 +1,5 @@
-use Rattle.std.proofs.Common.{ℕ, ◌∙◌, ap, rules}
+use Rattle.std.proofs.Common.{ℕ, ◌≡◌, ◌∙◌, true, ap, arith, rules}
+use Rattle.std.proofs.lemmas.Grind.{common_steps}
 use Rattle.std.proofs.lemmas.List.Elements.{All-set}
 use Rattle.iio_desc.specs.Kind.{is_input}
 use Rattle.iio_core.specs.Front.{kind_at}
@@ -19,16 +20,19 @@ returns-clause-client g c = record {
 
 pub returns-clause-told : goal.returns-clause-told
 returns-clause-told g c =
+    let at = c.place.ensures.place g.I.Iio.seen in
+    let here : c.plugged.result ≡ true = grind (arith, common_steps) in
     remask_comes g.I.Iio.seen _ _ _ (client_of g.I.Iio.seen c.args.client.now) c.args.dev c.in-Some.i _ c.args.client.now.held.items c.index_mut.result.now
     c.remask_held.new.h c.remask_held.result
-    (search rules) (search rules) c.index_mut.ensures.value (rw c.if-not-plugged.false at c.plugged.ensures) c.remask_held.ensures.moves
+    (search (rules, at)) (search rules) c.index_mut.ensures.value (rw here at c.plugged.ensures) c.remask_held.ensures.moves
     c.remask_held.ensures.told
 
 pub returns-clause-moves : goal.returns-clause-moves
 returns-clause-moves g c =
+    let at = c.place.ensures.place g.I.Iio.seen in
     remasks_by g.I.Iio.seen _ (client_of g.I.Iio.seen c.args.client.now) c.args.dev c.in-Some.i _ c.args.client.now.held.items c.index_mut.result.now
     c.remask_held.new.h c.remask_held.result
-    (search rules) (search rules) c.index_mut.ensures.value c.remask_held.ensures.moves
+    (search (rules, at)) (search rules) c.index_mut.ensures.value c.remask_held.ensures.moves
 
 pub remask_held-requires-clause-input : goal.remask_held-requires-clause-input
 remask_held-requires-clause-input g c =

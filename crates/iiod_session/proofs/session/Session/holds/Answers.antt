@@ -1,9 +1,8 @@
-use Rattle.std.proofs.Common.{ap, sym, ◌∙◌}
+use Rattle.std.proofs.Common.{ap, ◌∙◌}
 use Rattle.std.specs.Prelude.{is_some}
-use Rattle.iiod_session.proofs.SeatsLaws.{place_is}
 use Rattle.iiod_session.proofs.session.Session.holds.Goals as goal
 
 pub returns : goal.returns
 returns g c seen =
     rw (← c.self.view_is)
-    (c.is_some.ensures ∙ ap is_some (rw c.deref.ensures.value at c.find_held.ensures.place ∙ sym (place_is seen c.args.dev c.self.inside.client.held.items)))
+    (c.is_some.ensures ∙ ap is_some (rw c.deref.ensures.value at c.place.ensures.place seen))
