@@ -58,42 +58,8 @@ pub(crate) fn answered(count: usize, called: Result<(), No>) -> Result<Answer, N
     ensures value { result ≡ answer_by count called }
     ensures fits { Fits result }
 {
-    match called {
-        Ok(()) => Ok(Answer::Number(count)),
-        Err(no) => Err(no),
-    }
-}
-
-// Appends bytes. After `Mem`, `out` is unchanged.
-fn push(out: &mut Vec<u8>, bytes: &[u8]) -> Result<(), Mem>
-    ensures text { Appends bytes.now out.old.items result out.new.items }
-    ensures room { FitsInRoom bytes.now out.old.items (vec_capacity out.old) result }
-    ensures capacity { vec_capacity out.old ≤ vec_capacity out.new }
-{
-    out.reserve(bytes.len())?;
-    append_reserved(bytes, out);
-    Ok(())
-}
-
-// The answer that is minus the error's number.
-fn refusal(errno: Errno) -> &'static [u8]
-    ensures { result.now ≡ text_of (Refusal errno) }
-{
-    match errno {
-        Errno::ENOENT => b"-2\n",
-        Errno::EIO => b"-5\n",
-        Errno::E2BIG => b"-7\n",
-        Errno::EBADF => b"-9\n",
-        Errno::EAGAIN => b"-11\n",
-        Errno::EACCES => b"-13\n",
-        Errno::EBUSY => b"-16\n",
-        Errno::ENODEV => b"-19\n",
-        Errno::EINVAL => b"-22\n",
-        Errno::EFBIG => b"-27\n",
-        Errno::ENOSPC => b"-28\n",
-        Errno::ERANGE => b"-34\n",
-        Errno::ENOSYS => b"-38\n",
-    }
+    called?;
+    Ok(Answer::Number(count))
 }
 
 /// Minus the error's number.
@@ -102,7 +68,7 @@ pub(crate) fn push_refusal(out: &mut Vec<u8>, errno: Errno) -> Result<(), Mem>
     ensures room { length out.old.items + SHORT_ANSWER ≤ vec_capacity out.old → IsOk result }
     ensures capacity { vec_capacity out.old ≤ vec_capacity out.new }
 {
-    push(out, refusal(errno))
+    number(-errno.number(), out)
 }
 
 /// Why a command is refused. In a script want of memory ends the call.
