@@ -1,44 +1,20 @@
 //! The commands of threshold events: EVOPEN, EVREAD and EVCLOSE.
 
-ghost use Rattle.std.specs.Prelude.{◌≡◌, ◌==◌, ◌<◌, true, length, filter, not, IfSome};
-ghost use Rattle.iio_desc.specs.Kind.{is_input};
-ghost use Rattle.iiod_session.specs.Acts.{ev_close_at, ev_close_known, ev_open_at, ev_open_known, ev_read_at, ev_read_known};
+ghost use Rattle.std.specs.Prelude.{◌≡◌, ◌==◌, ◌<◌, length, filter, not, IfSome};
+ghost use Rattle.iiod_session.specs.Acts.{ev_close_known, ev_open_known, ev_read_known};
 ghost use Rattle.iiod_session.specs.Answers.{IsEvent, reply_of};
 ghost use Rattle.iiod_session.specs.Client.{IsClient, client_of, with_holding, without_holding};
-ghost use Rattle.iio_core.specs.Front.{kind_at};
 ghost use Rattle.iiod_session.specs.Performs.{Comes, client_by, reply_by};
 
 use crate::answers::Answer;
 use crate::client::Client;
 use crate::iio::{Iio, No};
 use crate::kinds::{is_input, unknown_refusal};
+use crate::wanted::ensure;
 use iio_text::Errno;
 
-// EVOPEN at an input device. The room for the holding is taken first.
-fn ev_open_at<I: Iio>(client: &mut Client<I::Seat>, iio: &mut I, dev: u32) -> Result<(), No>
-    requires dev { dev < length (I.front (I.kept iio.old)).devices }
-    requires input { is_input (kind_at (I.front (I.kept iio.old)) dev) ≡ true }
-    requires client { IsClient I.seen (I.front (I.kept iio.old)) client.old }
-    ensures kept { I.kept iio.new ≡ I.kept iio.old }
-    ensures client { IsClient I.seen (I.front (I.kept iio.new)) client.new }
-    ensures told { IfSome (I.told iio.old) (λ m. Comes m (client_of I.seen client.old) (ev_open_at m (client_of I.seen client.old) dev)
-        (reply_by result) (I.told iio.new) (client_of I.seen client.new)) }
-    ensures alters { client_of I.seen client.new ≡ client_by (with_holding dev) (client_of I.seen client.old) result }
-    ensures held { client.new.held ≡ client.old.held }
-{
-    if client.holdings.reserve(1).is_err() {
-        return Err(No::Mem);
-    }
-    match iio.ev_open(dev, client.who) {
-        Err(no) => Err(no),
-        Ok(()) => {
-            client.holdings.push_reserved(dev);
-            Ok(())
-        }
-    }
-}
-
-/// EVOPEN at the device of that number, of whichever kind: input devices alone have events.
+/// EVOPEN at the device of that number, of whichever kind: input devices alone have events. The room for the holding is taken
+/// first.
 pub(crate) fn ev_open_known<I: Iio>(
     client: &mut Client<I::Seat>,
     iio: &mut I,
@@ -56,7 +32,10 @@ pub(crate) fn ev_open_known<I: Iio>(
     if !is_input(iio, dev) {
         return Err(No::Errno(unknown_refusal(iio, dev)));
     }
-    ev_open_at(client, iio, dev)
+    client.holdings.reserve(1)?;
+    iio.ev_open(dev, client.who)?;
+    client.holdings.push_reserved(dev);
+    Ok(())
 }
 
 // Removes a device from those whose events are held.
@@ -64,30 +43,6 @@ fn forget_holding(holdings: &mut Vec<u32>, dev: u32)
     ensures { holdings.new.items ≡ filter (λ d. not (d == dev)) holdings.old.items }
 {
     holdings.retain(|d| *d != dev);
-}
-
-// EVCLOSE at an input device.
-fn ev_close_at<I: Iio>(client: &mut Client<I::Seat>, iio: &mut I, dev: u32) -> Result<(), No>
-    requires dev { dev < length (I.front (I.kept iio.old)).devices }
-    requires input { is_input (kind_at (I.front (I.kept iio.old)) dev) ≡ true }
-    requires client { IsClient I.seen (I.front (I.kept iio.old)) client.old }
-    ensures kept { I.kept iio.new ≡ I.kept iio.old }
-    ensures client { IsClient I.seen (I.front (I.kept iio.new)) client.new }
-    ensures told { IfSome (I.told iio.old) (λ m. Comes m (client_of I.seen client.old) (ev_close_at m (client_of I.seen client.old) dev)
-        (reply_by result) (I.told iio.new) (client_of I.seen client.new)) }
-    ensures alters { client_of I.seen client.new ≡ client_by (without_holding dev) (client_of I.seen client.old) result }
-    ensures held { client.new.held ≡ client.old.held }
-{
-    if !iio.plugged(dev) {
-        return Err(No::Errno(Errno::ENODEV));
-    }
-    match iio.ev_close(dev, client.who) {
-        Err(no) => Err(no),
-        Ok(()) => {
-            forget_holding(&mut client.holdings, dev);
-            Ok(())
-        }
-    }
 }
 
 /// EVCLOSE at the device of that number, of whichever kind: input devices alone have events.
@@ -108,23 +63,10 @@ pub(crate) fn ev_close_known<I: Iio>(
     if !is_input(iio, dev) {
         return Err(No::Errno(unknown_refusal(iio, dev)));
     }
-    ev_close_at(client, iio, dev)
-}
-
-// EVREAD at an input device.
-fn ev_read_at<I: Iio>(client: &Client<I::Seat>, iio: &mut I, dev: u32) -> Result<Answer, No>
-    requires dev { dev < length (I.front (I.kept iio.old)).devices }
-    requires input { is_input (kind_at (I.front (I.kept iio.old)) dev) ≡ true }
-    ensures kept { I.kept iio.new ≡ I.kept iio.old }
-    ensures event { IsEvent result }
-    ensures told { IfSome (I.told iio.old) (λ m. Comes m (client_of I.seen client.now) (ev_read_at m (client_of I.seen client.now) dev)
-        (reply_of (I.front (I.kept iio.old)) result) (I.told iio.new) (client_of I.seen client.now)) }
-{
-    match iio.ev_read(dev, client.who) {
-        Ok(Some(event)) => Ok(Answer::Event(event)),
-        Ok(None) => Err(No::Errno(Errno::EAGAIN)),
-        Err(no) => Err(no),
-    }
+    ensure(iio.plugged(dev), Errno::ENODEV)?;
+    iio.ev_close(dev, client.who)?;
+    forget_holding(&mut client.holdings, dev);
+    Ok(())
 }
 
 /// EVREAD at the device of that number, of whichever kind.
@@ -143,5 +85,8 @@ pub(crate) fn ev_read_known<I: Iio>(
     if !is_input(iio, dev) {
         return Err(No::Errno(unknown_refusal(iio, dev)));
     }
-    ev_read_at(client, iio, dev)
+    match iio.ev_read(dev, client.who)? {
+        Some(event) => Ok(Answer::Event(event)),
+        None => Err(No::Errno(Errno::EAGAIN)),
+    }
 }

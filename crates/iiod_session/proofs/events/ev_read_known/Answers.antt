@@ -1,6 +1,7 @@
-use Rattle.std.proofs.Common.{sym, ◌∙◌}
+use Rattle.std.proofs.Common.{Ok, Some, rules, sym, ◌∙◌}
+use Rattle.iio_text.specs.declared.errors.Errno.TheVariants.{EAGAIN}
 use Rattle.iiod_reply.specs.Reply.{Refusal}
-use Rattle.iiod_session.specs.Acts.{ev_read_at}
+use Rattle.iiod_session.specs.Acts.{ev_read_at, event_reply}
 use Rattle.iiod_session.specs.Client.{client_of}
 use Rattle.iiod_session.proofs.ServeLaws.{known, not_known}
 use Rattle.iiod_session.proofs.events.ev_read_known.Goals as goal
@@ -11,7 +12,19 @@ returns-then-not-is_input-clause-told g c =
     not_known _ _ client c.args.dev (λ m. ev_read_at m client c.args.dev) (Refusal c.unknown_refusal.result) (sym c.is_input.ensures ∙ c.if-not-is_input.true)
     c.unknown_refusal.ensures.told
 
-pub returns-clause-told : goal.returns-clause-told
-returns-clause-told g c =
+pub returns-in_err-event-clause-told : goal.returns-in_err-event-clause-told
+returns-in_err-event-clause-told g c =
     let client = client_of g.I.Iio.seen c.args.client.now in
-    known _ _ _ client client c.args.dev (λ m. ev_read_at m client c.args.dev) _ (sym c.is_input.ensures ∙ c.if-not-is_input.false) c.ev_read_at.ensures.told
+    known _ _ _ client client c.args.dev (λ m. ev_read_at m client c.args.dev) _ (sym c.is_input.ensures ∙ c.if-not-is_input.false) (search rules)
+
+pub returns-in-Some-clause-told : goal.returns-in-Some-clause-told
+returns-in-Some-clause-told g c =
+    let client = client_of g.I.Iio.seen c.args.client.now in
+    known _ _ _ client client c.args.dev (λ m. ev_read_at m client c.args.dev) (event_reply (Ok (Some c.in-Some.event)))
+    (sym c.is_input.ensures ∙ c.if-not-is_input.false) (search rules)
+
+pub returns-in-None-clause-told : goal.returns-in-None-clause-told
+returns-in-None-clause-told g c =
+    let client = client_of g.I.Iio.seen c.args.client.now in
+    known _ _ _ client client c.args.dev (λ m. ev_read_at m client c.args.dev) (Refusal EAGAIN)
+    (sym c.is_input.ensures ∙ c.if-not-is_input.false) (search rules)
