@@ -1,5 +1,6 @@
 -- What an input device is to the plain state, by its own view, whatever queues its members have; and how the laws of its calls say
--- what becomes of it there. No member of it is an inner one. (Kernel, driver-api/iio: one device serves several buffers. What a queue's end tells is this project's own.)
+-- what becomes of it there. No member of it is an inner one. (Kernel, driver-api/iio: one device serves several buffers. What a
+-- queue's end tells is this project's own.)
 use Rattle.std.specs.Prelude.{◌≡◌, ℕ, ◌+◌, ◌≤◌, ◌<◌, false, List, [], ◌∷◌, ◌++◌, map, length, drop, slice_get, Option, Some, None, Result, Ok, Err, if◌then◌else◌}
 use Rattle.std.specs.List.{AllZip}
 use Rattle.iio_text.specs.declared.errors.Errno.{Errno}

@@ -357,7 +357,11 @@ impl DescBuilder {
         requires attached { IfSome trigger (λ number. number < length self.old.triggers) }
         requires few { device_count self.old < MAX_DEVICES }
         ensures ok { OnOk result
-            (self.new ≡ record self.old { devices = all_devices self.old; outputs = all_outputs self.old; current = Some (new_device direction name trigger) }) }
+            (self.new ≡ record self.old {
+              devices = all_devices self.old;
+              outputs = all_outputs self.old;
+              current = Some (new_device direction name trigger);
+            }) }
         ensures kept { OnErr result (self.new ≡ self.old) }
     {
         self.devices.reserve(1)?;

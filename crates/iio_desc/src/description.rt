@@ -101,7 +101,8 @@ impl Model for Desc {
       averages = d.averages.items;
     } };
 
-    ghost invariant = { λ d. (length d.triggers.items ≤ MAX_TRIGGERS) × (length d.devices.items + length d.outputs.items + length d.averages.items ≤ MAX_DEVICES) };
+    ghost invariant = { λ d. (length d.triggers.items ≤ MAX_TRIGGERS)
+        × (length d.devices.items + length d.outputs.items + length d.averages.items ≤ MAX_DEVICES) };
 }
 
 /// The number of the trigger of that name.

@@ -107,7 +107,8 @@ impl<Q: Tail> Fitted<IioDev<Q>> {
         requires { ⊤ }
         ensures answer { result ≡ is_some self.old.plug }
         ensures state { view_of ⟦<Plug as Sensor>⟧.driver self.new.core self.new.plug
-            ≡ at_site (unplugged (site_of ⟦<Plug as Sensor>⟧.driver self.old.core self.old.plug)) (view_of ⟦<Plug as Sensor>⟧.driver self.old.core self.old.plug) }
+            ≡ at_site (unplugged (site_of ⟦<Plug as Sensor>⟧.driver self.old.core self.old.plug))
+            (view_of ⟦<Plug as Sensor>⟧.driver self.old.core self.old.plug) }
     {
         self.plug.take().is_some()
     }

@@ -232,7 +232,8 @@ impl<Q: Tail> Roster<Q> {
     pub(crate) fn active_with(&self, mask: Mask) -> Option<Mask>
         requires { mask.bits < 2 ^ count_of self.now.shape }
         ensures value { bits_of result ≡ active_with mask.bits (standing_of self.now) }
-        ensures contains { IfSome result (λ m. (is_within mask.bits m.bits ≡ true) × (is_within (union_of_all (masks_of self.now.members.items)) m.bits ≡ true)) }
+        ensures contains { IfSome result (λ m. (is_within mask.bits m.bits ≡ true)
+            × (is_within (union_of_all (masks_of self.now.members.items)) m.bits ≡ true)) }
         ensures below { IfSome result (λ m. m.bits < 2 ^ count_of self.now.shape) }
     {
         let wanted = mask.union(self.wanted);

@@ -222,7 +222,8 @@ impl InDevice {
     pub(crate) fn leave(&mut self, number: u64, trigger: &mut Trigger)
         ensures station { in_station ⟦<Plug as Sensor>⟧.driver self.new ≡ station_after_leave number (in_station ⟦<Plug as Sensor>⟧.driver self.old) }
         ensures trigger { trigger.new
-            ≡ place_left self.old.device.core.number (in_station ⟦<Plug as Sensor>⟧.driver self.old) (in_station ⟦<Plug as Sensor>⟧.driver self.new) trigger.old }
+            ≡ place_left self.old.device.core.number (in_station ⟦<Plug as Sensor>⟧.driver self.old)
+            (in_station ⟦<Plug as Sensor>⟧.driver self.new) trigger.old }
         ensures keeps { KeepsInCaptures self.old self.new }
     {
         if self.is_inner(number) {
@@ -242,7 +243,8 @@ impl InDevice {
     pub(crate) fn leave_inner(&mut self, average: u32, trigger: &mut Trigger)
         ensures station { in_station ⟦<Plug as Sensor>⟧.driver self.new ≡ inner_gone average (in_station ⟦<Plug as Sensor>⟧.driver self.old) }
         ensures trigger { trigger.new
-            ≡ place_left self.old.device.core.number (in_station ⟦<Plug as Sensor>⟧.driver self.old) (in_station ⟦<Plug as Sensor>⟧.driver self.new) trigger.old }
+            ≡ place_left self.old.device.core.number (in_station ⟦<Plug as Sensor>⟧.driver self.old)
+            (in_station ⟦<Plug as Sensor>⟧.driver self.new) trigger.old }
         ensures keeps { KeepsInCaptures self.old self.new }
     {
         let Some(number) = number_of(&self.inners, average) else {

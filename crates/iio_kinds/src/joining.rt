@@ -66,7 +66,8 @@ fn join(
     requires channel { has_data device.old.core.roster.shape mask.bits ≡ true }
     requires some { 1 ≤ capacity }
     requires bytes { capacity * scan_size device.old.core.roster.shape mask.bits ≤ MAX_BYTES }
-    ensures { JoinsBy mask capacity result (view_by ⟦<Plug as Sensor>⟧.driver device.old) (view_by ⟦<Plug as Sensor>⟧.driver device.new) trigger.old trigger.new }
+    ensures { JoinsBy mask capacity result (view_by ⟦<Plug as Sensor>⟧.driver device.old)
+        (view_by ⟦<Plug as Sensor>⟧.driver device.new) trigger.old trigger.new }
 {
     let size = scan_size(device.shape(), mask);
     let Ok(tail) = Kfifo::new(alloc, capacity, size) else {
@@ -92,7 +93,8 @@ pub(crate) fn host_input(
     requires hosted { is_hosted (length triggers.now) (station_by ⟦<Plug as Sensor>⟧.driver device.now) ≡ true }
     requires below { mask.bits < 2 ^ count_of device.now.core.roster.shape }
     requires channel { has_data device.now.core.roster.shape mask.bits ≡ true }
-    ensures { HostsAny triggers.now Input device.now.core.number device.now.core.roster.shape (station_by ⟦<Plug as Sensor>⟧.driver device.now) mask.bits result }
+    ensures { HostsAny triggers.now Input device.now.core.number device.now.core.roster.shape
+        (station_by ⟦<Plug as Sensor>⟧.driver device.now) mask.bits result }
 {
     match host(device, triggers, mask) {
         Err(fault) => Err(no_of(fault)),

@@ -30,7 +30,8 @@ pub struct Bench {
     pub(crate) of: PhantomData<Box<dyn Sensor + Send>>,
     ghost sound: { IsBench described.items triggers.items (stations_by (λ p. no_driver) devices.items) } by { Prim.hlevel props },
     ghost numbered: { IsNumbered number_by devices.items } by { Prim.hlevel props },
-    ghost averaged: { IsAveraged (length described.items) first_average (map any_front devices.items) (stations_by (λ p. no_driver) devices.items) } by { Prim.hlevel props },
+    ghost averaged: { IsAveraged (length described.items) first_average (map any_front devices.items)
+        (stations_by (λ p. no_driver) devices.items) } by { Prim.hlevel props },
 }
 
 impl Bench {

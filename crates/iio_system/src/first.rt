@@ -66,7 +66,8 @@ fn add_outputs(alloc: Global, devices: &mut Vec<AnyDevice>, descs: Vec<OutDesc>)
     requires numbered { IsNumbered number_by devices.old.items }
     requires captures { All (λ d. captures_by d ≡ 0) devices.old.items }
     ensures stations { OnOk result
-        (stations_by ⟦<Plug as Sensor>⟧.driver devices.new.items ≡ stations_by ⟦<Plug as Sensor>⟧.driver devices.old.items ++ map first_out_station descs.items) }
+        (stations_by ⟦<Plug as Sensor>⟧.driver devices.new.items ≡ stations_by ⟦<Plug as Sensor>⟧.driver devices.old.items
+        ++ map first_out_station descs.items) }
     ensures fronts { OnOk result (map any_front devices.new.items ≡ map any_front devices.old.items ++ map output_head descs.items) }
     ensures numbered { OnOk result (IsNumbered number_by devices.new.items) }
     ensures captures { OnOk result (All (λ d. captures_by d ≡ 0) devices.new.items) }

@@ -105,7 +105,8 @@ fn push_became(
 ) -> Result<(), Mem>
     requires trigger { trigger < length (front_of bench.now).triggers }
     requires dev { dev < length (front_of bench.now).devices }
-    ensures { OnOk result (out.new.items ≡ out.old.items ++ printed (codes "handle" ∷ trigger_name (front_of bench.now) trigger ∷ device_name (front_of bench.now) dev ∷ became_word became (room_at bench.now dev) ∷ [])) }
+    ensures { OnOk result (out.new.items ≡ out.old.items ++ printed (codes "handle" ∷ trigger_name (front_of bench.now) trigger
+        ∷ device_name (front_of bench.now) dev ∷ became_word became (room_at bench.now dev) ∷ [])) }
 {
     let trigger = trigger_name(bench, trigger);
     let device = device_name(bench, dev);

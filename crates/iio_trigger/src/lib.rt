@@ -97,7 +97,8 @@ impl Model for Trigger {
 
     ghost view = { λ s. record { places = s.places; attached = s.attached.items; outstanding = s.entries.items; missed = s.missed } };
 
-    ghost invariant = { λ s. (length s.attached.items ≤ s.places) × (s.places ≤ MAX_PLACES) × InOrder place_dev 0 s.attached.items × InOrder entry_dev 0 s.entries.items };
+    ghost invariant = { λ s. (length s.attached.items ≤ s.places) × (s.places ≤ MAX_PLACES)
+        × InOrder place_dev 0 s.attached.items × InOrder entry_dev 0 s.entries.items };
 }
 
 impl Trigger {

@@ -115,7 +115,8 @@ impl<'d> Work for HandleWork<'d> {
 
     ghost may = { λ w shape. Unit {0} };
 
-    ghost does = { λ w a o b. Handles ⟦<Writer as Tail>⟧.taken ⟦<Writer as Tail>⟧.lost ⟦<Writer as Tail>⟧.size ⟦<Writer as Tail>⟧.capacity ⟦<Writer as Tail>⟧.offer_gives
+    ghost does = { λ w a o b. Handles ⟦<Writer as Tail>⟧.taken ⟦<Writer as Tail>⟧.lost ⟦<Writer as Tail>⟧.size ⟦<Writer as Tail>⟧.capacity
+        ⟦<Writer as Tail>⟧.offer_gives
         w.due.now o a b };
 
     fn fits(&self, _shape: &Shape) -> bool {

@@ -123,7 +123,8 @@ impl DeviceJob for OpenJob {
 
     ghost may = { λ j shape. MayOpenAt j.mask.bits j.size shape };
 
-    ghost makes = { λ j a s o b t. OpenMakes ⟦<Writer as Tail>⟧.taken ⟦<Writer as Tail>⟧.lost ⟦<Writer as Tail>⟧.size ⟦<Writer as Tail>⟧.capacity j.mask j.capacity j.size
+    ghost makes = { λ j a s o b t. OpenMakes ⟦<Writer as Tail>⟧.taken ⟦<Writer as Tail>⟧.lost ⟦<Writer as Tail>⟧.size ⟦<Writer as Tail>⟧.capacity
+        j.mask j.capacity j.size
         a s o b t };
 
     fn fits(&self, shape: &Shape) -> bool {

@@ -92,7 +92,8 @@ impl Work for RemaskWork {
 
     ghost may = { λ w shape. MayOpenAt w.mask.bits w.size shape };
 
-    ghost does = { λ w a o b. RemaskMakes ⟦<Writer as Tail>⟧.taken ⟦<Writer as Tail>⟧.lost ⟦<Writer as Tail>⟧.size ⟦<Writer as Tail>⟧.capacity w.member.number w.mask
+    ghost does = { λ w a o b. RemaskMakes ⟦<Writer as Tail>⟧.taken ⟦<Writer as Tail>⟧.lost ⟦<Writer as Tail>⟧.size ⟦<Writer as Tail>⟧.capacity
+        w.member.number w.mask
         w.capacity w.size a o b };
 
     fn fits(&self, shape: &Shape) -> bool {

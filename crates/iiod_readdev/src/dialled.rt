@@ -42,7 +42,8 @@ pub(crate) fn dial_and_read<K: Sink, L: Dial>(
     ensures reads { (pending : List ℕ) × (EndsUndialled result
         (point (L.left link.old) [] (L.written link.old) (K.written output.old)) (point (L.left link.new) pending (L.written link.new) (K.written output.new))
         ⊎ EndsRead (wanted_by ask.now) result
-        (point (L.left link.old) [] (L.written link.old) (K.written output.old)) (point (L.left link.new) pending (L.written link.new) (K.written output.new))) }
+        (point (L.left link.old) [] (L.written link.old) (K.written output.old))
+        (point (L.left link.new) pending (L.written link.new) (K.written output.new))) }
     ensures counts { (input : ℕ) → ShowsCounts result input input (L.faults link.old) (L.faults link.new) (K.faults output.old) (K.faults output.new) }
     ensures described { IsDescribed result }
     ensures exact { (due : Status) → WantedComesTo (Ok (wanted_by ask.now)) (L.left link.old) due → IsDueOr due result }

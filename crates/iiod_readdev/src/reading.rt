@@ -60,7 +60,8 @@ pub fn readdev<S: Source, K: Sink, L: Dial>(
     // What was sent and printed, and why; `pending` was received, and stands after what was heard.
     ensures reads { (said : ReaddevWords) → IsReaddev words.now said
         → IfSome (S.left input.old) (λ left. (pending : List ℕ) × ReadsInput drivers said left result
-        (point (L.left link.old) [] (L.written link.old) (K.written output.old)) (point (L.left link.new) pending (L.written link.new) (K.written output.new))) }
+        (point (L.left link.old) [] (L.written link.old) (K.written output.old))
+        (point (L.left link.new) pending (L.written link.new) (K.written output.new))) }
     ensures taken { (said : ReaddevWords) → IsReaddev words.now said → IfSome (S.left input.old) (λ left. TakesBlocks left (S.left input.new)) }
     // Where a line of the description is refused, at most 65,536 bytes were taken after the byte at which it failed.
     ensures near { (said : ReaddevWords) → IsReaddev words.now said → IfSome (S.left input.old) (λ left. TakesForLine result left (S.left input.new)) }
